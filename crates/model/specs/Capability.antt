@@ -1,0 +1,91 @@
+use Rattle.std.specs.Prelude.{◌≡◌, ◌⊎◌, ℕ, ◌^◌, ◌<◌, ◌≤◌, Option, None, Some, bit_or}
+use Rattle.model.specs.declared.access.Access.{Access}
+use Rattle.model.specs.declared.capability.Capability.{Capability}
+use Rattle.model.specs.declared.capability.Capability.TheVariants.{Void, Number, Page, Node, Space, Process, Start, Resume, Bank, Discrim}
+
+-- full access, and that of a capability that is read-only and weak
+abbrev pub full : Access
+full = record { 0 = 0 }
+
+abbrev pub weak : Access
+weak = record { 0 = 3 }
+
+-- the accesses that exist: full, read-only, and read-only and weak
+abbrev pub IsAccess : Access → Type 0
+IsAccess a = (a.0 ≡ 0) ⊎ (a.0 ≡ 1) ⊎ (a.0 ≡ 3)
+
+-- the restrictions of both
+abbrev pub union : Access → ℕ → Access
+union a bits = record { 0 = bit_or a.0 bits }
+
+-- the object that a capability names (an object with a right is a capability: EROS)
+abbrev pub named : Capability → Option ℕ
+named Void = None
+named (Number n) = None
+named (Page o a) = Some o
+named (Node o a) = Some o
+named (Space o h a) = Some o
+named (Process p) = Some p
+named (Start p key) = Some p
+named (Resume p) = Some p
+named (Bank b) = Some b
+named Discrim = None
+
+-- its access, or 0 where it has none
+abbrev pub access_bits : Capability → ℕ
+access_bits (Page o a) = a.0
+access_bits (Node o a) = a.0
+access_bits (Space o h a) = a.0
+access_bits _ = 0
+
+-- what is left of a capability that is fetched through a weak one (EROS: weak, KeyKOS: sense)
+abbrev pub diminished : Capability → Capability
+diminished Void = Void
+diminished (Number n) = Number n
+diminished (Page o a) = Page o weak
+diminished (Node o a) = Node o weak
+diminished (Space o h a) = Space o h weak
+diminished (Process p) = Void
+diminished (Start p key) = Void
+diminished (Resume p) = Void
+diminished (Bank b) = Void
+diminished Discrim = Void
+
+-- it names nothing, or is read-only and weak
+abbrev pub IsWeak : Capability → Type 0
+IsWeak Void = Unit {0}
+IsWeak (Number n) = Unit {0}
+IsWeak (Page o a) = a.0 ≡ 3
+IsWeak (Node o a) = a.0 ≡ 3
+IsWeak (Space o h a) = a.0 ≡ 3
+IsWeak (Process p) = ⊥
+IsWeak (Start p key) = ⊥
+IsWeak (Resume p) = ⊥
+IsWeak (Bank b) = ⊥
+IsWeak Discrim = Unit {0}
+
+-- its tag, as the order that classifies tells it
+abbrev pub tag_of : Capability → ℕ
+tag_of Void = 0
+tag_of (Number n) = 1
+tag_of (Page o a) = 2
+tag_of (Node o a) = 3
+tag_of (Space o h a) = 4
+tag_of (Process p) = 5
+tag_of (Start p key) = 6
+tag_of (Resume p) = 7
+tag_of (Bank b) = 8
+tag_of Discrim = 9
+
+-- its fields are within their bounds
+abbrev pub IsWellFormed : Capability → Type 0
+IsWellFormed Void = Unit {0}
+IsWellFormed (Number n) = n < 2 ^ 64
+IsWellFormed (Page o a) = IsAccess a
+IsWellFormed (Node o a) = IsAccess a
+IsWellFormed (Space o h a) = (1 ≤ h) × (h ≤ 4) × IsAccess a
+IsWellFormed (Process p) = Unit {0}
+IsWellFormed (Start p key) = key < 2 ^ 16
+IsWellFormed (Resume p) = Unit {0}
+IsWellFormed (Bank b) = Unit {0}
+IsWellFormed Discrim = Unit {0}

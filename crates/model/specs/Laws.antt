@@ -1,0 +1,68 @@
+use Rattle.std.specs.Prelude.{◌≡◌, ◌⊎◌, ◌↔◌, ℕ, ◌+◌, ◌^◌, ◌<◌, Bool, true, false, Option, None, Some, List, length, slice_get, IsTrue}
+use Rattle.std.specs.List.{Contains}
+use Rattle.model.specs.declared.access.Access.{Access}
+use Rattle.model.specs.declared.answer.Refusal.TheVariants as refusal
+use Rattle.model.specs.declared.capability.Capability.{Capability}
+use Rattle.model.specs.declared.command.Command.{Command}
+use Rattle.model.specs.declared.command.Command.TheVariants as command
+use Rattle.model.specs.declared.command.Invocation.{Invocation}
+use Rattle.model.specs.declared.geometry.Geometry.{Geometry}
+use Rattle.model.specs.declared.line.Line.{Line}
+use Rattle.model.specs.declared.object.Object.{Object}
+use Rattle.model.specs.Capability.{IsWeak, diminished}
+use Rattle.model.specs.Object.{is_free}
+use Rattle.model.specs.World.{World, content_at, slot_at, root_at, is_running_process}
+use Rattle.model.specs.Sound.{IsSound}
+use Rattle.model.specs.Revoke.{rescind, consume, is_member, names_member, resumes}
+use Rattle.model.specs.Order.{fetched}
+use Rattle.model.specs.Invoke.{Effect, invoke}
+use Rattle.model.specs.Machine.{Running, touching, touched_count}
+use Rattle.model.specs.Step.{refusal_of}
+use Rattle.model.specs.Text.{Fits, spelling, Says}
+
+-- an invocation by a running process keeps a sound world sound
+abbrev pub InvocationKeepsSound : Type 0
+InvocationKeepsSound = (g : Geometry) (w : World) (i : Invocation) (e : Effect) →
+    IsSound g w → Fits (command.Invoke i) → IsTrue (is_running_process w.objects i.process) → w.age < 2 ^ 62 →
+    invoke w.objects i ≡ Some e → IsSound g (record { objects = e.objects; age = w.age + 1 })
+
+-- to diminish twice is to diminish once
+abbrev pub DiminishesOnce : Type 0
+DiminishesOnce = (c : Capability) → diminished (diminished c) ≡ diminished c
+
+-- what is fetched through a weak capability is weak or names nothing
+abbrev pub FetchesWeak : Type 0
+FetchesWeak = (a : Access) (c : Capability) → a.0 ≡ 3 → IsWeak (fetched a c)
+
+-- after a rescind the members are free, and no slot or address space names one
+abbrev pub RescindsAll : Type 0
+RescindsAll = (set : List ℕ) (os : List Object) →
+    ((n : ℕ) → is_member set n ≡ true → is_free (content_at (rescind set os) n) ≡ true)
+    × ((n i : ℕ) → names_member set (slot_at (rescind set os) n i) ≡ false)
+    × ((p : ℕ) → names_member set (root_at (rescind set os) p).space ≡ false)
+
+-- after a consume no slot or address space resumes the process
+abbrev pub ConsumesAll : Type 0
+ConsumesAll = (p : ℕ) (os : List Object) →
+    ((n i : ℕ) → resumes p (slot_at (consume p os) n i) ≡ false)
+    × ((q : ℕ) → resumes p (root_at (consume p os) q).space ≡ false)
+
+-- the numbers touched are those touched before and those written
+abbrev pub TouchesWritten : Type 0
+TouchesWritten = (touched : List Bool) (written : List ℕ) (n : ℕ) → n < length touched →
+    (slice_get (touching touched written) n ≡ Some true) ↔ ((slice_get touched n ≡ Some true) ⊎ Contains written n)
+
+-- an invocation that no earlier refusal meets is refused as log full exactly where the numbers
+-- touched with those it writes are more than half of the log holds
+abbrev pub LogFullIsExact : Type 0
+LogFullIsExact = (g : Geometry) (s : Running) (i : Invocation) (e : Effect) →
+    IsTrue (is_running_process s.now.objects i.process) → s.now.age < 2 ^ 62 → invoke s.now.objects i ≡ Some e →
+    (refusal_of g s (command.Invoke i) ≡ Some refusal.LogFull) ↔ (g.log < touched_count (touching s.touched e.written))
+
+-- no two commands share a spelling
+abbrev pub SpellsOne : Type 0
+SpellsOne = (c d : Command) → Fits c → Fits d → spelling c ≡ spelling d → c ≡ d
+
+-- a line says one thing
+abbrev pub SaysOne : Type 0
+SaysOne = (text : List ℕ) (l m : Line) → Says text l → Says text m → l ≡ m

@@ -1,0 +1,17 @@
+pub mod Capability
+pub mod Object
+pub mod Frame
+pub mod World
+pub mod Bank
+pub mod Sound
+pub mod Revoke
+pub mod Walk
+pub mod Order
+pub mod Invoke
+pub mod Machine
+pub mod Step
+pub mod Text
+pub mod Run
+pub mod Closed
+pub mod Worlds
+pub mod Laws

@@ -1,0 +1,50 @@
+use Rattle.std.specs.Prelude.{ℕ, ◌+◌, Bool, true, false, Option, None, List, [], ◌∷◌, replicate, slice_set}
+use Rattle.std.specs.List.{count_by}
+use Rattle.model.specs.declared.geometry.Geometry.{Geometry}
+use Rattle.model.specs.World.{World}
+
+-- what a committed checkpoint saves; entries is 0 once all of it is home
+pub record Saved : Type 0 where
+  pub world : World
+  pub generation : ℕ
+  pub entries : ℕ
+
+-- a checkpoint on its way: how many objects it writes, and how many of them are left
+pub record Frozen : Type 0 where
+  pub world : World
+  pub size : ℕ
+  pub left : ℕ
+
+-- a machine that is up. touched tells for each number whether it was written since the last
+-- checkpoint or restart; to_move counts the saved objects that aren't home
+pub record Running : Type 0 where
+  pub now : World
+  pub touched : List Bool
+  pub frozen : Option Frozen
+  pub saved : Saved
+  pub to_move : ℕ
+
+-- a machine that is down stands at one of some saved parts
+pub data Machine : Type 0 where
+  Up : Running → Machine
+  Down : List Saved → Machine
+
+-- what it may stand at when it is opened again
+abbrev pub candidates : Machine → List Saved
+candidates (Up s) = s.saved ∷ []
+candidates (Down saved) = saved
+
+-- sets of numbers: none, with those that are written, and how many
+unfoldable pub untouched : Geometry → List Bool
+untouched g = replicate (g.nodes + g.pages) false
+
+abbrev pub touching : List Bool → List ℕ → List Bool
+touching touched [] = touched
+touching touched (n ∷ ns) = touching (slice_set touched n true) ns
+
+abbrev pub touched_count : List Bool → ℕ
+touched_count touched = count_by (λ b. b) touched
+
+-- opened at a saved part
+abbrev pub opened : Geometry → Saved → Running
+opened g saved = record { now = saved.world; touched = untouched g; frozen = None; saved = saved; to_move = saved.entries }

@@ -1,0 +1,159 @@
+use Rattle.std.specs.Prelude.{ℕ, ◌==◌, nat_lt, Bool, true, false, not, ◌||◌, if◌then◌else◌, Option, None, Some, List, [], ◌∷◌, slice_index, slice_set, bit_or}
+use Rattle.model.specs.declared.access.Access.{Access}
+use Rattle.model.specs.declared.capability.Capability.{Capability}
+use Rattle.model.specs.declared.capability.Capability.TheVariants.{Void, Number, Page, Node, Space, Process, Start, Resume, Bank, Discrim}
+use Rattle.model.specs.declared.object.Object.{Object}
+use Rattle.model.specs.declared.object.Root.{Root}
+use Rattle.model.specs.declared.object.State.{State}
+use Rattle.model.specs.declared.object.State.TheVariants.{Available, Running}
+use Rattle.model.specs.declared.order.ResultCode.{ResultCode}
+use Rattle.model.specs.declared.order.ResultCode.TheVariants as code
+use Rattle.model.specs.declared.order.PageOrder.{PageOrder}
+use Rattle.model.specs.declared.order.PageOrder.TheVariants as page
+use Rattle.model.specs.declared.order.NodeOrder.{NodeOrder}
+use Rattle.model.specs.declared.order.NodeOrder.TheVariants as node
+use Rattle.model.specs.declared.order.ProcessOrder.{ProcessOrder}
+use Rattle.model.specs.declared.order.ProcessOrder.TheVariants as process
+use Rattle.model.specs.Capability.{union, diminished, access_bits, tag_of}
+use Rattle.model.specs.Object.{state_number}
+use Rattle.model.specs.World.{word_at, slot_at, root_at, annex_at, register_at, with_word, with_slot, with_root, with_state}
+use Rattle.model.specs.Revoke.{consume}
+
+-- what an order is given: the second and third word sent, and the first capability
+pub record Arguments : Type 0 where
+  pub first : ℕ
+  pub second : ℕ
+  pub capability : Capability
+
+-- what comes of an order: the result words after the code, the result capability, the objects, and the numbers written
+pub record Outcome : Type 0 where
+  pub code : ResultCode
+  pub words : List ℕ
+  pub capability : Capability
+  pub objects : List Object
+  pub written : List ℕ
+
+-- a result code as the first result word
+abbrev pub code_number : ResultCode → ℕ
+code_number code.Done = 0
+code_number code.NoOrder = 1
+code_number code.NoAccess = 2
+code_number code.BadIndex = 3
+code_number code.BadCapability = 4
+code_number code.Limit = 5
+code_number code.NoFrame = 6
+code_number code.TooDeep = 7
+code_number code.VoidCapability = 8
+code_number code.NotFromThisBank = 9
+code_number code.PrimeBank = 10
+
+-- an order that isn't carried out changes and tells nothing
+abbrev pub refused : List Object → ResultCode → Outcome
+refused os why = record { code = why; words = 0 ∷ 0 ∷ 0 ∷ []; capability = Void; objects = os; written = [] }
+
+-- one that tells two words
+abbrev pub told : List Object → ℕ → ℕ → Outcome
+told os first second = record { code = code.Done; words = first ∷ second ∷ 0 ∷ []; capability = Void; objects = os; written = [] }
+
+-- one that gives a capability
+abbrev pub given : List Object → Capability → Outcome
+given os c = record { code = code.Done; words = 0 ∷ 0 ∷ 0 ∷ []; capability = c; objects = os; written = [] }
+
+-- one that writes an object
+abbrev pub wrote : List Object → ℕ → Outcome
+wrote os n = record { code = code.Done; words = 0 ∷ 0 ∷ 0 ∷ []; capability = Void; objects = os; written = n ∷ [] }
+
+-- the orders by the first word sent
+abbrev pub page_order : ℕ → Option PageOrder
+page_order w = if w == 1 then Some page.Read else if w == 2 then Some page.Write else if w == 3 then Some page.Reduce else None
+
+abbrev pub node_order : ℕ → Option NodeOrder
+node_order w =
+    if w == 1 then Some node.Fetch else if w == 2 then Some node.Store else if w == 3 then Some node.Reduce
+    else if w == 4 then Some node.MakeSpace else if w == 5 then Some node.PutNumber else None
+
+abbrev pub process_order : ℕ → Option ProcessOrder
+process_order w =
+    if w == 1 then Some process.GetRegister else if w == 2 then Some process.PutRegister else if w == 3 then Some process.GetWord
+    else if w == 4 then Some process.PutWord else if w == 5 then Some process.MakeStart else if w == 6 then Some process.GetState
+    else if w == 7 then Some process.SetState else if w == 8 then Some process.GetSpace else if w == 9 then Some process.SetSpace else None
+
+-- whether a word is an access that a capability may be reduced by: read-only, or read-only and weak
+abbrev pub reduces : ℕ → Bool
+reduces w = (w == 1) || (w == 3)
+
+unfoldable pub on_page : List Object → ℕ → Access → PageOrder → Arguments → Outcome
+on_page os o a page.Read args = if nat_lt args.first 512 then told os (word_at os o args.first) 0 else refused os code.BadIndex
+on_page os o a page.Write args =
+    if not (a.0 == 0) then refused os code.NoAccess
+    else if nat_lt args.first 512 then wrote (with_word os o args.first args.second) o
+    else refused os code.BadIndex
+on_page os o a page.Reduce args = if reduces args.first then given os (Page o (union a args.first)) else refused os code.BadIndex
+
+-- what is fetched through a weak capability is diminished
+abbrev pub fetched : Access → Capability → Capability
+fetched a c = if a.0 == 3 then diminished c else c
+
+-- a store of a capability into a slot
+abbrev pub stored : List Object → ℕ → Access → ℕ → Capability → Outcome
+stored os o a slot c =
+    if not (a.0 == 0) then refused os code.NoAccess
+    else if nat_lt slot 32 then wrote (with_slot os o slot c) o
+    else refused os code.BadIndex
+
+unfoldable pub on_node : List Object → ℕ → Access → NodeOrder → Arguments → Outcome
+on_node os o a node.Fetch args = if nat_lt args.first 32 then given os (fetched a (slot_at os o args.first)) else refused os code.BadIndex
+on_node os o a node.Store args = stored os o a args.first args.capability
+on_node os o a node.Reduce args = if reduces args.first then given os (Node o (union a args.first)) else refused os code.BadIndex
+on_node os o a node.MakeSpace args =
+    if (args.first == 0) || not (nat_lt args.first 5) then refused os code.BadIndex else given os (Space o args.first a)
+on_node os o a node.PutNumber args = stored os o a args.first (Number args.second)
+
+-- whether a capability may be an address space
+abbrev pub is_space : Capability → Bool
+is_space Void = true
+is_space (Page o a) = true
+is_space (Space o h a) = true
+is_space _ = false
+
+abbrev pub with_root_word : Root Capability → ℕ → ℕ → Root Capability
+with_root_word r i word = record { state = r.state; words = slice_set r.words i word; key = r.key; annex = r.annex; space = r.space }
+
+abbrev pub with_space : Root Capability → Capability → Root Capability
+with_space r c = record { state = r.state; words = r.words; key = r.key; annex = r.annex; space = c }
+
+unfoldable pub on_process : List Object → ℕ → ProcessOrder → Arguments → Outcome
+on_process os p process.GetRegister args = if nat_lt args.first 32 then given os (register_at os p args.first) else refused os code.BadIndex
+on_process os p process.PutRegister args =
+    if (args.first == 0) || not (nat_lt args.first 32) then refused os code.BadIndex
+    else wrote (with_slot os (annex_at os p) args.first args.capability) (annex_at os p)
+on_process os p process.GetWord args =
+    if nat_lt args.first 4 then told os (slice_index (root_at os p).words args.first) 0 else refused os code.BadIndex
+on_process os p process.PutWord args =
+    if nat_lt args.first 4 then wrote (with_root os p (with_root_word (root_at os p) args.first args.second)) p else refused os code.BadIndex
+on_process os p process.MakeStart args = if nat_lt args.first 65536 then given os (Start p args.first) else refused os code.BadIndex
+on_process os p process.GetState args = told os (state_number (root_at os p).state) (root_at os p).key
+on_process os p process.SetState args =
+    if args.first == 0 then wrote (consume p (with_state os p Available)) p
+    else if args.first == 1 then wrote (consume p (with_state os p Running)) p
+    else refused os code.BadIndex
+on_process os p process.GetSpace args = given os (root_at os p).space
+on_process os p process.SetSpace args =
+    if is_space args.capability then wrote (with_root os p (with_space (root_at os p) args.capability)) p else refused os code.BadCapability
+
+-- What an order does. Every order on void is refused as such. A bank takes no order yet. A start or
+-- resume capability is no kernel object, and is never asked here.
+unfoldable pub order : List Object → Capability → ℕ → Arguments → Outcome
+order os Void w args = refused os code.VoidCapability
+order os (Number n) w args = if w == 1 then told os n 0 else refused os code.NoOrder
+order os (Page o a) w args = elim (page_order w) [ None ↦ refused os code.NoOrder | Some asked ↦ on_page os o a asked args ]
+order os (Node o a) w args = elim (node_order w) [ None ↦ refused os code.NoOrder | Some asked ↦ on_node os o a asked args ]
+order os (Space o h a) w args =
+    if w == 3
+    then (if reduces args.first then given os (Space o h (union a args.first)) else refused os code.BadIndex)
+    else refused os code.NoOrder
+order os (Process p) w args = elim (process_order w) [ None ↦ refused os code.NoOrder | Some asked ↦ on_process os p asked args ]
+order os (Start p key) w args = refused os code.NoOrder
+order os (Resume p) w args = refused os code.NoOrder
+order os (Bank b) w args = refused os code.NoOrder
+order os Discrim w args = if w == 1 then told os (tag_of args.capability) (access_bits args.capability) else refused os code.NoOrder

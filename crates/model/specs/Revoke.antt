@@ -1,0 +1,36 @@
+use Rattle.std.specs.Prelude.{ℕ, ◌==◌, Bool, true, false, if◌then◌else◌, Option, None, Some, List, map, nat_eq}
+use Rattle.std.specs.List.{list_any, enumerate_from}
+use Rattle.model.specs.declared.capability.Capability.{Capability}
+use Rattle.model.specs.declared.capability.Capability.TheVariants.{Void, Resume}
+use Rattle.model.specs.declared.object.Object.{Object}
+use Rattle.model.specs.Capability.{named}
+use Rattle.model.specs.Object.{free, map_content}
+
+-- a capability, or void where it is one of those that go
+abbrev pub void_where : (Capability → Bool) → Capability → Capability
+void_where goes c = if goes c then Void else c
+
+-- an object with each capability in it that goes put void
+abbrev pub without : (Capability → Bool) → Object → Object
+without goes o = record { owner = o.owner; content = map_content (void_where goes) o.content }
+
+-- whether a number is a member of a set
+abbrev pub is_member : List ℕ → ℕ → Bool
+is_member set n = list_any (nat_eq n) set
+
+-- whether a capability names a member
+abbrev pub names_member : List ℕ → Capability → Bool
+names_member set c = elim (named c) [ None ↦ false | Some n ↦ is_member set n ]
+
+-- whether it resumes the process p
+abbrev pub resumes : ℕ → Capability → Bool
+resumes p (Resume q) = q == p
+resumes p _ = false
+
+-- The members are free, and no capability names one any more (EROS: rescind; KeyKOS: sever)
+unfoldable pub rescind : List ℕ → List Object → List Object
+rescind set os = map (λ p. if is_member set p.0 then free else without (names_member set) p.1) (enumerate_from 0 os)
+
+-- no capability resumes the process p any more (EROS: a resume capability works at most once)
+unfoldable pub consume : ℕ → List Object → List Object
+consume p os = map (without (resumes p)) os

@@ -1,0 +1,63 @@
+use Rattle.std.specs.Prelude.{◌≡◌, ℕ, ◌==◌, Bool, true, false, if◌then◌else◌, List, [], ◌∷◌, ◌++◌}
+use Rattle.std.specs.List.{flat_map}
+use Rattle.model.specs.declared.answer.Answer.{Answer}
+use Rattle.model.specs.declared.command.Command.{Command}
+use Rattle.model.specs.declared.geometry.Geometry.{Geometry}
+use Rattle.model.specs.declared.line.Line.{Line}
+use Rattle.model.specs.declared.line.Line.TheVariants as line
+use Rattle.model.specs.Machine.{Machine}
+use Rattle.model.specs.Step.{Step}
+use Rattle.model.specs.Text.{Says, printed, bad_line}
+
+-- what a line is answered: nothing, that it is bad, or what the machine answers
+pub data Reply : Type 0 where
+  Nothing : Reply
+  BadLine : Reply
+  Told : Answer → Reply
+
+-- a line that was taken, between the machines before and after it
+pub record Turn : Type 0 where
+  pub line : List ℕ
+  pub before : Machine
+  pub reply : Reply
+  pub after : Machine
+
+-- what a line says to a program that knows only some commands: any other is bad
+abbrev pub understood : (Command → Bool) → Line → Line
+understood knows line.Skip = line.Skip
+understood knows line.Bad = line.Bad
+understood knows (line.Command c) = if knows c then line.Command c else line.Bad
+
+-- a skipped or bad line is no step of the machine
+abbrev pub Replies : Geometry → Line → Machine → Reply → Machine → Type 0
+Replies g line.Skip before reply after = (reply ≡ Nothing) × (after ≡ before)
+Replies g line.Bad before reply after = (reply ≡ BadLine) × (after ≡ before)
+Replies g (line.Command c) before reply after = (a : Answer) × (reply ≡ Told a) × Step g before c a after
+
+-- the turn answers what its line says
+abbrev pub IsTurn : Geometry → (Command → Bool) → Turn → Type 0
+IsTurn g knows t = (l : Line) × Says t.line l × Replies g (understood knows l) t.before t.reply t.after
+
+-- a run: each turn begins where the one before it ended
+abbrev pub IsRun : Geometry → (Command → Bool) → Machine → List Turn → Machine → Type 0
+IsRun g knows m [] last = last ≡ m
+IsRun g knows m (t ∷ ts) last = (t.before ≡ m) × IsTurn g knows t × IsRun g knows t.after ts last
+
+abbrev pub reply_text : Reply → List ℕ
+reply_text Nothing = []
+reply_text BadLine = bad_line
+reply_text (Told a) = printed a
+
+-- all that a run writes
+abbrev pub output_of : List Turn → List ℕ
+output_of turns = flat_map (λ t. reply_text t.reply) turns
+
+-- a byte goes onto the first line of what follows it
+abbrev pub onto_first : ℕ → List (List ℕ) → List (List ℕ)
+onto_first b [] = (b ∷ []) ∷ []
+onto_first b (first ∷ others) = (b ∷ first) ∷ others
+
+-- the lines of a script: each ends at a newline or at the end, and an empty rest at the end is none
+abbrev pub lines_of : List ℕ → List (List ℕ)
+lines_of [] = []
+lines_of (b ∷ bs) = if b == 10 then [] ∷ lines_of bs else onto_first b (lines_of bs)

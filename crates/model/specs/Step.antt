@@ -1,0 +1,225 @@
+use Rattle.std.specs.Prelude.{◌≡◌, ◌⊎◌, ℕ, ◌+◌, ◌-◌, ◌*◌, ◌/◌, ◌%◌, ◌^◌, ◌==◌, nat_lt, nat_le, min, Bool, true, false, not, ◌&&◌, if◌then◌else◌, Option, None, Some, Result, Ok, Err, List, [], ◌∷◌, ◌++◌, IsTrue}
+use Rattle.std.specs.List.{Contains}
+use Rattle.model.specs.declared.access.Access.{Access}
+use Rattle.model.specs.declared.answer.Answer.{Answer}
+use Rattle.model.specs.declared.answer.Answer.TheVariants as answer
+use Rattle.model.specs.declared.answer.MemoryFault.{MemoryFault}
+use Rattle.model.specs.declared.answer.MemoryFault.TheVariants.{ReadOnly}
+use Rattle.model.specs.declared.answer.Refusal.{Refusal}
+use Rattle.model.specs.declared.answer.Refusal.TheVariants as refusal
+use Rattle.model.specs.declared.capability.Capability.{Capability}
+use Rattle.model.specs.declared.command.Command.{Command}
+use Rattle.model.specs.declared.command.Command.TheVariants as command
+use Rattle.model.specs.declared.geometry.Geometry.{Geometry}
+use Rattle.model.specs.declared.object.Content.{Content}
+use Rattle.model.specs.declared.object.Content.TheVariants as content
+use Rattle.model.specs.declared.object.Object.{Object}
+use Rattle.model.specs.Object.{is_bank, is_root, slots_in}
+use Rattle.model.specs.World.{World, object_at, content_at, annex_at, root_at, word_at, with_word, is_process, is_running_process}
+use Rattle.model.specs.Bank.{usage}
+use Rattle.model.specs.Sound.{object_count}
+use Rattle.model.specs.Walk.{walk}
+use Rattle.model.specs.Invoke.{Effect, invoke}
+use Rattle.model.specs.Machine.{Saved, Frozen, Running, Machine, Up, Down, candidates, untouched, touching, touched_count, opened}
+
+-- whether writing these too is more than half of the log holds
+abbrev pub overfills : Geometry → List Bool → List ℕ → Bool
+overfills g touched written = nat_lt g.log (touched_count (touching touched written))
+
+-- a check, and where it passes the next
+abbrev pub unless : Bool → Refusal → Option Refusal → Option Refusal
+unless passes why next = if passes then next else Some why
+
+-- the page that a reference of a process reaches
+abbrev pub reached : List Object → ℕ → ℕ → Result (ℕ × Access) MemoryFault
+reached os p address = walk os (root_at os p).space (address / 512)
+
+-- the page that a store reaches: it has to be writable
+abbrev pub writable : Result (ℕ × Access) MemoryFault → Result ℕ MemoryFault
+writable (Ok found) = if found.1.0 == 0 then Ok found.0 else Err ReadOnly
+writable (Err why) = Err why
+
+-- only a running process acts
+abbrev pub of_running : List Object → ℕ → Option Refusal → Option Refusal
+of_running os p next = unless (is_process os p) refusal.NoProcess (unless (is_running_process os p) refusal.NotRunning next)
+
+-- the first refusal that applies, or none, of a command to a machine that is up
+unfoldable pub refusal_of : Geometry → Running → Command → Option Refusal
+refusal_of g s (command.Invoke i) =
+    of_running s.now.objects i.process (unless (nat_lt s.now.age (2 ^ 62)) refusal.Worn (elim (invoke s.now.objects i) [
+      | None ↦ Some refusal.Stalled
+      | Some effect ↦ unless (not (overfills g s.touched effect.written)) refusal.LogFull None
+    ]))
+refusal_of g s (command.Load p address) = of_running s.now.objects p None
+refusal_of g s (command.Store p address value) =
+    of_running s.now.objects p (elim (writable (reached s.now.objects p address)) [
+      | Ok page ↦ unless (not (overfills g s.touched (page ∷ []))) refusal.LogFull None
+      | Err why ↦ None
+    ])
+refusal_of g s (command.Show n) = unless (nat_lt n (object_count g)) refusal.BadNumber None
+refusal_of g s (command.Evict n) = unless (nat_lt n (object_count g)) refusal.BadNumber None
+refusal_of g s command.Checkpoint =
+    unless (nat_lt s.now.age (2 ^ 62)) refusal.Worn (elim s.frozen [
+      | Some frozen ↦ Some refusal.CheckpointRunning
+      | None ↦ unless (s.saved.entries == 0) refusal.MigrationPending None
+    ])
+refusal_of g s (command.Stabilize n) = elim s.frozen [ None ↦ Some refusal.NoCheckpoint | Some frozen ↦ None ]
+refusal_of g s command.Commit =
+    elim s.frozen [ None ↦ Some refusal.NoCheckpoint | Some frozen ↦ unless (frozen.left == 0) (refusal.NotStable frozen.left) None ]
+refusal_of g s (command.Migrate n) = None
+refusal_of g s command.Restart = None
+refusal_of g s command.Cut = None
+
+-- the text of an object: with a process its registers, with a bank its usage
+abbrev pub shown : List Object → ℕ → Answer
+shown os n =
+    let c = content_at os n in
+    answer.Shown n (object_at os n)
+    (if is_root c then Some (slots_in (content_at os (annex_at os n))) else None)
+    (if is_bank c then usage os n else 0)
+
+-- the saved part that a commit gives
+abbrev pub committed : Running → Frozen → Saved
+committed s frozen = record { world = frozen.world; generation = s.saved.generation + 1; entries = frozen.size }
+
+-- the saved part once all of it is home
+abbrev pub at_home : Saved → Saved
+at_home saved = record { world = saved.world; generation = saved.generation; entries = 0 }
+
+-- the saved part after n more objects went home
+abbrev pub moved : Running → ℕ → Saved
+moved s n = if s.to_move - n == 0 then at_home s.saved else s.saved
+
+-- what carrying a command out tells, and the machine after it
+pub record Outcome : Type 0 where
+  pub answer : Answer
+  pub after : Running
+
+abbrev pub outcome : Answer → Running → Outcome
+outcome a s = record { answer = a; after = s }
+
+-- a machine with other objects now, and these numbers written
+abbrev pub writing : Running → List Object → ℕ → List ℕ → Running
+writing s os age written =
+    record { now = record { objects = os; age = age }; touched = touching s.touched written; frozen = s.frozen; saved = s.saved; to_move = s.to_move }
+
+-- a machine with another checkpoint on its way
+abbrev pub freezing : Running → Option Frozen → Running
+freezing s frozen = record { now = s.now; touched = s.touched; frozen = frozen; saved = s.saved; to_move = s.to_move }
+
+-- a checkpoint begins: the age rises, all is frozen as it is, and nothing is written since
+abbrev pub frozen_now : Geometry → Running → Outcome
+frozen_now g s =
+    let size = touched_count s.touched in
+    let now : World = record { objects = s.now.objects; age = s.now.age + 1 } in
+    outcome (answer.Frozen size) (record {
+      now = now;
+      touched = untouched g;
+      frozen = Some (record { world = now; size = size; left = size });
+      saved = s.saved;
+      to_move = s.to_move;
+    })
+
+abbrev pub stabilized : Running → ℕ → Outcome
+stabilized s n = elim s.frozen [
+  | None ↦ outcome answer.Done s
+  | Some f ↦ outcome (answer.Left (f.left - n)) (freezing s (Some (record { world = f.world; size = f.size; left = f.left - n })))
+]
+
+abbrev pub commits : Running → Outcome
+commits s = elim s.frozen [
+  | None ↦ outcome answer.Done s
+  | Some f ↦ outcome (answer.Committed (s.saved.generation + 1))
+      (record { now = s.now; touched = s.touched; frozen = None; saved = committed s f; to_move = f.size })
+]
+
+-- a command that isn't refused, carried out
+unfoldable pub carried_out : Geometry → Running → Command → Outcome
+carried_out g s (command.Invoke i) = elim (invoke s.now.objects i) [
+  | None ↦ outcome answer.Done s
+  | Some effect ↦ outcome answer.Done (writing s effect.objects (s.now.age + 1) effect.written)
+]
+carried_out g s (command.Load p address) = elim (reached s.now.objects p address) [
+  | Ok found ↦ outcome (answer.Value (word_at s.now.objects found.0 (address % 512))) s
+  | Err why ↦ outcome (answer.MemoryFault why) s
+]
+carried_out g s (command.Store p address value) = elim (writable (reached s.now.objects p address)) [
+  | Ok page ↦ outcome answer.Done (writing s (with_word s.now.objects page (address % 512) value) s.now.age (page ∷ []))
+  | Err why ↦ outcome (answer.MemoryFault why) s
+]
+carried_out g s (command.Show n) = outcome (shown s.now.objects n) s
+carried_out g s (command.Evict n) = outcome answer.Done s
+carried_out g s command.Checkpoint = frozen_now g s
+carried_out g s (command.Stabilize n) = stabilized s n
+carried_out g s command.Commit = commits s
+carried_out g s (command.Migrate n) =
+    outcome (answer.Left (s.to_move - n))
+    (record { now = s.now; touched = s.touched; frozen = s.frozen; saved = moved s n; to_move = s.to_move - n })
+carried_out g s command.Restart = outcome (answer.At s.saved.generation s.saved.world.age) (opened g s.saved)
+carried_out g s command.Cut = outcome (answer.At s.saved.generation s.saved.world.age) (opened g s.saved)
+
+-- the answer that is the command's own: the first refusal that applies, else what carrying it out tells
+abbrev pub Answers : Geometry → Running → Command → Answer → Machine → Type 0
+Answers g s c a after = elim (refusal_of g s c) [
+  | Some why ↦ (a ≡ answer.Refused why) × (after ≡ Up s)
+  | None ↦ (a ≡ (carried_out g s c).answer) × (after ≡ Up (carried_out g s c).after)
+]
+
+-- opened again at one of the candidates
+abbrev pub Reopens : Geometry → List Saved → Answer → Machine → Type 0
+Reopens g saved a after =
+    (at : Saved) × Contains saved at × (a ≡ answer.At at.generation at.world.age) × (after ≡ Up (opened g at))
+
+-- the commands that may want memory
+abbrev pub takes_memory : Command → Bool
+takes_memory (command.Invoke i) = true
+takes_memory (command.Load p address) = true
+takes_memory (command.Store p address value) = true
+takes_memory (command.Show n) = true
+takes_memory command.Restart = true
+takes_memory command.Cut = true
+takes_memory _ = false
+
+abbrev pub opens : Command → Bool
+opens command.Restart = true
+opens command.Cut = true
+opens _ = false
+
+-- whether want of memory may stand in place of a refusal
+abbrev pub gives_way : Option Refusal → Bool
+gives_way (Some refusal.NoProcess) = false
+gives_way (Some refusal.BadNumber) = false
+gives_way _ = true
+
+abbrev pub MayWantMemory : Geometry → Machine → Command → Type 0
+MayWantMemory g (Up s) c = IsTrue (takes_memory c && gives_way (refusal_of g s c))
+MayWantMemory g (Down saved) c = IsTrue (opens c)
+
+-- want of memory changes nothing, but leaves a machine that was to be opened down
+abbrev pub without_memory : Machine → Command → Machine
+without_memory m c = if opens c then Down (candidates m) else m
+
+-- what a command would have saved beside what was saved, if the device fails in it
+abbrev pub second : Machine → Command → List Saved
+second (Up s) command.Commit = elim s.frozen [ None ↦ [] | Some frozen ↦ if frozen.left == 0 then committed s frozen ∷ [] else [] ]
+second (Up s) (command.Migrate n) = if s.saved.entries == 0 then [] else if s.to_move - n == 0 then at_home s.saved ∷ [] else []
+second _ _ = []
+
+-- a machine that is down takes only what opens it
+abbrev pub MayFail : Machine → Command → Type 0
+MayFail (Up s) c = Unit {0}
+MayFail (Down saved) c = IsTrue (opens c)
+
+-- from a machine that is up: the command's own answer. From one that is down: it is opened, or says so
+abbrev pub Proceeds : Geometry → Machine → Command → Answer → Machine → Type 0
+Proceeds g (Up s) c a after = Answers g s c a after
+Proceeds g (Down saved) command.Restart a after = Reopens g saved a after
+Proceeds g (Down saved) command.Cut a after = Reopens g saved a after
+Proceeds g (Down saved) _ a after = (a ≡ answer.Refused refusal.Down) × (after ≡ Down saved)
+
+-- a step of the machine: the command's own answer, want of memory, or a failure of the device
+abbrev pub Step : Geometry → Machine → Command → Answer → Machine → Type 0
+Step g m c a after =
+    Proceeds g m c a after
+    ⊎ (MayWantMemory g m c × (a ≡ answer.Refused refusal.NoMemory) × (after ≡ without_memory m c))
+    ⊎ (MayFail m c × (a ≡ answer.Refused refusal.Fault) × (after ≡ Down (candidates m ++ second m c)))

@@ -1,0 +1,21 @@
+use crate::capability::Cap;
+use crate::object::Content;
+
+/// What is kept of an object beside its content.
+#[derive(Clone, Copy, PartialEq, Eq, Debug)]
+pub struct Header {
+    /// How often the number was given up. A capability with a smaller count is stale (EROS: the
+    /// allocation count).
+    pub allocations: u64,
+    /// How often the right to resume the process was given up (EROS: the call count).
+    pub calls: u64,
+    /// The number of the bank that owns the object, or 0 where it is free.
+    pub owner: u64,
+}
+
+/// An object as it is kept: its capabilities have counts, and may be stale.
+#[derive(Drop)]
+pub struct Frame {
+    pub header: Header,
+    pub content: Content<Cap>,
+}

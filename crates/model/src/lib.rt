@@ -1,0 +1,28 @@
+//! The abstract machine of a persistent capability system, and the plain types that it is told in.
+#![tactic(auto)]
+
+pub mod access;
+pub mod answer;
+pub mod capability;
+pub mod command;
+pub mod frame;
+pub mod geometry;
+pub mod line;
+pub mod object;
+pub mod order;
+pub mod present;
+pub mod slots;
+pub mod words;
+
+pub use access::Access;
+pub use answer::{Answer, MemoryFault, Refusal};
+pub use capability::{Cap, Capability};
+pub use command::{Command, Invocation, Operation};
+pub use frame::{Frame, Header};
+pub use geometry::Geometry;
+pub use line::Line;
+pub use object::{Content, Object, Root, State};
+pub use order::{NodeOrder, PageOrder, ProcessOrder, ResultCode};
+pub use present::{PrepareFault, PresentFrames};
+pub use slots::Slots;
+pub use words::Words;

@@ -1,0 +1,45 @@
+use crate::slots::Slots;
+use crate::words::Words;
+
+/// What a process does.
+#[derive(Clone, Copy, PartialEq, Eq, Debug)]
+pub enum State {
+    /// It can be started.
+    Available = 0,
+    /// It invokes capabilities.
+    Running = 1,
+    /// It has called, and is resumed once.
+    Waiting = 2,
+}
+
+/// The root of a process: all that it has but its registers, which its annex holds.
+#[derive(Drop)]
+pub struct Root<C> {
+    pub state: State,
+    /// The words last delivered.
+    pub words: [u64; 4],
+    /// The key last delivered: it tells which start capability was used.
+    pub key: u16,
+    /// The number of the object with the registers.
+    pub annex: u64,
+    /// The address space, or void.
+    pub space: C,
+}
+
+/// What an object holds.
+#[derive(Drop)]
+pub enum Content<C> {
+    Free,
+    Page(Words),
+    Node(Slots<C>),
+    Root(Root<C>),
+    Annex(Slots<C>),
+    Bank { limit: u64 },
+}
+
+/// An object and the bank that owns it, which is 0 where it is free.
+#[derive(Drop)]
+pub struct Object {
+    pub owner: u64,
+    pub content: Content<crate::Capability>,
+}

@@ -1,0 +1,47 @@
+/// What came of an order: the first of the result words.
+#[derive(Clone, Copy, PartialEq, Eq, Debug)]
+pub enum ResultCode {
+    Done = 0,
+    NoOrder = 1,
+    NoAccess = 2,
+    BadIndex = 3,
+    BadCapability = 4,
+    Limit = 5,
+    NoFrame = 6,
+    TooDeep = 7,
+    VoidCapability = 8,
+    NotFromThisBank = 9,
+    PrimeBank = 10,
+}
+
+/// What a page capability is asked.
+#[derive(Clone, Copy, PartialEq, Eq, Debug)]
+pub enum PageOrder {
+    Read = 1,
+    Write = 2,
+    Reduce = 3,
+}
+
+/// What a node capability is asked.
+#[derive(Clone, Copy, PartialEq, Eq, Debug)]
+pub enum NodeOrder {
+    Fetch = 1,
+    Store = 2,
+    Reduce = 3,
+    MakeSpace = 4,
+    PutNumber = 5,
+}
+
+/// What a process capability is asked.
+#[derive(Clone, Copy, PartialEq, Eq, Debug)]
+pub enum ProcessOrder {
+    GetRegister = 1,
+    PutRegister = 2,
+    GetWord = 3,
+    PutWord = 4,
+    MakeStart = 5,
+    GetState = 6,
+    SetState = 7,
+    GetSpace = 8,
+    SetSpace = 9,
+}

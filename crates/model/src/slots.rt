@@ -1,0 +1,61 @@
+ghost use Rattle.std.specs.Prelude.{◌≡◌, ℕ, ◌<◌, List, length, replicate, IfOk, slice_get, slice_set, Some};
+
+use std::alloc::{AllocError, Global};
+use std::marker::Model;
+
+/// How many slots a node has, and how many registers a process.
+pub const SLOTS: usize = 32;
+
+/// The 32 slots of a node, or registers of a process.
+#[derive(Drop)]
+pub struct Slots<C> {
+    items: Vec<C>,
+}
+
+impl<C> Model for Slots<C> {
+    ghost use Rattle.std.specs.Prelude.{List};
+
+    ghost Value = { List C };
+
+    ghost view = { λ w. w.items.items };
+
+    ghost use Rattle.std.specs.Prelude.{◌≡◌, vec_len};
+
+    ghost invariant = { λ w. vec_len w.items ≡ 32 };
+}
+
+impl<C: Copy> Slots<C> {
+    /// All slots the same. Fails only where memory runs out.
+    pub fn new(alloc: Global, held: C) -> Result<Self, AllocError>
+        ensures { IfOk result (λ slots. slots ≡ replicate 32 held) }
+    {
+        let mut items = Vec::with_capacity(alloc, SLOTS)?;
+        for _ in 0..SLOTS {
+            items.push(held)?;
+        }
+        Ok(Slots { items })
+    }
+
+    pub fn get(&self, index: usize) -> C
+        requires { index < 32 }
+        ensures value { slice_get self.now index ≡ Some result }
+        ensures length { length self.now ≡ 32 }
+    {
+        self.items[index]
+    }
+
+    /// The slots in order.
+    pub fn as_slice(&self) -> &[C]
+        ensures value { result.now ≡ self.now }
+        ensures length { length self.now ≡ 32 }
+    {
+        self.items.as_slice()
+    }
+
+    pub fn set(&mut self, index: usize, held: C)
+        requires { index < 32 }
+        ensures set { self.new ≡ slice_set self.old index held }
+    {
+        self.items[index] = held;
+    }
+}
