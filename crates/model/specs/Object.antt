@@ -1,6 +1,8 @@
 use Rattle.std.specs.Prelude.{◌≡◌, ℕ, Bool, true, false, List, [], ◌∷◌, map, replicate, slice_set}
 use Rattle.model.specs.declared.capability.Capability.{Capability}
 use Rattle.model.specs.declared.capability.Capability.TheVariants.{Void}
+use Rattle.model.specs.declared.object.Role.{Role}
+use Rattle.model.specs.declared.object.Role.TheVariants as role
 use Rattle.model.specs.declared.object.State.{State}
 use Rattle.model.specs.declared.object.State.TheVariants.{Available, Running, Waiting}
 use Rattle.model.specs.declared.object.Root.{Root}
@@ -40,6 +42,15 @@ is_annex _ = false
 abbrev pub is_bank : {C : Type 0} → Content C → Bool
 is_bank (content.Bank limit) = true
 is_bank _ = false
+
+-- what an object is, by its content
+abbrev pub role_of : {C : Type 0} → Content C → Role
+role_of content.Free = role.Free
+role_of (content.Page words) = role.Page
+role_of (content.Node slots) = role.Node
+role_of (content.Root root) = role.Root
+role_of (content.Annex registers) = role.Annex
+role_of (content.Bank limit) = role.Bank
 
 -- the parts of a content, or nothing where it has none
 abbrev pub words_in : {C : Type 0} → Content C → List ℕ

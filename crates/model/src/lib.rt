@@ -21,7 +21,7 @@ pub use command::{Command, Invocation, Operation};
 pub use frame::{Frame, Header};
 pub use geometry::Geometry;
 pub use line::Line;
-pub use object::{Content, Object, Root, State};
+pub use object::{Content, Object, Role, Root, State};
 pub use order::{NodeOrder, PageOrder, ProcessOrder, ResultCode};
 pub use present::{PrepareFault, PresentFrames};
 pub use slots::Slots;

@@ -1,6 +1,19 @@
 use crate::slots::Slots;
 use crate::words::Words;
 
+/// What an object is.
+#[derive(Clone, Copy, PartialEq, Eq, Debug)]
+pub enum Role {
+    Free = 0,
+    Page = 1,
+    Node = 2,
+    /// The root of a process.
+    Root = 3,
+    /// The annex of a process.
+    Annex = 4,
+    Bank = 5,
+}
+
 /// What a process does.
 #[derive(Clone, Copy, PartialEq, Eq, Debug)]
 pub enum State {

@@ -6,10 +6,12 @@ ghost use Rattle.model.specs.declared.frame.Header.{Header};
 ghost use Rattle.model.specs.declared.geometry.Geometry.{Geometry};
 ghost use Rattle.model.specs.contracts.frame.Frame.{the_row as frame_row};
 ghost use Rattle.model.specs.Machine.{touching, touched_count};
-ghost use Rattle.model.specs.Frame.{given_up, owned_by};
+ghost use Rattle.model.specs.Frame.{frame_at, given_up, owned_by};
+ghost use Rattle.model.specs.Object.{role_of};
 
 use crate::frame::{Frame, Header};
 use crate::geometry::Geometry;
+use crate::object::Role;
 use std::alloc::Global;
 
 /// How many frames can be fetched at a time.
@@ -58,7 +60,12 @@ pub trait PresentFrames: Drop {
     /// The header of any object, fetched or not.
     fn header(&self, number: u64) -> Header
         requires { number < length (frames self.now) }
-        ensures { (frame : Frame) → slice_get (frames self.now) number ≡ Some frame → result ≡ frame.header };
+        ensures { result ≡ (frame_at (frames self.now) number).header };
+
+    /// What any object is, fetched or not.
+    fn role(&self, number: u64) -> Role
+        requires { number < length (frames self.now) }
+        ensures { result ≡ role_of (frame_at (frames self.now) number).content };
 
     /// Fetches the frames that are to be read or changed, at most 8, and announces the numbers that
     /// are to be written. After an error no frame and no number written is another than before.
@@ -87,22 +94,21 @@ pub trait PresentFrames: Drop {
 
     fn frame(&self, number: u64) -> &Frame
         requires { IsFetched self.now number }
-        ensures { slice_get (frames self.now) number ≡ Some result.now };
+        ensures { result.now ≡ frame_at (frames self.now) number };
 
     /// Lends a frame to be changed.
     fn frame_mut(&mut self, number: u64) -> &mut Frame
         requires fetched { IsFetched self.old number }
         requires announced { IsAnnounced self.old number }
         ensures* writes_back { sem 𝓛 (Lends Self.row frame_row self.entry result (with_frame self.old number)) }
-        ensures value { slice_get (frames self.old) number ≡ Some result.now };
+        ensures value { result.now ≡ frame_at (frames self.old) number };
 
     /// Gives an object up: it is free, and both of its counts are one more.
     fn reset(&mut self, number: u64)
         requires announced { IsAnnounced self.old number }
-        requires room { (frame : Frame) → slice_get (frames self.old) number ≡ Some frame
-            → (frame.header.allocations < u64.MAX) × (frame.header.calls < u64.MAX) }
-        ensures frames { (frame : Frame) → slice_get (frames self.old) number ≡ Some frame
-            → frames self.new ≡ slice_set (frames self.old) number (given_up frame) }
+        requires allocations { (frame_at (frames self.old) number).header.allocations < u64.MAX }
+        requires calls { (frame_at (frames self.old) number).header.calls < u64.MAX }
+        ensures frames { frames self.new ≡ slice_set (frames self.old) number (given_up (frame_at (frames self.old) number)) }
         ensures announced { (n : ℕ) → IsAnnounced self.old n → IsAnnounced self.new n }
         ensures fetched { (n : ℕ) → IsFetched self.old n → IsFetched self.new n }
         ensures touched { touched self.new ≡ touched self.old }
@@ -113,8 +119,7 @@ pub trait PresentFrames: Drop {
     /// Gives an object another owner.
     fn set_owner(&mut self, number: u64, bank: u64)
         requires { IsAnnounced self.old number }
-        ensures frames { (frame : Frame) → slice_get (frames self.old) number ≡ Some frame
-            → frames self.new ≡ slice_set (frames self.old) number (owned_by bank frame) }
+        ensures frames { frames self.new ≡ slice_set (frames self.old) number (owned_by bank (frame_at (frames self.old) number)) }
         ensures announced { (n : ℕ) → IsAnnounced self.old n → IsAnnounced self.new n }
         ensures fetched { (n : ℕ) → IsFetched self.old n → IsFetched self.new n }
         ensures touched { touched self.new ≡ touched self.old }
