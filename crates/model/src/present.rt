@@ -57,6 +57,10 @@ pub trait PresentFrames: Drop {
     fn geometry(&self) -> Geometry
         ensures { result ≡ geometry self.now };
 
+    /// How many objects there are.
+    fn count(&self) -> u64
+        ensures { result ≡ length (frames self.now) };
+
     /// The header of any object, fetched or not.
     fn header(&self, number: u64) -> Header
         requires { number < length (frames self.now) }

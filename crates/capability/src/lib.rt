@@ -1,0 +1,4 @@
+//! Capabilities as they are held, with counts, and the frames that hold them.
+#![tactic(auto)]
+
+pub mod objects;
