@@ -1,8 +1,9 @@
 -- Frames against the objects that they stand for.
-use Rattle.std.proofs.Common.{◌≡◌, ℕ, ◌<◌, Bool, true, false, List, [], ◌∷◌, map, length, slice_get, slice_index, slice_index_or, slice_set, Some, refl, sym, ap, ◌∙◌, if◌then◌else◌, nat_lt, arith}
+use Rattle.std.proofs.Common.{◌≡◌, ℕ, ◌<◌, Bool, true, false, List, [], ◌∷◌, map, length, slice_get, slice_index, slice_index_or, slice_set, Some, refl, sym, ap, ◌∙◌, if◌then◌else◌, nat_lt, ◌≤◌, ⊎_elim, arith}
 use Rattle.std.proofs.Math.ListN.{get_or-map}
 use Rattle.std.proofs.Math.Seq.{map-set_same}
-use Rattle.std.proofs.lemmas.List.{map-set}
+use Rattle.std.proofs.lemmas.Bool.{cases_lt}
+use Rattle.std.proofs.lemmas.List.{map-set, get_or_past}
 use Rattle.std.proofs.lemmas.Option.{get_or_from_slice_get, slice_get-map}
 use Rattle.std.specs.Option.{option_map}
 use Rattle.model.specs.declared.capability.Cap.{Cap}
@@ -17,7 +18,7 @@ use Rattle.model.specs.declared.object.Root.{Root}
 use Rattle.model.specs.declared.object.State.TheVariants.{Running}
 use Rattle.std.proofs.lemmas.Bool.Decides.{nat_tests}
 use Rattle.model.specs.Frame.{blank_frame, frame_at, headers, header_at, conveyed, current_count, object_of, objects_of}
-use Rattle.model.specs.Object.{free, map_content, slots_in, words_in, root_in, is_root, is_page, is_node, is_annex, with_slot_in, with_word_in}
+use Rattle.model.specs.Object.{free, is_free, map_content, slots_in, words_in, root_in, is_root, is_page, is_node, is_annex, with_slot_in, with_word_in}
 use Rattle.model.specs.World.{object_at, content_at, owner_at, slot_at, word_at, root_at, annex_at, is_process, with_content, with_word, with_slot, with_root}
 use Rattle.capability.specs.Objects.{with_message}
 
@@ -214,3 +215,44 @@ blank_annex f (content.Node slots) root = refl
 blank_annex f (content.Root r) root = absurd (root r refl)
 blank_annex f (content.Annex registers) root = refl
 blank_annex f (content.Bank limit) root = refl
+
+-- past the last frame all is free
+pub free_past : (fs : List Frame) (n : ℕ) → length fs ≤ n → is_free (content_at (objects_of fs) n) ≡ true
+free_past fs n past = ap is_free (content_at_frame fs n ∙ ap (λ (f : Frame). map_content (conveyed (headers fs)) f.content) (get_or_past fs n blank_frame past))
+
+-- what isn't free has a frame
+pub known_used : (fs : List Frame) (n : ℕ) → is_free (content_at (objects_of fs) n) ≡ false → n < length fs
+known_used fs n used = ⊎_elim (λ (within : n < length fs). within) (λ past. let none = free_past fs n past in cc) (cases_lt n (length fs))
+
+-- a content of a kind isn't free
+pub root_used : {C : Type 0} (c : Content C) → is_root c ≡ true → is_free c ≡ false
+root_used content.Free is = sym is
+root_used (content.Page words) is = refl
+root_used (content.Node slots) is = refl
+root_used (content.Root r) is = refl
+root_used (content.Annex registers) is = refl
+root_used (content.Bank limit) is = refl
+
+pub annex_used : {C : Type 0} (c : Content C) → is_annex c ≡ true → is_free c ≡ false
+annex_used content.Free is = sym is
+annex_used (content.Page words) is = refl
+annex_used (content.Node slots) is = refl
+annex_used (content.Root r) is = refl
+annex_used (content.Annex registers) is = refl
+annex_used (content.Bank limit) is = refl
+
+pub page_used : {C : Type 0} (c : Content C) → is_page c ≡ true → is_free c ≡ false
+page_used content.Free is = sym is
+page_used (content.Page words) is = refl
+page_used (content.Node slots) is = refl
+page_used (content.Root r) is = refl
+page_used (content.Annex registers) is = refl
+page_used (content.Bank limit) is = refl
+
+pub node_used : {C : Type 0} (c : Content C) → is_node c ≡ true → is_free c ≡ false
+node_used content.Free is = sym is
+node_used (content.Page words) is = refl
+node_used (content.Node slots) is = refl
+node_used (content.Root r) is = refl
+node_used (content.Annex registers) is = refl
+node_used (content.Bank limit) is = refl

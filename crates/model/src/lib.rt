@@ -12,6 +12,7 @@ pub mod object;
 pub mod order;
 pub mod present;
 pub mod slots;
+pub mod soundness;
 pub mod words;
 
 pub use access::Access;

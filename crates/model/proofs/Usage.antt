@@ -1,0 +1,89 @@
+use Rattle.std.proofs.Common.{◌≡◌, ℕ, zero, suc, ◌+◌, ◌==◌, Bool, not, ◌&&◌, cond, List, [], ◌∷◌, length, get_or, refl, subst, arith}
+use Rattle.std.specs.List.{fold, enumerate_from}
+use Rattle.model.specs.declared.capability.Capability.{Capability}
+use Rattle.model.specs.declared.geometry.Geometry.{Geometry}
+use Rattle.model.specs.declared.object.Content.{Content}
+use Rattle.model.specs.declared.object.Content.TheVariants as content
+use Rattle.model.specs.declared.object.Object.{Object}
+use Rattle.model.specs.Object.{free, is_free, is_page, is_node, is_root, is_annex, is_bank, role_of, limit_in, root_in}
+use Rattle.model.specs.World.{object_at, content_at, owner_at}
+use Rattle.model.specs.Bank.{chain_within, chain, is_under, usage}
+use Rattle.model.specs.Sound.{IsOfKind}
+
+-- two objects that differ in no more than words, slots, a state, a key or an address space
+pub record AreAlike (x y : Object) : Type 0 where
+  pub owner : y.owner ≡ x.owner
+  pub role : role_of y.content ≡ role_of x.content
+  pub annex : (root_in y.content).annex ≡ (root_in x.content).annex
+  pub limit : limit_in y.content ≡ limit_in x.content
+
+-- two lists of such objects
+pub record SameFrame (os us : List Object) : Type 0 where
+  pub size : length us ≡ length os
+  pub alike : (n : ℕ) → AreAlike (object_at os n) (object_at us n)
+
+pub alike_refl : (x : Object) → AreAlike x x
+alike_refl x = record { owner = refl; role = refl; annex = refl; limit = refl }
+
+pub alike_trans : (x y z : Object) → AreAlike x y → AreAlike y z → AreAlike x z
+alike_trans x y z p q = record { owner = cc; role = cc; annex = cc; limit = cc }
+
+pub frame_trans : (os us vs : List Object) → SameFrame os us → SameFrame us vs → SameFrame os vs
+frame_trans os us vs p q = record {
+  size = cc;
+  alike = λ n. alike_trans (object_at os n) (object_at us n) (object_at vs n) (p.alike n) (q.alike n);
+}
+
+pub frame_refl : (os : List Object) → SameFrame os os
+frame_refl os = record { size = refl; alike = λ n. alike_refl (object_at os n) }
+
+-- contents of the same role answer alike
+pub record SameTests (c d : Content Capability) : Type 0 where
+  pub free : is_free d ≡ is_free c
+  pub page : is_page d ≡ is_page c
+  pub node : is_node d ≡ is_node c
+  pub root : is_root d ≡ is_root c
+  pub annex : is_annex d ≡ is_annex c
+  pub bank : is_bank d ≡ is_bank c
+  pub kind : (g : Geometry) (n : ℕ) → IsOfKind g n c → IsOfKind g n d
+
+pub same_tests : (c d : Content Capability) → role_of d ≡ role_of c → SameTests c d
+same_tests content.Free content.Free e = record { free = refl; page = refl; node = refl; root = refl; annex = refl; bank = refl; kind = λ g n k. k }
+same_tests (content.Page v) (content.Page w) e = record { free = refl; page = refl; node = refl; root = refl; annex = refl; bank = refl; kind = λ g n k. k }
+same_tests (content.Node v) (content.Node w) e = record { free = refl; page = refl; node = refl; root = refl; annex = refl; bank = refl; kind = λ g n k. k }
+same_tests (content.Root v) (content.Root w) e = record { free = refl; page = refl; node = refl; root = refl; annex = refl; bank = refl; kind = λ g n k. k }
+same_tests (content.Annex v) (content.Annex w) e = record { free = refl; page = refl; node = refl; root = refl; annex = refl; bank = refl; kind = λ g n k. k }
+same_tests (content.Bank v) (content.Bank w) e = record { free = refl; page = refl; node = refl; root = refl; annex = refl; bank = refl; kind = λ g n k. k }
+same_tests c d e = cc
+
+pub tests_at : (os us : List Object) → SameFrame os us → (n : ℕ) → SameTests (content_at os n) (content_at us n)
+tests_at os us s n = same_tests (content_at os n) (content_at us n) (s.alike n).role
+
+-- chains and usages are those of the frame
+chain_within_same : (k : ℕ) (os us : List Object) → SameFrame os us → (b : ℕ) → chain_within k us b ≡ chain_within k os b
+chain_within_same zero os us s b = refl
+chain_within_same (suc k) os us s b =
+    rw (s.alike b).owner (rw (chain_within_same k os us s (owner_at os b)) refl)
+
+pub chain_same : (os us : List Object) → SameFrame os us → (b : ℕ) → chain us b ≡ chain os b
+unfolding chain
+chain_same os us s b = chain_within_same 16 os us s b
+
+fold_same : {X : Type 0} (p q : ℕ × X → Bool) (a k : ℕ) (xs ys : List X) (d : X) → length ys ≡ length xs
+    → ((i j : ℕ) → j ≡ k + i → p (j, get_or ys i d) ≡ q (j, get_or xs i d))
+    → fold (λ a x. a + cond (p x) 1 0) a (enumerate_from k ys) ≡ fold (λ a x. a + cond (q x) 1 0) a (enumerate_from k xs)
+fold_same p q a k [] [] d e same = refl
+fold_same p q a k (x ∷ xs) (y ∷ ys) d e same =
+    let head : p (k, y) ≡ q (k, x) = same 0 k (omega arith) in
+    subst (λ t. fold (λ a x. a + cond (p x) 1 0) (a + cond (p (k, y)) 1 0) (enumerate_from (k + 1) ys) ≡ fold (λ a x. a + cond (q x) 1 0) (a + cond t 1 0) (enumerate_from (k + 1) xs)) head
+    (fold_same p q (a + cond (p (k, y)) 1 0) (k + 1) xs ys d (omega arith) (λ i j e. same (suc i) j (omega arith)))
+fold_same p q a k xs ys d e same = absurd (omega arith)
+
+pub under_same : (os us : List Object) → SameFrame os us → (b : ℕ) (x y : Object) → AreAlike x y → is_under us b y ≡ is_under os b x
+under_same os us s b x y a = rw ((same_tests x.content y.content a.role).free, a.owner, chain_same os us s x.owner) refl
+
+pub usage_same : (os us : List Object) → SameFrame os us → (b : ℕ) → usage us b ≡ usage os b
+unfolding usage
+usage_same os us s b =
+    fold_same (λ p. not (p.0 == b) && is_under us b p.1) (λ p. not (p.0 == b) && is_under os b p.1) 0 0 os us free s.size
+    (λ i j e. rw (under_same os us s b (object_at os i) (object_at us i) (s.alike i)) refl)
