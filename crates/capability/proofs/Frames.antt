@@ -61,6 +61,14 @@ is_root_map f (content.Root r) = refl
 is_root_map f (content.Annex registers) = refl
 is_root_map f (content.Bank limit) = refl
 
+is_annex_map : (f : Cap → Capability) (c : Content Cap) → is_annex (map_content f c) ≡ is_annex c
+is_annex_map f content.Free = refl
+is_annex_map f (content.Page words) = refl
+is_annex_map f (content.Node slots) = refl
+is_annex_map f (content.Root r) = refl
+is_annex_map f (content.Annex registers) = refl
+is_annex_map f (content.Bank limit) = refl
+
 -- what stands at a number whose frame has that content
 module _ (fs : List Frame) (n : ℕ) (frame : Frame) (c : Content Cap) (is_there : frame ≡ frame_at fs n) (is : frame.content ≡ c) where
   pub content_there : content_at (objects_of fs) n ≡ map_content (conveyed (headers fs)) c
@@ -124,6 +132,14 @@ no_root (content.Node slots) root = refl
 no_root (content.Root r) root = absurd (root r refl)
 no_root (content.Annex registers) root = refl
 no_root (content.Bank limit) root = refl
+
+no_annex : {C : Type 0} (c : Content C) → ((x : List C) → c ≡ content.Annex x → ⊥) → is_annex c ≡ false
+no_annex content.Free annex = refl
+no_annex (content.Page words) annex = refl
+no_annex (content.Node slots) annex = refl
+no_annex (content.Root r) annex = refl
+no_annex (content.Annex registers) annex = absurd (annex registers refl)
+no_annex (content.Bank limit) annex = refl
 
 -- such a content is left as it is by a change of a slot or a word
 pub slot_kept : {C : Type 0} (c : Content C) (i : ℕ) (held : C) → ((x : List C) → c ≡ content.Node x → ⊥) → ((x : List C) → c ≡ content.Annex x → ⊥) → c ≡ with_slot_in c i held
@@ -256,3 +272,16 @@ node_used (content.Node slots) is = refl
 node_used (content.Root r) is = refl
 node_used (content.Annex registers) is = refl
 node_used (content.Bank limit) is = refl
+
+pub no_annex_there : (fs : List Frame) (n : ℕ) (frame : Frame) → frame ≡ frame_at fs n →
+  ((x : List Cap) → frame.content ≡ content.Annex x → ⊥) → is_annex (content_at (objects_of fs) n) ≡ false
+no_annex_there fs n frame is_there annex =
+    ap is_annex (content_there fs n frame frame.content is_there refl) ∙ is_annex_map (conveyed (headers fs)) frame.content ∙ no_annex frame.content annex
+
+-- the object that a frame with that header and content stands for
+pub object_there : (fs : List Frame) (n : ℕ) (frame : Frame) (c : Content Capability) → frame ≡ frame_at fs n →
+  c ≡ map_content (conveyed (headers fs)) frame.content → record { owner = frame.header.owner; content = c } ≡ object_at (objects_of fs) n
+object_there fs n frame c is_there is =
+    ap (λ (d : Content Capability). record { owner = frame.header.owner; content = d }) is
+    ∙ ap (object_of (headers fs)) is_there
+    ∙ sym (object_at_frame fs n)

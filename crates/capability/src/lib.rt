@@ -3,4 +3,4 @@
 
 pub mod diminish;
 pub mod objects;
-
+pub mod view;
