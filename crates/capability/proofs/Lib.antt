@@ -1,2 +1,5 @@
 pub mod Asides
 pub mod Frames
+pub mod PlainFresh
+pub mod PlainUsage
+pub mod Touched

@@ -1,5 +1,5 @@
 ghost use Rattle.std.specs.Prelude.{◌≡◌};
-ghost use Rattle.model.specs.Capability.{diminished, weak};
+ghost use Rattle.model.specs.Capability.{diminished, full, weak};
 
 use bitflags::Flags;
 use model::{Access, Capability};
@@ -12,7 +12,7 @@ use model::{Access, Capability};
 pub fn diminish(capability: Capability) -> Capability
     ensures { result ≡ diminished capability }
 {
-    let access = read_only_and_weak();
+    let access = weak_access();
     match capability {
         Capability::Number(number) => Capability::Number(number),
         Capability::Page { object, .. } => Capability::Page { object, access },
@@ -31,7 +31,15 @@ pub fn diminish(capability: Capability) -> Capability
     }
 }
 
-fn read_only_and_weak() -> Access
+/// The access of a capability that restricts nothing.
+pub fn full_access() -> Access
+    ensures { result ≡ full }
+{
+    Access::empty()
+}
+
+/// The access of a capability that is read-only and weak.
+pub fn weak_access() -> Access
     ensures { result ≡ weak }
 {
     Access::READ_ONLY.union(Access::WEAK)

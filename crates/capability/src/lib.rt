@@ -1,6 +1,13 @@
-//! Capabilities as they are held, with counts, and the frames that hold them.
+//! Capabilities and the objects that they name, as frames with counts.
 #![tactic(auto)]
 
 pub mod diminish;
 pub mod objects;
+pub mod plain;
+#[cfg(test)]
+mod tests;
 pub mod view;
+
+pub use model::{Access, Cap, Capability};
+pub use plain::Plain;
+pub use plain::usage::usage;
