@@ -2,3 +2,4 @@ pub mod Calls
 pub mod Known
 pub mod Looking
 pub mod Messages
+pub mod OnlyStorage

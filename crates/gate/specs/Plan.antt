@@ -5,7 +5,7 @@ use Rattle.model.specs.declared.capability.Capability.TheVariants.{Void, Number,
 use Rattle.model.specs.declared.object.Object.{Object}
 use Rattle.model.specs.Capability.{named}
 use Rattle.model.specs.Order.{Outcome}
-use Rattle.model.specs.World.{with_word, with_slot}
+use Rattle.model.specs.World.{slot_at, with_word, with_slot}
 use Rattle.gate.specs.declared.plan.Change.{Change}
 use Rattle.gate.specs.declared.plan.Change.TheVariants as change
 use Rattle.gate.specs.declared.plan.Plan.{Plan}
@@ -51,3 +51,7 @@ IsWithin (change.Slot node slot capability) = slot < 32
 pub record IsFor (capability : Capability) (plan : Plan) : Type 0 where
   pub within : IsWithin plan.change
   pub target : (n : ℕ) → target_of plan.change ≡ Some n → named capability ≡ Some n
+
+-- objects in whose slots there is nothing else
+abbrev pub HoldOnlyStorage : List Object → Type 0
+HoldOnlyStorage os = (n i : ℕ) → IsStorage (slot_at os n i)

@@ -14,14 +14,10 @@ pub const MAX_CHAIN: usize = 16;
 /// Goes over all numbers, and over at most 16 banks for each. A bank that isn't one of the numbers
 /// counts as free: the prime bank comes next in its chain.
 pub fn usage<F: PresentFrames>(store: &F, bank: u64) -> u64
-    requires known { bank < length (F.frames store.now) }
-    requires numbers { let geometry = F.geometry store.now in
-        length (F.frames store.now) ≡ geometry.nodes + geometry.pages }
-    requires few { length (F.frames store.now) < 2 ^ 64 }
+    requires { bank < length (F.frames store.now) }
     ensures { result ≡ usage_of (objects_of (F.frames store.now)) bank }
 {
-    let geometry = store.geometry();
-    let count = geometry.nodes + geometry.pages;
+    let count = store.count();
     let mut used = 0;
     for number in 0..count {
         if number != bank && is_under(store, count, bank, number) {

@@ -1,5 +1,4 @@
 use Rattle.std.proofs.Common.{refl, ◌≡◌, ◌∙◌, ◌+◌, ◌<◌, ◌≤◌, sym, ap, length, arith}
-use Rattle.model.specs.declared.geometry.Geometry.{Geometry}
 use Rattle.model.specs.Frame.{objects_of}
 use Rattle.capability.proofs.PlainUsage.{used_more, used_same_itself, used_same_other, used_whole, length-objects}
 use Rattle.capability.proofs.plain.usage.usage.Goals as goal
@@ -10,8 +9,7 @@ loop-number-preserved g c =
     let fs = g.F.PresentFrames.frames c.args.store.now in
     let os = objects_of fs in
     let n = c.loop-number.number in
-    let numbers : length os ≡ c.geometry-geometry.result.nodes + c.geometry-geometry.result.pages =
-    rw (length-objects fs, c.requires.numbers, c.geometry-geometry.ensures) refl in
+    let numbers : length os ≡ c.count-count.result = length-objects fs ∙ sym c.count-count.ensures in
     let inside : n < length os = omega arith in
     elim c.if-number-bank.branch [
       | then-number-bank+then-is_under w ↦
@@ -32,7 +30,6 @@ pub returns : goal.returns
 returns g c =
     let fs = g.F.PresentFrames.frames c.args.store.now in
     let os = objects_of fs in
-    let numbers : length os ≡ c.geometry-geometry.result.nodes + c.geometry-geometry.result.pages =
-    rw (length-objects fs, c.requires.numbers, c.geometry-geometry.ensures) refl in
+    let numbers : length os ≡ c.count-count.result = length-objects fs ∙ sym c.count-count.ensures in
     let whole : length os ≤ c.loop-number.number = omega arith in
     omega (arith, used_whole os c.args.bank c.loop-number.number whole)

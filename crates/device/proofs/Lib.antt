@@ -1,0 +1,9 @@
+pub mod Flat
+pub mod Images
+pub mod Keeps
+pub mod Mirrors
+pub mod Moments
+pub mod Past
+pub mod Patches
+pub mod Disks
+pub mod Entries

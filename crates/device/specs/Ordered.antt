@@ -1,0 +1,15 @@
+-- Two runs of sectors, of which the second is written once the first is durable.
+use Rattle.std.specs.Prelude.{◌⊎◌, ℕ, List}
+use Rattle.device.specs.Disk.{Image}
+use Rattle.device.specs.Calls.{sectors_of, AreSectors, Elsewhere}
+
+-- these sectors have these bytes, and all others those of the old image
+pub record Holds (at : ℕ) (bytes : List ℕ) (old new : Image) : Type 0 where
+  pub whole : AreSectors new at bytes
+  pub elsewhere : Elsewhere at (sectors_of bytes) old new
+
+-- the first run is old or torn, and nothing else is touched; or it is whole, and then the second may be torn
+abbrev pub IsInOrder : ℕ → List ℕ → ℕ → List ℕ → Image → Image → Type 0
+IsInOrder at first next second old c =
+    Elsewhere at (sectors_of first) old c
+    ⊎ (AreSectors c at first × (mid : Image) × Holds at first old mid × Elsewhere next (sectors_of second) mid c)

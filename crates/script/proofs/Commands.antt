@@ -1,0 +1,316 @@
+-- A command is read from its words, and from no others.
+use Rattle.std.proofs.Common.{◌≡◌, ◌≢◌, ℕ, ◌+◌, ◌*◌, ◌<◌, ◌≤◌, ◌^◌, ◌&&◌, ◌==◌, Bool, true, false, cond, if◌then◌else◌, List, [], ◌∷◌, ◌++◌, map, Option, None, Some, length, decimal, codes, zero, suc, append-nil, append_assoc, refl, sym, ap, ◌∙◌, subst, inl, inr, arith, nat_lt}
+use Rattle.std.specs.Prelude.{IfSome, IfNone}
+use Rattle.std.specs.List.{All}
+use Rattle.std.specs.Str.{bytes_eq}
+use Rattle.std.specs.Str.Parse.{digits_value}
+use Rattle.std.proofs.lemmas.Slice.Eq.{bytes_eq-Decides}
+use Rattle.std.proofs.lemmas.Bool.{lt-ltb, ltb-true}
+use Rattle.model.specs.declared.command.Command.{Command}
+use Rattle.model.specs.declared.command.Command.TheVariants as command
+use Rattle.model.specs.declared.command.Invocation.{Invocation}
+use Rattle.model.specs.declared.command.Operation.{Operation}
+use Rattle.model.specs.declared.command.Operation.TheVariants.{Call, Return, Send}
+use Rattle.model.specs.Text.{Fits, command_words, operation_name}
+use Rattle.script.specs.declared.keyword.Keyword.{Keyword}
+use Rattle.script.specs.declared.keyword.Keyword.TheVariants as keyword
+use Rattle.script.specs.Keywords.{keyword_name}
+use Rattle.script.specs.Reading.{◌>>=◌, Words, Gives, number_in, number_at, register_at, numbers_at, registers_at, invocation_at, one_at, arguments_at}
+use Rattle.script.proofs.Numbers.{decimal_is_digits}
+
+-- the value of a step that did not fail
+bind_some : {A B : Type 0} (r : Option A) (f : A → Option B) (y : B) → (r >>= f) ≡ Some y → (x : A) × (r ≡ Some x) × (f x ≡ Some y)
+bind_some (Some x) f y e = (x, refl, e)
+bind_some None f y e = absurd cc
+
+-- a test that did not fail
+guard_some : {A : Type 0} (b : Bool) (x y : A) → cond b (Some x) None ≡ Some y → (b ≡ true) × (x ≡ y)
+guard_some true x y e = (refl, cc)
+guard_some false x y e = absurd cc
+
+pub both : (a b : Bool) → (a && b) ≡ true → (a ≡ true) × (b ≡ true)
+both true b e = (refl, e)
+both false b e = absurd cc
+
+-- a word that is a number
+
+pub number_in_decimal : (word : List ℕ) (n : ℕ) → n < 2 ^ 64 → word ≡ decimal n → number_in word ≡ Some n
+unfolding number_in
+number_in_decimal word n small is =
+    let value : digits_value 10 word ≡ n = (decimal_is_digits word n small is).1 in
+    let same : bytes_eq word (decimal n) ≡ true = (bytes_eq-Decides word (decimal n)).1 is in
+    rw (value, same, lt-ltb n (2 ^ 64) small) refl
+
+number_in_some : (word : List ℕ) (n : ℕ) → number_in word ≡ Some n → (n < 2 ^ 64) × (word ≡ decimal n)
+unfolding number_in
+number_in_some word n e =
+    let v = digits_value 10 word in
+    let g = guard_some (bytes_eq word (decimal v) && nat_lt v (2 ^ 64)) v n e in
+    let tests = both (bytes_eq word (decimal v)) (nat_lt v (2 ^ 64)) g.0 in
+    subst (λ (k : ℕ). (k < 2 ^ 64) × (word ≡ decimal k)) g.1 (ltb-true v (2 ^ 64) tests.1, (bytes_eq-Decides word (decimal v)).0 tests.0)
+
+number_in_none : (word : List ℕ) → ((n : ℕ) → n < 2 ^ 64 → word ≢ decimal n) → number_in word ≡ None
+number_in_none word none = go (number_in word) refl where
+  go : (r : Option ℕ) → number_in word ≡ r → number_in word ≡ None
+  go None e = e
+  go (Some n) e = let found = number_in_some word n e in absurd (none n found.0 found.1)
+
+-- what `number_of` says of a word is what reading gives
+pub number_gives : (r : Option ℕ) (word : List ℕ) (old left : Words) → old ≡ word ∷ left
+    → IfSome r (λ n. (n < 2 ^ 64) × (word ≡ decimal n)) → IfNone r ((n : ℕ) → n < 2 ^ 64 → word ≢ decimal n) → Gives r left (number_at old)
+unfolding number_at
+number_gives None word old left is found none = rw (is, number_in_none word none) refl
+number_gives (Some n) word old left is found none = rw (is, number_in_decimal word n found.0 found.1) refl
+
+-- ---- what is read from the words of a command
+
+pub number_again : (n : ℕ) (rest : Words) → n < 2 ^ 64 → number_at (decimal n ∷ rest) ≡ Some (n, rest)
+unfolding number_at
+number_again n rest small = rw (number_in_decimal (decimal n) n small refl) refl
+
+pub register_again : (n : ℕ) (rest : Words) → n < 32 → register_at (decimal n ∷ rest) ≡ Some (n, rest)
+unfolding register_at
+register_again n rest small = rw (number_again n rest (omega arith), lt-ltb n 32 small) refl
+
+-- four numbers, one after the other
+abbrev four_at : (Words → Option (ℕ × Words)) → Words → Option (List ℕ × Words)
+four_at read words = read words >>= (λ (a : ℕ × Words). read a.1 >>= (λ (b : ℕ × Words). read b.1 >>= (λ (c : ℕ × Words). read c.1 >>= (λ (d : ℕ × Words).
+    Some (a.0 ∷ b.0 ∷ c.0 ∷ d.0 ∷ [], d.1)))))
+
+abbrev ReadsAgain : (Words → Option (ℕ × Words)) → ℕ → Type 0
+ReadsAgain read limit = (n : ℕ) (rest : Words) → n < limit → read (decimal n ∷ rest) ≡ Some (n, rest)
+
+abbrev TakesOne : (Words → Option (ℕ × Words)) → ℕ → Type 0
+TakesOne read limit = (words : Words) (p : ℕ × Words) → read words ≡ Some p → (p.0 < limit) × (words ≡ decimal p.0 ∷ p.1)
+
+four_again : (read : Words → Option (ℕ × Words)) (limit : ℕ) → ReadsAgain read limit → (numbers : List ℕ) (rest : Words)
+    → length numbers ≡ 4 → All (λ n. n < limit) numbers → four_at read (map decimal numbers ++ rest) ≡ Some (numbers, rest)
+four_again read limit again (a ∷ b ∷ c ∷ d ∷ []) rest four small =
+    rw (again a (decimal b ∷ decimal c ∷ decimal d ∷ rest) (small 0 0 (omega arith)),
+        again b (decimal c ∷ decimal d ∷ rest) (small 1 0 (omega arith)),
+        again c (decimal d ∷ rest) (small 2 0 (omega arith)),
+        again d rest (small 3 0 (omega arith))) refl
+four_again read limit again [] rest four small = absurd (omega arith)
+four_again read limit again (a ∷ []) rest four small = absurd (omega arith)
+four_again read limit again (a ∷ b ∷ []) rest four small = absurd (omega arith)
+four_again read limit again (a ∷ b ∷ c ∷ []) rest four small = absurd (omega arith)
+four_again read limit again (a ∷ b ∷ c ∷ d ∷ e ∷ more) rest four small = absurd (omega arith)
+
+all_four : (limit a b c d : ℕ) → a < limit → b < limit → c < limit → d < limit → All (λ n. n < limit) (a ∷ b ∷ c ∷ d ∷ [])
+all_four limit a b c d pa pb pc pd zero e lt = pa
+all_four limit a b c d pa pb pc pd (suc zero) e lt = pb
+all_four limit a b c d pa pb pc pd (suc (suc zero)) e lt = pc
+all_four limit a b c d pa pb pc pd (suc (suc (suc zero))) e lt = pd
+all_four limit a b c d pa pb pc pd (suc (suc (suc (suc k)))) e lt = absurd (omega arith)
+
+some_is : {A : Type 0} (x y : A) → Some x ≡ Some y → x ≡ y
+some_is x y e = cc
+
+four_takes : (read : Words → Option (ℕ × Words)) (limit : ℕ) → TakesOne read limit → (words : Words) (p : List ℕ × Words) → four_at read words ≡ Some p
+    → (length p.0 ≡ 4) × All (λ n. n < limit) p.0 × (words ≡ map decimal p.0 ++ p.1)
+four_takes read limit takes words p e =
+    let one = bind_some (read words) _ p e in
+    let two = bind_some (read one.0.1) _ p one.2 in
+    let three = bind_some (read two.0.1) _ p two.2 in
+    let four = bind_some (read three.0.1) _ p three.2 in
+    let a = takes words one.0 one.1 in
+    let b = takes one.0.1 two.0 two.1 in
+    let c = takes two.0.1 three.0 three.1 in
+    let d = takes three.0.1 four.0 four.1 in
+    subst (λ (q : List ℕ × Words). (length q.0 ≡ 4) × All (λ n. n < limit) q.0 × (words ≡ map decimal q.0 ++ q.1)) (some_is _ _ four.2)
+    (refl, all_four limit one.0.0 two.0.0 three.0.0 four.0.0 a.0 b.0 c.0 d.0,
+     a.1 ∙ ap (λ (w : Words). decimal one.0.0 ∷ w) (b.1 ∙ ap (λ (w : Words). decimal two.0.0 ∷ w) (c.1 ∙ ap (λ (w : Words). decimal three.0.0 ∷ w) d.1)))
+
+number_takes : TakesOne number_at (2 ^ 64)
+unfolding number_at
+number_takes [] p e = absurd cc
+number_takes (word ∷ words) p e =
+    let b = bind_some (number_in word) (λ (n : ℕ). Some (n, words)) p e in
+    let f = number_in_some word b.0 b.1 in
+    subst (λ (q : ℕ × Words). (q.0 < 2 ^ 64) × (word ∷ words ≡ decimal q.0 ∷ q.1)) (some_is _ _ b.2) (f.0, ap (λ (w : List ℕ). w ∷ words) f.1)
+
+register_takes : TakesOne register_at 32
+unfolding register_at
+register_takes words p e =
+    let b = bind_some (number_at words) (λ (n : ℕ × Words). cond (nat_lt n.0 32) (Some n) None) p e in
+    let g = guard_some (nat_lt b.0.0 32) b.0 p b.2 in
+    let t = number_takes words b.0 b.1 in
+    subst (λ (q : ℕ × Words). (q.0 < 32) × (words ≡ decimal q.0 ∷ q.1)) g.1 (ltb-true b.0.0 32 g.0, t.1)
+
+-- the keyword of a command
+pub keyword_for : Command → Keyword
+keyword_for (command.Invoke i) = keyword.Invoke i.operation
+keyword_for (command.Load p a) = keyword.Load
+keyword_for (command.Store p a v) = keyword.Store
+keyword_for (command.Show n) = keyword.Show
+keyword_for (command.Evict n) = keyword.Evict
+keyword_for command.Checkpoint = keyword.Checkpoint
+keyword_for (command.Stabilize n) = keyword.Stabilize
+keyword_for command.Commit = keyword.Commit
+keyword_for (command.Migrate n) = keyword.Migrate
+keyword_for command.Restart = keyword.Restart
+keyword_for command.Cut = keyword.Cut
+
+pub command_again : (c : Command) → Fits c → (words : Words) × (command_words c ≡ keyword_name (keyword_for c) ∷ words) × (arguments_at (keyword_for c) words ≡ Some (c, []))
+unfolding command_words arguments_at invocation_at numbers_at registers_at keyword_for
+command_again (command.Invoke i) fits =
+    let sent : registers_at (map decimal i.sent) ≡ Some (i.sent, []) =
+    subst (λ (w : Words). registers_at w ≡ Some (i.sent, [])) (append-nil (map decimal i.sent)) (four_again register_at 32 register_again i.sent [] fits.4 fits.5) in
+    (decimal i.process ∷ decimal i.register ∷ (map decimal i.words ++ map decimal i.sent), refl,
+     rw (number_again i.process (decimal i.register ∷ (map decimal i.words ++ map decimal i.sent)) fits.0,
+         register_again i.register (map decimal i.words ++ map decimal i.sent) fits.1,
+         four_again number_at (2 ^ 64) number_again i.words (map decimal i.sent) fits.2 fits.3, sent) refl)
+command_again (command.Load p a) fits = (decimal p ∷ decimal a ∷ [], refl, rw (number_again p (decimal a ∷ []) fits.0, number_again a [] fits.1) refl)
+command_again (command.Store p a v) fits =
+    (decimal p ∷ decimal a ∷ decimal v ∷ [], refl, rw (number_again p (decimal a ∷ decimal v ∷ []) fits.0, number_again a (decimal v ∷ []) fits.1, number_again v [] fits.2) refl)
+command_again (command.Show n) fits = (decimal n ∷ [], refl, rw (number_again n [] fits) refl)
+command_again (command.Evict n) fits = (decimal n ∷ [], refl, rw (number_again n [] fits) refl)
+command_again command.Checkpoint fits = ([], refl, refl)
+command_again (command.Stabilize n) fits = (decimal n ∷ [], refl, rw (number_again n [] fits) refl)
+command_again command.Commit fits = ([], refl, refl)
+command_again (command.Migrate n) fits = (decimal n ∷ [], refl, rw (number_again n [] fits) refl)
+command_again command.Restart fits = ([], refl, refl)
+command_again command.Cut fits = ([], refl, refl)
+
+-- ---- the words of what was read
+
+one_takes : (make : ℕ → Command) (words : Words) (p : Command × Words) → one_at make words ≡ Some p
+    → (n : ℕ) × (n < 2 ^ 64) × (p.0 ≡ make n) × (words ≡ decimal n ∷ p.1)
+one_takes make words p e =
+    let b = bind_some (number_at words) (λ (n : ℕ × Words). Some (make n.0, n.1)) p e in
+    let t = number_takes words b.0 b.1 in
+    let is = some_is _ _ b.2 in
+    (b.0.0, t.0, sym (ap (λ (q : Command × Words). q.0) is), t.1 ∙ ap (λ (q : Command × Words). decimal b.0.0 ∷ q.1) is)
+
+abbrev IsReadFrom : Keyword → Words → Command × Words → Type 0
+IsReadFrom k words p = Fits p.0 × (keyword_name k ∷ words ≡ command_words p.0 ++ p.1)
+
+invocation_words : (name process register : List ℕ) (sent_words sent words one two three four : Words) → words ≡ process ∷ one → one ≡ register ∷ two
+    → two ≡ sent_words ++ three → three ≡ sent ++ four → name ∷ words ≡ name ∷ process ∷ register ∷ ((sent_words ++ sent) ++ four)
+invocation_words name process register sent_words sent words one two three four a b c d =
+    rw (a, b, c, d) (ap (λ (w : Words). name ∷ process ∷ register ∷ w) (sym (append_assoc sent_words sent four)))
+
+invocation_takes : (o : Operation) (words : Words) (p : Command × Words) → invocation_at o words ≡ Some p → IsReadFrom (keyword.Invoke o) words p
+unfolding invocation_at numbers_at registers_at command_words
+invocation_takes o words p e =
+    let one = bind_some (number_at words) _ p e in
+    let two = bind_some (register_at one.0.1) _ p one.2 in
+    let three = bind_some (four_at number_at two.0.1) _ p two.2 in
+    let four = bind_some (four_at register_at three.0.1) _ p three.2 in
+    let a = number_takes words one.0 one.1 in
+    let b = register_takes one.0.1 two.0 two.1 in
+    let c = four_takes number_at (2 ^ 64) number_takes two.0.1 three.0 three.1 in
+    let d = four_takes register_at 32 register_takes three.0.1 four.0 four.1 in
+    subst (IsReadFrom (keyword.Invoke o) words) (some_is _ _ four.2) ((a.0, b.0, c.0, c.1, d.0, d.1), invocation_words (operation_name o) _ _ _ _ _ _ _ _ _ a.1 b.1 c.2 d.2)
+
+one_read : (k : Keyword) (words : Words) (p : Command × Words) (c : Command) → p.0 ≡ c → Fits c → keyword_name k ∷ words ≡ command_words c ++ p.1 → IsReadFrom k words p
+one_read k words p c is fits whole = rw is (fits, whole)
+
+arguments_takes : (k : Keyword) (words : Words) (p : Command × Words) → arguments_at k words ≡ Some p → IsReadFrom k words p
+unfolding arguments_at command_words
+arguments_takes (keyword.Invoke o) words p e = invocation_takes o words p e
+arguments_takes keyword.Load words p e =
+    let one = bind_some (number_at words) _ p e in
+    let two = bind_some (number_at one.0.1) _ p one.2 in
+    let a = number_takes words one.0 one.1 in
+    let b = number_takes one.0.1 two.0 two.1 in
+    subst (IsReadFrom keyword.Load words) (some_is _ _ two.2) ((a.0, b.0), ap (λ (w : Words). codes "load" ∷ w) (a.1 ∙ ap (λ (w : Words). decimal one.0.0 ∷ w) b.1))
+arguments_takes keyword.Store words p e =
+    let one = bind_some (number_at words) _ p e in
+    let two = bind_some (number_at one.0.1) _ p one.2 in
+    let three = bind_some (number_at two.0.1) _ p two.2 in
+    let a = number_takes words one.0 one.1 in
+    let b = number_takes one.0.1 two.0 two.1 in
+    let c = number_takes two.0.1 three.0 three.1 in
+    subst (IsReadFrom keyword.Store words) (some_is _ _ three.2) ((a.0, b.0, c.0),
+        ap (λ (w : Words). codes "store" ∷ w) (a.1 ∙ ap (λ (w : Words). decimal one.0.0 ∷ w) (b.1 ∙ ap (λ (w : Words). decimal two.0.0 ∷ w) c.1)))
+arguments_takes keyword.Show words p e = let t = one_takes (λ n. command.Show n) words p e in one_read keyword.Show words p (command.Show t.0) t.2 t.1 (ap (λ (w : Words). codes "show" ∷ w) t.3)
+arguments_takes keyword.Evict words p e = let t = one_takes (λ n. command.Evict n) words p e in one_read keyword.Evict words p (command.Evict t.0) t.2 t.1 (ap (λ (w : Words). codes "evict" ∷ w) t.3)
+arguments_takes keyword.Checkpoint words p e = subst (IsReadFrom keyword.Checkpoint words) (some_is _ _ e) (tt, refl)
+arguments_takes keyword.Stabilize words p e = let t = one_takes (λ n. command.Stabilize n) words p e in one_read keyword.Stabilize words p (command.Stabilize t.0) t.2 t.1 (ap (λ (w : Words). codes "stabilize" ∷ w) t.3)
+arguments_takes keyword.Commit words p e = subst (IsReadFrom keyword.Commit words) (some_is _ _ e) (tt, refl)
+arguments_takes keyword.Migrate words p e = let t = one_takes (λ n. command.Migrate n) words p e in one_read keyword.Migrate words p (command.Migrate t.0) t.2 t.1 (ap (λ (w : Words). codes "migrate" ∷ w) t.3)
+arguments_takes keyword.Restart words p e = subst (IsReadFrom keyword.Restart words) (some_is _ _ e) (tt, refl)
+arguments_takes keyword.Cut words p e = subst (IsReadFrom keyword.Cut words) (some_is _ _ e) (tt, refl)
+
+-- ---- the keyword of a word
+
+keyword_at : List ℕ → Option Keyword
+keyword_at word =
+    if bytes_eq word (codes "call") then Some (keyword.Invoke Call) else
+    (if bytes_eq word (codes "return") then Some (keyword.Invoke Return) else
+    (if bytes_eq word (codes "send") then Some (keyword.Invoke Send) else
+    (if bytes_eq word (codes "load") then Some keyword.Load else
+    (if bytes_eq word (codes "store") then Some keyword.Store else
+    (if bytes_eq word (codes "show") then Some keyword.Show else
+    (if bytes_eq word (codes "evict") then Some keyword.Evict else
+    (if bytes_eq word (codes "checkpoint") then Some keyword.Checkpoint else
+    (if bytes_eq word (codes "stabilize") then Some keyword.Stabilize else
+    (if bytes_eq word (codes "commit") then Some keyword.Commit else
+    (if bytes_eq word (codes "migrate") then Some keyword.Migrate else
+    (if bytes_eq word (codes "restart") then Some keyword.Restart else
+    (if bytes_eq word (codes "cut") then Some keyword.Cut else None))))))))))))
+
+keyword_at_name : (k : Keyword) → keyword_at (keyword_name k) ≡ Some k
+unfolding keyword_at
+keyword_at_name (keyword.Invoke Call) = refl
+keyword_at_name (keyword.Invoke Return) = refl
+keyword_at_name (keyword.Invoke Send) = refl
+keyword_at_name keyword.Load = refl
+keyword_at_name keyword.Store = refl
+keyword_at_name keyword.Show = refl
+keyword_at_name keyword.Evict = refl
+keyword_at_name keyword.Checkpoint = refl
+keyword_at_name keyword.Stabilize = refl
+keyword_at_name keyword.Commit = refl
+keyword_at_name keyword.Migrate = refl
+keyword_at_name keyword.Restart = refl
+keyword_at_name keyword.Cut = refl
+
+one_keyword : (j k : Keyword) → keyword_name j ≡ keyword_name k → j ≡ k
+one_keyword j k same = some_is j k (sym (keyword_at_name j) ∙ ap keyword_at same ∙ keyword_at_name k)
+
+-- ---- what the words of a line say
+
+-- the arguments that were read are those of any command with these words
+arguments_are : (words rest : Words) (word : List ℕ) (k : Keyword) (c : Command) → words ≡ word ∷ rest → word ≡ keyword_name k → Fits c → words ≡ command_words c
+    → arguments_at k rest ≡ Some (c, [])
+arguments_are words rest word k c split named fits whole =
+    let again = command_again c fits in
+    let both_are : word ∷ rest ≡ keyword_name (keyword_for c) ∷ again.0 = sym split ∙ whole ∙ again.1 in
+    let same : keyword_name k ≡ keyword_name (keyword_for c) = cc in
+    let key : k ≡ keyword_for c = one_keyword k (keyword_for c) same in
+    let left : rest ≡ again.0 = cc in
+    rw (key, left) again.2
+
+pub command_found : (words rest left : Words) (word : List ℕ) (k : Keyword) (c : Command) → words ≡ word ∷ rest → word ≡ keyword_name k
+    → arguments_at k rest ≡ Some (c, left) → left ≡ [] → Fits c × (words ≡ command_words c)
+command_found words rest left word k c split named read none =
+    let taken = arguments_takes k rest (c, left) read in
+    (taken.0, split ∙ ap (λ (w : List ℕ). w ∷ rest) named ∙ taken.1 ∙ ap (λ (w : Words). command_words c ++ w) none ∙ append-nil (command_words c))
+
+pub no_words : (c : Command) → Fits c → [] ≢ command_words c
+no_words c fits e = let again = command_again c fits in absurd (cc (again.1))
+
+pub no_keyword : (words rest : Words) (word : List ℕ) → words ≡ word ∷ rest → ((k : Keyword) → word ≢ keyword_name k) → (c : Command) → Fits c → words ≢ command_words c
+no_keyword words rest word split none c fits whole =
+    let again = command_again c fits in
+    let both_are : word ∷ rest ≡ keyword_name (keyword_for c) ∷ again.0 = sym split ∙ whole ∙ again.1 in
+    none (keyword_for c) cc
+
+pub no_arguments : (words rest : Words) (word : List ℕ) (k : Keyword) → words ≡ word ∷ rest → word ≡ keyword_name k → arguments_at k rest ≡ None
+    → (c : Command) → Fits c → words ≢ command_words c
+no_arguments words rest word k split named none c fits whole = let read = arguments_are words rest word k c split named fits whole in absurd cc
+
+pub words_left_over : (words rest left : Words) (word : List ℕ) (k : Keyword) (d : Command) → words ≡ word ∷ rest → word ≡ keyword_name k → arguments_at k rest ≡ Some (d, left)
+    → left ≢ [] → (c : Command) → Fits c → words ≢ command_words c
+words_left_over words rest left word k d split named read some c fits whole =
+    let other = arguments_are words rest word k c split named fits whole in
+    let same : (d, left) ≡ (c, []) = some_is _ _ (sym read ∙ other) in
+    some (ap (λ (q : Command × Words). q.1) same)
+
+pub one_command : (c d : Command) → Fits c → Fits d → command_words c ≡ command_words d → c ≡ d
+one_command c d fits_c fits_d same =
+    let again = command_again c fits_c in
+    let read = arguments_are (command_words c) again.0 (keyword_name (keyword_for c)) (keyword_for c) d again.1 refl fits_d same in
+    ap (λ (q : Command × Words). q.0) (some_is _ _ (sym again.2 ∙ read))

@@ -1,0 +1,73 @@
+-- What a writer is left with, put together.
+use Rattle.std.proofs.Common.{◌≡◌, ℕ, ◌+◌, ◌-◌, ◌≤◌, List, [], ◌∷◌, ◌++◌, Option, None, Some, Result, Ok, Err, length, take, drop, refl, sym, ap, ◌∙◌, subst, append_assoc, append-nil, arith}
+use Rattle.std.proofs.lemmas.List.{take-append-drop, take_all, length-drop}
+use Rattle.std.proofs.Math.Seq.{take-add}
+use Rattle.std.proofs.KnownBytes.{Appends-trans, Appends-kept, Appends-nil}
+use Rattle.std.specs.Io.KnownBytes.{Appends, Keeps}
+use Rattle.model.specs.Text.{line_of}
+use Rattle.script.specs.declared.fault.RunFault.{RunFault}
+use Rattle.script.specs.Writing.{AppendsFront, Writes}
+
+-- the first n bytes are a beginning
+pub front_at : (a b : Option (List ℕ)) (bytes : List ℕ) (n : ℕ) → Appends a b (take n bytes) → AppendsFront a b bytes
+front_at a b bytes n h = (take n bytes, drop n bytes, sym (take-append-drop n bytes), h)
+
+pub front_kept : (a b c : Option (List ℕ)) (bytes : List ℕ) (n : ℕ) → Appends a b (take n bytes) → Keeps b c → AppendsFront a c bytes
+front_kept a b c bytes n h k = front_at a c bytes n (Appends-kept a b c (take n bytes) h k)
+
+pub kept_nil : (a b : Option (List ℕ)) → Appends a b [] → Keeps a b
+kept_nil None b h = tt
+kept_nil (Some x) None h = absurd h
+kept_nil (Some x) (Some y) h = h ∙ append-nil x
+
+-- a write of the rest took n bytes more
+pub took_more : (a b c : Option (List ℕ)) (bytes : List ℕ) (i n : ℕ) → Appends a b (take i bytes)
+    → Appends b c (take n (take (length bytes - i) (drop i bytes))) → Appends a c (take (i + n) bytes)
+took_more a b c bytes i n h k =
+    let whole : take (length bytes - i) (drop i bytes) ≡ drop i bytes = take_all (length bytes - i) (drop i bytes) (omega (arith, length-drop i bytes)) in
+    let k' : Appends b c (take n (drop i bytes)) = subst (λ (xs : List ℕ). Appends b c (take n xs)) whole k in
+    subst (λ (xs : List ℕ). Appends a c xs) (sym (take-add i n bytes)) (Appends-trans a b c _ _ h k')
+
+-- a beginning of the second text, after the first
+pub front_after : (a b c : Option (List ℕ)) (first second : List ℕ) → Appends a b first → AppendsFront b c second → AppendsFront a c (first ++ second)
+front_after a b c first second h (front, rest, is, k) =
+    (first ++ front, rest, ap (λ (xs : List ℕ). first ++ xs) is ∙ sym (append_assoc first front rest), Appends-trans a b c first front h k)
+
+-- a beginning of the first text
+pub front_before : (a b : Option (List ℕ)) (first second : List ℕ) → AppendsFront a b first → AppendsFront a b (first ++ second)
+front_before a b first second (front, rest, is, k) =
+    (front, rest ++ second, ap (λ (xs : List ℕ). xs ++ second) is ∙ append_assoc front rest second, k)
+
+-- the first text was written, and then the second or a beginning of it
+pub writes_after : (a b c : Option (List ℕ)) (r : Result (Unit {0}) RunFault) (first second : List ℕ) → Appends a b first → Writes b c r second → Writes a c r (first ++ second)
+writes_after a b c (Ok x) first second h w = Appends-trans a b c first second h w
+writes_after a b c (Err e) first second h w = (w.0, front_after a b c first second h w.1)
+
+-- a step failed that began the second text, and a third was to follow
+pub writes_fail : (a b c : Option (List ℕ)) (e : RunFault) (first second third text : List ℕ) → text ≡ (first ++ second) ++ third
+    → Appends a b first → Writes b c (Err e) second → Writes a c (Err e) text
+writes_fail a b c e first second third text is h w =
+    (w.0, subst (AppendsFront a c) (sym is) (front_before a c (first ++ second) third (front_after a b c first second h w.1)))
+
+-- the first text failed
+pub text_fails : (a b : Option (List ℕ)) (e : RunFault) (first second text : List ℕ) → text ≡ first ++ second → Writes a b (Err e) first → Writes a b (Err e) text
+text_fails a b e first second text is w = (w.0, subst (AppendsFront a b) (sym is) (front_before a b first second w.1))
+
+-- the first line failed
+pub line_fails : (a b : Option (List ℕ)) (e : RunFault) (line spelled second text : List ℕ) → line ≡ spelled → text ≡ line_of spelled ++ second
+    → Writes a b (Err e) (line_of line) → Writes a b (Err e) text
+line_fails a b e line spelled second text same is w =
+    (w.0, subst (AppendsFront a b) (ap (λ (t : List ℕ). line_of t ++ second) same ∙ sym is) (front_before a b (line_of line) second w.1))
+
+-- the first line was written, and then the second text or a beginning of it
+pub line_and : (a b c : Option (List ℕ)) (r : Result (Unit {0}) RunFault) (line spelled second text : List ℕ) → line ≡ spelled → text ≡ line_of spelled ++ second
+    → Appends a b (line_of line) → Writes b c r second → Writes a c r text
+line_and a b c r line spelled second text same is h w =
+    subst (Writes a c r) (ap (λ (t : List ℕ). line_of t ++ second) same ∙ sym is) (writes_after a b c r (line_of line) second h w)
+
+pub writes_same : (a b : Option (List ℕ)) (r : Result (Unit {0}) RunFault) (text other : List ℕ) → text ≡ other → Writes a b r text → Writes a b r other
+writes_same a b r text other same w = subst (Writes a b r) same w
+
+-- all bytes were taken
+pub taken_all : (a b : Option (List ℕ)) (bytes : List ℕ) (n : ℕ) → n ≡ length bytes → Appends a b (take n bytes) → Appends a b bytes
+taken_all a b bytes n all h = subst (Appends a b) (take_all n bytes (omega arith)) h

@@ -1,0 +1,59 @@
+-- The decimal text of a number, and the words that are one.
+use Rattle.std.proofs.Common.{◌≡◌, ◌≢◌, ℕ, zero, suc, ◌<◌, ◌≤◌, ◌^◌, ◌+◌, ◌-◌, ◌*◌, ◌&&◌, Bool, true, false, cond, List, [], ◌∷◌, Option, None, Some, length, get_or, take, decimal, refl, sym, ap, ◌∙◌, subst, inl, inr, arith, nat_lt}
+use Rattle.std.specs.Prelude.{IfSome, IfNone}
+use Rattle.std.specs.Int.{IsInRange}
+use Rattle.std.proofs.lemmas.Str.{digit_value_digit}
+use Rattle.std.specs.Char.{digit_value}
+use Rattle.std.specs.Str.{bytes_eq}
+use Rattle.std.specs.Str.Parse.{AllDigits, digits_value}
+use Rattle.std.proofs.lemmas.Bool.{cases_lt}
+use Rattle.std.proofs.lemmas.Fmt.{decimal_nonempty, first_decimal, decimal_digit, digits_decimal, digits_value-decimal, decimal-digits_value}
+use Rattle.std.proofs.lemmas.Int.Digits.{digits_value_more, digits_more}
+use Rattle.std.proofs.lemmas.Slice.Eq.{bytes_eq-Decides}
+use Rattle.std.proofs.lemmas.Str.Parse.{IsNumeralModel, numerals_by_value, tells_digits, digits_value-take-le}
+
+own : IsNumeralModel (AllDigits 10) (digits_value 10)
+own = numerals_by_value (AllDigits 10) tells_digits
+
+pub decimal_is_digits : (word : List ℕ) (n : ℕ) → n < 2 ^ 64 → word ≡ decimal n → AllDigits 10 word × (digits_value 10 word ≡ n)
+decimal_is_digits word n small is = rw is (digits_decimal own n small, digits_value-decimal own n small)
+
+pub decimal_not_empty : (word : List ℕ) (n : ℕ) → n < 2 ^ 64 → word ≡ decimal n → 0 < length word
+decimal_not_empty word n small is = rw is (decimal_nonempty n small)
+
+pub decimal_no_zero : (word : List ℕ) (n : ℕ) → n < 2 ^ 64 → word ≡ decimal n → 1 < length word → get_or word 0 0 ≡ 48 → ⊥
+decimal_no_zero word zero small is long first =
+    let one : length word ≡ 1 = ap length (is ∙ decimal_digit 0 (omega arith)) in omega arith
+decimal_no_zero word (suc n) small is long first =
+    let more : 48 < get_or (decimal (suc n)) 0 0 = first_decimal (suc n) (omega arith) small in
+    let same : get_or word 0 0 ≡ get_or (decimal (suc n)) 0 0 = ap (λ (w : List ℕ). get_or w 0 0) is in omega arith
+
+pub digits_are_decimal : (word : List ℕ) → AllDigits 10 word → 0 < length word → (get_or word 0 0 ≡ 48 → length word ≡ 1)
+    → digits_value 10 word < 2 ^ 64 → word ≡ decimal (digits_value 10 word)
+digits_are_decimal word digits some first small = sym (decimal-digits_value own word digits some first small)
+
+-- one digit more
+pub value_more : (digits : List ℕ) (i value : ℕ) → i < length digits → AllDigits 10 (take i digits) → value ≡ digits_value 10 (take i digits)
+    → IsInRange 48 57 (get_or digits i 0)
+    → AllDigits 10 (take (i + 1) digits) × (value * 10 + (get_or digits i 0 - 48) ≡ digits_value 10 (take (i + 1) digits))
+value_more digits i value lt so_far is digit =
+    let one = digit_value_digit (get_or digits i 0) digit in
+    (digits_more 10 digits i lt so_far (omega (arith, one, digit.1)), omega (arith, digits_value_more 10 digits i lt, one, is, digit.0))
+
+-- the digits so far are already too many
+pub value_great : (digits : List ℕ) (i value : ℕ) → i < length digits → value ≡ digits_value 10 (take i digits)
+    → IsInRange 48 57 (get_or digits i 0) → (value * 10 + (get_or digits i 0 - 48) < 2 ^ 64 → ⊥) → 2 ^ 64 ≤ digits_value 10 digits
+value_great digits i value lt is digit great =
+    omega (arith, digits_value_more 10 digits i lt, digit_value_digit (get_or digits i 0) digit, digits_value-take-le 10 digits (i + 1) (omega arith), great)
+
+-- what the value of its digits says of a word with no leading zero
+pub number_found : (word : List ℕ) (r : Option ℕ) → 0 < length word → (get_or word 0 0 ≡ 48 → length word ≡ 1)
+    → IfSome r (λ n. (n < 2 ^ 64) × AllDigits 10 word × (n ≡ digits_value 10 word))
+    → IfSome r (λ n. (n < 2 ^ 64) × (word ≡ decimal n))
+number_found word None some first found = tt
+number_found word (Some n) some first found = (found.0, rw found.2 (digits_are_decimal word found.1 some first (omega (arith, found.0, found.2))))
+
+pub number_none : (word : List ℕ) (r : Option ℕ) → IfNone r (AllDigits 10 word → 2 ^ 64 ≤ digits_value 10 word)
+    → IfNone r ((n : ℕ) → n < 2 ^ 64 → word ≢ decimal n)
+number_none word None none = λ n small is. let digits = decimal_is_digits word n small is in omega (arith, none digits.0, digits.1)
+number_none word (Some n) none = tt

@@ -1,0 +1,32 @@
+-- The pieces of a line between its spaces.
+use Rattle.std.proofs.Common.{◌≡◌, ◌≢◌, ℕ, ◌+◌, ◌-◌, ◌<◌, ◌≤◌, ◌==◌, Bool, true, false, not, cond, List, [], ◌∷◌, ◌++◌, Option, None, Some, length, get_or, take, drop, refl, sym, ap, ◌∙◌, subst, inl, inr, arith, nat_lt}
+use Rattle.std.specs.List.{slice_split, position, position_or_len, All, before_first, after_first}
+use Rattle.std.proofs.lemmas.Bool.{cases_lt, lt-ltb}
+use Rattle.std.proofs.lemmas.List.{take_all, length-drop}
+use Rattle.std.proofs.lemmas.List.Elements.{All-from_get_or}
+use Rattle.std.proofs.lemmas.List.Quantifiers.{position-Some}
+use Rattle.std.proofs.lemmas.List.Splits.{slice_split_none, slice_split_first, length-slice_split}
+use Rattle.std.proofs.lemmas.List.Sums.{position_or_len_is, fails_before_first}
+use Rattle.script.specs.Reading.{words_of}
+
+abbrev is_space : ℕ → Bool
+is_space b = b == 32
+
+pub no_space : (line : List ℕ) → position is_space line ≡ None → words_of line ≡ line ∷ []
+no_space line none =
+    elim (cases_lt (position_or_len is_space line) (length line)) [
+      | inl lt ↦ let some : position is_space line ≡ Some (position_or_len is_space line) = rw (lt-ltb _ _ lt) refl in absurd (cc (none, some))
+      | inr le ↦ slice_split_none is_space line (All-from_get_or (λ b. is_space b ≡ false) line 0 (λ i lt. fails_before_first is_space line i 0 (omega arith)))
+    ]
+
+pub first_piece : (line : List ℕ) (i : ℕ) → position is_space line ≡ Some i
+    → words_of line ≡ take i line ∷ words_of (take (length line - (i + 1)) (drop (i + 1) line))
+first_piece line i some =
+    let at = position-Some is_space line i 0 some in
+    let here : position_or_len is_space line ≡ i = position_or_len_is is_space line i 0 (omega (arith, at.0)) at.2 (λ _. at.1) in
+    let whole : take (length line - (i + 1)) (drop (i + 1) line) ≡ drop (i + 1) line = take_all (length line - (i + 1)) (drop (i + 1) line) (omega (arith, length-drop (i + 1) line)) in
+    let split = slice_split_first is_space line 0 (omega (arith, at.0)) in
+    rw whole (subst (λ (k : ℕ). words_of line ≡ take k line ∷ words_of (drop (k + 1) line)) here split)
+
+pub some_word : (line : List ℕ) → words_of line ≡ [] → ⊥
+some_word line none = let long : length (words_of line) ≡ 0 = ap length none in omega (arith, length-slice_split is_space line)

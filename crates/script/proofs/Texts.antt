@@ -1,0 +1,143 @@
+-- The lines of an object, one for each of its parts.
+use Rattle.std.proofs.Common.{Option, ◌≡◌, ◌≢◌, ℕ, suc, add-one, length-take-le, ◌+◌, ◌<◌, ◌≤◌, List, [], ◌∷◌, ◌++◌, map, length, get_or, take, drop, codes, decimal, refl, sym, ap, ◌∙◌, append_assoc, append-nil, arith}
+use Rattle.std.specs.List.{flat_map, enumerate_from, join_with_byte}
+use Rattle.std.proofs.lemmas.Grind.{flat_map-append}
+use Rattle.std.proofs.lemmas.List.{take-append-drop, take_all}
+use Rattle.std.proofs.lemmas.List.Folds.{flat_map-map}
+use Rattle.std.proofs.Math.Seq.{take-suc}
+use Rattle.model.specs.declared.capability.Capability.{Capability}
+use Rattle.model.specs.declared.capability.Capability.TheVariants.{Void, Number, Page, Node, Space, Process, Start, Resume, Bank, Discrim}
+use Rattle.model.specs.declared.object.Content.TheVariants as content
+use Rattle.model.specs.declared.object.Object.{Object}
+use Rattle.model.specs.declared.object.Root.{Root}
+use Rattle.model.specs.Text.{spaced, headed, line_of, word_line, word_lines, state_text, registers_of, object_text, capability_text, capability_line, capability_lines}
+
+enumerate_append : {A : Type 0} (n : ℕ) (xs ys : List A) → enumerate_from n (xs ++ ys) ≡ enumerate_from n xs ++ enumerate_from (n + length xs) ys
+enumerate_append n [] ys = let same : n + 0 ≡ n = omega arith in rw same refl
+enumerate_append {A} n (x ∷ xs) ys =
+    let same : n + 1 + length xs ≡ n + suc (length xs) = omega arith in
+    ap (λ (l : List (ℕ × A)). (n, x) ∷ l) (enumerate_append (n + 1) xs ys ∙ ap (λ (k : ℕ). enumerate_from (n + 1) xs ++ enumerate_from k ys) same)
+
+module _ {A : Type 0} (line : ℕ × A → List ℕ) (xs : List A) where
+  -- the lines of the first i parts
+  abbrev pub lines_before : ℕ → List ℕ
+  lines_before i = flat_map line (enumerate_from 0 (take i xs))
+
+  pub lines_more : (i : ℕ) (d : A) → i < length xs → lines_before (i + 1) ≡ lines_before i ++ line (i, get_or xs i d)
+  lines_more i d lt =
+    let here : 0 + length (take i xs) ≡ i = omega (arith, length-take-le i xs (omega arith)) in
+    let front : take (i + 1) xs ≡ take i xs ++ (get_or xs i d ∷ []) = rw add-one (take-suc xs i d lt) in
+    ap (λ (l : List A). flat_map line (enumerate_from 0 l)) front
+    ∙ ap (flat_map line) (enumerate_append 0 (take i xs) (get_or xs i d ∷ []))
+    ∙ flat_map-append line (enumerate_from 0 (take i xs)) ((0 + length (take i xs), get_or xs i d) ∷ [])
+    ∙ ap (λ (k : ℕ). lines_before i ++ (line (k, get_or xs i d) ++ [])) here
+    ∙ ap (λ (l : List ℕ). lines_before i ++ l) (append-nil (line (i, get_or xs i d)))
+
+  pub lines_whole : (i : ℕ) → flat_map line (enumerate_from 0 xs) ≡ lines_before i ++ flat_map line (enumerate_from (0 + length (take i xs)) (drop i xs))
+  lines_whole i =
+    ap (λ (l : List A). flat_map line (enumerate_from 0 l)) (sym (take-append-drop i xs))
+    ∙ ap (flat_map line) (enumerate_append 0 (take i xs) (drop i xs))
+    ∙ flat_map-append line (enumerate_from 0 (take i xs)) (enumerate_from (0 + length (take i xs)) (drop i xs))
+
+  pub lines_split : (i : ℕ) (d : A) → i < length xs
+      → flat_map line (enumerate_from 0 xs) ≡ (lines_before i ++ line (i, get_or xs i d)) ++ flat_map line (enumerate_from (0 + length (take (i + 1) xs)) (drop (i + 1) xs))
+  lines_split i d lt = lines_whole (i + 1) ∙ ap (λ (t : List ℕ). t ++ flat_map line (enumerate_from (0 + length (take (i + 1) xs)) (drop (i + 1) xs))) (lines_more i d lt)
+
+  pub lines_all : (i : ℕ) → length xs ≤ i → lines_before i ≡ flat_map line (enumerate_from 0 xs)
+  lines_all i le = ap (λ (l : List A). flat_map line (enumerate_from 0 l)) (take_all i xs le)
+
+-- a capability that isn't void has a line
+pub capability_has_line : (name : List ℕ) (index : ℕ) (capability : Capability) → capability ≢ Void
+    → line_of (spaced (name ∷ decimal index ∷ capability_text capability ∷ [])) ≡ capability_line name (index, capability)
+capability_has_line name index Void some = absurd (some refl)
+capability_has_line name index (Number n) some = refl
+capability_has_line name index (Page o a) some = refl
+capability_has_line name index (Node o a) some = refl
+capability_has_line name index (Space o h a) some = refl
+capability_has_line name index (Process p) some = refl
+capability_has_line name index (Start p key) some = refl
+capability_has_line name index (Resume p) some = refl
+capability_has_line name index (Bank b) some = refl
+capability_has_line name index Discrim some = refl
+
+-- the words of a line, each with a space before it but the first
+pub spaced_is : (word : List ℕ) (words : List (List ℕ)) → spaced (word ∷ words) ≡ word ++ flat_map (λ w. 32 ∷ w) words
+spaced_is word [] = sym (append-nil word)
+spaced_is word (next ∷ words) = ap (λ (t : List ℕ). word ++ 32 ∷ t) (spaced_is next words)
+
+pub spaced_more : (word : List ℕ) (words more : List (List ℕ)) → spaced (word ∷ (words ++ more)) ≡ spaced (word ∷ words) ++ flat_map (λ w. 32 ∷ w) more
+spaced_more word words more =
+    spaced_is word (words ++ more) ∙ ap (λ (t : List ℕ). word ++ t) (flat_map-append (λ w. 32 ∷ w) words more)
+    ∙ sym (append_assoc word (flat_map (λ w. 32 ∷ w) words) (flat_map (λ w. 32 ∷ w) more)) ∙ ap (λ (t : List ℕ). t ++ flat_map (λ w. 32 ∷ w) more) (sym (spaced_is word words))
+
+-- words that are put on a line, one after the other
+abbrev put_all : List ℕ → List (List ℕ) → List ℕ
+put_all line [] = line
+put_all line (word ∷ words) = put_all (line ++ 32 ∷ word) words
+
+put_all_is : (line : List ℕ) (words : List (List ℕ)) → put_all line words ≡ line ++ flat_map (λ w. 32 ∷ w) words
+put_all_is line [] = sym (append-nil line)
+put_all_is line (word ∷ words) = put_all_is (line ++ 32 ∷ word) words ∙ append_assoc line (32 ∷ word) (flat_map (λ w. 32 ∷ w) words)
+
+put_spaced : (word : List ℕ) (words more numbers last : List (List ℕ))
+    → put_all (put_all (spaced (word ∷ words)) more ++ flat_map (λ w. 32 ∷ w) numbers) last ≡ spaced (word ∷ (((words ++ more) ++ numbers) ++ last))
+put_spaced word words more numbers last =
+    put_all_is (put_all (spaced (word ∷ words)) more ++ flat_map (λ w. 32 ∷ w) numbers) last
+    ∙ ap (λ (t : List ℕ). (t ++ flat_map (λ w. 32 ∷ w) numbers) ++ flat_map (λ w. 32 ∷ w) last) (put_all_is (spaced (word ∷ words)) more ∙ sym (spaced_more word words more))
+    ∙ ap (λ (t : List ℕ). t ++ flat_map (λ w. 32 ∷ w) last) (sym (spaced_more word (words ++ more) numbers))
+    ∙ sym (spaced_more word ((words ++ more) ++ numbers) last)
+
+-- the first line of a process, as it is put together
+abbrev pub process_put : ℕ → ℕ → ℕ → ℕ → List ℕ → List ℕ → List ℕ → List ℕ
+process_put number owner annex key state words space =
+    ((((((((spaced (headed (codes "process") number owner) ++ 32 ∷ codes "annex") ++ 32 ∷ decimal annex) ++ 32 ∷ state) ++ 32 ∷ codes "key") ++ 32 ∷ decimal key) ++ 32 ∷ codes "words")
+      ++ flat_map (λ n. 32 ∷ decimal n) words) ++ 32 ∷ codes "space") ++ 32 ∷ space
+
+pub process_text : (number owner annex key : ℕ) (state words space : List ℕ) → process_put number owner annex key state words space
+    ≡ spaced (headed (codes "process") number owner
+      ++ (codes "annex" ∷ decimal annex ∷ state ∷ codes "key" ∷ decimal key ∷ codes "words" ∷ []) ++ map decimal words ++ (codes "space" ∷ space ∷ []))
+process_text number owner annex key state words space =
+    let front = put_all (spaced (headed (codes "process") number owner)) (codes "annex" ∷ decimal annex ∷ state ∷ codes "key" ∷ decimal key ∷ codes "words" ∷ []) in
+    ap (λ (t : List ℕ). put_all (front ++ t) (codes "space" ∷ space ∷ [])) (sym (flat_map-map (λ w. 32 ∷ w) decimal words))
+    ∙ put_spaced (codes "process") (decimal number ∷ codes "owner" ∷ decimal owner ∷ [])
+        (codes "annex" ∷ decimal annex ∷ state ∷ codes "key" ∷ decimal key ∷ codes "words" ∷ []) (map decimal words) (codes "space" ∷ space ∷ [])
+
+pub bank_text : (number owner limit used : ℕ) →
+    (((spaced (headed (codes "bank") number owner) ++ 32 ∷ codes "limit") ++ 32 ∷ decimal limit) ++ 32 ∷ codes "used") ++ 32 ∷ decimal used
+    ≡ spaced (headed (codes "bank") number owner ++ (codes "limit" ∷ decimal limit ∷ codes "used" ∷ decimal used ∷ []))
+bank_text number owner limit used =
+    put_all_is (spaced (headed (codes "bank") number owner)) (codes "limit" ∷ decimal limit ∷ codes "used" ∷ decimal used ∷ [])
+    ∙ sym (spaced_more (codes "bank") (decimal number ∷ codes "owner" ∷ decimal owner ∷ []) (codes "limit" ∷ decimal limit ∷ codes "used" ∷ decimal used ∷ []))
+
+-- ---- an object, by what it is
+
+module _ (n : ℕ) (o : Object) (registers : Option (List Capability)) (used : ℕ) where
+  pub object_free : o.content ≡ content.Free → object_text n o registers used ≡ line_of (spaced (codes "free" ∷ decimal n ∷ []))
+  unfolding object_text
+  object_free is = rw is refl
+
+  pub object_page : (words : List ℕ) → o.content ≡ content.Page words → object_text n o registers used ≡ line_of (spaced (headed (codes "page") n o.owner)) ++ word_lines words
+  unfolding object_text
+  object_page words is = rw is refl
+
+  pub object_node : (slots : List Capability) → o.content ≡ content.Node slots
+      → object_text n o registers used ≡ line_of (spaced (headed (codes "node") n o.owner)) ++ capability_lines (codes "slot") slots
+  unfolding object_text
+  object_node slots is = rw is refl
+
+  pub object_annex : (slots : List Capability) → o.content ≡ content.Annex slots
+      → object_text n o registers used ≡ line_of (spaced (headed (codes "annex") n o.owner)) ++ capability_lines (codes "register") slots
+  unfolding object_text
+  object_annex slots is = rw is refl
+
+  pub object_root : (r : Root Capability) → o.content ≡ content.Root r
+      → object_text n o registers used ≡ line_of (spaced (headed (codes "process") n o.owner
+        ++ (codes "annex" ∷ decimal r.annex ∷ state_text r.state ∷ codes "key" ∷ decimal r.key ∷ codes "words" ∷ [])
+        ++ map decimal r.words ++ (codes "space" ∷ capability_text r.space ∷ []))) ++ capability_lines (codes "register") (registers_of registers)
+  unfolding object_text
+  object_root r is = rw is refl
+
+  pub object_bank : (limit : ℕ) → o.content ≡ content.Bank limit
+      → object_text n o registers used ≡ line_of (spaced (headed (codes "bank") n o.owner ++ (codes "limit" ∷ decimal limit ∷ codes "used" ∷ decimal used ∷ [])))
+  unfolding object_text
+  object_bank limit is = rw is refl

@@ -1,0 +1,24 @@
+use Rattle.std.proofs.Common.{◌≡◌, ap, sym, inr, arith, subst, length, ℕ, List}
+use Rattle.model.specs.Text.{IsSkipped}
+use Rattle.model.specs.declared.line.Line.TheVariants as line
+use Rattle.script.proofs.Spellings.{spelling_of_words, spelling_short, spelling_said, one_spelling, no_spelling}
+use Rattle.script.proofs.parse.parse_line.Goals as goal
+
+pub returns-then-line-gt-LONGEST_LINE-clause-reads : goal.returns-then-line-gt-LONGEST_LINE-clause-reads
+returns-then-line-gt-LONGEST_LINE-clause-reads c = λ d fits spelt. absurd (omega (arith, spelling_short d fits, ap length spelt))
+
+pub returns-then-is_skipped-clause-reads : goal.returns-then-is_skipped-clause-reads
+returns-then-is_skipped-clause-reads c = λ d fits spelt. let skipped : IsSkipped c.args.line.now = grind arith in absurd (spelling_said d fits (subst IsSkipped spelt skipped))
+
+pub returns-in-Some-clause-says : goal.returns-in-Some-clause-says
+returns-in-Some-clause-says c = (c.in-Some.ensures.found.0, spelling_of_words c.args.line.now c.in-Some.command c.in-Some.ensures.found.1)
+
+pub returns-in-Some-clause-reads : goal.returns-in-Some-clause-reads
+returns-in-Some-clause-reads c = λ d fits spelt.
+    ap (λ e. line.Command e) (one_spelling c.args.line.now c.in-Some.command d c.in-Some.ensures.found.0 fits c.in-Some.ensures.found.1 spelt)
+
+pub returns-in-None-clause-says : goal.returns-in-None-clause-says
+returns-in-None-clause-says c = inr (grind arith, λ d fits. no_spelling c.args.line.now d fits (c.in-None.ensures.none d fits))
+
+pub returns-in-None-clause-reads : goal.returns-in-None-clause-reads
+returns-in-None-clause-reads c = λ d fits spelt. absurd (no_spelling c.args.line.now d fits (c.in-None.ensures.none d fits) spelt)

@@ -1,0 +1,97 @@
+-- Reading the words of a line from left to right.
+use Rattle.std.specs.Prelude.{◌≡◌, ℕ, ◌==◌, ◌&&◌, ◌^◌, nat_lt, if◌then◌else◌, Option, None, Some, option_map, List, [], ◌∷◌, decimal}
+use Rattle.std.specs.List.{slice_split}
+use Rattle.std.specs.Str.{bytes_eq}
+use Rattle.std.specs.Str.Parse.{digits_value}
+use Rattle.model.specs.declared.command.Command.{Command}
+use Rattle.model.specs.declared.command.Command.TheVariants as command
+use Rattle.model.specs.declared.command.Operation.{Operation}
+use Rattle.script.specs.declared.keyword.Keyword.{Keyword}
+use Rattle.script.specs.declared.keyword.Keyword.TheVariants as keyword
+
+infixl 10 ◌>>=◌
+abbrev pub ◌>>=◌ : {A B : Type 0} → Option A → (A → Option B) → Option B
+None >>= f = None
+(Some x) >>= f = f x
+
+abbrev pub Words : Type 0
+Words = List (List ℕ)
+
+-- the pieces between the spaces
+abbrev pub words_of : List ℕ → Words
+words_of line = slice_split (λ b. b == 32) line
+
+abbrev pub words_left : Option (List ℕ) → Words
+words_left None = []
+words_left (Some rest) = words_of rest
+
+-- what a reader returned, and the words that it left, are what reading gives
+abbrev pub Gives : {A : Type 0} → Option A → Words → Option (A × Words) → Type 0
+Gives None left read = read ≡ None
+Gives (Some x) left read = read ≡ Some (x, left)
+
+-- the number whose decimal text the word is
+unfoldable pub number_in : List ℕ → Option ℕ
+number_in word = let n = digits_value 10 word in if bytes_eq word (decimal n) && nat_lt n (2 ^ 64) then Some n else None
+
+unfoldable pub number_at : Words → Option (ℕ × Words)
+number_at [] = None
+number_at (word ∷ words) = do
+  n ← number_in word
+  Some (n, words)
+
+unfoldable pub register_at : Words → Option (ℕ × Words)
+register_at words = do
+  n ← number_at words
+  if nat_lt n.0 32 then Some n else None
+
+unfoldable pub numbers_at : Words → Option (List ℕ × Words)
+numbers_at words = do
+  a ← number_at words
+  b ← number_at a.1
+  c ← number_at b.1
+  d ← number_at c.1
+  Some (a.0 ∷ b.0 ∷ c.0 ∷ d.0 ∷ [], d.1)
+
+unfoldable pub registers_at : Words → Option (List ℕ × Words)
+registers_at words = do
+  a ← register_at words
+  b ← register_at a.1
+  c ← register_at b.1
+  d ← register_at c.1
+  Some (a.0 ∷ b.0 ∷ c.0 ∷ d.0 ∷ [], d.1)
+
+unfoldable pub invocation_at : Operation → Words → Option (Command × Words)
+invocation_at operation words = do
+  process ← number_at words
+  register ← register_at process.1
+  sent_words ← numbers_at register.1
+  sent ← registers_at sent_words.1
+  Some (command.Invoke (record { operation = operation; process = process.0; register = register.0; words = sent_words.0; sent = sent.0 }), sent.1)
+
+-- a command of one number
+abbrev pub one_at : (ℕ → Command) → Words → Option (Command × Words)
+one_at make words = do
+  n ← number_at words
+  Some (make n.0, n.1)
+
+-- what follows a keyword
+unfoldable pub arguments_at : Keyword → Words → Option (Command × Words)
+arguments_at (keyword.Invoke operation) words = invocation_at operation words
+arguments_at keyword.Load words = do
+  process ← number_at words
+  address ← number_at process.1
+  Some (command.Load process.0 address.0, address.1)
+arguments_at keyword.Store words = do
+  process ← number_at words
+  address ← number_at process.1
+  value ← number_at address.1
+  Some (command.Store process.0 address.0 value.0, value.1)
+arguments_at keyword.Show words = one_at (λ n. command.Show n) words
+arguments_at keyword.Evict words = one_at (λ n. command.Evict n) words
+arguments_at keyword.Checkpoint words = Some (command.Checkpoint, words)
+arguments_at keyword.Stabilize words = one_at (λ n. command.Stabilize n) words
+arguments_at keyword.Commit words = Some (command.Commit, words)
+arguments_at keyword.Migrate words = one_at (λ n. command.Migrate n) words
+arguments_at keyword.Restart words = Some (command.Restart, words)
+arguments_at keyword.Cut words = Some (command.Cut, words)

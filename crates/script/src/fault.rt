@@ -1,0 +1,12 @@
+use thiserror::Error;
+
+/// Why a run of a script stopped early.
+#[derive(Clone, Copy, PartialEq, Eq, Debug, Error)]
+pub enum RunFault {
+    /// The reader of the script failed.
+    #[error("cannot read script")]
+    Read,
+    /// The writer of the answers failed, or took nothing.
+    #[error("cannot write output")]
+    Write,
+}

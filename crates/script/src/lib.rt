@@ -1,0 +1,19 @@
+//! The text of scripts: what a line says, and what is written for an answer.
+#![tactic(auto)]
+
+mod fault;
+mod keyword;
+mod line_text;
+mod lines;
+mod number;
+mod parse;
+mod print;
+mod shown;
+mod step;
+mod words;
+mod writing;
+
+pub use fault::RunFault;
+pub use lines::next_line;
+pub use parse::parse_line;
+pub use print::{print_answer, print_bad_line};

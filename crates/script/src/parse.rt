@@ -1,0 +1,99 @@
+ghost use Rattle.std.specs.Prelude.{◌≡◌, ◌≢◌, IsTrue, ◌↔◌, IfSome, IfNone};
+ghost use Rattle.model.specs.declared.command.Command.{Command};
+ghost use Rattle.model.specs.Text.{Says, Fits, IsSkipped, spelling, command_words};
+ghost use Rattle.script.specs.Reading.{Gives, invocation_at, arguments_at, words_of};
+
+use crate::keyword::{Keyword, keyword_of};
+use crate::words::Words;
+use model::{Command, Invocation, Line, Operation};
+
+/// The longest line that isn't bad, in bytes.
+pub const LONGEST_LINE: usize = 256;
+
+#[tactic(auto, unfolding(crate::specs::Reading::invocation_at))]
+fn invocation(operation: Operation, words: &mut Words<'_>) -> Option<Command>
+    ensures { Gives result words.new (invocation_at operation words.old) }
+{
+    Some(Command::Invoke(Invocation {
+        operation,
+        process: words.number()?,
+        register: words.register()?,
+        words: words.numbers()?,
+        sent: words.registers()?,
+    }))
+}
+
+/// Takes the words that follow a keyword.
+#[tactic(auto, unfolding(crate::specs::Reading::arguments_at))]
+fn arguments(keyword: Keyword, words: &mut Words<'_>) -> Option<Command>
+    ensures { Gives result words.new (arguments_at keyword words.old) }
+{
+    match keyword {
+        Keyword::Invoke(operation) => invocation(operation, words),
+        Keyword::Load => Some(Command::Load {
+            process: words.number()?,
+            address: words.number()?,
+        }),
+        Keyword::Store => Some(Command::Store {
+            process: words.number()?,
+            address: words.number()?,
+            value: words.number()?,
+        }),
+        Keyword::Show => Some(Command::Show {
+            number: words.number()?,
+        }),
+        Keyword::Evict => Some(Command::Evict {
+            number: words.number()?,
+        }),
+        Keyword::Checkpoint => Some(Command::Checkpoint),
+        Keyword::Stabilize => Some(Command::Stabilize {
+            count: words.number()?,
+        }),
+        Keyword::Commit => Some(Command::Commit),
+        Keyword::Migrate => Some(Command::Migrate {
+            count: words.number()?,
+        }),
+        Keyword::Restart => Some(Command::Restart),
+        Keyword::Cut => Some(Command::Cut),
+    }
+}
+
+fn is_skipped(line: &[u8]) -> bool
+    ensures { IsTrue result ↔ IsSkipped line.now }
+{
+    matches!(line, [] | [b'#', ..])
+}
+
+/// The command that the words of the line say.
+fn command_in(line: &[u8]) -> Option<Command>
+    ensures found { IfSome result (λ c. Fits c × (words_of line.now ≡ command_words c)) }
+    ensures none { IfNone result ((c : Command) → Fits c → words_of line.now ≢ command_words c) }
+{
+    let mut words = Words::new(line);
+    let keyword = keyword_of(words.next()?)?;
+    let command = arguments(keyword, &mut words)?;
+    if words.is_empty() { Some(command) } else { None }
+}
+
+/// What a line of a script says. The line is the bytes before the newline.
+///
+/// An empty line and one that begins with `#` say nothing. Any other line says a command if it is
+/// the command's one spelling: its words with one space between each two, numbers decimal without
+/// leading zeros and below 2^64, registers below 32. Anything else is bad, and so is every line of
+/// more than 256 bytes. It takes no memory.
+pub fn parse_line(line: &[u8]) -> Line
+    ensures says { Says line.now result }
+    // A command's spelling is read as that command.
+    ensures reads { (c : Command) → Fits c → line.now ≡ spelling c → result ≡ Line.Command c }
+{
+    if line.len() > LONGEST_LINE {
+        return Line::Bad;
+    }
+    if is_skipped(line) {
+        return Line::Skip;
+    }
+    match command_in(line) {
+        Some(command) => Line::Command(command),
+        None => Line::Bad,
+    }
+}

@@ -1,0 +1,84 @@
+ghost use Rattle.std.specs.Prelude.{◌≡◌, ℕ, ◌<◌, ◌≤◌, List, [], ◌∷◌, length, codes, decimal};
+ghost use Rattle.model.specs.Text.{spaced, refusal_text, printed, bad_line};
+ghost use Rattle.script.specs.Writing.{Writes};
+
+use crate::fault::RunFault;
+use crate::line_text::LineText;
+use crate::shown::print_object;
+use crate::writing::write_fully;
+use model::{Answer, Refusal};
+use std::io::Write;
+
+fn numbered(word: &[u8], number: u64) -> LineText
+    requires { length word.now ≤ 20 }
+    ensures text { result ≡ spaced (word.now ∷ decimal number ∷ []) }
+    ensures short { length result ≤ 41 }
+{
+    let mut line = LineText::new(word);
+    line.number(number);
+    line
+}
+
+fn refusal_line(refusal: Refusal) -> LineText
+    ensures text { result ≡ refusal_text refusal }
+    ensures short { length result ≤ 41 }
+{
+    match refusal {
+        Refusal::Down => LineText::new(b"down"),
+        Refusal::NoProcess => LineText::new(b"no process"),
+        Refusal::NotRunning => LineText::new(b"not running"),
+        Refusal::Worn => LineText::new(b"worn"),
+        Refusal::Stalled => LineText::new(b"stalled"),
+        Refusal::LogFull => LineText::new(b"log full"),
+        Refusal::CheckpointRunning => LineText::new(b"checkpoint running"),
+        Refusal::MigrationPending => LineText::new(b"migration pending"),
+        Refusal::NotStable(left) => numbered(b"not stable", left),
+        Refusal::NoCheckpoint => LineText::new(b"no checkpoint"),
+        Refusal::NoMemory => LineText::new(b"no memory"),
+        Refusal::Fault => LineText::new(b"fault"),
+        Refusal::BadNumber => LineText::new(b"bad number"),
+    }
+}
+
+/// Writes the text of an answer: one line, or for an object several, the last of which is `end`.
+///
+/// `Err(RunFault::Write)` where the writer fails or takes nothing: what was written is then a
+/// beginning of that text. It takes no memory.
+#[tactic(auto, using(crate::proofs::Fronts::writes_same), unfolding(model::specs::Text::printed))]
+pub fn print_answer<W: Write>(answer: &Answer, writer: &mut W) -> Result<(), RunFault>
+    ensures { Writes (W.contents writer.old) (W.contents writer.new) result (printed answer.now) }
+{
+    match answer {
+        Answer::Done => write_fully(writer, b"done\n"),
+        Answer::Value(word) => numbered(b"value", *word).write_to(writer),
+        Answer::MemoryFault(fault) => numbered(b"memory fault", *fault as u64).write_to(writer),
+        Answer::Frozen(count) => numbered(b"frozen", *count).write_to(writer),
+        Answer::Left(count) => numbered(b"left", *count).write_to(writer),
+        Answer::Committed(generation) => numbered(b"committed", *generation).write_to(writer),
+        Answer::At { generation, age } => {
+            let mut line = numbered(b"at", *generation);
+            line.number(*age);
+            line.write_to(writer)
+        }
+        Answer::Shown {
+            number,
+            object,
+            registers,
+            used,
+        } => {
+            print_object(*number, object, registers, *used, writer)?;
+            write_fully(writer, b"end\n")
+        }
+        Answer::Refused(refusal) => refusal_line(*refusal).write_to(writer),
+    }
+}
+
+/// Writes what answers a bad line.
+///
+/// `Err(RunFault::Write)` where the writer fails or takes nothing: what was written is then a
+/// beginning of that text.
+pub fn print_bad_line<W: Write>(writer: &mut W) -> Result<(), RunFault>
+    ensures { Writes (W.contents writer.old) (W.contents writer.new) result bad_line }
+{
+    write_fully(writer, b"bad line\n")
+}

@@ -1,0 +1,97 @@
+ghost use Rattle.std.specs.Prelude.{◌≡◌, ℕ, ◌<◌, ◌^◌, ◌==◌, List, [], ◌∷◌, ◌++◌, map, length, MatchOption, option_map, IsTrue, ◌↔◌};
+ghost use Rattle.std.specs.List.{position};
+ghost use Rattle.script.specs.Reading.{words_of, Gives, number_at, register_at, numbers_at, registers_at};
+
+use crate::number::number_of;
+use std::marker::Model;
+
+fn first_space(bytes: &[u8]) -> Option<usize>
+    ensures { result ≡ position (λ b. b == 32) bytes.now }
+{
+    bytes.iter().position(|byte| *byte == b' ')
+}
+
+/// The words of a line that are left, with one space between each two.
+#[derive(Drop)]
+pub struct Words<'a> {
+    rest: Option<&'a [u8]>,
+}
+
+impl<'a> Model for Words<'a> {
+    ghost use Rattle.std.specs.Prelude.{ℕ, List, option_map};
+
+    ghost Value = { List (List ℕ) };
+
+    ghost use Rattle.script.specs.Reading.{words_left};
+
+    ghost view = { λ w. words_left (option_map (λ r. r.now) w.rest) };
+}
+
+impl<'a> Words<'a> {
+    pub fn new(line: &'a [u8]) -> Self
+        ensures { result ≡ words_of line.now }
+    {
+        Words { rest: Some(line) }
+    }
+
+    pub fn is_empty(&self) -> bool
+        ensures { IsTrue result ↔ (self.now ≡ []) }
+    {
+        self.rest.is_none()
+    }
+
+    /// Takes the next word.
+    pub fn next(&mut self) -> Option<&'a [u8]>
+        ensures { MatchOption result ((self.old ≡ []) × (self.new ≡ [])) (λ w. self.old ≡ w.now ∷ self.new) }
+    {
+        let rest = self.rest?;
+        match first_space(rest) {
+            Some(end) => {
+                self.rest = Some(&rest[end + 1..]);
+                Some(&rest[..end])
+            }
+            None => {
+                self.rest = None;
+                Some(rest)
+            }
+        }
+    }
+
+    /// Takes the next word as a number.
+    #[tactic(auto, unfolding(crate::specs::Reading::number_at))]
+    pub fn number(&mut self) -> Option<u64>
+        ensures { Gives result self.new (number_at self.old) }
+    {
+        number_of(self.next()?)
+    }
+
+    /// Takes the next word as the number of a register.
+    #[tactic(auto, unfolding(crate::specs::Reading::register_at))]
+    pub fn register(&mut self) -> Option<u8>
+        ensures { Gives result self.new (register_at self.old) }
+    {
+        let number = self.number()?;
+        if number < 32 { Some(number as u8) } else { None }
+    }
+
+    /// Takes four numbers.
+    #[tactic(auto, unfolding(crate::specs::Reading::numbers_at))]
+    pub fn numbers(&mut self) -> Option<[u64; 4]>
+        ensures { Gives result self.new (numbers_at self.old) }
+    {
+        Some([self.number()?, self.number()?, self.number()?, self.number()?])
+    }
+
+    /// Takes the numbers of four registers.
+    #[tactic(auto, unfolding(crate::specs::Reading::registers_at))]
+    pub fn registers(&mut self) -> Option<[u8; 4]>
+        ensures { Gives result self.new (registers_at self.old) }
+    {
+        Some([
+            self.register()?,
+            self.register()?,
+            self.register()?,
+            self.register()?,
+        ])
+    }
+}
