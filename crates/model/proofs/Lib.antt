@@ -1,5 +1,9 @@
-pub mod Usage
-pub mod SoundParts
+pub mod Revoking
 pub mod SoundEdits
-pub mod SoundOrders
 pub mod SoundGates
+pub mod SoundOrders
+pub mod SoundParts
+pub mod Spelling
+pub mod Touching
+pub mod Usage
+pub mod WorkedRows

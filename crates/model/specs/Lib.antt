@@ -15,3 +15,8 @@ pub mod Run
 pub mod Closed
 pub mod Worlds
 pub mod Laws
+pub mod Worked
+pub mod WorkedMemory
+pub mod WorkedSaves
+pub mod WorkedSteps
+pub mod WorkedTexts

@@ -7,6 +7,7 @@ pub mod capability;
 pub mod command;
 pub mod frame;
 pub mod geometry;
+pub mod laws;
 pub mod line;
 pub mod object;
 pub mod order;
@@ -14,6 +15,7 @@ pub mod present;
 pub mod slots;
 pub mod soundness;
 pub mod words;
+pub mod worked;
 
 pub use access::Access;
 pub use answer::{Answer, MemoryFault, Refusal};
