@@ -2,8 +2,8 @@
 use Rattle.std.proofs.Common.{◌≡◌, ◌<◌, ℕ, sym, ◌∙◌, ⊎_elim}
 use Rattle.std.proofs.Math.Path.{fun_ext}
 use Rattle.std.proofs.lemmas.Bool.{cases_lt}
-use Rattle.device.specs.Disk.{Image, Disk, IsWhole}
-use Rattle.device.specs.Calls.{Agrees, Elsewhere, Tears, Only}
+use Rattle.device.specs.Disk.{Image, IsWhole}
+use Rattle.device.specs.Calls.{Agrees, Elsewhere}
 
 -- images that agree are one, so what holds of one holds of the other
 pub agrees_is : (new old : Image) → Agrees new old → new ≡ old
@@ -26,7 +26,8 @@ elsewhere_on at n old mid new first second = record {
 }
 
 -- after a sync and a write of these sectors a crash leaves all others
-pub torn_elsewhere : (image : Image) (at n : ℕ) (old new : Disk) → Only image old → Tears at n old new → (c : Image) → new.may_leave c → Elsewhere at n image c
-torn_elsewhere image at n old new only tears c left =
+pub torn_elsewhere : (image : Image) (at n : ℕ) {before after : Image → Type 0} → ((c : Image) → before c → Agrees c image) → ((c : Image) → after c → (d : Image) × before d × Elsewhere at n d c)
+    → (c : Image) → after c → Elsewhere at n image c
+torn_elsewhere image at n only tears c left =
     let from = tears c left in
     elsewhere_on at n image from.0 c (elsewhere_same at n image from.0 (only from.0 from.1)) from.2

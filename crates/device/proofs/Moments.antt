@@ -1,8 +1,9 @@
 -- How a run of device calls goes on.
-use Rattle.std.proofs.Common.{◌≡◌, ◌<◌, ◌≤◌, ℕ, inl, inr, ⊎_elim, refl, arith, true, false, Result, Ok, Err}
+use Rattle.std.proofs.Common.{◌⊎◌, ◌≡◌, ◌<◌, ◌≤◌, ℕ, inl, inr, ⊎_elim, refl, arith, true, false, Result, Ok, Err, sym, subst}
 use Rattle.std.proofs.lemmas.Bool.{cases_lt}
 use Rattle.device.specs.Disk.{Image, Disk}
-use Rattle.device.specs.Calls.{Narrows, Counts}
+use Rattle.device.specs.Calls.{Narrows, Only, Counts}
+use Rattle.device.proofs.Images.{agrees_is}
 use Rattle.device.specs.Moments.{Elapses, LeavesOnly, Peeks}
 
 -- what a crash now may leave counts among what one since an earlier moment might have left
@@ -53,6 +54,11 @@ leaves_on {old} {mid} {new} {P} first second = record {
   keeps = λ t c le left. second.keeps t c (omega (arith, le, first.later)) (first.keeps t c le left);
 }
 
+-- one run after another, of which other things are said
+pub leaves_then : {old mid new : Disk} {P Q : Image → Type 0} → LeavesOnly old mid P → LeavesOnly mid new Q → LeavesOnly old new (λ c. P c ⊎ Q c)
+leaves_then {old} {mid} {new} {P} {Q} first second =
+    leaves_on {old = old} {mid = mid} {new = new} {P = λ c. P c ⊎ Q c} (leaves_weaker (λ c. P c ⊎ Q c) (λ c has. inl has) first) (leaves_weaker (λ c. P c ⊎ Q c) (λ c has. inr has) second)
+
 -- what a crash may leave where a run ends has P
 pub ends : {old new : Disk} {P : Image → Type 0} → LeavesOnly old new P → CountsNow new → (c : Image) → new.may_leave c → P c
 ends {old} {new} run counts_now c left = run.each c (counts_now old.moment c run.later left)
@@ -60,6 +66,12 @@ ends {old} {new} run counts_now c left = run.each c (counts_now old.moment c run
 -- a call more after which a crash leaves nothing new, as a read or a sync
 pub narrowed : {old mid new : Disk} {P : Image → Type 0} → LeavesOnly old mid P → CountsNow mid → Elapses mid new → Narrows mid new → LeavesOnly old new P
 narrowed {old} {mid} {new} {P} so_far counts_now time narrows = goes_on {old = old} {mid = mid} {new = new} {P = P} so_far time (λ c left. ends so_far counts_now c (narrows c left))
+
+-- a power cut more: what it left could have been left before
+pub goes_on_cut : {old mid new : Disk} {P : Image → Type 0} → LeavesOnly old mid P → CountsNow mid → Elapses mid new → mid.may_leave new.seen → Only new.seen new → LeavesOnly old new P
+goes_on_cut {old} {mid} {new} {P} so_far counts_now time left only =
+    goes_on {old = old} {mid = mid} {new = new} {P = P} so_far time
+    (λ c now. subst P (sym (agrees_is c new.seen (only c now))) (ends so_far counts_now new.seen left))
 
 -- before the first of a run of reads and syncs
 pub peeks_started : (disk : Disk) → OnlyNow disk → Peeks disk disk

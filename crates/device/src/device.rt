@@ -4,6 +4,8 @@ ghost use Rattle.device.specs.Disk.{Image, Disk, IsWhole};
 ghost use Rattle.device.specs.Calls.{Agrees, Elsewhere, sectors_of, AreSectors, Narrows, Tears, Only, Counts};
 ghost use Rattle.device.specs.Moments.{Elapses};
 
+use thiserror::Error;
+
 /// The bytes of a sector.
 pub const SECTOR_SIZE: usize = 512;
 
@@ -11,7 +13,8 @@ pub const SECTOR_SIZE: usize = 512;
 pub const MAX_SECTORS: u64 = 131072;
 
 /// The device didn't do what it was called for.
-#[derive(Clone, Copy, Debug, PartialEq, Eq)]
+#[derive(Clone, Copy, Debug, PartialEq, Eq, Error)]
+#[error("the device failed")]
 pub struct Failed;
 
 /// A device of sectors of 512 bytes, numbered from 0.

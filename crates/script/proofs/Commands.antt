@@ -1,5 +1,5 @@
 -- A command is read from its words, and from no others.
-use Rattle.std.proofs.Common.{◌≡◌, ◌≢◌, ℕ, ◌+◌, ◌*◌, ◌<◌, ◌≤◌, ◌^◌, ◌&&◌, ◌==◌, Bool, true, false, cond, if◌then◌else◌, List, [], ◌∷◌, ◌++◌, map, Option, None, Some, length, decimal, codes, zero, suc, append-nil, append_assoc, refl, sym, ap, ◌∙◌, subst, inl, inr, arith, nat_lt}
+use Rattle.std.proofs.Common.{◌≡◌, ◌≢◌, ℕ, ◌<◌, ◌^◌, ◌&&◌, Bool, true, false, cond, if◌then◌else◌, List, [], ◌∷◌, ◌++◌, map, Option, None, Some, length, decimal, codes, zero, suc, append-nil, append_assoc, refl, sym, ap, ◌∙◌, subst, arith, nat_lt}
 use Rattle.std.specs.Prelude.{IfSome, IfNone}
 use Rattle.std.specs.List.{All}
 use Rattle.std.specs.Str.{bytes_eq}
@@ -8,7 +8,6 @@ use Rattle.std.proofs.lemmas.Slice.Eq.{bytes_eq-Decides}
 use Rattle.std.proofs.lemmas.Bool.{lt-ltb, ltb-true}
 use Rattle.model.specs.declared.command.Command.{Command}
 use Rattle.model.specs.declared.command.Command.TheVariants as command
-use Rattle.model.specs.declared.command.Invocation.{Invocation}
 use Rattle.model.specs.declared.command.Operation.{Operation}
 use Rattle.model.specs.declared.command.Operation.TheVariants.{Call, Return, Send}
 use Rattle.model.specs.Text.{Fits, command_words, operation_name}
@@ -86,10 +85,12 @@ TakesOne read limit = (words : Words) (p : ℕ × Words) → read words ≡ Some
 four_again : (read : Words → Option (ℕ × Words)) (limit : ℕ) → ReadsAgain read limit → (numbers : List ℕ) (rest : Words)
     → length numbers ≡ 4 → All (λ n. n < limit) numbers → four_at read (map decimal numbers ++ rest) ≡ Some (numbers, rest)
 four_again read limit again (a ∷ b ∷ c ∷ d ∷ []) rest four small =
-    rw (again a (decimal b ∷ decimal c ∷ decimal d ∷ rest) (small 0 0 (omega arith)),
-        again b (decimal c ∷ decimal d ∷ rest) (small 1 0 (omega arith)),
-        again c (decimal d ∷ rest) (small 2 0 (omega arith)),
-        again d rest (small 3 0 (omega arith))) refl
+    rw (
+      again a (decimal b ∷ decimal c ∷ decimal d ∷ rest) (small 0 0 (omega arith)),
+      again b (decimal c ∷ decimal d ∷ rest) (small 1 0 (omega arith)),
+      again c (decimal d ∷ rest) (small 2 0 (omega arith)),
+      again d rest (small 3 0 (omega arith)),
+    ) refl
 four_again read limit again [] rest four small = absurd (omega arith)
 four_again read limit again (a ∷ []) rest four small = absurd (omega arith)
 four_again read limit again (a ∷ b ∷ []) rest four small = absurd (omega arith)
@@ -106,6 +107,20 @@ all_four limit a b c d pa pb pc pd (suc (suc (suc (suc k)))) e lt = absurd (omeg
 some_is : {A : Type 0} (x y : A) → Some x ≡ Some y → x ≡ y
 some_is x y e = cc
 
+four_end : (read : Words → Option (ℕ × Words)) (limit : ℕ) → TakesOne read limit → (words : Words) (a b c d : ℕ × Words) (p : List ℕ × Words)
+    → read words ≡ Some a → read a.1 ≡ Some b → read b.1 ≡ Some c → read c.1 ≡ Some d → Some (a.0 ∷ b.0 ∷ c.0 ∷ d.0 ∷ [], d.1) ≡ Some p
+    → (length p.0 ≡ 4) × All (λ n. n < limit) p.0 × (words ≡ map decimal p.0 ++ p.1)
+four_end read limit takes words a b c d p one two three four is =
+    let ta = takes words a one in
+    let tb = takes a.1 b two in
+    let tc = takes b.1 c three in
+    let td = takes c.1 d four in
+    subst (λ (q : List ℕ × Words). (length q.0 ≡ 4) × All (λ n. n < limit) q.0 × (words ≡ map decimal q.0 ++ q.1)) (some_is _ _ is) (
+      refl,
+      all_four limit a.0 b.0 c.0 d.0 ta.0 tb.0 tc.0 td.0,
+      ta.1 ∙ ap (λ (w : Words). decimal a.0 ∷ w) (tb.1 ∙ ap (λ (w : Words). decimal b.0 ∷ w) (tc.1 ∙ ap (λ (w : Words). decimal c.0 ∷ w) td.1)),
+    )
+
 four_takes : (read : Words → Option (ℕ × Words)) (limit : ℕ) → TakesOne read limit → (words : Words) (p : List ℕ × Words) → four_at read words ≡ Some p
     → (length p.0 ≡ 4) × All (λ n. n < limit) p.0 × (words ≡ map decimal p.0 ++ p.1)
 four_takes read limit takes words p e =
@@ -113,13 +128,7 @@ four_takes read limit takes words p e =
     let two = bind_some (read one.0.1) _ p one.2 in
     let three = bind_some (read two.0.1) _ p two.2 in
     let four = bind_some (read three.0.1) _ p three.2 in
-    let a = takes words one.0 one.1 in
-    let b = takes one.0.1 two.0 two.1 in
-    let c = takes two.0.1 three.0 three.1 in
-    let d = takes three.0.1 four.0 four.1 in
-    subst (λ (q : List ℕ × Words). (length q.0 ≡ 4) × All (λ n. n < limit) q.0 × (words ≡ map decimal q.0 ++ q.1)) (some_is _ _ four.2)
-    (refl, all_four limit one.0.0 two.0.0 three.0.0 four.0.0 a.0 b.0 c.0 d.0,
-     a.1 ∙ ap (λ (w : Words). decimal one.0.0 ∷ w) (b.1 ∙ ap (λ (w : Words). decimal two.0.0 ∷ w) (c.1 ∙ ap (λ (w : Words). decimal three.0.0 ∷ w) d.1)))
+    four_end read limit takes words one.0 two.0 three.0 four.0 p one.1 two.1 three.1 four.1 four.2
 
 number_takes : TakesOne number_at (2 ^ 64)
 unfolding number_at
@@ -155,11 +164,16 @@ pub command_again : (c : Command) → Fits c → (words : Words) × (command_wor
 unfolding command_words arguments_at invocation_at numbers_at registers_at keyword_for
 command_again (command.Invoke i) fits =
     let sent : registers_at (map decimal i.sent) ≡ Some (i.sent, []) =
-    subst (λ (w : Words). registers_at w ≡ Some (i.sent, [])) (append-nil (map decimal i.sent)) (four_again register_at 32 register_again i.sent [] fits.4 fits.5) in
-    (decimal i.process ∷ decimal i.register ∷ (map decimal i.words ++ map decimal i.sent), refl,
-     rw (number_again i.process (decimal i.register ∷ (map decimal i.words ++ map decimal i.sent)) fits.0,
-         register_again i.register (map decimal i.words ++ map decimal i.sent) fits.1,
-         four_again number_at (2 ^ 64) number_again i.words (map decimal i.sent) fits.2 fits.3, sent) refl)
+    subst (λ (w : Words). registers_at w ≡ Some (i.sent, [])) (append-nil (map decimal i.sent)) (four_again register_at 32 register_again i.sent [] fits.4 fits.5) in (
+      decimal i.process ∷ decimal i.register ∷ (map decimal i.words ++ map decimal i.sent),
+      refl,
+      rw (
+        number_again i.process (decimal i.register ∷ (map decimal i.words ++ map decimal i.sent)) fits.0,
+        register_again i.register (map decimal i.words ++ map decimal i.sent) fits.1,
+        four_again number_at (2 ^ 64) number_again i.words (map decimal i.sent) fits.2 fits.3,
+        sent,
+      ) refl,
+    )
 command_again (command.Load p a) fits = (decimal p ∷ decimal a ∷ [], refl, rw (number_again p (decimal a ∷ []) fits.0, number_again a [] fits.1) refl)
 command_again (command.Store p a v) fits =
     (decimal p ∷ decimal a ∷ decimal v ∷ [], refl, rw (number_again p (decimal a ∷ decimal v ∷ []) fits.0, number_again a (decimal v ∷ []) fits.1, number_again v [] fits.2) refl)
@@ -190,18 +204,28 @@ invocation_words : (name process register : List ℕ) (sent_words sent words one
 invocation_words name process register sent_words sent words one two three four a b c d =
     rw (a, b, c, d) (ap (λ (w : Words). name ∷ process ∷ register ∷ w) (sym (append_assoc sent_words sent four)))
 
+invocation_end : (o : Operation) (words : Words) (a b : ℕ × Words) (c d : List ℕ × Words) (p : Command × Words)
+    → number_at words ≡ Some a → register_at a.1 ≡ Some b → four_at number_at b.1 ≡ Some c → four_at register_at c.1 ≡ Some d
+    → Some (command.Invoke (record { operation = o; process = a.0; register = b.0; words = c.0; sent = d.0 }), d.1) ≡ Some p → IsReadFrom (keyword.Invoke o) words p
+unfolding command_words
+invocation_end o words a b c d p one two three four is =
+    let ta = number_takes words a one in
+    let tb = register_takes a.1 b two in
+    let tc = four_takes number_at (2 ^ 64) number_takes b.1 c three in
+    let td = four_takes register_at 32 register_takes c.1 d four in
+    subst (IsReadFrom (keyword.Invoke o) words) (some_is _ _ is) (
+      (ta.0, tb.0, tc.0, tc.1, td.0, td.1),
+      invocation_words (operation_name o) (decimal a.0) (decimal b.0) (map decimal c.0) (map decimal d.0) words a.1 b.1 c.1 d.1 ta.1 tb.1 tc.2 td.2,
+    )
+
 invocation_takes : (o : Operation) (words : Words) (p : Command × Words) → invocation_at o words ≡ Some p → IsReadFrom (keyword.Invoke o) words p
-unfolding invocation_at numbers_at registers_at command_words
+unfolding invocation_at numbers_at registers_at
 invocation_takes o words p e =
     let one = bind_some (number_at words) _ p e in
     let two = bind_some (register_at one.0.1) _ p one.2 in
     let three = bind_some (four_at number_at two.0.1) _ p two.2 in
     let four = bind_some (four_at register_at three.0.1) _ p three.2 in
-    let a = number_takes words one.0 one.1 in
-    let b = register_takes one.0.1 two.0 two.1 in
-    let c = four_takes number_at (2 ^ 64) number_takes two.0.1 three.0 three.1 in
-    let d = four_takes register_at 32 register_takes three.0.1 four.0 four.1 in
-    subst (IsReadFrom (keyword.Invoke o) words) (some_is _ _ four.2) ((a.0, b.0, c.0, c.1, d.0, d.1), invocation_words (operation_name o) _ _ _ _ _ _ _ _ _ a.1 b.1 c.2 d.2)
+    invocation_end o words one.0 two.0 three.0 four.0 p one.1 two.1 three.1 four.1 four.2
 
 one_read : (k : Keyword) (words : Words) (p : Command × Words) (c : Command) → p.0 ≡ c → Fits c → keyword_name k ∷ words ≡ command_words c ++ p.1 → IsReadFrom k words p
 one_read k words p c is fits whole = rw is (fits, whole)
@@ -222,8 +246,10 @@ arguments_takes keyword.Store words p e =
     let a = number_takes words one.0 one.1 in
     let b = number_takes one.0.1 two.0 two.1 in
     let c = number_takes two.0.1 three.0 three.1 in
-    subst (IsReadFrom keyword.Store words) (some_is _ _ three.2) ((a.0, b.0, c.0),
-        ap (λ (w : Words). codes "store" ∷ w) (a.1 ∙ ap (λ (w : Words). decimal one.0.0 ∷ w) (b.1 ∙ ap (λ (w : Words). decimal two.0.0 ∷ w) c.1)))
+    subst (IsReadFrom keyword.Store words) (some_is _ _ three.2) (
+      (a.0, b.0, c.0),
+      ap (λ (w : Words). codes "store" ∷ w) (a.1 ∙ ap (λ (w : Words). decimal one.0.0 ∷ w) (b.1 ∙ ap (λ (w : Words). decimal two.0.0 ∷ w) c.1)),
+    )
 arguments_takes keyword.Show words p e = let t = one_takes (λ n. command.Show n) words p e in one_read keyword.Show words p (command.Show t.0) t.2 t.1 (ap (λ (w : Words). codes "show" ∷ w) t.3)
 arguments_takes keyword.Evict words p e = let t = one_takes (λ n. command.Evict n) words p e in one_read keyword.Evict words p (command.Evict t.0) t.2 t.1 (ap (λ (w : Words). codes "evict" ∷ w) t.3)
 arguments_takes keyword.Checkpoint words p e = subst (IsReadFrom keyword.Checkpoint words) (some_is _ _ e) (tt, refl)

@@ -1,8 +1,8 @@
 -- What a writer is left with, put together.
-use Rattle.std.proofs.Common.{◌≡◌, ℕ, ◌+◌, ◌-◌, ◌≤◌, List, [], ◌∷◌, ◌++◌, Option, None, Some, Result, Ok, Err, length, take, drop, refl, sym, ap, ◌∙◌, subst, append_assoc, append-nil, arith}
+use Rattle.std.proofs.Common.{◌≡◌, ℕ, ◌+◌, ◌-◌, List, [], ◌++◌, Option, None, Some, Result, Ok, Err, length, take, drop, sym, ap, ◌∙◌, subst, append_assoc, append-nil, arith}
 use Rattle.std.proofs.lemmas.List.{take-append-drop, take_all, length-drop}
 use Rattle.std.proofs.Math.Seq.{take-add}
-use Rattle.std.proofs.KnownBytes.{Appends-trans, Appends-kept, Appends-nil}
+use Rattle.std.proofs.KnownBytes.{Appends-trans, Appends-kept}
 use Rattle.std.specs.Io.KnownBytes.{Appends, Keeps}
 use Rattle.model.specs.Text.{line_of}
 use Rattle.script.specs.declared.fault.RunFault.{RunFault}

@@ -1,7 +1,9 @@
 pub mod Commands
+pub mod Fronts
 pub mod Numbers
 pub mod Spellings
 pub mod Split
-pub mod Texts
-pub mod Fronts
 pub mod Steps
+pub mod Taken
+pub mod Texts
+pub mod Turns

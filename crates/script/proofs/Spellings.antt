@@ -1,8 +1,6 @@
 -- A line is a command's spelling where its pieces are the command's words.
-use Rattle.std.proofs.Common.{◌≡◌, ◌≢◌, ℕ, zero, suc, ◌+◌, ◌*◌, ◌<◌, ◌≤◌, ◌^◌, ◌&&◌, ◌==◌, Bool, true, false, not, cond, List, [], ◌∷◌, ◌++◌, map, Option, None, Some, length, get_or, decimal, codes, refl, sym, ap, ◌∙◌, subst, inl, inr, ◌⊎◌, arith, length-append, append-nil}
-use Rattle.std.specs.List.{All, AllByRecursion, join_with_byte, slice_split}
-use Rattle.std.specs.Str.Parse.{AllDigits}
-use Rattle.std.specs.Int.{IsInRange}
+use Rattle.std.proofs.Common.{◌≡◌, ◌≢◌, ℕ, zero, suc, ◌*◌, ◌<◌, ◌≤◌, ◌^◌, ◌&&◌, ◌==◌, Bool, true, false, not, List, [], ◌∷◌, ◌++◌, map, length, get_or, decimal, refl, sym, ap, ◌∙◌, subst, arith, length-append, append-nil}
+use Rattle.std.specs.List.{All, AllByRecursion}
 use Rattle.std.proofs.lemmas.Fmt.{length-decimal-le}
 use Rattle.std.proofs.lemmas.List.{length-map}
 use Rattle.std.proofs.lemmas.List.Elements.{All-from_get_or}
@@ -17,7 +15,6 @@ use Rattle.script.specs.Reading.{Words, words_of}
 use Rattle.std.proofs.lemmas.Bool.Decides.{nat_tests}
 use Rattle.script.proofs.Commands.{both, one_command}
 use Rattle.script.proofs.Numbers.{decimal_is_digits}
-use Rattle.model.specs.declared.command.Invocation.{Invocation}
 
 is_space : ℕ → Bool
 is_space b = b == 32
@@ -108,10 +105,16 @@ command_is_plain (command.Invoke i) fits =
       said = λ e. operation_said i.operation _ e;
     }
 command_is_plain (command.Load p a) fits = record {
-  words = (word_from _ refl (omega arith), (number_word p fits.0, (number_word a fits.1, tt))); some = omega arith; few = omega arith; said = λ e. omega arith;
+  words = (word_from _ refl (omega arith), (number_word p fits.0, (number_word a fits.1, tt)));
+  some = omega arith;
+  few = omega arith;
+  said = λ e. omega arith;
 }
 command_is_plain (command.Store p a v) fits = record {
-  words = (word_from _ refl (omega arith), (number_word p fits.0, (number_word a fits.1, (number_word v fits.2, tt)))); some = omega arith; few = omega arith; said = λ e. omega arith;
+  words = (word_from _ refl (omega arith), (number_word p fits.0, (number_word a fits.1, (number_word v fits.2, tt))));
+  some = omega arith;
+  few = omega arith;
+  said = λ e. omega arith;
 }
 command_is_plain (command.Show n) fits = record { words = (word_from _ refl (omega arith), (number_word n fits, tt)); some = omega arith; few = omega arith; said = λ e. omega arith }
 command_is_plain (command.Evict n) fits = record { words = (word_from _ refl (omega arith), (number_word n fits, tt)); some = omega arith; few = omega arith; said = λ e. omega arith }

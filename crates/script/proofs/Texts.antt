@@ -1,6 +1,6 @@
 -- The lines of an object, one for each of its parts.
 use Rattle.std.proofs.Common.{Option, ◌≡◌, ◌≢◌, ℕ, suc, add-one, length-take-le, ◌+◌, ◌<◌, ◌≤◌, List, [], ◌∷◌, ◌++◌, map, length, get_or, take, drop, codes, decimal, refl, sym, ap, ◌∙◌, append_assoc, append-nil, arith}
-use Rattle.std.specs.List.{flat_map, enumerate_from, join_with_byte}
+use Rattle.std.specs.List.{flat_map, enumerate_from}
 use Rattle.std.proofs.lemmas.Grind.{flat_map-append}
 use Rattle.std.proofs.lemmas.List.{take-append-drop, take_all}
 use Rattle.std.proofs.lemmas.List.Folds.{flat_map-map}
@@ -10,7 +10,7 @@ use Rattle.model.specs.declared.capability.Capability.TheVariants.{Void, Number,
 use Rattle.model.specs.declared.object.Content.TheVariants as content
 use Rattle.model.specs.declared.object.Object.{Object}
 use Rattle.model.specs.declared.object.Root.{Root}
-use Rattle.model.specs.Text.{spaced, headed, line_of, word_line, word_lines, state_text, registers_of, object_text, capability_text, capability_line, capability_lines}
+use Rattle.model.specs.Text.{spaced, headed, line_of, word_lines, state_text, registers_of, object_text, capability_text, capability_line, capability_lines}
 
 enumerate_append : {A : Type 0} (n : ℕ) (xs ys : List A) → enumerate_from n (xs ++ ys) ≡ enumerate_from n xs ++ enumerate_from (n + length xs) ys
 enumerate_append n [] ys = let same : n + 0 ≡ n = omega arith in rw same refl
@@ -25,19 +25,19 @@ module _ {A : Type 0} (line : ℕ × A → List ℕ) (xs : List A) where
 
   pub lines_more : (i : ℕ) (d : A) → i < length xs → lines_before (i + 1) ≡ lines_before i ++ line (i, get_or xs i d)
   lines_more i d lt =
-    let here : 0 + length (take i xs) ≡ i = omega (arith, length-take-le i xs (omega arith)) in
-    let front : take (i + 1) xs ≡ take i xs ++ (get_or xs i d ∷ []) = rw add-one (take-suc xs i d lt) in
-    ap (λ (l : List A). flat_map line (enumerate_from 0 l)) front
-    ∙ ap (flat_map line) (enumerate_append 0 (take i xs) (get_or xs i d ∷ []))
-    ∙ flat_map-append line (enumerate_from 0 (take i xs)) ((0 + length (take i xs), get_or xs i d) ∷ [])
-    ∙ ap (λ (k : ℕ). lines_before i ++ (line (k, get_or xs i d) ++ [])) here
-    ∙ ap (λ (l : List ℕ). lines_before i ++ l) (append-nil (line (i, get_or xs i d)))
+      let here : 0 + length (take i xs) ≡ i = omega (arith, length-take-le i xs (omega arith)) in
+      let front : take (i + 1) xs ≡ take i xs ++ (get_or xs i d ∷ []) = rw add-one (take-suc xs i d lt) in
+      ap (λ (l : List A). flat_map line (enumerate_from 0 l)) front
+      ∙ ap (flat_map line) (enumerate_append 0 (take i xs) (get_or xs i d ∷ []))
+      ∙ flat_map-append line (enumerate_from 0 (take i xs)) ((0 + length (take i xs), get_or xs i d) ∷ [])
+      ∙ ap (λ (k : ℕ). lines_before i ++ (line (k, get_or xs i d) ++ [])) here
+      ∙ ap (λ (l : List ℕ). lines_before i ++ l) (append-nil (line (i, get_or xs i d)))
 
   pub lines_whole : (i : ℕ) → flat_map line (enumerate_from 0 xs) ≡ lines_before i ++ flat_map line (enumerate_from (0 + length (take i xs)) (drop i xs))
   lines_whole i =
-    ap (λ (l : List A). flat_map line (enumerate_from 0 l)) (sym (take-append-drop i xs))
-    ∙ ap (flat_map line) (enumerate_append 0 (take i xs) (drop i xs))
-    ∙ flat_map-append line (enumerate_from 0 (take i xs)) (enumerate_from (0 + length (take i xs)) (drop i xs))
+      ap (λ (l : List A). flat_map line (enumerate_from 0 l)) (sym (take-append-drop i xs))
+      ∙ ap (flat_map line) (enumerate_append 0 (take i xs) (drop i xs))
+      ∙ flat_map-append line (enumerate_from 0 (take i xs)) (enumerate_from (0 + length (take i xs)) (drop i xs))
 
   pub lines_split : (i : ℕ) (d : A) → i < length xs
       → flat_map line (enumerate_from 0 xs) ≡ (lines_before i ++ line (i, get_or xs i d)) ++ flat_map line (enumerate_from (0 + length (take (i + 1) xs)) (drop (i + 1) xs))
@@ -91,16 +91,16 @@ put_spaced word words more numbers last =
 abbrev pub process_put : ℕ → ℕ → ℕ → ℕ → List ℕ → List ℕ → List ℕ → List ℕ
 process_put number owner annex key state words space =
     ((((((((spaced (headed (codes "process") number owner) ++ 32 ∷ codes "annex") ++ 32 ∷ decimal annex) ++ 32 ∷ state) ++ 32 ∷ codes "key") ++ 32 ∷ decimal key) ++ 32 ∷ codes "words")
-      ++ flat_map (λ n. 32 ∷ decimal n) words) ++ 32 ∷ codes "space") ++ 32 ∷ space
+    ++ flat_map (λ n. 32 ∷ decimal n) words) ++ 32 ∷ codes "space") ++ 32 ∷ space
 
 pub process_text : (number owner annex key : ℕ) (state words space : List ℕ) → process_put number owner annex key state words space
     ≡ spaced (headed (codes "process") number owner
-      ++ (codes "annex" ∷ decimal annex ∷ state ∷ codes "key" ∷ decimal key ∷ codes "words" ∷ []) ++ map decimal words ++ (codes "space" ∷ space ∷ []))
+    ++ (codes "annex" ∷ decimal annex ∷ state ∷ codes "key" ∷ decimal key ∷ codes "words" ∷ []) ++ map decimal words ++ (codes "space" ∷ space ∷ []))
 process_text number owner annex key state words space =
     let front = put_all (spaced (headed (codes "process") number owner)) (codes "annex" ∷ decimal annex ∷ state ∷ codes "key" ∷ decimal key ∷ codes "words" ∷ []) in
     ap (λ (t : List ℕ). put_all (front ++ t) (codes "space" ∷ space ∷ [])) (sym (flat_map-map (λ w. 32 ∷ w) decimal words))
     ∙ put_spaced (codes "process") (decimal number ∷ codes "owner" ∷ decimal owner ∷ [])
-        (codes "annex" ∷ decimal annex ∷ state ∷ codes "key" ∷ decimal key ∷ codes "words" ∷ []) (map decimal words) (codes "space" ∷ space ∷ [])
+    (codes "annex" ∷ decimal annex ∷ state ∷ codes "key" ∷ decimal key ∷ codes "words" ∷ []) (map decimal words) (codes "space" ∷ space ∷ [])
 
 pub bank_text : (number owner limit used : ℕ) →
     (((spaced (headed (codes "bank") number owner) ++ 32 ∷ codes "limit") ++ 32 ∷ decimal limit) ++ 32 ∷ codes "used") ++ 32 ∷ decimal used
@@ -132,8 +132,8 @@ module _ (n : ℕ) (o : Object) (registers : Option (List Capability)) (used : �
 
   pub object_root : (r : Root Capability) → o.content ≡ content.Root r
       → object_text n o registers used ≡ line_of (spaced (headed (codes "process") n o.owner
-        ++ (codes "annex" ∷ decimal r.annex ∷ state_text r.state ∷ codes "key" ∷ decimal r.key ∷ codes "words" ∷ [])
-        ++ map decimal r.words ++ (codes "space" ∷ capability_text r.space ∷ []))) ++ capability_lines (codes "register") (registers_of registers)
+      ++ (codes "annex" ∷ decimal r.annex ∷ state_text r.state ∷ codes "key" ∷ decimal r.key ∷ codes "words" ∷ [])
+      ++ map decimal r.words ++ (codes "space" ∷ capability_text r.space ∷ []))) ++ capability_lines (codes "register") (registers_of registers)
   unfolding object_text
   object_root r is = rw is refl
 

@@ -1,5 +1,5 @@
 -- Reading the words of a line from left to right.
-use Rattle.std.specs.Prelude.{◌≡◌, ℕ, ◌==◌, ◌&&◌, ◌^◌, nat_lt, if◌then◌else◌, Option, None, Some, option_map, List, [], ◌∷◌, decimal}
+use Rattle.std.specs.Prelude.{◌≡◌, ℕ, ◌==◌, ◌&&◌, ◌^◌, nat_lt, if◌then◌else◌, Option, None, Some, List, [], ◌∷◌, decimal}
 use Rattle.std.specs.List.{slice_split}
 use Rattle.std.specs.Str.{bytes_eq}
 use Rattle.std.specs.Str.Parse.{digits_value}

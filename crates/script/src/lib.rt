@@ -1,7 +1,8 @@
-//! The text of scripts: what a line says, and what is written for an answer.
+//! The text of scripts: what a line says, what is written for an answer, and runs.
 #![tactic(auto)]
 
 mod fault;
+mod first;
 mod keyword;
 mod line_text;
 mod lines;
@@ -14,6 +15,10 @@ mod words;
 mod writing;
 
 pub use fault::RunFault;
+pub use first::first_run;
 pub use lines::next_line;
 pub use parse::parse_line;
 pub use print::{print_answer, print_bad_line};
+
+#[cfg(test)]
+mod tests;

@@ -1,4 +1,4 @@
-ghost use Rattle.std.specs.Prelude.{◌≡◌, ℕ, ◌+◌, ◌*◌, ◌<◌, ◌≤◌, ◌∷◌, ◌++◌, length, decimal};
+ghost use Rattle.std.specs.Prelude.{◌≡◌, ◌+◌, ◌*◌, ◌<◌, ◌≤◌, ◌∷◌, ◌++◌, length, decimal};
 ghost use Rattle.std.specs.List.{flat_map};
 ghost use Rattle.model.specs.Text.{line_of};
 ghost use Rattle.script.specs.Writing.{Writes};

@@ -1,5 +1,4 @@
-ghost use Rattle.std.specs.Prelude.{◌≡◌, ℕ, ◌<◌, ◌≤◌, List, [], ◌∷◌, ◌++◌, length, IfOk, OnErr, IfErr, IsTrue, ◌↔◌};
-ghost use Rattle.std.specs.Io.KnownBytes.{Consumes, IsAtEnd, Keeps};
+ghost use Rattle.std.specs.Prelude.{◌≡◌, ℕ, List, [], ◌∷◌, ◌++◌, IfOk, OnErr, IfErr, IsTrue, ◌↔◌};
 ghost use Rattle.script.specs.Lines.{TakesLine, TakesNoLine, Holds, TakesByte};
 ghost use Rattle.model.specs.Text.{Says};
 

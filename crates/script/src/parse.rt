@@ -72,7 +72,11 @@ fn command_in(line: &[u8]) -> Option<Command>
     let mut words = Words::new(line);
     let keyword = keyword_of(words.next()?)?;
     let command = arguments(keyword, &mut words)?;
-    if words.is_empty() { Some(command) } else { None }
+    if words.is_empty() {
+        Some(command)
+    } else {
+        None
+    }
 }
 
 /// What a line of a script says. The line is the bytes before the newline.

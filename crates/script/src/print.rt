@@ -1,4 +1,4 @@
-ghost use Rattle.std.specs.Prelude.{◌≡◌, ℕ, ◌<◌, ◌≤◌, List, [], ◌∷◌, length, codes, decimal};
+ghost use Rattle.std.specs.Prelude.{◌≡◌, ◌≤◌, [], ◌∷◌, length, decimal};
 ghost use Rattle.model.specs.Text.{spaced, refusal_text, printed, bad_line};
 ghost use Rattle.script.specs.Writing.{Writes};
 

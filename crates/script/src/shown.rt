@@ -1,4 +1,4 @@
-ghost use Rattle.std.specs.Prelude.{◌≡◌, ℕ, ◌+◌, ◌<◌, ◌≤◌, List, [], ◌∷◌, ◌++◌, map, length, codes, decimal};
+ghost use Rattle.std.specs.Prelude.{◌≡◌, ◌+◌, ◌<◌, ◌≤◌, [], ◌∷◌, ◌++◌, map, length, codes, decimal};
 ghost use Rattle.model.specs.Text.{spaced, headed, access_text, capability_text, state_text, word_line, word_lines, capability_line, capability_lines, registers_of, object_text};
 ghost use Rattle.script.specs.Writing.{Writes};
 
@@ -140,7 +140,12 @@ fn print_words<W: Write>(words: &[u64], writer: &mut W) -> Result<(), RunFault>
 }
 
 /// Writes the line of a capability that isn't void.
-fn print_capability<W: Write>(name: &[u8], index: usize, capability: Capability, writer: &mut W) -> Result<(), RunFault>
+fn print_capability<W: Write>(
+    name: &[u8],
+    index: usize,
+    capability: Capability,
+    writer: &mut W,
+) -> Result<(), RunFault>
     requires { length name.now ≤ 8 }
     ensures { Writes (W.contents writer.old) (W.contents writer.new) result (capability_line name.now (index, capability)) }
 {
@@ -153,7 +158,11 @@ fn print_capability<W: Write>(name: &[u8], index: usize, capability: Capability,
     line.write_to(writer)
 }
 
-fn print_capabilities<W: Write>(name: &[u8], capabilities: &[Capability], writer: &mut W) -> Result<(), RunFault>
+fn print_capabilities<W: Write>(
+    name: &[u8],
+    capabilities: &[Capability],
+    writer: &mut W,
+) -> Result<(), RunFault>
     requires { length name.now ≤ 8 }
     ensures { Writes (W.contents writer.old) (W.contents writer.new) result (capability_lines name.now capabilities.now) }
 {
@@ -174,7 +183,13 @@ fn held_by(registers: &Option<Slots<Capability>>) -> &[Capability]
 
 /// Writes the lines of an object but the last.
 
-pub fn print_object<W: Write>(number: u64, object: &Object, registers: &Option<Slots<Capability>>, used: u64, writer: &mut W) -> Result<(), RunFault>
+pub fn print_object<W: Write>(
+    number: u64,
+    object: &Object,
+    registers: &Option<Slots<Capability>>,
+    used: u64,
+    writer: &mut W,
+) -> Result<(), RunFault>
     ensures { Writes (W.contents writer.old) (W.contents writer.new) result (object_text number object.now registers.now used) }
 {
     let owner = object.owner;

@@ -1,4 +1,4 @@
-ghost use Rattle.std.specs.Prelude.{◌≡◌, ℕ, ◌<◌, ◌^◌, ◌==◌, List, [], ◌∷◌, ◌++◌, map, length, MatchOption, option_map, IsTrue, ◌↔◌};
+ghost use Rattle.std.specs.Prelude.{◌≡◌, ◌==◌, [], ◌∷◌, MatchOption, IsTrue, ◌↔◌};
 ghost use Rattle.std.specs.List.{position};
 ghost use Rattle.script.specs.Reading.{words_of, Gives, number_at, register_at, numbers_at, registers_at};
 
@@ -71,7 +71,11 @@ impl<'a> Words<'a> {
         ensures { Gives result self.new (register_at self.old) }
     {
         let number = self.number()?;
-        if number < 32 { Some(number as u8) } else { None }
+        if number < 32 {
+            Some(number as u8)
+        } else {
+            None
+        }
     }
 
     /// Takes four numbers.
@@ -79,7 +83,12 @@ impl<'a> Words<'a> {
     pub fn numbers(&mut self) -> Option<[u64; 4]>
         ensures { Gives result self.new (numbers_at self.old) }
     {
-        Some([self.number()?, self.number()?, self.number()?, self.number()?])
+        Some([
+            self.number()?,
+            self.number()?,
+            self.number()?,
+            self.number()?,
+        ])
     }
 
     /// Takes the numbers of four registers.

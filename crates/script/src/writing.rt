@@ -1,4 +1,3 @@
-ghost use Rattle.std.specs.Prelude.{◌≡◌};
 ghost use Rattle.script.specs.Writing.{Writes};
 
 use crate::fault::RunFault;

@@ -1,5 +1,4 @@
-use Rattle.std.proofs.Common.{◌≡◌, [], ◌∷◌, sym, ◌∙◌, arith}
-use Rattle.script.specs.Reading.{words_of}
+use Rattle.std.proofs.Common.{sym, ◌∙◌, arith}
 use Rattle.script.proofs.Commands.{command_found, no_words, no_keyword, no_arguments, words_left_over}
 use Rattle.script.proofs.parse.command_in.Goals as goal
 

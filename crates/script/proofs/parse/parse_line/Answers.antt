@@ -1,4 +1,4 @@
-use Rattle.std.proofs.Common.{◌≡◌, ap, sym, inr, arith, subst, length, ℕ, List}
+use Rattle.std.proofs.Common.{ap, inr, arith, subst, length}
 use Rattle.model.specs.Text.{IsSkipped}
 use Rattle.model.specs.declared.line.Line.TheVariants as line
 use Rattle.script.proofs.Spellings.{spelling_of_words, spelling_short, spelling_said, one_spelling, no_spelling}

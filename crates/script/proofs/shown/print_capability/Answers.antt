@@ -1,4 +1,4 @@
-use Rattle.std.proofs.Common.{◌≡◌, ◌∙◌, append_assoc}
+use Rattle.std.proofs.Common.{◌∙◌, append_assoc}
 use Rattle.script.proofs.Fronts.{writes_same}
 use Rattle.script.proofs.Texts.{capability_has_line}
 use Rattle.script.proofs.shown.print_capability.Goals as goal
@@ -6,5 +6,5 @@ use Rattle.script.proofs.shown.print_capability.Goals as goal
 pub returns : goal.returns
 returns g c = writes_same _ _ _ _ _
     (rw (c.push_capability.ensures.text, c.number.ensures.text, c.new-line.ensures) (simp append_assoc)
-      ∙ capability_has_line c.args.name.now c.args.index c.args.capability c.in_default.not-Void)
+    ∙ capability_has_line c.args.name.now c.args.index c.args.capability c.in_default.not-Void)
     c.write_to.ensures

@@ -51,5 +51,5 @@ returns-in_ok-write_to-in-Annex g c =
 pub returns-in-Bank : goal.returns-in-Bank
 returns-in-Bank g c = writes_same _ _ _ _ _
     (rw (c.number-in-Bank-2.ensures.text, c.word-in-Bank.ensures, c.number-in-Bank.ensures.text, c.word.ensures, c.heading-line.ensures.text)
-      (ap line_of (bank_text c.args.number c.args.object.now.owner c.in-Bank.limit c.args.used) ∙ sym (object_bank _ _ _ _ c.in-Bank.limit c.in-Bank.is)))
+    (ap line_of (bank_text c.args.number c.args.object.now.owner c.in-Bank.limit c.args.used) ∙ sym (object_bank _ _ _ _ c.in-Bank.limit c.in-Bank.is)))
     c.write_to-in-Bank.ensures

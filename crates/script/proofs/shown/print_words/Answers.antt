@@ -12,7 +12,7 @@ unfolding word_lines
 returns-in_err-print_word g c =
     let p = err_from_is_err_and c.from_residual.result c.from_residual.ensures.1 in
     rw (p.1, p.2) (writes_fail _ _ _ _ _ _ _ _ (lines_split word_line c.args.words.now c.loop-index.index 0 c.loop-index-test.true)
-      c.loop-index.invariant c.in_err-print_word.ensures)
+    c.loop-index.invariant c.in_err-print_word.ensures)
 
 pub loop-index-preserved : goal.loop-index-preserved
 loop-index-preserved g c =

@@ -20,11 +20,11 @@ returns g c = (refl, front_at _ _ c.args.bytes.now c.loop.done c.loop.invariant.
 pub loop-preserved : goal.loop-preserved
 loop-preserved g c = elim c.match-write.branch [
   | in-Ok w ↦ record {
-      within = omega (arith, w.in-Ok.ensures.bound, length-take {A = ℕ}, length-drop {A = ℕ});
-      taken = rw w.done-is (took_more _ _ _ c.args.bytes.now c.loop.done w.in-Ok.count c.loop.invariant.taken w.in-Ok.ensures.bytes);
-    }
+    within = omega (arith, w.in-Ok.ensures.bound, length-take {A = ℕ}, length-drop {A = ℕ});
+    taken = rw w.done-is (took_more _ _ _ c.args.bytes.now c.loop.done w.in-Ok.count c.loop.invariant.taken w.in-Ok.ensures.bytes);
+  }
   | in-Err+else-ne w ↦ record {
-      within = omega arith;
-      taken = rw w.done-is (Appends-kept _ _ _ _ c.loop.invariant.taken w.in-Err.ensures.bytes);
-    }
+    within = omega arith;
+    taken = rw w.done-is (Appends-kept _ _ _ _ c.loop.invariant.taken w.in-Err.ensures.bytes);
+  }
 ]

@@ -1,0 +1,31 @@
+-- What was taken from a reader, put together, and the lines that it is.
+use Rattle.std.proofs.Common.{◌≡◌, ◌≢◌, ◌<◌, suc, ◌==◌, false, ℕ, List, [], ◌∷◌, ◌++◌, Option, length, refl, subst, append-nil, arith}
+use Rattle.std.proofs.KnownBytes.{Consumes-trans}
+use Rattle.std.proofs.lemmas.Bool.Decides.{nat_tests}
+use Rattle.model.specs.Run.{lines_of}
+use Rattle.std.specs.Io.KnownBytes.{Consumes}
+use Rattle.model.specs.Text.{line_of}
+use Rattle.script.specs.Lines.{IsOneLine}
+
+pub takes_nothing_more : (a b c : Option (List ℕ)) (text : List ℕ) → Consumes a b text → Consumes b c [] → Consumes a c text
+takes_nothing_more a b c text h k = subst (Consumes a c) (append-nil text) (Consumes-trans a b c text [] h k)
+
+pub some_length : (text : List ℕ) → (text ≡ [] → ⊥) → 0 < length text
+some_length [] some = absurd (some refl)
+some_length (b ∷ bs) some = omega arith
+
+-- a line that ends at its newline is the first, and what follows it the others
+pub lines_of_line : (text rest : List ℕ) → IsOneLine text → lines_of (line_of text ++ rest) ≡ text ∷ lines_of rest
+lines_of_line [] rest one = refl
+lines_of_line (b ∷ bs) rest one =
+    let other : (b == 10) ≡ false = let ne : b ≢ 10 = one 0 0 (omega arith) in grind (arith, nat_tests) in
+    rw (other, lines_of_line bs rest (λ k d lt. one (suc k) d (omega arith))) refl
+
+-- a rest that isn't empty and has no newline is one line
+pub lines_of_rest : (text : List ℕ) → IsOneLine text → 0 < length text → lines_of text ≡ text ∷ []
+lines_of_rest [] one some = absurd (omega arith)
+lines_of_rest (b ∷ []) one some =
+    let other : (b == 10) ≡ false = let ne : b ≢ 10 = one 0 0 (omega arith) in grind (arith, nat_tests) in rw other refl
+lines_of_rest (b ∷ c ∷ bs) one some =
+    let other : (b == 10) ≡ false = let ne : b ≢ 10 = one 0 0 (omega arith) in grind (arith, nat_tests) in
+    rw (other, lines_of_rest (c ∷ bs) (λ k d lt. one (suc k) d (omega arith)) (omega arith)) refl

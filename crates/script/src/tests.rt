@@ -1,0 +1,507 @@
+use super::*;
+use model::{
+    Access, Answer, Capability, Command, Content, Invocation, Line, MemoryFault, Object, Operation,
+    Refusal, Root, Slots, State, Words,
+};
+use std::alloc::Global;
+use std::io;
+use std::io::{ErrorKind, Read, Write};
+use std::test::Fail;
+
+// ---- lines
+
+#[test]
+fn each_form_is_read(rt: HostRuntime) {
+    let invocation = Invocation {
+        operation: Operation::Call,
+        process: 1,
+        register: 2,
+        words: [3, 4, 5, 6],
+        sent: [7, 8, 9, 31],
+    };
+    let returned = Invocation {
+        operation: Operation::Return,
+        ..invocation
+    };
+    let sent = Invocation {
+        operation: Operation::Send,
+        ..invocation
+    };
+    let forms: [(&[u8], Command); 13] = [
+        (b"call 1 2 3 4 5 6 7 8 9 31", Command::Invoke(invocation)),
+        (b"return 1 2 3 4 5 6 7 8 9 31", Command::Invoke(returned)),
+        (b"send 1 2 3 4 5 6 7 8 9 31", Command::Invoke(sent)),
+        (
+            b"load 1 2",
+            Command::Load {
+                process: 1,
+                address: 2,
+            },
+        ),
+        (
+            b"store 1 2 3",
+            Command::Store {
+                process: 1,
+                address: 2,
+                value: 3,
+            },
+        ),
+        (b"show 0", Command::Show { number: 0 }),
+        (b"evict 10", Command::Evict { number: 10 }),
+        (b"checkpoint", Command::Checkpoint),
+        (
+            b"stabilize 18446744073709551615",
+            Command::Stabilize { count: u64::MAX },
+        ),
+        (b"commit", Command::Commit),
+        (b"migrate 7", Command::Migrate { count: 7 }),
+        (b"restart", Command::Restart),
+        (b"cut", Command::Cut),
+    ];
+    for (line, command) in forms {
+        assert_eq!(rt; parse_line(line), Line::Command(command));
+    }
+}
+
+#[test]
+fn other_lines_are_bad(rt: HostRuntime) {
+    let lines: [&[u8]; 26] = [
+        b" ",
+        b"show  5",
+        b" show 5",
+        b"show 5 ",
+        b"show",
+        b"show ",
+        b"show 5 6",
+        b"show 01",
+        b"show 00",
+        b"show +5",
+        b"show -5",
+        b"show 5\r",
+        b"show 0x5",
+        b"Show 5",
+        b"shows 5",
+        b"show\t5",
+        b"show 18446744073709551616",
+        b"show 99999999999999999999999999",
+        b"call 1 32 0 0 0 0 0 0 0 0",
+        b"call 1 2 0 0 0 0 0 0 0 32",
+        b"call 1 2 0 0 0 0 0 0 0",
+        b"call 1 2 0 0 0 0 0 0 0 0 0",
+        b"call 1 02 0 0 0 0 0 0 0 0",
+        b"load 1",
+        b"cut 1",
+        b"\xff\x00",
+    ];
+    for line in lines {
+        assert_eq!(rt; parse_line(line), Line::Bad);
+    }
+}
+
+#[test]
+fn skipped_and_long_lines(rt: HostRuntime) {
+    assert_eq!(rt; parse_line(b""), Line::Skip);
+    assert_eq!(rt; parse_line(b"#"), Line::Skip);
+    assert_eq!(rt; parse_line(b"# show 5"), Line::Skip);
+    assert_eq!(rt; parse_line(&[b'#'; 256]), Line::Skip);
+    assert_eq!(rt; parse_line(&[b'#'; 257]), Line::Bad);
+    assert_eq!(rt; parse_line(&[b'a'; 257]), Line::Bad);
+}
+
+// ---- reading
+
+/// Gives a byte at a time, first an interruption before each, and at the end the error.
+#[derive(Drop)]
+struct Unsteady<'a> {
+    rest: &'a [u8],
+    interrupts: bool,
+    interrupted: bool,
+    at_end: Option<ErrorKind>,
+}
+
+impl Unsteady<'_> {
+    fn new(rest: &[u8], interrupts: bool, at_end: Option<ErrorKind>) -> Unsteady<'_> {
+        Unsteady {
+            rest,
+            interrupts,
+            interrupted: false,
+            at_end,
+        }
+    }
+}
+
+impl Read for Unsteady<'_> {
+    fn read(&mut self, buf: &mut [u8]) -> io::Result<usize> {
+        self.interrupted = self.interrupts && !self.interrupted;
+        if self.interrupted {
+            return Err(io::Error::from(ErrorKind::Interrupted));
+        }
+        if buf.is_empty() {
+            return Ok(0);
+        }
+        match self.rest {
+            [first, rest @ ..] => {
+                buf[0] = *first;
+                self.rest = rest;
+                Ok(1)
+            }
+            [] => match self.at_end {
+                Some(kind) => Err(io::Error::from(kind)),
+                None => Ok(0),
+            },
+        }
+    }
+}
+
+const SHOW: Line = Line::Command(Command::Show { number: 5 });
+
+#[test]
+fn lines_are_taken_in_turn(rt: HostRuntime) -> Result<(), Fail> {
+    for interrupts in [false, true] {
+        let script = b"show 5\n\n#\nshow 01\ncut\nshow 5";
+        let mut reader = Unsteady::new(script, interrupts, None);
+        let lines = [
+            Some(SHOW),
+            Some(Line::Skip),
+            Some(Line::Skip),
+            Some(Line::Bad),
+            Some(Line::Command(Command::Cut)),
+            Some(SHOW),
+            None,
+            None,
+        ];
+        for line in lines {
+            assert_eq!(rt; next_line(&mut reader)?, line);
+        }
+    }
+    Ok(())
+}
+
+#[test]
+fn no_byte_is_taken_past_the_newline(rt: HostRuntime) -> Result<(), Fail> {
+    let mut reader = Unsteady::new(b"show 5\nrest", false, None);
+    assert_eq!(rt; next_line(&mut reader)?, Some(SHOW));
+    assert_eq!(rt; reader.rest, b"rest".as_slice());
+    Ok(())
+}
+
+#[test]
+fn long_lines_are_taken_whole(rt: HostRuntime) -> Result<(), Fail> {
+    let mut script = Vec::from_slice(rt.alloc(), &[b'#'; 256])?;
+    script.extend_from_slice(b"\n")?;
+    script.extend_from_slice(&[b'#'; 257])?;
+    script.extend_from_slice(b"\n")?;
+    script.extend_from_slice(&[b'a'; 600])?;
+    script.extend_from_slice(b"\nshow 5\n")?;
+    script.extend_from_slice(&[b'a'; 257])?;
+    let mut reader = script.as_slice();
+    let lines = [
+        Some(Line::Skip),
+        Some(Line::Bad),
+        Some(Line::Bad),
+        Some(SHOW),
+        Some(Line::Bad),
+        None,
+    ];
+    for line in lines {
+        assert_eq!(rt; next_line(&mut reader)?, line);
+    }
+    Ok(())
+}
+
+#[test]
+fn a_reader_that_fails(rt: HostRuntime) -> Result<(), Fail> {
+    let mut reader = Unsteady::new(b"show 5\nshow", true, Some(ErrorKind::BrokenPipe));
+    assert_eq!(rt; next_line(&mut reader)?, Some(SHOW));
+    assert_eq!(rt; next_line(&mut reader), Err(RunFault::Read));
+    assert_eq!(rt; next_line(&mut reader), Err(RunFault::Read));
+    Ok(())
+}
+
+// ---- writing
+
+/// Takes so many bytes at a time, as long as it has room, and then fails or takes nothing.
+#[derive(Drop)]
+struct Narrow {
+    taken: Vec<u8>,
+    width: usize,
+    room: usize,
+    fails: bool,
+    interrupted: bool,
+}
+
+impl Narrow {
+    fn new(alloc: Global, width: usize, room: usize, fails: bool) -> Narrow {
+        Narrow {
+            taken: Vec::new(alloc),
+            width,
+            room,
+            fails,
+            interrupted: false,
+        }
+    }
+}
+
+impl Write for Narrow {
+    fn write(&mut self, buf: &[u8]) -> io::Result<usize> {
+        self.interrupted = !self.interrupted;
+        if self.interrupted {
+            return Err(io::Error::from(ErrorKind::Interrupted));
+        }
+        let count = buf.len().min(self.width).min(self.room);
+        if count == 0 && self.fails {
+            return Err(io::Error::from(ErrorKind::StorageFull));
+        }
+        self.taken.extend_from_slice(&buf[..count])?;
+        self.room -= count;
+        Ok(count)
+    }
+
+    fn flush(&mut self) -> io::Result<()> {
+        Ok(())
+    }
+}
+
+fn text_of(alloc: Global, answer: Answer) -> Result<Vec<u8>, RunFault> {
+    let mut text = Vec::new(alloc);
+    print_answer(&answer, &mut text)?;
+    Ok(text)
+}
+
+fn shown(number: u64, owner: u64, content: Content<Capability>) -> Answer {
+    Answer::Shown {
+        number,
+        object: Object { owner, content },
+        registers: None,
+        used: 0,
+    }
+}
+
+#[test]
+fn short_answers(rt: HostRuntime) -> Result<(), Fail> {
+    let answers: [(Answer, &[u8]); 14] = [
+        (Answer::Done, b"done\n"),
+        (Answer::Value(0), b"value 0\n"),
+        (Answer::Value(u64::MAX), b"value 18446744073709551615\n"),
+        (
+            Answer::MemoryFault(MemoryFault::NoSpace),
+            b"memory fault 1\n",
+        ),
+        (
+            Answer::MemoryFault(MemoryFault::Beyond),
+            b"memory fault 2\n",
+        ),
+        (Answer::MemoryFault(MemoryFault::Hole), b"memory fault 3\n"),
+        (
+            Answer::MemoryFault(MemoryFault::Malformed),
+            b"memory fault 4\n",
+        ),
+        (
+            Answer::MemoryFault(MemoryFault::ReadOnly),
+            b"memory fault 5\n",
+        ),
+        (Answer::Frozen(16), b"frozen 16\n"),
+        (Answer::Left(2), b"left 2\n"),
+        (Answer::Committed(1), b"committed 1\n"),
+        (
+            Answer::At {
+                generation: 0,
+                age: 4611686018427387904,
+            },
+            b"at 0 4611686018427387904\n",
+        ),
+        (shown(5, 0, Content::Free), b"free 5\nend\n"),
+        (
+            Answer::Shown {
+                number: 5,
+                object: Object {
+                    owner: 0,
+                    content: Content::Bank { limit: 2 },
+                },
+                registers: None,
+                used: 2,
+            },
+            b"bank 5 owner 0 limit 2 used 2\nend\n",
+        ),
+    ];
+    for (answer, text) in answers {
+        assert_eq!(rt; text_of(rt.alloc(), answer)?.as_slice(), text);
+    }
+    Ok(())
+}
+
+#[test]
+fn refusals(rt: HostRuntime) -> Result<(), Fail> {
+    let refusals: [(Refusal, &[u8]); 13] = [
+        (Refusal::Down, b"down\n"),
+        (Refusal::NoProcess, b"no process\n"),
+        (Refusal::NotRunning, b"not running\n"),
+        (Refusal::Worn, b"worn\n"),
+        (Refusal::Stalled, b"stalled\n"),
+        (Refusal::LogFull, b"log full\n"),
+        (Refusal::CheckpointRunning, b"checkpoint running\n"),
+        (Refusal::MigrationPending, b"migration pending\n"),
+        (Refusal::NotStable(3), b"not stable 3\n"),
+        (Refusal::NoCheckpoint, b"no checkpoint\n"),
+        (Refusal::NoMemory, b"no memory\n"),
+        (Refusal::Fault, b"fault\n"),
+        (Refusal::BadNumber, b"bad number\n"),
+    ];
+    for (refusal, text) in refusals {
+        assert_eq!(rt;
+            text_of(rt.alloc(), Answer::Refused(refusal))?.as_slice(),
+            text
+        );
+    }
+    let mut text = Vec::new(rt.alloc());
+    print_bad_line(&mut text)?;
+    assert_eq!(rt; text.as_slice(), b"bad line\n".as_slice());
+    Ok(())
+}
+
+#[test]
+fn a_process(rt: HostRuntime) -> Result<(), Fail> {
+    let mut registers = Slots::new(rt.alloc(), Capability::Void)?;
+    registers.set(1, Capability::Process(1));
+    registers.set(2, Capability::Bank(0));
+    registers.set(3, Capability::Start { process: 3, key: 7 });
+    registers.set(
+        28,
+        Capability::Page {
+            object: 16,
+            access: Access::READ_ONLY,
+        },
+    );
+    registers.set(31, Capability::Resume(1));
+    let answer = Answer::Shown {
+        number: 1,
+        object: Object {
+            owner: 0,
+            content: Content::Root(Root {
+                state: State::Running,
+                words: [6, 0, 0, 9],
+                key: 8,
+                annex: 2,
+                space: Capability::Void,
+            }),
+        },
+        registers: Some(registers),
+        used: 0,
+    };
+    assert_eq!(rt;
+        text_of(rt.alloc(), answer)?.as_slice(),
+        b"process 1 owner 0 annex 2 running key 8 words 6 0 0 9 space void\nregister 1 process 1\nregister 2 bank 0\nregister 3 start 3 7\nregister 28 page 16 ro\nregister 31 resume 1\nend\n".as_slice()
+    );
+    Ok(())
+}
+
+#[test]
+fn the_longest_line(rt: HostRuntime) -> Result<(), Fail> {
+    let answer = shown(
+        u64::MAX,
+        u64::MAX,
+        Content::Root(Root {
+            state: State::Available,
+            words: [u64::MAX; 4],
+            key: u16::MAX,
+            annex: u64::MAX,
+            space: Capability::Space {
+                object: u64::MAX,
+                height: 4,
+                access: Access::READ_ONLY | Access::WEAK,
+            },
+        }),
+    );
+    assert_eq!(rt;
+        text_of(rt.alloc(), answer)?.as_slice(),
+        b"process 18446744073709551615 owner 18446744073709551615 annex 18446744073709551615 available key 65535 words 18446744073709551615 18446744073709551615 18446744073709551615 18446744073709551615 space space 18446744073709551615 4 weak\nend\n".as_slice()
+    );
+    Ok(())
+}
+
+#[test]
+fn pages_and_slots(rt: HostRuntime) -> Result<(), Fail> {
+    let mut words = Words::new(rt.alloc())?;
+    words.set(3, 99);
+    words.set(511, 1);
+    let page = text_of(rt.alloc(), shown(16, 0, Content::Page(words)))?;
+    assert_eq!(rt;
+        page.as_slice(),
+        b"page 16 owner 0\nword 3 99\nword 511 1\nend\n".as_slice()
+    );
+
+    let weak = Access::READ_ONLY | Access::WEAK;
+    let mut slots = Slots::new(rt.alloc(), Capability::Void)?;
+    slots.set(
+        0,
+        Capability::Page {
+            object: 16,
+            access: weak,
+        },
+    );
+    slots.set(2, Capability::Number(77));
+    slots.set(
+        3,
+        Capability::Node {
+            object: 5,
+            access: Access::READ_ONLY,
+        },
+    );
+    slots.set(31, Capability::Discrim);
+    let node = text_of(rt.alloc(), shown(5, 7, Content::Node(slots)))?;
+    assert_eq!(rt;
+        node.as_slice(),
+        b"node 5 owner 7\nslot 0 page 16 weak\nslot 2 number 77\nslot 3 node 5 ro\nslot 31 discrim\nend\n".as_slice()
+    );
+
+    let registers = Slots::new(rt.alloc(), Capability::Void)?;
+    let annex = text_of(rt.alloc(), shown(2, 0, Content::Annex(registers)))?;
+    assert_eq!(rt; annex.as_slice(), b"annex 2 owner 0\nend\n".as_slice());
+    Ok(())
+}
+
+#[test]
+fn narrow_writers(rt: HostRuntime) -> Result<(), Fail> {
+    let text = b"at 12 345\n";
+    let answer = Answer::At {
+        generation: 12,
+        age: 345,
+    };
+    for fails in [false, true] {
+        for room in 0..12 {
+            let mut writer = Narrow::new(rt.alloc(), 1, room, fails);
+            let result = print_answer(&answer, &mut writer);
+            if room < text.len() {
+                assert_eq!(rt; result, Err(RunFault::Write));
+                assert_eq!(rt; writer.taken.as_slice(), &text[..room]);
+            } else {
+                assert_eq!(rt; result, Ok(()));
+                assert_eq!(rt; writer.taken.as_slice(), text.as_slice());
+            }
+        }
+    }
+    Ok(())
+}
+
+#[test]
+fn a_write_that_fails_in_the_middle_of_an_object(rt: HostRuntime) -> Result<(), Fail> {
+    let mut words = Words::new(rt.alloc())?;
+    words.set(0, 42);
+    let answer = shown(16, 0, Content::Page(words));
+    let text = b"page 16 owner 0\nword 0 42\nend\n";
+    for room in 0..text.len() {
+        let mut writer = Narrow::new(rt.alloc(), 7, room, true);
+        assert_eq!(rt; print_answer(&answer, &mut writer), Err(RunFault::Write));
+        assert_eq!(rt; writer.taken.as_slice(), &text[..room]);
+    }
+    Ok(())
+}
+
+#[test]
+fn faults_have_texts(rt: HostRuntime) -> Result<(), Fail> {
+    let read = format!(in rt.alloc(); "{}", RunFault::Read)?;
+    assert_eq!(rt; read.as_str(), "cannot read script");
+    let write = format!(in rt.alloc(); "{}", RunFault::Write)?;
+    assert_eq!(rt; write.as_str(), "cannot write output");
+    Ok(())
+}
