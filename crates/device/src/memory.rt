@@ -4,7 +4,7 @@ ghost use Rattle.device.specs.Calls.{Agrees, Elsewhere, sectors_of, AreSectors, 
 ghost use Rattle.device.specs.Moments.{Elapses};
 ghost use Rattle.device.specs.Past.{synced, writes_of, left_by, EndsCut};
 
-use crate::device::{Device, Failed, SECTOR_SIZE};
+use crate::device::{Device, Failed, MAX_SECTORS, SECTOR_SIZE};
 use crate::mirror::Mirror;
 use crate::record::Outcome;
 use crate::tally::Tally;
@@ -34,7 +34,7 @@ impl Memory {
         room: usize,
         outcome: Outcome,
     ) -> Result<Memory, AllocError>
-        requires { sectors ≤ 131072 }
+        requires { sectors ≤ MAX_SECTORS }
         ensures size { IfOk result (λ m. (memory_disk m).sectors ≡ sectors) }
         ensures zeros { IfOk result (λ m. (i : ℕ) → i < sectors → (memory_disk m).seen i ≡ replicate 512 0) }
         ensures durable { IfOk result (λ m. Only (memory_disk m).seen (memory_disk m)) }

@@ -3,6 +3,7 @@ pub mod SoundEdits
 pub mod SoundGates
 pub mod SoundOrders
 pub mod SoundParts
+pub mod SoundWorlds
 pub mod Spelling
 pub mod Touching
 pub mod Usage

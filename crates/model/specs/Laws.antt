@@ -19,6 +19,7 @@ use Rattle.model.specs.Invoke.{Effect, invoke}
 use Rattle.model.specs.Machine.{Running, touching, touched_count}
 use Rattle.model.specs.Step.{refusal_of}
 use Rattle.model.specs.Text.{Fits, spelling, Says}
+use Rattle.model.specs.Worlds.{small, f0, i0}
 
 -- an invocation by a running process keeps a sound world sound
 abbrev pub InvocationKeepsSound : Type 0
@@ -66,3 +67,7 @@ SpellsOne = (c d : Command) → Fits c → Fits d → spelling c ≡ spelling d 
 -- a line says one thing
 abbrev pub SaysOne : Type 0
 SaysOne = (text : List ℕ) (l m : Line) → Says text l → Says text m → l ≡ m
+
+-- the worlds that scripts begin with are sound
+abbrev pub BeginsSound : Type 0
+BeginsSound = IsSound small f0 × IsSound small i0

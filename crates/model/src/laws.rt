@@ -1,6 +1,6 @@
 //! Laws of the definitions, each the contract of a function that does nothing.
 
-ghost use Rattle.model.specs.Laws.{DiminishesOnce, FetchesWeak, RescindsAll, ConsumesAll, TouchesWritten, LogFullIsExact, SpellsOne, SaysOne};
+ghost use Rattle.model.specs.Laws.{DiminishesOnce, FetchesWeak, RescindsAll, ConsumesAll, TouchesWritten, LogFullIsExact, SpellsOne, SaysOne, BeginsSound};
 
 /// To diminish a capability twice is to diminish it once.
 pub fn diminishes_once()
@@ -41,4 +41,9 @@ pub fn spells_one()
 /// A line says one thing.
 pub fn says_one()
     ensures { SaysOne }
+{}
+
+/// The worlds that scripts begin with are sound.
+pub fn worlds_are_sound()
+    ensures { BeginsSound }
 {}

@@ -1,0 +1,342 @@
+-- The worlds that scripts begin with are sound: each object is in its place.
+use Rattle.std.proofs.Common.{◌≡◌, ◌≢◌, ◌⊎◌, ℕ, zero, suc, ◌+◌, ◌^◌, ◌<◌, ◌≤◌, true, List, [], ◌∷◌, ◌++◌, length, replicate, refl, sym, ◌∙◌, subst, inl, inr, arith}
+use Rattle.std.specs.Prelude.{IsTrue, slice_index, slice_index_or, slice_set}
+use Rattle.std.specs.List.{Contains}
+use Rattle.model.specs.declared.capability.Capability.{Capability}
+use Rattle.model.specs.declared.capability.Capability.TheVariants.{Void, Page, Node, Process, Start, Bank}
+use Rattle.model.specs.declared.geometry.Geometry.{Geometry}
+use Rattle.model.specs.declared.object.Content.TheVariants as content
+use Rattle.model.specs.declared.object.Object.{Object}
+use Rattle.model.specs.declared.object.State.{State}
+use Rattle.model.specs.declared.object.State.TheVariants.{Available, Running}
+use Rattle.model.specs.Capability.{full}
+use Rattle.model.specs.Object.{free, all_slots, zero_words, is_free, is_root, is_annex, is_bank, words_in, slots_in, limit_in, root_in}
+use Rattle.model.specs.World.{World, object_at, content_at, owner_at, slot_at, annex_at, is_process}
+use Rattle.model.specs.Bank.{chain, usage}
+use Rattle.model.specs.Sound.{IsOfKind, HasShape, IsSpace, MayBeHeld, IsSound, object_count}
+use Rattle.model.specs.Worlds.{small, of_prime_bank, fresh_root, prime_bank, f0, i0}
+
+-- what is true of the elements of a list, and of what isn't there, stays so where a new one is put
+holds_set : {C : Type 0} (P : C → Type 0) (xs : List C) (i : ℕ) (c d : C) → P c → ((j : ℕ) → P (slice_index_or xs j d))
+    → (j : ℕ) → P (slice_index_or (slice_set xs i c) j d)
+holds_set P [] i c d new old j = old j
+holds_set P (x ∷ xs) zero c d new old zero = new
+holds_set P (x ∷ xs) zero c d new old (suc j) = old (suc j)
+holds_set P (x ∷ xs) (suc i) c d new old zero = old zero
+holds_set P (x ∷ xs) (suc i) c d new old (suc j) = holds_set P xs i c d new (λ k. old (suc k)) j
+
+holds_replicate : {C : Type 0} (P : C → Type 0) (n : ℕ) (c d : C) → P c → P d → (j : ℕ) → P (slice_index_or (replicate n c) j d)
+holds_replicate P zero c d new old j = old
+holds_replicate P (suc n) c d new old zero = new
+holds_replicate P (suc n) c d new old (suc j) = holds_replicate P n c d new old j
+
+-- a new node holds no capability, and a new page only 0
+holds_void : (P : Capability → Type 0) → P Void → (i : ℕ) → P (slice_index_or (all_slots Void) i Void)
+unfolding all_slots
+holds_void P void i = holds_replicate P 32 Void Void void void i
+
+zero_words_fit : (i : ℕ) → slice_index zero_words i < 2 ^ 64
+unfolding zero_words
+zero_words_fit i = holds_replicate (λ n. n < 2 ^ 64) 512 0 0 (omega arith) (omega arith) i
+
+zero_words_length : length zero_words ≡ 512
+unfolding zero_words
+zero_words_length = refl
+
+all_slots_length : length (all_slots Void) ≡ 32
+unfolding all_slots
+all_slots_length = refl
+
+-- a fact of each object of a list and its number
+abbrev Each : (ℕ → Object → Type 0) → ℕ → List Object → Type 0
+Each P k [] = Unit {0}
+Each P k (o ∷ os) = P k o × Each P (k + 1) os
+
+-- it is one of each number, where it is one of what is free
+each_at : (P : ℕ → Object → Type 0) (k : ℕ) (os : List Object) → Each P k os → ((m : ℕ) → P m free)
+    → (n m : ℕ) → m ≡ k + n → P m (slice_index_or os n free)
+each_at P k [] each blank n m e = blank m
+each_at P k (o ∷ os) each blank zero m e =
+    let same : k ≡ m = omega (arith, e) in
+    subst (λ i. P i o) same each.0
+each_at P k (o ∷ os) each blank (suc n) m e = each_at P (k + 1) os each.1 blank n m (omega (arith, e))
+
+-- free objects before others
+each_after : (P : ℕ → Object → Type 0) (m k j : ℕ) (os : List Object) → ((n : ℕ) → P n free) → j ≡ k + m → Each P j os
+    → Each P k (replicate m free ++ os)
+each_after P zero k j os blank e each =
+    let same : j ≡ k = omega (arith, e) in
+    subst (λ i. Each P i os) same each
+each_after P (suc m) k j os blank e each = (blank k, each_after P m (k + 1) j os blank (omega (arith, e)) each)
+
+-- an object in its place among others, with such capabilities in its slots; a root is just before its annex
+record IsInPlace (g : Geometry) (os : List Object) (H : Capability → Type 0) (n : ℕ) (o : Object) : Type 0 where
+  kind : IsOfKind g n o.content
+  shape : HasShape o.content
+  words : (i : ℕ) → slice_index (words_in o.content) i < 2 ^ 64
+  slots : (i : ℕ) → H (slice_index_or (slots_in o.content) i Void)
+  register_0 : IsTrue (is_annex o.content) → slice_index_or (slots_in o.content) 0 Void ≡ Void
+  space : (root_in o.content).space ≡ Void
+  annex : IsTrue (is_root o.content) → IsTrue (is_annex (content_at os (root_in o.content).annex)) × (owner_at os (root_in o.content).annex ≡ o.owner)
+  next : IsTrue (is_root o.content) → (root_in o.content).annex ≡ n + 1
+  some_root : IsTrue (is_annex o.content) → (p : ℕ) × IsTrue (is_process os p) × (annex_at os p ≡ n)
+  unowned : IsTrue (is_free o.content) → o.owner ≡ 0
+  owned : is_free o.content ≢ true → IsTrue (is_bank (content_at os o.owner))
+  chains : IsTrue (is_bank o.content) → Contains (chain os n) 0
+  limits : IsTrue (is_bank o.content) → usage os n ≤ limit_in o.content
+
+-- a world is sound where each object is in its place, and what it holds may be held
+sound_from : (g : Geometry) (w : World) (H : Capability → Type 0) → length w.objects ≡ object_count g
+    → IsTrue (is_bank (content_at w.objects 0)) → owner_at w.objects 0 ≡ 0 → w.age ≤ 2 ^ 62
+    → ((c : Capability) → H c → MayBeHeld w.objects c) → ((n : ℕ) → IsInPlace g w.objects H n (object_at w.objects n)) → IsSound g w
+sound_from g w H size bank own age may at = record {
+  size = size;
+  kinds = λ n. (at n).kind;
+  shapes = λ n. (at n).shape;
+  words = λ n. (at n).words;
+  slots = λ n i. may (slot_at w.objects n i) ((at n).slots i);
+  register_0 = λ a. (at a).register_0;
+  spaces = λ p. subst (λ c. MayBeHeld w.objects c × IsSpace c) (sym (at p).space) ((tt, tt), tt);
+  annexes = λ p. (at p).annex;
+  one_root = λ p q is iq same. omega (arith, sym ((at p).next is) ∙ (same ∙ (at q).next iq));
+  some_root = λ a. (at a).some_root;
+  unowned = λ n. (at n).unowned;
+  owners = λ n. (at n).owned;
+  prime = (bank, own);
+  chains = λ b. (at b).chains;
+  limits = λ b. (at b).limits;
+  age = age;
+}
+
+module _ (g : Geometry) (os : List Object) (H : Capability → Type 0) (bank : IsTrue (is_bank (content_at os 0))) (void : H Void) where
+  free_in_place : (n : ℕ) → IsInPlace g os H n free
+  free_in_place n = record {
+    kind = tt;
+    shape = tt;
+    words = λ i. omega arith;
+    slots = λ i. void;
+    register_0 = λ is. refl;
+    space = refl;
+    annex = λ is. cc;
+    next = λ is. cc;
+    some_root = λ is. cc;
+    unowned = λ is. refl;
+    owned = λ is. bank;
+    chains = λ is. cc;
+    limits = λ is. cc;
+  }
+
+  bank_in_place : 0 < g.nodes → usage os 0 ≤ 1000 → IsInPlace g os H 0 prime_bank
+  unfolding chain
+  bank_in_place fits within = record {
+    kind = fits;
+    shape = omega arith;
+    words = λ i. omega arith;
+    slots = λ i. void;
+    register_0 = λ is. refl;
+    space = refl;
+    annex = λ is. cc;
+    next = λ is. cc;
+    some_root = λ is. cc;
+    unowned = λ is. refl;
+    owned = λ is. bank;
+    chains = λ is. (0, omega arith, refl);
+    limits = λ is. within;
+  }
+
+  root_in_place : (n annex : ℕ) (s : State) → n < g.nodes → annex ≡ n + 1 → IsTrue (is_annex (content_at os annex)) → owner_at os annex ≡ 0
+      → IsInPlace g os H n (fresh_root s annex)
+  root_in_place n annex s fits next is_there own = record {
+    kind = fits;
+    shape = (refl, λ i. holds_replicate (λ n. n < 2 ^ 64) 4 0 0 (omega arith) (omega arith) i, omega arith);
+    words = λ i. omega arith;
+    slots = λ i. void;
+    register_0 = λ is. refl;
+    space = refl;
+    annex = λ is. (is_there, own);
+    next = λ is. next;
+    some_root = λ is. cc;
+    unowned = λ is. refl;
+    owned = λ is. bank;
+    chains = λ is. cc;
+    limits = λ is. cc;
+  }
+
+  annex_in_place : (n p : ℕ) (registers : List Capability) → n < g.nodes → length registers ≡ 32
+      → ((i : ℕ) → H (slice_index_or registers i Void)) → slice_index_or registers 0 Void ≡ Void
+      → IsTrue (is_process os p) → annex_at os p ≡ n → IsInPlace g os H n (of_prime_bank (content.Annex registers))
+  annex_in_place n p registers fits size held register_0 is_there same = record {
+    kind = fits;
+    shape = size;
+    words = λ i. omega arith;
+    slots = held;
+    register_0 = λ is. register_0;
+    space = refl;
+    annex = λ is. cc;
+    next = λ is. cc;
+    some_root = λ is. (p, is_there, same);
+    unowned = λ is. refl;
+    owned = λ is. bank;
+    chains = λ is. cc;
+    limits = λ is. cc;
+  }
+
+  node_in_place : (n : ℕ) → n < g.nodes → IsInPlace g os H n (of_prime_bank (content.Node (all_slots Void)))
+  node_in_place n fits = record {
+    kind = fits;
+    shape = all_slots_length;
+    words = λ i. omega arith;
+    slots = holds_void H void;
+    register_0 = λ is. cc;
+    space = refl;
+    annex = λ is. cc;
+    next = λ is. cc;
+    some_root = λ is. cc;
+    unowned = λ is. refl;
+    owned = λ is. bank;
+    chains = λ is. cc;
+    limits = λ is. cc;
+  }
+
+  page_in_place : (n : ℕ) → g.nodes ≤ n → n < object_count g → IsInPlace g os H n (of_prime_bank (content.Page zero_words))
+  page_in_place n from fits = record {
+    kind = (from, fits);
+    shape = zero_words_length;
+    words = zero_words_fit;
+    slots = λ i. void;
+    register_0 = λ is. refl;
+    space = refl;
+    annex = λ is. cc;
+    next = λ is. cc;
+    some_root = λ is. cc;
+    unowned = λ is. refl;
+    owned = λ is. bank;
+    chains = λ is. cc;
+    limits = λ is. cc;
+  }
+
+-- what the slots of F0 hold
+abbrev IsInF0 : Capability → Type 0
+IsInF0 c = (c ≡ Void) ⊎ (c ≡ Node 5 full) ⊎ (c ≡ Page 16 full)
+
+abbrev f0_registers : List Capability
+f0_registers = slice_set (slice_set (all_slots Void) 5 (Node 5 full)) 6 (Page 16 full)
+
+f0_registers_length : length f0_registers ≡ 32
+unfolding all_slots
+f0_registers_length = refl
+
+f0_register_0 : slice_index_or f0_registers 0 Void ≡ Void
+unfolding all_slots
+f0_register_0 = refl
+
+f0_held : (i : ℕ) → IsInF0 (slice_index_or f0_registers i Void)
+f0_held =
+    holds_set IsInF0 (slice_set (all_slots Void) 5 (Node 5 full)) 6 (Page 16 full) Void (inr (inr refl))
+    (holds_set IsInF0 (all_slots Void) 5 (Node 5 full) Void (inr (inl refl)) (holds_void IsInF0 (inl refl)))
+
+f0_usage : usage f0.objects 0 ≤ 1000
+unfolding f0 chain usage
+f0_usage = omega arith
+
+f0_in_place : (n : ℕ) → IsInPlace small f0.objects IsInF0 n (object_at f0.objects n)
+unfolding f0
+f0_in_place n =
+    let os : List Object = f0.objects in
+    let P : ℕ → Object → Type 0 = IsInPlace small os IsInF0 in
+    let blank : (m : ℕ) → P m free = free_in_place small os IsInF0 refl (inl refl) in
+    each_at P 0 os (
+      bank_in_place small os IsInF0 refl (inl refl) (omega arith) f0_usage,
+      (
+        root_in_place small os IsInF0 refl (inl refl) 1 2 Running (omega arith) refl refl refl,
+        (
+          annex_in_place small os IsInF0 refl (inl refl) 2 1 f0_registers (omega arith) f0_registers_length f0_held f0_register_0 refl refl,
+          (
+            blank 3,
+            (
+              blank 4,
+              (
+                node_in_place small os IsInF0 refl (inl refl) 5 (omega arith),
+                each_after P 10 6 16 (of_prime_bank (content.Page zero_words) ∷ replicate 7 free) blank refl
+                    (page_in_place small os IsInF0 refl (inl refl) 16 (omega arith) (omega arith), each_after P 7 17 24 [] blank refl tt),
+              ),
+            ),
+          ),
+        ),
+      ),
+    ) blank n n (omega arith)
+
+-- each slot of F0 is void, or holds node 5 or page 16
+pub f0_slots : (n i : ℕ) → (slot_at f0.objects n i ≡ Void) ⊎ (slot_at f0.objects n i ≡ Node 5 full) ⊎ (slot_at f0.objects n i ≡ Page 16 full)
+f0_slots n i = (f0_in_place n).slots i
+
+f0_may : (c : Capability) → IsInF0 c → MayBeHeld f0.objects c
+unfolding f0
+f0_may c held = elim held [
+  | inl void ↦ subst (MayBeHeld f0.objects) (sym void) (tt, tt)
+  | inr some ↦ elim some [
+    | inl node ↦ subst (MayBeHeld f0.objects) (sym node) (inl refl, refl)
+    | inr page ↦ subst (MayBeHeld f0.objects) (sym page) (inl refl, refl)
+  ]
+]
+
+pub f0_sound : IsSound small f0
+unfolding f0
+f0_sound = sound_from small f0 IsInF0 refl refl refl (omega arith) f0_may f0_in_place
+
+abbrev i0_registers : List Capability
+i0_registers = slice_set (slice_set (slice_set (slice_set (all_slots Void) 1 (Process 1)) 2 (Bank 0)) 3 (Start 3 7)) 4 (Process 3)
+
+i0_registers_length : length i0_registers ≡ 32
+unfolding all_slots
+i0_registers_length = refl
+
+i0_register_0 : slice_index_or i0_registers 0 Void ≡ Void
+unfolding all_slots
+i0_register_0 = refl
+
+i0_held : (i : ℕ) → MayBeHeld i0.objects (slice_index_or i0_registers i Void)
+unfolding i0
+i0_held =
+    let P : Capability → Type 0 = MayBeHeld i0.objects in
+    holds_set P (slice_set (slice_set (slice_set (all_slots Void) 1 (Process 1)) 2 (Bank 0)) 3 (Start 3 7)) 4 (Process 3) Void (tt, refl)
+    (holds_set P (slice_set (slice_set (all_slots Void) 1 (Process 1)) 2 (Bank 0)) 3 (Start 3 7) Void (omega arith, refl)
+    (holds_set P (slice_set (all_slots Void) 1 (Process 1)) 2 (Bank 0) Void (tt, refl)
+    (holds_set P (all_slots Void) 1 (Process 1) Void (tt, refl) (holds_void P (tt, tt)))))
+
+i0_usage : usage i0.objects 0 ≤ 1000
+unfolding i0 chain usage
+i0_usage = omega arith
+
+-- register 0 of process 3
+i0_void_register_0 : slice_index_or (all_slots Void) 0 Void ≡ Void
+unfolding all_slots
+i0_void_register_0 = refl
+
+i0_in_place : (n : ℕ) → IsInPlace small i0.objects (MayBeHeld i0.objects) n (object_at i0.objects n)
+unfolding i0
+i0_in_place n =
+    let os : List Object = i0.objects in
+    let H : Capability → Type 0 = MayBeHeld os in
+    let P : ℕ → Object → Type 0 = IsInPlace small os H in
+    let blank : (m : ℕ) → P m free = free_in_place small os H refl (tt, tt) in
+    each_at P 0 os (
+      bank_in_place small os H refl (tt, tt) (omega arith) i0_usage,
+      (
+        root_in_place small os H refl (tt, tt) 1 2 Running (omega arith) refl refl refl,
+        (
+          annex_in_place small os H refl (tt, tt) 2 1 i0_registers (omega arith) i0_registers_length i0_held i0_register_0 refl refl,
+          (
+            root_in_place small os H refl (tt, tt) 3 4 Available (omega arith) refl refl refl,
+            (
+              annex_in_place small os H refl (tt, tt) 4 3 (all_slots Void) (omega arith) all_slots_length (holds_void H (tt, tt)) i0_void_register_0 refl refl,
+              each_after P 19 5 24 [] blank refl tt,
+            ),
+          ),
+        ),
+      ),
+    ) blank n n (omega arith)
+
+pub i0_sound : IsSound small i0
+unfolding i0
+i0_sound = sound_from small i0 (MayBeHeld i0.objects) refl refl refl (omega arith) (λ c held. held) i0_in_place
