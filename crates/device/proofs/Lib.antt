@@ -1,9 +1,9 @@
-pub mod Flat
+mod Disks
+mod Entries
+mod Flat
 pub mod Images
-pub mod Keeps
-pub mod Mirrors
+mod Keeps
+mod Mirrors
 pub mod Moments
-pub mod Past
-pub mod Patches
-pub mod Disks
-pub mod Entries
+mod Past
+mod Patches

@@ -1,34 +1,17 @@
 -- Runs over the world F0.
-use Rattle.std.proofs.Common.{◌≡◌, ℕ, Bool, List, Option, None, Result, Ok, Err, refl, sym, ap, ◌∙◌, subst, ⊎_elim}
+use Rattle.std.proofs.Common.{◌≡◌, ℕ, Bool, List, Option, None, Result, Ok, Err, refl, sym, ap, ◌∙◌, subst}
 use Rattle.capability.specs.Plain.{PlainState, world_of}
-use Rattle.gate.specs.Plan.{IsStorage, HoldOnlyStorage}
-use Rattle.model.specs.declared.capability.Capability.{Capability}
 use Rattle.model.specs.declared.geometry.Geometry.{Geometry}
 use Rattle.model.specs.Machine.{Saved, Machine, Up, untouched}
-use Rattle.model.specs.Sound.{IsSound}
-use Rattle.model.specs.World.{World, slot_at}
+use Rattle.model.specs.World.{World}
 use Rattle.model.specs.Worlds.{small, f0}
-use Rattle.model.proofs.SoundWorlds.{f0_sound, f0_slots}
-use Rattle.script.specs.First.{machine_of, IsStorageWorld, knows_first}
+use Rattle.script.specs.First.{machine_of, knows_first}
 use Rattle.script.specs.Runs.{Runs}
 use Rattle.script.specs.declared.fault.RunFault.{RunFault}
 use Rattle.script.specs.declared.fault.RunFault.TheVariants as run_fault
 use Rattle.runner.specs.declared.fault.Fault.{Fault}
 use Rattle.runner.specs.declared.fault.Fault.TheVariants as fault
 use Rattle.runner.specs.FirstWorld.{first_machine, RunsFirst}
-
--- F0 holds nothing but a node and a page
-f0_storage : HoldOnlyStorage f0.objects
-f0_storage n i = ⊎_elim
-    (λ is. subst IsStorage (sym is) tt)
-    (λ other. ⊎_elim (λ is. subst IsStorage (sym is) tt) (λ is. subst IsStorage (sym is) tt) other)
-    (f0_slots n i)
-
-pub begins : (plain : PlainState) → world_of plain ≡ f0 → plain.geometry ≡ small → IsStorageWorld plain
-begins plain world geometry = record {
-    sound = subst (λ (g : Geometry). IsSound g (world_of plain)) (sym geometry) (subst (IsSound small) (sym world) f0_sound);
-    storage = subst (λ (w : World). HoldOnlyStorage w.objects) (sym world) f0_storage;
-  }
 
 abbrev up_at : World → List Bool → Saved → ℕ → Machine
 up_at w touched saved to_move = Up (record { now = w; touched = touched; frozen = None; saved = saved; to_move = to_move })

@@ -1,3 +1,4 @@
+pub mod Begins
 pub mod Commands
 pub mod Fronts
 pub mod Numbers

@@ -22,3 +22,5 @@ pub use print::{print_answer, print_bad_line};
 
 #[cfg(test)]
 mod tests;
+#[cfg(test)]
+mod first_tests;

@@ -1,6 +1,7 @@
 use Rattle.std.proofs.Common.{Ok}
 use Rattle.script.specs.First.{machine_of}
-use Rattle.runner.proofs.FirstRuns.{begins, runs_first, fails_first}
+use Rattle.script.proofs.Begins.{begins}
+use Rattle.runner.proofs.FirstRuns.{runs_first, fails_first}
 use Rattle.runner.proofs.first_world.run_first.Goals as goal
 
 pub first_run-requires : goal.first_run-requires

@@ -1,0 +1,160 @@
+-- Capabilities read back from their bytes.
+use Rattle.std.proofs.Common.{◌≡◌, ℕ, zero, suc, ◌+◌, ◌*◌, ◌/◌, ◌%◌, ◌^◌, ◌<◌, List, [], ◌∷◌, ◌++◌, length, get_or, take, drop, refl, sym, ap, subst, ◌∙◌, inl, inr, append_assoc, arith}
+use Rattle.std.proofs.lemmas.Nat.{le_bytes_8}
+use Rattle.std.proofs.lemmas.List.{take_all, drop_all, append-nil}
+use Rattle.model.specs.declared.access.Access.{Access}
+use Rattle.model.specs.declared.capability.Cap.{Cap}
+use Rattle.model.specs.declared.capability.Capability.{Capability}
+use Rattle.model.specs.declared.capability.Capability.TheVariants.{Void, Number, Page, Node, Space, Process, Start, Resume, Bank, Discrim}
+use Rattle.model.specs.declared.geometry.Geometry.{Geometry}
+use Rattle.model.specs.Capability.{tag_of, access_bits, IsAccess}
+use Rattle.layout.specs.Bytes.{number, short_number}
+use Rattle.layout.specs.Capability.{key_of, height_of, number_of, head_bytes, capability_bytes, head_number, HeadFits, assembled, Follows, IsCapability}
+use Rattle.layout.proofs.Numbers.{number_splits}
+
+pub small_8 : (a b c d e f g h : ℕ) → a < 256 → b < 256 → c < 256 → d < 256 → e < 256 → f < 256 → g < 256 → h < 256
+    → (i : ℕ) → get_or (a ∷ b ∷ c ∷ d ∷ e ∷ f ∷ g ∷ h ∷ []) i 0 < 256
+small_8 a b c d e f g h pa pb pc pd pe pf pg ph zero = pa
+small_8 a b c d e f g h pa pb pc pd pe pf pg ph (suc zero) = pb
+small_8 a b c d e f g h pa pb pc pd pe pf pg ph (suc (suc zero)) = pc
+small_8 a b c d e f g h pa pb pc pd pe pf pg ph (suc (suc (suc zero))) = pd
+small_8 a b c d e f g h pa pb pc pd pe pf pg ph (suc (suc (suc (suc zero)))) = pe
+small_8 a b c d e f g h pa pb pc pd pe pf pg ph (suc (suc (suc (suc (suc zero))))) = pf
+small_8 a b c d e f g h pa pb pc pd pe pf pg ph (suc (suc (suc (suc (suc (suc zero)))))) = pg
+small_8 a b c d e f g h pa pb pc pd pe pf pg ph (suc (suc (suc (suc (suc (suc (suc zero))))))) = ph
+small_8 a b c d e f g h pa pb pc pd pe pf pg ph (suc (suc (suc (suc (suc (suc (suc (suc i)))))))) = omega arith
+
+-- a tag, an access, a key and a height in one number
+fields_number : (t a k h : ℕ) → t < 256 → a < 256 → k < 65536 → h < 256
+    → (t ∷ a ∷ []) ++ short_number k ++ h ∷ 0 ∷ 0 ∷ 0 ∷ [] ≡ number (t + 256 * a + 65536 * k + 4294967296 * h)
+unfolding number short_number
+fields_number t a k h ft fa fk fh =
+    sym (le_bytes_8 (t ∷ a ∷ k % 256 ∷ k / 256 % 256 ∷ h ∷ 0 ∷ 0 ∷ 0 ∷ []) (t + 256 * a + 65536 * k + 4294967296 * h) refl
+    (small_8 t a (k % 256) (k / 256 % 256) h 0 0 0 ft fa (omega arith) (omega arith) fh (omega arith) (omega arith) (omega arith)) (omega arith))
+
+tag_fits : (k : Capability) → tag_of k < 256
+tag_fits Void = omega arith
+tag_fits (Number n) = omega arith
+tag_fits (Page o a) = omega arith
+tag_fits (Node o a) = omega arith
+tag_fits (Space o h a) = omega arith
+tag_fits (Process p) = omega arith
+tag_fits (Start p key) = omega arith
+tag_fits (Resume p) = omega arith
+tag_fits (Bank b) = omega arith
+tag_fits Discrim = omega arith
+
+head_is : (k : Capability) → HeadFits k → head_bytes k ≡ number (head_number k)
+unfolding head_bytes
+head_is k fits = fields_number (tag_of k) (access_bits k) (key_of k) (height_of k) (tag_fits k) fits.access fits.key fits.height
+
+-- a capability as three numbers
+pub as_numbers : (c : Cap) → HeadFits c.what → capability_bytes c ≡ number (head_number c.what) ++ (number (number_of c.what) ++ number c.count)
+unfolding capability_bytes
+as_numbers c fits = ap (λ (h : List ℕ). h ++ number (number_of c.what) ++ number c.count) (head_is c.what fits) ∙ append_assoc (number (head_number c.what)) (number (number_of c.what)) (number c.count)
+
+-- three numbers are read
+pub three_read : (bytes : List ℕ) (a b c : ℕ) → length bytes ≡ 24 → bytes ≡ number a ++ drop 8 bytes → drop 8 bytes ≡ number b ++ drop 16 bytes → drop 16 bytes ≡ number c ++ drop 24 bytes
+    → bytes ≡ number a ++ (number b ++ number c)
+three_read bytes a b c len ea eb ec =
+    let last : drop 16 bytes ≡ number c = ec ∙ ap (λ (r : List ℕ). number c ++ r) (drop_all 24 bytes (omega arith)) ∙ append-nil (number c) in
+    ea ∙ ap (λ (r : List ℕ). number a ++ r) (eb ∙ ap (λ (r : List ℕ). number b ++ r) last)
+
+access_fits : (a : Access) → IsAccess a → a.0 < 256
+access_fits a (inl e) = omega arith
+access_fits a (inr (inl e)) = omega arith
+access_fits a (inr (inr e)) = omega arith
+
+pub record CapFits (c : Cap) : Type 0 where
+  pub head : HeadFits c.what
+  pub object : number_of c.what < 2 ^ 64
+  pub count : c.count < 2 ^ 64
+
+-- what has a spelling fits its bytes
+pub follows_fits : (g : Geometry) (age count : ℕ) (k : Capability) → Follows g age count k → CapFits (record { what = k; count = count })
+follows_fits g age count Void f = record { head = record { access = omega arith; key = omega arith; height = omega arith }; object = omega arith; count = omega arith }
+follows_fits g age count (Number n) f = record { head = record { access = omega arith; key = omega arith; height = omega arith }; object = omega arith; count = omega arith }
+follows_fits g age count (Page o a) f = record { head = record { access = access_fits a f.0; key = omega arith; height = omega arith }; object = omega arith; count = omega arith }
+follows_fits g age count (Node o a) f = record { head = record { access = access_fits a f.0; key = omega arith; height = omega arith }; object = omega arith; count = omega arith }
+follows_fits g age count (Space o h a) f = record { head = record { access = access_fits a f.0; key = omega arith; height = omega arith }; object = omega arith; count = omega arith }
+follows_fits g age count (Process p) f = record { head = record { access = omega arith; key = omega arith; height = omega arith }; object = omega arith; count = omega arith }
+follows_fits g age count (Start p key) f = record { head = record { access = omega arith; key = omega arith; height = omega arith }; object = omega arith; count = omega arith }
+follows_fits g age count (Resume p) f = record { head = record { access = omega arith; key = omega arith; height = omega arith }; object = omega arith; count = omega arith }
+follows_fits g age count (Bank b) f = record { head = record { access = omega arith; key = omega arith; height = omega arith }; object = omega arith; count = omega arith }
+follows_fits g age count Discrim f = record { head = record { access = omega arith; key = omega arith; height = omega arith }; object = omega arith; count = omega arith }
+
+-- a capability is made again of its fields
+assembled_again : (k : Capability) (tag bits key height n : ℕ) → tag ≡ tag_of k → bits ≡ access_bits k → key ≡ key_of k → height ≡ height_of k → n ≡ number_of k
+    → assembled tag (record { 0 = bits }) key height n ≡ k
+assembled_again Void tag bits key height n et eb ek eh en = rw (et) refl
+assembled_again (Number m) tag bits key height n et eb ek eh en = rw (et, en) refl
+assembled_again (Page o a) tag bits key height n et eb ek eh en = rw (et, eb, en) refl
+assembled_again (Node o a) tag bits key height n et eb ek eh en = rw (et, eb, en) refl
+assembled_again (Space o h a) tag bits key height n et eb ek eh en = rw (et, eb, eh, en) refl
+assembled_again (Process p) tag bits key height n et eb ek eh en = rw (et, en) refl
+assembled_again (Start p k) tag bits key height n et eb ek eh en = rw (et, ek, en) refl
+assembled_again (Resume p) tag bits key height n et eb ek eh en = rw (et, en) refl
+assembled_again (Bank b) tag bits key height n et eb ek eh en = rw (et, en) refl
+assembled_again Discrim tag bits key height n et eb ek eh en = rw (et) refl
+
+-- the fields of a head
+head_parts : (t a k h : ℕ) → t < 256 → a < 256 → k < 65536 → h < 256 →
+    let n = t + 256 * a + 65536 * k + 4294967296 * h in (n % 256 ≡ t) × (n / 256 % 256 ≡ a) × (n / 65536 % 65536 ≡ k) × (n / 4294967296 % 256 ≡ h)
+head_parts t a k h ft fa fk fh = (omega arith, omega arith, omega arith, omega arith)
+
+pub made_again : (k : Capability) (head bits n : ℕ) → HeadFits k → head ≡ head_number k → n ≡ number_of k → bits ≡ head / 256 % 256
+    → assembled (head % 256) (record { 0 = bits }) (head / 65536 % 65536) (head / 4294967296 % 256) n ≡ k
+made_again k head bits n fits eh en eb =
+    let p = head_parts (tag_of k) (access_bits k) (key_of k) (height_of k) (tag_fits k) fits.access fits.key fits.height in
+    assembled_again k (head % 256) bits (head / 65536 % 65536) (head / 4294967296 % 256) n
+    (ap (λ (x : ℕ). x % 256) eh ∙ p.0) (eb ∙ ap (λ (x : ℕ). x / 256 % 256) eh ∙ p.1) (ap (λ (x : ℕ). x / 65536 % 65536) eh ∙ p.2) (ap (λ (x : ℕ). x / 4294967296 % 256) eh ∙ p.3) en
+
+-- the numbers of a spelling
+pub record HasNumbers (c : Cap) (head object count : ℕ) : Type 0 where
+  pub head_is : head ≡ head_number c.what
+  pub object_is : object ≡ number_of c.what
+  pub count_is : count ≡ c.count
+
+head_below : (k : Capability) → HeadFits k → head_number k < 2 ^ 64
+head_below k fits = let t = tag_fits k in omega (arith, fits.access, fits.key, fits.height)
+
+pub spelt_numbers : (c : Cap) (head object count : ℕ) → CapFits c → head < 2 ^ 64 → object < 2 ^ 64 → count < 2 ^ 64
+    → number head ++ (number object ++ number count) ≡ capability_bytes c → HasNumbers c head object count
+spelt_numbers c head object count fits fh fo fc e =
+    let a = number_splits head (head_number c.what) (number object ++ number count) (number (number_of c.what) ++ number c.count) fh (head_below c.what fits.head) (e ∙ as_numbers c fits.head) in
+    let b = number_splits object (number_of c.what) (number count) (number c.count) fo fits.object a.1 in
+    let d = number_splits count c.count [] [] fc fits.count (ap (λ (r : List ℕ). r ++ []) b.1) in
+    record { head_is = a.0; object_is = b.0; count_is = d.0 }
+
+same_cap : (b c : Cap) → b.what ≡ c.what → b.count ≡ c.count → b ≡ c
+same_cap b c w n = ap (λ (k : Capability). record { what = k; count = b.count }) w ∙ ap (λ (m : ℕ). record { what = c.what; count = m }) n
+
+-- three numbers are written
+pub three_written : (new mid first old : List ℕ) (a b c : ℕ) → length new ≡ 24 → take 24 new ≡ take 16 mid ++ number c → take 16 mid ≡ take 8 first ++ number b → take 8 first ≡ take 0 old ++ number a
+    → new ≡ number a ++ (number b ++ number c)
+three_written new mid first old a b c len ec eb ea =
+    sym (take_all 24 new (omega arith)) ∙ ec ∙ ap (λ (r : List ℕ). r ++ number c) (eb ∙ ap (λ (r : List ℕ). r ++ number b) ea) ∙ append_assoc (number a) (number b) (number c)
+
+-- the numbers that were read of bytes that no capability spells
+pub none_spelt : (g : Geometry) (age : ℕ) (bytes : List ℕ) (head object count bits : ℕ) (what : Capability) → head < 2 ^ 64 → object < 2 ^ 64 → count < 2 ^ 64
+    → bytes ≡ number head ++ (number object ++ number count)
+    → bits ≡ head / 256 % 256 → what ≡ assembled (head % 256) (record { 0 = bits }) (head / 65536 % 65536) (head / 4294967296 % 256) object
+    → (head_number what ≡ head → number_of what ≡ object → IsCapability g age (record { what = what; count = count }) → ⊥)
+    → (c : Cap) → IsCapability g age c → bytes ≡ capability_bytes c → ⊥
+none_spelt g age bytes head object count bits what fh fo fc is eb made hold c fits e =
+    let all = follows_fits g age c.count c.what fits in
+    let n = spelt_numbers c head object count all fh fo fc (sym is ∙ e) in
+    let same : what ≡ c.what = made ∙ made_again c.what head bits object all.head n.head_is n.object_is eb in
+    hold (ap head_number same ∙ sym n.head_is) (ap number_of same ∙ sym n.object_is)
+    (subst (λ (k : Capability). IsCapability g age (record { what = k; count = count })) (sym same) (subst (λ (m : ℕ). IsCapability g age (record { what = c.what; count = m })) (sym n.count_is) fits))
+
+-- given bytes spell at most one capability
+pub one_capability : (g : Geometry) (age : ℕ) (b c : Cap) → IsCapability g age b → IsCapability g age c → capability_bytes b ≡ capability_bytes c → b ≡ c
+one_capability g age b c fb fc e =
+    let all = follows_fits g age b.count b.what fb in
+    let all' = follows_fits g age c.count c.what fc in
+    let n = spelt_numbers c (head_number b.what) (number_of b.what) b.count all' (head_below b.what all.head) all.object all.count (sym (as_numbers b all.head) ∙ e) in
+    let left = made_again b.what (head_number b.what) (head_number b.what / 256 % 256) (number_of b.what) all.head refl refl refl in
+    let right = made_again c.what (head_number b.what) (head_number b.what / 256 % 256) (number_of b.what) all'.head n.head_is n.object_is refl in
+    let what : b.what ≡ c.what = sym left ∙ right in
+    same_cap b c what n.count_is

@@ -1,0 +1,169 @@
+-- Directories read back from their bytes.
+use Rattle.std.proofs.Common.{◌≡◌, ℕ, ◌+◌, ◌-◌, ◌*◌, ◌^◌, ◌<◌, ◌≤◌, Bool, true, false, List, [], ◌∷◌, ◌++◌, length, get_or, set, take, drop, refl, sym, ap, subst, ◌∙◌, append_assoc, inl, inr, arith}
+use Rattle.std.specs.Prelude.{replicate}
+use Rattle.std.proofs.lemmas.Bool.{cases_lt, cases_eq, false≢true}
+use Rattle.std.proofs.lemmas.List.{take_more, take_more_set, take_all, take_at, append-nil, length-append, length-set, get_or-set_same, get_or-set_other, get_or-replicate, length-replicate, get_or_past}
+use Rattle.std.proofs.Math.Seq.{take-add}
+use Rattle.std.proofs.lemmas.List.Concat.{flat_map-append}
+use Rattle.std.proofs.lemmas.List.Elements.{All-same, All-push, All-nil, All-tail, All-head}
+use Rattle.model.specs.declared.geometry.Geometry.{Geometry}
+use Rattle.layout.specs.declared.directory.Entry.{Entry}
+use Rattle.layout.specs.Bytes.{number}
+use Rattle.layout.specs.Directory.{entry_bytes, directory_bytes, entry_at, AreRising, AreApart, IsDirectory, AllFitting}
+use Rattle.layout.proofs.Numbers.{length-number, number_splits}
+
+-- ---- bytes
+
+pub no_entry : directory_bytes [] ≡ []
+unfolding directory_bytes
+no_entry = refl
+
+cons_entry : (e : Entry) (es : List Entry) → directory_bytes (e ∷ es) ≡ number e.object ++ (number e.slot ++ directory_bytes es)
+unfolding directory_bytes
+cons_entry e es = append_assoc (number e.object) (number e.slot) (directory_bytes es)
+
+push_entry : (es : List Entry) (e : Entry) → directory_bytes (es ++ e ∷ []) ≡ directory_bytes es ++ number e.object ++ number e.slot
+unfolding directory_bytes
+push_entry es e = flat_map-append entry_bytes es (e ∷ []) ∙ ap (λ (r : List ℕ). directory_bytes es ++ r) (append-nil (entry_bytes e)) ∙ sym (append_assoc (directory_bytes es) (number e.object) (number e.slot))
+
+pub length-directory : (es : List Entry) → length (directory_bytes es) ≡ 16 * length es
+length-directory [] = ap length no_entry
+length-directory (e ∷ es) = ap length (cons_entry e es) ∙ length-append (number e.object) (number e.slot ++ directory_bytes es)
+    ∙ omega (arith, length-append (number e.slot) (directory_bytes es), length-number e.object, length-number e.slot, length-directory es)
+
+same_entry : (d e : Entry) → d.object ≡ e.object → d.slot ≡ e.slot → d ≡ e
+same_entry d e o s = ap (λ (x : ℕ). record { object = x; slot = d.slot }) o ∙ ap (λ (x : ℕ). record { object = e.object; slot = x }) s
+
+-- given bytes spell at most one directory
+pub one_directory : (ds es : List Entry) → AllFitting ds → AllFitting es → directory_bytes ds ≡ directory_bytes es → ds ≡ es
+one_directory [] [] fd fe e = refl
+one_directory [] (x ∷ es) fd fe e = absurd (omega (arith, length-directory [], length-directory (x ∷ es), ap length e))
+one_directory (x ∷ ds) [] fd fe e = absurd (omega (arith, length-directory [], length-directory (x ∷ ds), ap length e))
+one_directory (d ∷ ds) (x ∷ es) fd fe e =
+    let Fits : Entry → Type 0 = λ y. (y.object < 2 ^ 64) × (y.slot < 2 ^ 64) in
+    let hd = All-head Fits d ds fd in
+    let he = All-head Fits x es fe in
+    let first = number_splits d.object x.object (number d.slot ++ directory_bytes ds) (number x.slot ++ directory_bytes es) hd.0 he.0 (sym (cons_entry d ds) ∙ e ∙ cons_entry x es) in
+    let second = number_splits d.slot x.slot (directory_bytes ds) (directory_bytes es) hd.1 he.1 first.1 in
+    let others = one_directory ds es (All-tail Fits d ds fd) (All-tail Fits x es fe) second.1 in
+    ap (λ (y : Entry). y ∷ ds) (same_entry d x first.0 second.0) ∙ ap (λ (ys : List Entry). x ∷ ys) others
+
+pub directory_fits : (g : Geometry) (es : List Entry) → IsDirectory g es → AllFitting es
+directory_fits g es is k d lt = let one = is.each k d lt in (one.object_fits, one.slot_fits)
+
+-- ---- reading and writing
+
+pub record EntriesRead (bytes : List ℕ) (into : List Entry) (i : ℕ) : Type 0 where
+  pub bytes_are : take (16 * i) bytes ≡ directory_bytes (take i into)
+  pub each : AllFitting (take i into)
+
+pub none_read : (bytes : List ℕ) (into : List Entry) → EntriesRead bytes into 0
+none_read bytes into = record { bytes_are = sym no_entry; each = All-nil (λ (e : Entry). (e.object < 2 ^ 64) × (e.slot < 2 ^ 64)) }
+
+pub entry_read : (bytes : List ℕ) (into : List Entry) (i o s : ℕ) → i < length into → EntriesRead bytes into i → o < 2 ^ 64 → s < 2 ^ 64
+    → drop (16 * i) bytes ≡ number o ++ drop (16 * i + 8) bytes → drop (16 * i + 8) bytes ≡ number s ++ drop (16 * i + 8 + 8) bytes
+    → EntriesRead bytes (set into i (record { object = o; slot = s })) (i + 1)
+entry_read bytes into i o s lt before fo fs is_object is_slot =
+    let e : Entry = record { object = o; slot = s } in
+    let more : take (i + 1) (set into i e) ≡ take i into ++ e ∷ [] = take_more_set into i e lt in
+    let next : 16 * (i + 1) ≡ 16 * i + 16 = omega arith in
+    let both : drop (16 * i) bytes ≡ (number o ++ number s) ++ drop (16 * i + 8 + 8) bytes = is_object ∙ ap (λ (r : List ℕ). number o ++ r) is_slot ∙ sym (append_assoc (number o) (number s) (drop (16 * i + 8 + 8) bytes)) in
+    let piece : take 16 (drop (16 * i) bytes) ≡ number o ++ number s = ap (take 16) both ∙ take_at (number o ++ number s) (drop (16 * i + 8 + 8) bytes) 16 (length-append (number o) (number s) ∙ omega (arith, length-number o, length-number s)) in
+    record {
+      bytes_are = ap (λ (n : ℕ). take n bytes) next ∙ take-add (16 * i) 16 bytes ∙ ap (λ (r : List ℕ). r ++ take 16 (drop (16 * i) bytes)) before.bytes_are
+          ∙ ap (λ (r : List ℕ). directory_bytes (take i into) ++ r) piece ∙ sym (append_assoc (directory_bytes (take i into)) (number o) (number s))
+          ∙ sym (push_entry (take i into) e) ∙ ap directory_bytes (sym more);
+      each = All-same (λ (x : Entry). (x.object < 2 ^ 64) × (x.slot < 2 ^ 64)) (take (i + 1) (set into i e)) (take i into ++ e ∷ []) more
+          (All-push (λ (x : Entry). (x.object < 2 ^ 64) × (x.slot < 2 ^ 64)) (take i into) e before.each (fo, fs));
+    }
+
+pub all_entries : (bytes : List ℕ) (into : List Entry) (i : ℕ) → length into ≤ i → length bytes ≡ 16 * length into → EntriesRead bytes into i → (bytes ≡ directory_bytes into) × AllFitting into
+all_entries bytes into i done len was =
+    let whole : take i into ≡ into = take_all i into done in (
+      sym (take_all (16 * i) bytes (omega arith)) ∙ was.bytes_are ∙ ap directory_bytes whole,
+      All-same (λ (x : Entry). (x.object < 2 ^ 64) × (x.slot < 2 ^ 64)) into (take i into) (sym whole) was.each,
+    )
+
+pub entry_written : (es : List Entry) (i : ℕ) (e : Entry) (old mid new : List ℕ) → i < length es → take (16 * i) old ≡ directory_bytes (take i es)
+    → take (16 * i + 8) mid ≡ take (16 * i) old ++ number e.object → take (16 * i + 8 + 8) new ≡ take (16 * i + 8) mid ++ number e.slot → e ≡ get_or es i e
+    → take (16 * (i + 1)) new ≡ directory_bytes (take (i + 1) es)
+entry_written es i e old mid new lt before first second is =
+    let next : 16 * (i + 1) ≡ 16 * i + 8 + 8 = omega arith in
+    ap (λ (n : ℕ). take n new) next ∙ second ∙ ap (λ (r : List ℕ). r ++ number e.slot) (first ∙ ap (λ (r : List ℕ). r ++ number e.object) before)
+    ∙ sym (push_entry (take i es) e) ∙ ap directory_bytes (ap (λ (x : Entry). take i es ++ x ∷ []) is ∙ sym (take_more es i e lt))
+
+-- ---- rising numbers
+
+abbrev pub RisingBelow : List Entry → ℕ → Type 0
+RisingBelow es i = (k : ℕ) → k + 1 < i → (entry_at es k).object < (entry_at es (k + 1)).object
+
+pub rising_more : (es : List Entry) (i : ℕ) → 1 ≤ i → RisingBelow es i → (entry_at es (i - 1)).object < (entry_at es i).object → RisingBelow es (i + 1)
+rising_more es i ge below here k lt = elim (cases_lt (k + 1) i) [
+  | inl less ↦ below k less
+  | inr le ↦
+      let e : i ≡ k + 1 = omega arith in
+      let before : i - 1 ≡ k = omega arith in
+      subst (λ (n : ℕ). (entry_at es k).object < (entry_at es n).object) e (subst (λ (n : ℕ). (entry_at es n).object < (entry_at es i).object) before here)
+]
+
+pub not_rising : (es : List Entry) (i : ℕ) → 1 ≤ i → i < length es → (entry_at es i).object ≤ (entry_at es (i - 1)).object → AreRising es → ⊥
+not_rising es i ge lt le rising =
+    let next : i - 1 + 1 ≡ i = omega arith in
+    let here : (entry_at es (i - 1)).object < (entry_at es i).object = subst (λ (n : ℕ). (entry_at es (i - 1)).object < (entry_at es n).object) next (rising (i - 1) (omega arith)) in
+    omega arith
+
+-- ---- slots apart
+
+-- used tells the slots of the first i entries, which are apart
+pub record IsUsed (es : List Entry) (used : List Bool) (i : ℕ) : Type 0 where
+  pub size : length used ≡ 4096
+  pub marks : (k : ℕ) → k < i → get_or used (entry_at es k).slot false ≡ true
+  pub marked : (s : ℕ) → get_or used s false ≡ true → (k : ℕ) × (k < i) × ((entry_at es k).slot ≡ s)
+  pub apart : (j k : ℕ) → j < k → k < i → (entry_at es j).slot ≡ (entry_at es k).slot → ⊥
+
+unmarked : (s : ℕ) → get_or (replicate 4096 false) s false ≡ true → ⊥
+unmarked s e = elim (cases_lt s 4096) [
+  | inl lt ↦ false≢true (sym (get_or-replicate 4096 s false false lt) ∙ e)
+  | inr le ↦ false≢true (sym (get_or_past (replicate 4096 false) s false (omega (arith, length-replicate 4096 false))) ∙ e)
+]
+
+pub none_used : (es : List Entry) → IsUsed es (replicate 4096 false) 0
+none_used es = record {
+  size = length-replicate 4096 false;
+  marks = λ k lt. absurd (omega arith);
+  marked = λ s e. absurd (unmarked s e);
+  apart = λ j k lt lt'. absurd (omega arith);
+}
+
+below_unless : (es : List Entry) (i k : ℕ) → k < i + 1 → ((entry_at es k).slot ≡ (entry_at es i).slot → ⊥) → k < i
+below_unless es i k lt other = elim (cases_lt k i) [
+  | inl below ↦ below
+  | inr at ↦ let e : k ≡ i = omega arith in absurd (other (ap (λ (n : ℕ). (entry_at es n).slot) e))
+]
+
+pub used_more : (es : List Entry) (used : List Bool) (i : ℕ) → (entry_at es i).slot < 4096 → IsUsed es used i → get_or used (entry_at es i).slot false ≡ false
+    → IsUsed es (set used (entry_at es i).slot true) (i + 1)
+used_more es used i fits was fresh =
+    let slot : ℕ = (entry_at es i).slot in
+    record {
+      size = length-set used slot true ∙ was.size;
+      marks = λ k lt. elim (cases_eq (entry_at es k).slot slot) [
+        | inl same ↦ ap (λ (s : ℕ). get_or (set used slot true) s false) same ∙ get_or-set_same used slot true false (omega (arith, was.size))
+        | inr other ↦ get_or-set_other used slot (entry_at es k).slot true false other ∙ was.marks k (below_unless es i k lt other)
+      ];
+      marked = λ s e. elim (cases_eq s slot) [
+        | inl same ↦ (i, omega arith, sym same)
+        | inr other ↦ let old = was.marked s (sym (get_or-set_other used slot s true false other) ∙ e) in (old.0, omega (arith, old.1), old.2)
+      ];
+      apart = λ j k lt lt' e. elim (cases_lt k i) [
+        | inl below ↦ was.apart j k lt below e
+        | inr at ↦
+            let here : k ≡ i = omega arith in
+            false≢true (sym fresh ∙ ap (λ (s : ℕ). get_or used s false) (sym (e ∙ ap (λ (n : ℕ). (entry_at es n).slot) here)) ∙ was.marks j (omega arith))
+      ];
+    }
+
+pub twice_used : (es : List Entry) (used : List Bool) (i : ℕ) → i < length es → IsUsed es used i → get_or used (entry_at es i).slot false ≡ true → AreApart es → ⊥
+twice_used es used i lt was taken apart =
+    let old = was.marked (entry_at es i).slot taken in
+    apart old.0 i old.1 lt old.2

@@ -1,0 +1,97 @@
+-- Sectors that are apart, and ranges that cover all numbers.
+use Rattle.std.proofs.Common.{◌≡◌, ℕ, zero, suc, ◌+◌, ◌-◌, ◌<◌, ◌≤◌, List, [], ◌∷◌, ◌++◌, length, get_or, set, take, drop, sym, ap, subst, ◌∙◌, inl, inr, arith}
+use Rattle.std.specs.List.{All, between}
+use Rattle.std.proofs.lemmas.Bool.{cases_lt}
+use Rattle.std.proofs.lemmas.List.{get_or-drop, get_or_default, length-drop, length-set, take_rest, take_all, take_more_set, append_assoc, drop_more, drop_all}
+use Rattle.model.specs.declared.geometry.Geometry.{Geometry}
+use Rattle.layout.specs.declared.extent.Extent.{Extent}
+use Rattle.layout.specs.declared.extent.HomeRange.{HomeRange}
+use Rattle.layout.specs.Superblock.{extent_at, IsApart, AreApart, Cover, IsNext}
+
+-- the first i extents are apart from all behind them
+abbrev pub ApartBelow : List Extent → ℕ → Type 0
+ApartBelow es n = (i j : ℕ) → i < n → i < j → j < length es → IsApart (extent_at es i) (extent_at es j)
+
+pub apart_none : (es : List Extent) → ApartBelow es 0
+apart_none es i j lt lt' in' = absurd (omega arith)
+
+pub apart_more : (es : List Extent) (n : ℕ) (e : Extent) → e ≡ extent_at es n → ApartBelow es n → All (IsApart e) (between (n + 1) (length es) es) → ApartBelow es (n + 1)
+apart_more es n e is below here i j lt lt' within = elim (cases_lt i n) [
+  | inl less ↦ below i j less lt' within
+  | inr le ↦
+      let at : i ≡ n = omega arith in
+      let rest : All (IsApart e) (drop (n + 1) es) = subst (All (IsApart e)) (take_rest es (n + 1)) here in
+      let one = rest (j - (n + 1)) (record { sector = 0; length = 0 }) (omega (arith, length-drop (n + 1) es)) in
+      let place : n + 1 + (j - (n + 1)) ≡ j = omega arith in
+      let other : get_or (drop (n + 1) es) (j - (n + 1)) (record { sector = 0; length = 0 }) ≡ extent_at es j =
+      get_or-drop (n + 1) es (j - (n + 1)) (record { sector = 0; length = 0 }) ∙ ap (extent_at es) place in
+      subst (λ (m : ℕ). IsApart (extent_at es m) (extent_at es j)) (sym at)
+      (subst (λ (x : Extent). IsApart x (extent_at es j)) is (subst (λ (x : Extent). IsApart e x) other one))
+]
+
+pub apart_ends : (es : List Extent) (n : ℕ) → length es ≤ n → ApartBelow es n → AreApart es
+apart_ends es n done below i j lt within = below i j (omega arith) lt within
+
+pub not_apart : (es : List Extent) (n : ℕ) (e : Extent) → e ≡ extent_at es n → (All (IsApart e) (between (n + 1) (length es) es) → ⊥) → AreApart es → ⊥
+not_apart es n e is hold apart = hold (subst (All (IsApart e)) (sym (take_rest es (n + 1))) (λ k d lt.
+    let place : n < n + 1 + k = omega arith in
+    let pair = apart n (n + 1 + k) place (omega (arith, length-drop (n + 1) es)) in
+    let other : extent_at es (n + 1 + k) ≡ get_or (drop (n + 1) es) k d =
+    sym (get_or-drop (n + 1) es k (record { sector = 0; length = 0 })) ∙ get_or_default (drop (n + 1) es) k (record { sector = 0; length = 0 }) d lt in
+    subst (λ (x : Extent). IsApart x (get_or (drop (n + 1) es) k d)) (sym is) (subst (IsApart (extent_at es n)) other pair)))
+
+-- ---- extents in a list
+
+pub two_set : (into xs : List Extent) (n : ℕ) (a b : Extent) → length into ≡ n + 2 → take n into ≡ xs → set (set into n a) (n + 1) b ≡ xs ++ a ∷ b ∷ []
+two_set into xs n a b len front =
+    let one : take (n + 1) (set into n a) ≡ take n into ++ a ∷ [] = take_more_set into n a (omega arith) in
+    let size : length (set into n a) ≡ n + 2 = length-set into n a ∙ len in
+    let two : take (n + 1 + 1) (set (set into n a) (n + 1) b) ≡ take (n + 1) (set into n a) ++ b ∷ [] = take_more_set (set into n a) (n + 1) b (omega arith) in
+    sym (take_all (n + 1 + 1) (set (set into n a) (n + 1) b) (omega (arith, length-set (set into n a) (n + 1) b)))
+    ∙ two ∙ ap (λ (r : List Extent). r ++ b ∷ []) (one ∙ ap (λ (r : List Extent). r ++ a ∷ []) front) ∙ append_assoc xs (a ∷ []) (b ∷ [])
+
+-- ---- ranges
+
+-- up to a place the ranges go on to a number, so they cover all where the others do from there
+pub record CoveredTo (g : Geometry) (rs : List HomeRange) (i next : ℕ) : Type 0 where
+  pub within : next ≤ g.nodes + g.pages
+  pub goes_on : Cover g next (drop i rs) → Cover g 0 rs
+  pub went_on : Cover g 0 rs → Cover g next (drop i rs)
+
+pub covered_none : (g : Geometry) (rs : List HomeRange) → CoveredTo g rs 0 0
+covered_none g rs = record { within = omega arith; goes_on = λ c. c; went_on = λ c. c }
+
+abbrev range_at : List HomeRange → ℕ → HomeRange
+range_at rs i = get_or rs i (record { first = 0; count = 0; sector = 0 })
+
+pub covered_more : (g : Geometry) (rs : List HomeRange) (i next : ℕ) → i < length rs → CoveredTo g rs i next → IsNext g (range_at rs i) next → (range_at rs i).count ≤ g.nodes + g.pages - next
+    → CoveredTo g rs (i + 1) (next + (range_at rs i).count)
+covered_more g rs i next lt was is room = record {
+  within = omega (arith, was.within);
+  goes_on = λ c. was.goes_on (subst (Cover g next) (sym (drop_more rs i (record { first = 0; count = 0; sector = 0 }) lt)) (is, c));
+  went_on = λ c. (subst (Cover g next) (drop_more rs i (record { first = 0; count = 0; sector = 0 }) lt) (was.went_on c)).1;
+}
+
+cover_within : (g : Geometry) (n : ℕ) (rs : List HomeRange) → Cover g n rs → n ≤ g.nodes + g.pages
+cover_within g n [] c = omega (arith, c)
+cover_within g n (r ∷ rs) c = let rest = cover_within g (n + r.count) rs c.1 in omega arith
+
+pub not_covered : (g : Geometry) (rs : List HomeRange) (i next : ℕ) → i < length rs → CoveredTo g rs i next → (IsNext g (range_at rs i) next → (range_at rs i).count ≤ g.nodes + g.pages - next → ⊥) → Cover g 0 rs → ⊥
+not_covered g rs i next lt was hold c =
+    let here = subst (Cover g next) (drop_more rs i (record { first = 0; count = 0; sector = 0 }) lt) (was.went_on c) in
+    hold here.0 (let rest = cover_within g (next + (range_at rs i).count) (drop (i + 1) rs) here.1 in omega arith)
+
+pub cover_ends : (g : Geometry) (rs : List HomeRange) (i next : ℕ) → length rs ≤ i → CoveredTo g rs i next → (next ≡ g.nodes + g.pages → Cover g 0 rs) × (Cover g 0 rs → next ≡ g.nodes + g.pages)
+cover_ends g rs i next done was =
+    ((λ e. was.goes_on (subst (Cover g next) (sym (drop_all i rs done)) e)), (λ c. subst (Cover g next) (drop_all i rs done) (was.went_on c)))
+
+-- the count of each range is at most that of all numbers
+pub counts_within : (g : Geometry) (n : ℕ) (rs : List HomeRange) → Cover g n rs → All (λ r. r.count ≤ g.nodes + g.pages) rs
+counts_within g n [] c k d lt = absurd (omega arith)
+counts_within g n (r ∷ rs) c zero d lt = let rest = cover_within g (n + r.count) rs c.1 in omega arith
+counts_within g n (r ∷ rs) c (suc k) d lt = counts_within g (n + r.count) rs c.1 k d (omega arith)
+
+pub firsts_within : (g : Geometry) (n : ℕ) (rs : List HomeRange) → Cover g n rs → All (λ r. r.first ≤ g.nodes + g.pages) rs
+firsts_within g n [] c k d lt = absurd (omega arith)
+firsts_within g n (r ∷ rs) c zero d lt = let rest = cover_within g (n + r.count) rs c.1 in omega (arith, c.0.0)
+firsts_within g n (r ∷ rs) c (suc k) d lt = firsts_within g (n + r.count) rs c.1 k d (omega arith)

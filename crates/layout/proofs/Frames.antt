@@ -1,0 +1,269 @@
+-- Frames read back from their bytes.
+use Rattle.std.proofs.Common.{◌≡◌, ℕ, zero, suc, ◌+◌, ◌-◌, ◌*◌, ◌%◌, ◌^◌, ◌<◌, List, [], ◌∷◌, ◌++◌, length, take, drop, refl, sym, ap, subst, ◌∙◌, append_assoc, arith}
+use Rattle.std.specs.Prelude.{replicate, map}
+use Rattle.std.specs.List.{between}
+use borrow.Rule.Slice.PartMut.{put_mid}
+use Rattle.std.proofs.lemmas.List.{replicate-append-replicate, drop-replicate, drop-drop, take_at, drop_at, take-append-drop, append-nil, length-append, length-map}
+use Rattle.model.specs.declared.capability.Cap.{Cap}
+use Rattle.model.specs.declared.frame.Frame.{Frame}
+use Rattle.model.specs.declared.frame.Header.{Header}
+use Rattle.model.specs.declared.geometry.Geometry.{Geometry}
+use Rattle.model.specs.declared.object.Content.{Content}
+use Rattle.model.specs.declared.object.Content.TheVariants as content
+use Rattle.model.specs.declared.object.Role.{Role}
+use Rattle.model.specs.declared.object.Role.TheVariants as role
+use Rattle.model.specs.declared.object.Root.{Root}
+use Rattle.model.specs.declared.object.State.{State}
+use Rattle.model.specs.declared.object.State.TheVariants.{Available, Running, Waiting}
+use Rattle.model.specs.Object.{role_of, state_number}
+use Rattle.layout.specs.Bytes.{number, short_number, zeros}
+use Rattle.layout.specs.Capability.{capability_bytes, head_bytes, IsCount}
+use Rattle.layout.specs.Frame.{front_numbers, front_bytes, role_number, void_cap, number_cap, slots_of, slots_bytes, node_frame_bytes, root_slots, root_in, state_in, body_in, with_slots, FollowsRole, IsFront, AreSlots, IsBody, IsNodeFrame}
+use Rattle.layout.proofs.Numbers.{stream, AllFit, stream_splits, IsWritten}
+use Rattle.layout.proofs.SlotLists.{slots_bytes-nil, slots_bytes-cons, slots_bytes-append, length-slots, slots_split}
+
+four : (a b c d z : List ℕ) → (a ++ b ++ c ++ d) ++ z ≡ a ++ (b ++ (c ++ (d ++ z)))
+four a b c d z = simp append_assoc
+
+-- the front of a frame as numbers
+pub front_stream : (role : ℕ) (h : Header) (rest : List ℕ) → front_numbers role h ++ rest ≡ stream (role ∷ h.allocations ∷ h.calls ∷ h.owner ∷ []) rest
+unfolding front_numbers
+front_stream role h rest = four (number role) (number h.allocations) (number h.calls) (number h.owner) rest
+
+pub four_read : (bytes : List ℕ) (role : ℕ) (h : Header) → bytes ≡ number role ++ drop 8 bytes → drop 8 bytes ≡ number h.allocations ++ drop 16 bytes
+    → drop 16 bytes ≡ number h.calls ++ drop 24 bytes → drop 24 bytes ≡ number h.owner ++ drop 32 bytes → bytes ≡ front_numbers role h ++ drop 32 bytes
+four_read bytes role h er ea ec eo =
+    er ∙ ap (λ (r : List ℕ). number role ++ r) (ea ∙ ap (λ (r : List ℕ). number h.allocations ++ r) (ec ∙ ap (λ (r : List ℕ). number h.calls ++ r) eo)) ∙ sym (front_stream role h (drop 32 bytes))
+
+pub front_is : (role : ℕ) (h : Header) → ([] ++ number role) ++ number h.allocations ++ number h.calls ++ number h.owner ≡ front_numbers role h
+unfolding front_numbers
+front_is role h = refl
+
+pub front_written : (old new : List ℕ) (role : Role) (n : ℕ) (h : Header) → n ≡ role_number role
+    → IsWritten old (number n ++ number h.allocations ++ number h.calls ++ number h.owner) new 32
+    → record { before : take 32 new ≡ front_numbers (role_number role) h; after : drop 32 new ≡ drop 32 old }
+front_written old new role n h is was = record {
+  before = was.before ∙ front_is n h ∙ ap (λ (r : ℕ). front_numbers r h) is;
+  after = was.after;
+}
+
+-- ---- void slots as bytes
+
+void_bytes : capability_bytes void_cap ≡ zeros 24
+unfolding capability_bytes head_bytes short_number number zeros
+void_bytes = refl
+
+pub zeros_add : (m n : ℕ) → zeros m ++ zeros n ≡ zeros (m + n)
+unfolding zeros
+zeros_add m n = replicate-append-replicate m n 0
+
+pub zeros_none : zeros 0 ≡ []
+unfolding zeros
+zeros_none = refl
+
+pub drop_zeros : (m n : ℕ) → drop m (zeros n) ≡ zeros (n - m)
+unfolding zeros
+drop_zeros m n = drop-replicate m n 0
+
+voids_bytes : (k : ℕ) → slots_bytes (replicate k void_cap) ≡ zeros (24 * k)
+voids_bytes zero = slots_bytes-nil ∙ sym zeros_none
+voids_bytes (suc k) =
+    let size : 24 + 24 * k ≡ 24 * suc k = omega arith in
+    slots_bytes-cons void_cap (replicate k void_cap) ∙ ap (λ (r : List ℕ). r ++ slots_bytes (replicate k void_cap)) void_bytes
+    ∙ ap (λ (r : List ℕ). zeros 24 ++ r) (voids_bytes k) ∙ zeros_add 24 (24 * k) ∙ ap zeros size
+
+-- ---- writing
+
+pub mid_put : (a k : ℕ) (xs ys : List ℕ) → put_mid a k xs ys ≡ take a xs ++ ys ++ drop (a + k) xs
+mid_put a k xs ys = sym (append_assoc (take a xs) ys (drop k (drop a xs))) ∙ ap (λ (r : List ℕ). take a xs ++ ys ++ r) (drop-drop k a xs)
+
+role_bytes : (r : Role) → role_number r ∷ zeros 7 ≡ number (role_number r)
+unfolding zeros number
+role_bytes role.Free = refl
+role_bytes role.Page = refl
+role_bytes role.Node = refl
+role_bytes role.Root = refl
+role_bytes role.Annex = refl
+role_bytes role.Bank = refl
+
+pub front_bytes_are : (f : Frame) → front_bytes f ≡ front_numbers (role_number (role_of f.content)) f.header
+unfolding front_bytes front_numbers
+front_bytes_are f = ap (λ (r : List ℕ). r ++ number f.header.allocations ++ number f.header.calls ++ number f.header.owner) (role_bytes (role_of f.content))
+
+rest_size : (n k : ℕ) → n + k ≡ 32 → 992 - 24 * n ≡ 24 * k + 224
+rest_size n k e = omega arith
+
+regroup : (a b c d : List ℕ) → a ++ b ++ (c ++ d) ≡ a ++ (b ++ c) ++ d
+regroup a b c d = simp append_assoc
+
+pub node_written : (f : Frame) (blanked fronted new : List ℕ) (caps : List Cap) (k : ℕ)
+    → take 32 fronted ≡ front_numbers (role_number (role_of f.content)) f.header → drop 32 fronted ≡ drop 32 blanked → blanked ≡ zeros 1024
+    → slots_of f.content ≡ caps ++ replicate k void_cap → length caps + k ≡ 32
+    → new ≡ take 32 fronted ++ slots_bytes caps ++ drop (32 + 24 * length caps) fronted → new ≡ node_frame_bytes f
+unfolding node_frame_bytes
+node_written f blanked fronted new caps k before after blank slots all is =
+    let n : ℕ = length caps in
+    let rest : drop (32 + 24 * n) fronted ≡ zeros (24 * k) ++ zeros 224 =
+    sym (drop-drop (24 * n) 32 fronted) ∙ ap (drop (24 * n)) (after ∙ ap (drop 32) blank ∙ drop_zeros 32 1024) ∙ drop_zeros (24 * n) 992
+    ∙ ap zeros (rest_size n k all) ∙ sym (zeros_add (24 * k) 224) in
+    let spelt : slots_bytes (slots_of f.content) ≡ slots_bytes caps ++ zeros (24 * k) =
+    ap slots_bytes slots ∙ slots_bytes-append caps (replicate k void_cap) ∙ ap (λ (r : List ℕ). slots_bytes caps ++ r) (voids_bytes k) in
+    is ∙ ap (λ (r : List ℕ). r ++ slots_bytes caps ++ drop (32 + 24 * n) fronted) (before ∙ sym (front_bytes_are f))
+    ∙ ap (λ (r : List ℕ). front_bytes f ++ slots_bytes caps ++ r) rest
+    ∙ regroup (front_bytes f) (slots_bytes caps) (zeros (24 * k)) (zeros 224)
+    ∙ ap (λ (r : List ℕ). front_bytes f ++ r ++ zeros 224) (sym spelt)
+
+-- ---- a content is told by its role and its slots
+
+state_again : (s : State) → state_in (state_number s) ≡ s
+state_again Available = refl
+state_again Running = refl
+state_again Waiting = refl
+
+abbrev root_of : State → List ℕ → ℕ → ℕ → Cap → Root Cap
+root_of s ws key annex space = record { state = s; words = ws; key = key; annex = annex; space = space }
+
+root_again : (s : State) (ws : List ℕ) (key annex : ℕ) (space : Cap) → length ws ≡ 4 → key < 2 ^ 16
+    → root_in (slots_of (content.Root (root_of s ws key annex space))) ≡ root_of s ws key annex space
+root_again s [] key annex space len fits = absurd (omega (arith, len))
+root_again s (a ∷ []) key annex space len fits = absurd (omega (arith, len))
+root_again s (a ∷ b ∷ []) key annex space len fits = absurd (omega (arith, len))
+root_again s (a ∷ b ∷ c ∷ []) key annex space len fits = absurd (omega (arith, len))
+root_again s (a ∷ b ∷ c ∷ d ∷ []) key annex space len fits =
+    let small : key % 65536 ≡ key = omega arith in
+    ap (λ (t : State). root_of t (a ∷ b ∷ c ∷ d ∷ []) (key % 65536) annex space) (state_again s) ∙ ap (λ (k : ℕ). root_of s (a ∷ b ∷ c ∷ d ∷ []) k annex space) small
+root_again s (a ∷ b ∷ c ∷ d ∷ e ∷ ws) key annex space len fits = absurd (omega (arith, len))
+
+content_again : (c : Content Cap) → FollowsRole c → with_slots (body_in (role_number (role_of c)) (slots_of c)) (slots_of c) ≡ c
+content_again content.Free f = refl
+content_again (content.Page words) f = absurd f
+content_again (content.Node slots) f = refl
+content_again (content.Root r) f = ap (λ (x : Root Cap). content.Root x) (root_again r.state r.words r.key r.annex r.space f.0 f.1)
+content_again (content.Annex registers) f = refl
+content_again (content.Bank limit) f = refl
+
+-- ---- reading
+
+-- what the bytes of a frame are by their places
+pub record HasParts (f : Frame) (bytes : List ℕ) : Type 0 where
+  pub whole : bytes ≡ front_numbers (role_number (role_of f.content)) f.header ++ (slots_bytes (slots_of f.content) ++ zeros 224)
+  pub middle : between 32 800 bytes ≡ slots_bytes (slots_of f.content)
+  pub last : drop 800 bytes ≡ zeros 224
+
+pub length-front : (role : ℕ) (h : Header) → length (front_numbers role h) ≡ 32
+unfolding front_numbers number
+length-front role h = refl
+
+pub node_parts : (g : Geometry) (age : ℕ) (f : Frame) (bytes : List ℕ) → IsNodeFrame g age f → bytes ≡ node_frame_bytes f → HasParts f bytes
+unfolding node_frame_bytes
+node_parts g age f bytes fits e =
+    let front : List ℕ = front_numbers (role_number (role_of f.content)) f.header in
+    let slots : List ℕ = slots_bytes (slots_of f.content) in
+    let size : length slots ≡ 768 = length-slots (slots_of f.content) ∙ ap (λ (n : ℕ). 24 * n) fits.slots.count in
+    let whole : bytes ≡ front ++ (slots ++ zeros 224) = e ∙ ap (λ (r : List ℕ). r ++ slots ++ zeros 224) (front_bytes_are f) ∙ append_assoc front slots (zeros 224) in
+    let behind : drop 32 bytes ≡ slots ++ zeros 224 = ap (drop 32) whole ∙ drop_at front (slots ++ zeros 224) 32 (length-front _ f.header) in
+    record {
+      whole = whole;
+      middle = ap (take 768) behind ∙ take_at slots (zeros 224) 768 size;
+      last = sym (drop-drop 768 32 bytes) ∙ ap (drop 768) behind ∙ drop_at slots (zeros 224) 768 size;
+    }
+
+-- what was read of the bytes of a frame
+pub record IsReadOf (f : Frame) (role : ℕ) (h : Header) (slots : List Cap) : Type 0 where
+  pub role_is : role ≡ role_number (role_of f.content)
+  pub header_is : h ≡ f.header
+  pub slots_are : slots ≡ slots_of f.content
+
+abbrev pub front_list : ℕ → Header → List ℕ
+front_list role h = role ∷ h.allocations ∷ h.calls ∷ h.owner ∷ []
+
+abbrev header_of : ℕ → ℕ → ℕ → Header
+header_of a c o = record { allocations = a; calls = c; owner = o }
+
+same_front : (role a c o role' a' c' o' : ℕ) → role ∷ a ∷ c ∷ o ∷ [] ≡ role' ∷ a' ∷ c' ∷ o' ∷ [] → (role ≡ role') × (header_of a c o ≡ header_of a' c' o')
+same_front role a c o role' a' c' o' e =
+    let ea : a ≡ a' = cc in
+    let ec : c ≡ c' = cc in
+    let eo : o ≡ o' = cc in
+    (cc, rw (ea, ec, eo) refl)
+
+pub role_fits : (r : Role) → role_number r < 2 ^ 64
+role_fits role.Free = omega arith
+role_fits role.Page = omega arith
+role_fits role.Node = omega arith
+role_fits role.Root = omega arith
+role_fits role.Annex = omega arith
+role_fits role.Bank = omega arith
+
+pub front_told : (age role : ℕ) (h : Header) (f : Frame) (x y : List ℕ) → AllFit (front_list role h) → IsFront age f
+    → front_numbers role h ++ x ≡ front_numbers (role_number (role_of f.content)) f.header ++ y → (role ≡ role_number (role_of f.content)) × (h ≡ f.header)
+front_told age role h f x y fits front e =
+    let s = stream_splits (front_list role h) (front_list (role_number (role_of f.content)) f.header) x y fits
+    (role_fits (role_of f.content), (front.allocations.1, (front.calls.1, (front.owner, tt)))) refl
+    (sym (front_stream role h x) ∙ e ∙ front_stream (role_number (role_of f.content)) f.header y) in
+    same_front role h.allocations h.calls h.owner (role_number (role_of f.content)) f.header.allocations f.header.calls f.header.owner s.0
+
+pub node_told : (g : Geometry) (age role : ℕ) (h : Header) (slots : List Cap) (f : Frame) (bytes rest : List ℕ) → AllFit (front_list role h) → AreSlots g age slots
+    → bytes ≡ front_numbers role h ++ rest → between 32 800 bytes ≡ slots_bytes slots → IsNodeFrame g age f → bytes ≡ node_frame_bytes f → IsReadOf f role h slots
+node_told g age role h slots f bytes rest fits are front middle is e =
+    let parts = node_parts g age f bytes is e in
+    let told = front_told age role h f rest (slots_bytes (slots_of f.content) ++ zeros 224) fits is.front (sym front ∙ parts.whole) in
+    let same = slots_split g age slots (slots_of f.content) [] [] are.each is.slots.each (are.count ∙ sym is.slots.count) (ap (λ (r : List ℕ). r ++ []) (sym middle ∙ parts.middle)) in
+    record { role_is = told.0; header_is = told.1; slots_are = same.0 }
+
+-- the body that is read is that of the frame
+pub body_told : (f : Frame) (role : ℕ) (h : Header) (slots : List Cap) (age : ℕ) → IsReadOf f role h slots → FollowsRole f.content → IsFront age f
+    → IsBody role h.owner slots (with_slots (body_in role slots) slots)
+body_told f role h slots age read follows front =
+    let same : with_slots (body_in role slots) slots ≡ f.content =
+    ap (λ (r : ℕ). with_slots (body_in r slots) slots) read.role_is ∙ ap (λ (s : List Cap). with_slots (body_in (role_number (role_of f.content)) s) s) read.slots_are ∙ content_again f.content follows in
+    subst (IsBody role h.owner slots) (sym same)
+    (record { role_is = read.role_is; slots_are = read.slots_are; follows = follows; unowned = λ t. ap (λ (x : Header). x.owner) read.header_is ∙ front.unowned t })
+
+-- the frame that is read
+pub node_found : (g : Geometry) (age role : ℕ) (h : Header) (slots : List Cap) (c : Content Cap) (bytes : List ℕ) → AllFit (front_list role h)
+    → IsCount age h.allocations × IsCount age h.calls → AreSlots g age slots → IsBody role h.owner slots c
+    → bytes ≡ front_numbers role h ++ drop 32 bytes → between 32 800 bytes ≡ slots_bytes slots → drop 800 bytes ≡ zeros 224
+    → IsNodeFrame g age (record { header = h; content = c }) × (bytes ≡ node_frame_bytes (record { header = h; content = c }))
+unfolding node_frame_bytes
+node_found g age role h slots c bytes fits counts are is front middle last =
+    let f : Frame = record { header = h; content = c } in
+    let behind : drop 32 bytes ≡ slots_bytes slots ++ zeros 224 = sym (take-append-drop 768 (drop 32 bytes)) ∙ ap (λ (r : List ℕ). r ++ drop 768 (drop 32 bytes)) middle
+    ∙ ap (λ (r : List ℕ). slots_bytes slots ++ r) (drop-drop 768 32 bytes ∙ last) in
+    let spelt : bytes ≡ front_bytes f ++ (slots_bytes (slots_of c) ++ zeros 224) =
+    front ∙ ap (λ (r : List ℕ). front_numbers role h ++ r) (behind ∙ ap (λ (s : List Cap). slots_bytes s ++ zeros 224) is.slots_are)
+    ∙ ap (λ (r : ℕ). front_numbers r h ++ (slots_bytes (slots_of c) ++ zeros 224)) is.role_is
+    ∙ ap (λ (r : List ℕ). r ++ (slots_bytes (slots_of c) ++ zeros 224)) (sym (front_bytes_are f)) in (
+      record {
+        front = record { allocations = counts.0; calls = counts.1; owner = fits.1.1.1.0; unowned = is.unowned };
+        slots = subst (AreSlots g age) is.slots_are are;
+        role = is.follows;
+      },
+      spelt ∙ sym (append_assoc (front_bytes f) (slots_bytes (slots_of c)) (zeros 224)),
+    )
+
+-- given bytes spell at most one frame
+pub one_node_frame : (g : Geometry) (age : ℕ) (e f : Frame) → IsNodeFrame g age e → IsNodeFrame g age f → node_frame_bytes e ≡ node_frame_bytes f → e ≡ f
+one_node_frame g age e f ie if same =
+    let parts = node_parts g age e (node_frame_bytes e) ie refl in
+    let read = node_told g age (role_number (role_of e.content)) e.header (slots_of e.content) f (node_frame_bytes e) (slots_bytes (slots_of e.content) ++ zeros 224)
+    (role_fits (role_of e.content), (ie.front.allocations.1, (ie.front.calls.1, (ie.front.owner, tt)))) ie.slots parts.whole parts.middle if same in
+    let contents : e.content ≡ f.content = sym (content_again e.content ie.role)
+    ∙ ap (λ (r : ℕ). with_slots (body_in r (slots_of e.content)) (slots_of e.content)) read.role_is
+    ∙ ap (λ (s : List Cap). with_slots (body_in (role_number (role_of f.content)) s) s) read.slots_are ∙ content_again f.content if.role in
+    ap (λ (h : Header). record { header = h; content = e.content }) read.header_is ∙ ap (λ (c : Content Cap). record { header = f.header; content = c }) contents
+
+pub free_written : (f : Frame) (blanked new : List ℕ) → take 32 new ≡ front_numbers (role_number (role_of f.content)) f.header → drop 32 new ≡ drop 32 blanked → blanked ≡ zeros 1024
+    → slots_of f.content ≡ replicate 32 void_cap → new ≡ node_frame_bytes f
+free_written f blanked new before after blank slots =
+    node_written f blanked new new [] 32 before after blank slots refl
+    (sym (take-append-drop 32 new) ∙ ap (λ (r : List ℕ). r ++ drop 32 new) (sym (append-nil (take 32 new)) ∙ ap (λ (r : List ℕ). take 32 new ++ r) (sym slots_bytes-nil)))
+
+pub root_count : (r : Root Cap) (held : List Cap) → held ≡ root_slots r → length r.words ≡ 4 → length held + 24 ≡ 32
+root_count r held e len =
+    omega (arith, ap length e, length-append (map number_cap r.words) (number_cap r.key ∷ r.space ∷ []), length-map r.words number_cap, len)
+
+pub root_tail : (r : Root Cap) (held : List Cap) → held ≡ root_slots r → length r.words ≡ 4 → held ++ replicate (32 - length held) void_cap ≡ slots_of (content.Root r)
+root_tail r held e len =
+    let rest : 32 - length held ≡ 24 = omega (arith, root_count r held e len) in
+    ap (λ (n : ℕ). held ++ replicate n void_cap) rest ∙ ap (λ (s : List Cap). s ++ replicate 24 void_cap) e

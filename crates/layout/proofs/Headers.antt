@@ -1,0 +1,79 @@
+-- Headers of checkpoints read back from their bytes.
+use Rattle.std.proofs.Common.{◌≡◌, ℕ, ◌^◌, ◌<◌, ◌≤◌, Bool, true, false, cond, List, [], ◌∷◌, ◌++◌, drop, refl, sym, ap, ◌∙◌, append_assoc, arith}
+use Rattle.std.specs.Prelude.{codes, ◌==◌}
+use Rattle.layout.specs.declared.header.CheckpointHeader.{CheckpointHeader}
+use Rattle.layout.specs.Bytes.{number, zeros}
+use Rattle.layout.specs.Header.{header_bytes, IsHeader}
+use Rattle.layout.proofs.Numbers.{stream, AllFit, stream_splits, IsWritten, written_all, drop_filled}
+
+abbrev pub fields : CheckpointHeader → List ℕ
+fields h = h.sequence ∷ h.generation ∷ h.entries ∷ h.age ∷ []
+
+magic_is : codes "EROSHEAD" ≡ number 0x4441_4548_534f_5245
+unfolding number
+magic_is = refl
+
+pub six : (m a b c d z : List ℕ) → m ++ a ++ b ++ c ++ d ++ z ≡ m ++ (a ++ (b ++ (c ++ (d ++ z))))
+six m a b c d z = simp append_assoc
+
+-- a header as numbers
+pub header_stream : (h : CheckpointHeader) → header_bytes h ≡ stream (0x4441_4548_534f_5245 ∷ fields h) (zeros 472)
+unfolding header_bytes
+header_stream h =
+    ap (λ (m : List ℕ). m ++ number h.sequence ++ number h.generation ++ number h.entries ++ number h.age ++ zeros 472) magic_is
+    ∙ six (number 0x4441_4548_534f_5245) (number h.sequence) (number h.generation) (number h.entries) (number h.age) (zeros 472)
+
+-- five numbers are read
+pub five_read : (bytes : List ℕ) (m a b c d : ℕ) → bytes ≡ number m ++ drop 8 bytes → drop 8 bytes ≡ number a ++ drop 16 bytes → drop 16 bytes ≡ number b ++ drop 24 bytes
+    → drop 24 bytes ≡ number c ++ drop 32 bytes → drop 32 bytes ≡ number d ++ drop 40 bytes → bytes ≡ stream (m ∷ a ∷ b ∷ c ∷ d ∷ []) (drop 40 bytes)
+five_read bytes m a b c d em ea eb ec ed =
+    em ∙ ap (λ (r : List ℕ). number m ++ r) (ea ∙ ap (λ (r : List ℕ). number a ++ r) (eb ∙ ap (λ (r : List ℕ). number b ++ r) (ec ∙ ap (λ (r : List ℕ). number c ++ r) ed)))
+
+one_more : (b : Bool) → cond b 1 0 ≤ 1
+one_more true = omega arith
+one_more false = omega arith
+
+sequence_fits : (room : ℕ) (h : CheckpointHeader) → IsHeader room h → h.sequence < 2 ^ 64
+sequence_fits room h is = let more = one_more (h.entries == 0) in omega (arith, is.sequence, is.age, more)
+
+pub header_fits : (room : ℕ) (h : CheckpointHeader) → IsHeader room h → AllFit (0x4441_4548_534f_5245 ∷ fields h)
+header_fits room h is = (omega arith, (sequence_fits room h is, (omega (arith, is.generation, is.age), (is.entries_fit, (omega (arith, is.age), tt)))))
+
+-- what the numbers of a header's bytes have to be
+pub record HasFields (h : CheckpointHeader) (m : ℕ) (found : CheckpointHeader) (rest : List ℕ) : Type 0 where
+  pub magic_is : m ≡ 0x4441_4548_534f_5245
+  pub header_is : found ≡ h
+  pub rest_is : rest ≡ zeros 472
+
+abbrev made : ℕ → ℕ → ℕ → ℕ → CheckpointHeader
+made a b c d = record { sequence = a; generation = b; entries = c; age = d }
+
+same_fields : (a b c d a' b' c' d' : ℕ) → a ∷ b ∷ c ∷ d ∷ [] ≡ a' ∷ b' ∷ c' ∷ d' ∷ []
+    → made a b c d ≡ made a' b' c' d'
+same_fields a b c d a' b' c' d' e =
+    let ea : a ≡ a' = cc in
+    let eb : b ≡ b' = cc in
+    let ec : c ≡ c' = cc in
+    let ed : d ≡ d' = cc in
+    rw (ea, eb, ec, ed) refl
+
+pub spelt_header : (room : ℕ) (bytes rest : List ℕ) (m : ℕ) (found h : CheckpointHeader) → AllFit (m ∷ fields found)
+    → bytes ≡ stream (m ∷ fields found) rest → IsHeader room h → bytes ≡ header_bytes h → HasFields h m found rest
+spelt_header room bytes rest m found h fits read is e =
+    let s = stream_splits (m ∷ fields found) (0x4441_4548_534f_5245 ∷ fields h) rest (zeros 472) fits (header_fits room h is) refl (sym read ∙ e ∙ header_stream h) in
+    let lists : m ∷ fields found ≡ 0x4441_4548_534f_5245 ∷ fields h = s.0 in
+    let first : m ≡ 0x4441_4548_534f_5245 = cc in
+    let others : fields found ≡ fields h = cc in
+    record { magic_is = first; header_is = same_fields found.sequence found.generation found.entries found.age h.sequence h.generation h.entries h.age others; rest_is = s.1 }
+
+-- given bytes spell at most one header
+pub one_header : (room : ℕ) (g h : CheckpointHeader) → IsHeader room g → IsHeader room h → header_bytes g ≡ header_bytes h → g ≡ h
+one_header room g h ig ih e = (spelt_header room (header_bytes g) (zeros 472) 0x4441_4548_534f_5245 g h (header_fits room g ig) (header_stream g) ih e).header_is
+
+pub header_written : (filled now : List ℕ) (h : CheckpointHeader) → filled ≡ zeros 512
+    → IsWritten filled (number 0x4441_4548_534f_5245 ++ number h.sequence ++ number h.generation ++ number h.entries ++ number h.age) now 40 → now ≡ header_bytes h
+header_written filled now h blank was =
+    written_all filled (number 0x4441_4548_534f_5245 ++ number h.sequence ++ number h.generation ++ number h.entries ++ number h.age) now 40 was
+    ∙ ap (λ (z : List ℕ). number 0x4441_4548_534f_5245 ++ number h.sequence ++ number h.generation ++ number h.entries ++ number h.age ++ z) (drop_filled filled 512 40 blank)
+    ∙ six (number 0x4441_4548_534f_5245) (number h.sequence) (number h.generation) (number h.entries) (number h.age) (zeros 472)
+    ∙ sym (header_stream h)

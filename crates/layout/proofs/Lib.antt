@@ -1,0 +1,10 @@
+pub mod Numbers
+pub mod Capabilities
+pub mod Headers
+pub mod SlotLists
+pub mod Frames
+pub mod Pages
+pub mod Directories
+pub mod Extents
+pub mod Superblocks
+pub mod Images

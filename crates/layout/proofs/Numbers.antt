@@ -1,0 +1,160 @@
+-- Numbers read back from bytes.
+use Rattle.std.proofs.Common.{below_more, ◌≡◌, ℕ, ◌+◌, ◌-◌, ◌^◌, ◌<◌, ◌≤◌, Bool, List, [], ◌∷◌, ◌++◌, length, get_or, take, drop, refl, sym, ap, subst, ◌∙◌, inl, inr, rules, arith}
+use Rattle.std.specs.Prelude.{replicate, bit_or, IsTrue, nat_eq, ◌↔◌}
+use Rattle.std.specs.Int.{w64, from_le_bytes}
+use Rattle.std.proofs.lemmas.Nat.{le_bytes_8, from_le_bytes-to_le_bytes_8, le_or_l, le_or_r}
+use Rattle.std.proofs.lemmas.List.{take_at, drop_at, take-append-drop, length-take, length-drop, drop-drop, get_or-take, get_or-drop, get_or_past, same_lists, get_or-replicate, length-replicate, get_or_default, take_rest, drop_all, append-nil, append_assoc, length-append, drop-replicate}
+use Rattle.std.proofs.lemmas.Bool.{cases_lt}
+use Rattle.std.specs.List.{between}
+use borrow.Rule.Slice.PartMut.{put_mid}
+use Rattle.byteorder.specs.Endian.{little_number}
+use Rattle.byteorder.specs.Numbers.{little_from-take, little_number-reads_back}
+use Rattle.layout.specs.Bytes.{number, number_from, zeros}
+
+pub length-number : (n : ℕ) → length (number n) ≡ 8
+unfolding number
+length-number n = refl
+
+abbrev pub IsBytes : List ℕ → Type 0
+IsBytes bytes = (i : ℕ) → get_or bytes i 0 < 256
+
+as_le : (xs : List ℕ) → little_number 8 xs ≡ from_le_bytes w64 xs
+as_le xs = omega arith
+
+-- eight bytes are those of the number in them
+pub number_back : (xs : List ℕ) → length xs ≡ 8 → IsBytes xs → number (little_number 8 xs) ≡ xs
+unfolding number
+number_back xs l small = le_bytes_8 xs (little_number 8 xs) l small (as_le xs)
+
+IsBytes-front : (bytes : List ℕ) (at : ℕ) → IsBytes bytes → at + 8 ≤ length bytes → IsBytes (take 8 (drop at bytes))
+IsBytes-front bytes at small room i =
+    elim (cases_lt i 8) [
+      | inl lt ↦ rw (get_or-take 8 (drop at bytes) i 0 lt, get_or-drop at bytes i 0) (small (at + i))
+      | inr le ↦ rw (get_or_past (take 8 (drop at bytes)) i 0 (omega (arith, length-take 8 (drop at bytes)))) (omega arith)
+    ]
+
+front_rest : (xs front rest : List ℕ) → front ≡ take 8 xs → drop 8 xs ≡ rest → xs ≡ front ++ rest
+front_rest xs front rest e r = sym (take-append-drop 8 xs) ∙ ap (λ (t : List ℕ). take 8 xs ++ t) r ∙ ap (λ (t : List ℕ). t ++ rest) (sym e)
+
+-- the bytes from a place on begin with those of the number in them
+pub number_read : (bytes : List ℕ) (at n : ℕ) → at + 8 ≤ length bytes → IsBytes bytes → n ≡ little_number 8 (drop at bytes)
+    → drop at bytes ≡ number n ++ drop (at + 8) bytes
+number_read bytes at n room small is =
+    let len : length (take 8 (drop at bytes)) ≡ 8 = omega (arith, length-take 8 (drop at bytes), length-drop at bytes) in
+    let front : number n ≡ take 8 (drop at bytes) = ap number (is ∙ sym (little_from-take 0 8 8 (drop at bytes) (omega arith))) ∙ number_back (take 8 (drop at bytes)) len (IsBytes-front bytes at small room) in
+    front_rest (drop at bytes) (number n) (drop (at + 8) bytes) front (drop-drop 8 at bytes)
+
+-- a number is told by its bytes, whatever follows
+pub number_splits : (m n : ℕ) (x y : List ℕ) → m < 2 ^ 64 → n < 2 ^ 64 → number m ++ x ≡ number n ++ y → (m ≡ n) × (x ≡ y)
+unfolding number
+number_splits m n x y fits fits' e =
+    let same : number m ≡ number n = sym (take_at (number m) x 8 refl) ∙ ap (take 8) e ∙ take_at (number n) y 8 refl in
+    let rest : x ≡ y = sym (drop_at (number m) x 8 refl) ∙ ap (drop 8) e ∙ drop_at (number n) y 8 refl in
+    (sym (from_le_bytes-to_le_bytes_8 m fits) ∙ ap (from_le_bytes w64) same ∙ from_le_bytes-to_le_bytes_8 n fits', rest)
+
+-- any is 0 exactly where the first i bytes are
+pub record IsSum (bytes : List ℕ) (i any : ℕ) : Type 0 where
+  pub zero_bytes : any ≡ 0 → (k : ℕ) → k < i → get_or bytes k 0 ≡ 0
+  pub zero_sum : ((k : ℕ) → k < i → get_or bytes k 0 ≡ 0) → any ≡ 0
+
+pub sum_more : (bytes : List ℕ) (i any : ℕ) → IsSum bytes i any → IsSum bytes (i + 1) (bit_or any (get_or bytes i 0))
+sum_more bytes i any s = record {
+  zero_bytes = λ e. below_more _ _ (s.zero_bytes (omega (arith, le_or_l any (get_or bytes i 0)))) (omega (arith, le_or_r any (get_or bytes i 0)));
+  zero_sum = λ all. let here : get_or bytes i 0 ≡ 0 = all i (omega arith) in let before : any ≡ 0 = s.zero_sum (λ k lt. all k (omega arith)) in rw (here, before) refl;
+}
+
+pub sum_zeros : (bytes : List ℕ) (any : ℕ) → IsSum bytes (length bytes) any → any ≡ 0 → bytes ≡ zeros (length bytes)
+unfolding zeros
+sum_zeros bytes any s e =
+    same_lists bytes (replicate (length bytes) 0) (sym (length-replicate (length bytes) 0))
+    (λ k d lt. get_or_default bytes k d 0 lt ∙ s.zero_bytes e k lt ∙ sym (get_or-replicate (length bytes) k 0 d lt))
+
+pub zeros_sum : (bytes : List ℕ) (any : ℕ) → IsSum bytes (length bytes) any → bytes ≡ zeros (length bytes) → any ≡ 0
+unfolding zeros
+zeros_sum bytes any s e =
+    s.zero_sum (λ k lt. ap (λ (xs : List ℕ). get_or xs k 0) e ∙ get_or-replicate (length bytes) k 0 0 lt)
+
+-- what a write of a number at a place leaves
+pub written : (bytes buf : List ℕ) (at n : ℕ) → at + 8 ≤ length bytes → buf ≡ number n ++ drop 8 (between at (length bytes) bytes)
+    → put_mid at (length bytes - at) bytes buf ≡ (take at bytes ++ number n) ++ drop (at + 8) bytes
+written bytes buf at n room is =
+    let mid : between at (length bytes) bytes ≡ drop at bytes = take_rest bytes at in
+    let past : drop (length bytes - at) (drop at bytes) ≡ [] = drop_all (length bytes - at) (drop at bytes) (omega (arith, length-drop at bytes)) in
+    let whole : buf ≡ number n ++ drop (at + 8) bytes = is ∙ ap (λ (r : List ℕ). number n ++ drop 8 r) mid ∙ ap (λ (r : List ℕ). number n ++ r) (drop-drop 8 at bytes) in
+    rw (past, whole, append-nil) (sym (append_assoc (take at bytes) (number n) (drop (at + 8) bytes)))
+
+pub written_before : (bytes new : List ℕ) (at n : ℕ) → at + 8 ≤ length bytes → new ≡ (take at bytes ++ number n) ++ drop (at + 8) bytes → take (at + 8) new ≡ take at bytes ++ number n
+written_before bytes new at n room is =
+    ap (take (at + 8)) is ∙ take_at (take at bytes ++ number n) (drop (at + 8) bytes) (at + 8) (omega (arith, length-append (take at bytes) (number n), length-take at bytes, length-number n))
+
+pub written_after : (bytes new : List ℕ) (at n : ℕ) → at + 8 ≤ length bytes → new ≡ (take at bytes ++ number n) ++ drop (at + 8) bytes → drop (at + 8) new ≡ drop (at + 8) bytes
+written_after bytes new at n room is =
+    ap (drop (at + 8)) is ∙ drop_at (take at bytes ++ number n) (drop (at + 8) bytes) (at + 8) (omega (arith, length-append (take at bytes) (number n), length-take at bytes, length-number n))
+
+pub ends_zeros : (bytes : List ℕ) (i any : ℕ) → i ≡ length bytes → IsSum bytes i any → IsTrue (nat_eq any 0) ↔ (bytes ≡ zeros (length bytes))
+ends_zeros bytes i any e s =
+    let all : IsSum bytes (length bytes) any = rw e at s in
+    ((λ t. sum_zeros bytes any all (search (rules, t))), (λ z. let zero : any ≡ 0 = zeros_sum bytes any all z in rw zero refl))
+
+-- numbers one after the other, and what follows them
+abbrev pub stream : List ℕ → List ℕ → List ℕ
+stream [] rest = rest
+stream (n ∷ ns) rest = number n ++ stream ns rest
+
+-- each fits its eight bytes
+abbrev pub AllFit : List ℕ → Type 0
+AllFit [] = Unit {0}
+AllFit (n ∷ ns) = (n < 2 ^ 64) × AllFit ns
+
+-- numbers are told by their bytes, whatever follows
+pub stream_splits : (ms ns x y : List ℕ) → AllFit ms → AllFit ns → length ms ≡ length ns → stream ms x ≡ stream ns y → (ms ≡ ns) × (x ≡ y)
+stream_splits [] [] x y fits fits' len e = (refl, e)
+stream_splits [] (n ∷ ns) x y fits fits' len e = absurd (omega (arith, len))
+stream_splits (m ∷ ms) [] x y fits fits' len e = absurd (omega (arith, len))
+stream_splits (m ∷ ms) (n ∷ ns) x y fits fits' len e =
+    let first = number_splits m n (stream ms x) (stream ns y) fits.0 fits'.0 e in
+    let others = stream_splits ms ns x y fits.1 fits'.1 (omega (arith, len)) first.1 in
+    (ap (λ (k : ℕ). k ∷ ms) first.0 ∙ ap (λ (ks : List ℕ). n ∷ ks) others.0, others.1)
+
+-- what was written up to a place, over bytes that were filled before
+pub record IsWritten (filled front now : List ℕ) (at : ℕ) : Type 0 where
+  pub before : take at now ≡ front
+  pub after : drop at now ≡ drop at filled
+
+pub written_none : (filled : List ℕ) → IsWritten filled [] filled 0
+written_none filled = record { before = refl; after = refl }
+
+pub written_more : (filled front old new : List ℕ) (at n : ℕ) → IsWritten filled front old at
+    → take (at + 8) new ≡ take at old ++ number n → drop (at + 8) new ≡ drop (at + 8) old → IsWritten filled (front ++ number n) new (at + 8)
+written_more filled front old new at n was before after = record {
+  before = before ∙ ap (λ (f : List ℕ). f ++ number n) was.before;
+  after = after ∙ sym (drop-drop 8 at old) ∙ ap (drop 8) was.after ∙ drop-drop 8 at filled;
+}
+
+-- all that was written, and the rest as it was filled
+pub written_all : (filled front now : List ℕ) (at : ℕ) → IsWritten filled front now at → now ≡ front ++ drop at filled
+written_all filled front now at was = sym (take-append-drop at now) ∙ ap (λ (f : List ℕ). f ++ drop at now) was.before ∙ ap (λ (r : List ℕ). front ++ r) was.after
+
+pub drop_filled : (filled : List ℕ) (n at : ℕ) → filled ≡ zeros n → drop at filled ≡ zeros (n - at)
+unfolding zeros
+drop_filled filled n at e = ap (drop at) e ∙ drop-replicate at n 0
+
+-- the rest of bytes is blank, told of the part that is passed
+pub blank_part : (bytes : List ℕ) (at : ℕ) (answer : Bool) → at ≤ length bytes
+    → IsTrue answer ↔ (between at (length bytes) bytes ≡ zeros (length (between at (length bytes) bytes)))
+    → IsTrue answer ↔ (drop at bytes ≡ zeros (length bytes - at))
+blank_part bytes at answer room says =
+    let mid : between at (length bytes) bytes ≡ drop at bytes = take_rest bytes at in
+    let len : length (drop at bytes) ≡ length bytes - at = length-drop at bytes in
+    let said : IsTrue answer ↔ (drop at bytes ≡ zeros (length (drop at bytes))) = subst (λ (xs : List ℕ). IsTrue answer ↔ (xs ≡ zeros (length xs))) mid says in
+    subst (λ (n : ℕ). IsTrue answer ↔ (drop at bytes ≡ zeros n)) len said
+
+pub all_blank : (bytes : List ℕ) (n : ℕ) → length bytes ≡ n → ((k d : ℕ) → k < n → get_or bytes k d ≡ 0) → bytes ≡ zeros n
+unfolding zeros
+all_blank bytes n len all =
+    same_lists bytes (replicate n 0) (len ∙ sym (length-replicate n 0)) (λ k d lt. all k d (omega arith) ∙ sym (get_or-replicate n k 0 d (omega arith)))
+
+-- the number in bytes that begin with those of a number
+pub number_told : (bytes rest : List ℕ) (n : ℕ) → n < 2 ^ 64 → bytes ≡ number n ++ rest → n ≡ number_from bytes
+unfolding number number_from
+number_told bytes rest n fits e = sym (ap (little_number 8) e ∙ little_number-reads_back 8 n rest fits)

@@ -1,0 +1,240 @@
+-- Frames of pages read back from their bytes.
+use Rattle.std.proofs.Common.{◌≡◌, ℕ, suc, ◌+◌, ◌-◌, ◌*◌, ◌^◌, ◌<◌, ◌≤◌, List, [], ◌∷◌, ◌++◌, length, set, take, drop, refl, sym, ap, subst, ◌∙◌, append_assoc, arith}
+use Rattle.std.specs.Prelude.{replicate}
+use Rattle.std.specs.List.{All, flat_map}
+use borrow.Rule.Slice.PartMut.{put_mid}
+use Rattle.std.proofs.lemmas.List.{same_lists, length-replicate, get_or-replicate, drop-drop, take_at, drop_at, take_all, take-append-drop, append-nil, take_more_set, length-set, length-append, length-drop, length-take-le, drop-take, drop_all}
+use Rattle.std.proofs.Math.Seq.{take-add}
+use Rattle.std.proofs.lemmas.List.Concat.{flat_map-append}
+use Rattle.std.proofs.lemmas.List.Elements.{All-same, All-replicate, All-push, All-nil}
+use Rattle.model.specs.declared.capability.Cap.{Cap}
+use Rattle.model.specs.declared.frame.Frame.{Frame}
+use Rattle.model.specs.declared.frame.Header.{Header}
+use Rattle.model.specs.declared.object.Content.{Content}
+use Rattle.model.specs.declared.object.Content.TheVariants as content
+use Rattle.model.specs.Object.{role_of, zero_words}
+use Rattle.layout.specs.Bytes.{number, zeros}
+use Rattle.layout.specs.Capability.{IsCount}
+use Rattle.layout.specs.declared.page_frame.PageBody.{PageBody}
+use Rattle.layout.specs.declared.page_frame.PageBody.TheVariants as page_body
+use Rattle.layout.specs.Frame.{front_numbers, front_bytes, role_number, page_words, words_bytes, page_frame_bytes, page_body_in, with_words, IsFront, AreWords, HoldsPage, IsPageFrame, IsPageBody}
+use Rattle.layout.proofs.Numbers.{length-number, stream, AllFit, stream_splits}
+use Rattle.layout.proofs.Frames.{length-front, front_list, front_told, front_bytes_are, role_fits, drop_zeros}
+
+pub words_bytes-nil : words_bytes [] ≡ []
+unfolding words_bytes
+words_bytes-nil = refl
+
+words_bytes-push : (ws : List ℕ) (w : ℕ) → words_bytes (ws ++ w ∷ []) ≡ words_bytes ws ++ number w
+unfolding words_bytes
+words_bytes-push ws w = flat_map-append number ws (w ∷ []) ∙ ap (λ (r : List ℕ). flat_map number ws ++ r) (append-nil (number w))
+
+words_stream : (ws : List ℕ) → words_bytes ws ≡ stream ws []
+unfolding words_bytes
+words_stream [] = refl
+words_stream (w ∷ ws) = ap (λ (r : List ℕ). number w ++ r) (words_stream ws)
+
+length-words : (ws : List ℕ) → length (words_bytes ws) ≡ 8 * length ws
+unfolding words_bytes
+length-words [] = refl
+length-words (w ∷ ws) = length-append (number w) (words_bytes ws) ∙ omega (arith, length-number w, length-words ws)
+
+all_fit : (ws : List ℕ) → All (λ w. w < 2 ^ 64) ws → AllFit ws
+all_fit [] all = tt
+all_fit (w ∷ ws) all = (all 0 0 (omega arith), all_fit ws (λ k d lt. all (suc k) d (omega arith)))
+
+-- ---- reading words
+
+-- the first i words are those of the first bytes
+pub record WordsRead (bytes into : List ℕ) (i : ℕ) : Type 0 where
+  pub bytes_are : take (8 * i) bytes ≡ words_bytes (take i into)
+  pub each : All (λ w. w < 2 ^ 64) (take i into)
+  pub count : length into ≡ 512
+
+pub no_word_read : (bytes into : List ℕ) → length into ≡ 512 → WordsRead bytes into 0
+no_word_read bytes into len = record { bytes_are = sym words_bytes-nil; each = All-nil (λ (w : ℕ). w < 2 ^ 64); count = len }
+
+pub word_read : (bytes into : List ℕ) (i n : ℕ) → i < 512 → WordsRead bytes into i → n < 2 ^ 64 → drop (8 * i) bytes ≡ number n ++ drop (8 * i + 8) bytes → WordsRead bytes (set into i n) (i + 1)
+word_read bytes into i n lt before fits is =
+    let more : take (i + 1) (set into i n) ≡ take i into ++ n ∷ [] = take_more_set into i n (omega (arith, before.count)) in
+    let next : 8 * (i + 1) ≡ 8 * i + 8 = omega arith in
+    let piece : take 8 (drop (8 * i) bytes) ≡ number n = ap (take 8) is ∙ take_at (number n) (drop (8 * i + 8) bytes) 8 (length-number n) in
+    record {
+      bytes_are = ap (λ (m : ℕ). take m bytes) next ∙ take-add (8 * i) 8 bytes ∙ ap (λ (r : List ℕ). r ++ take 8 (drop (8 * i) bytes)) before.bytes_are
+          ∙ ap (λ (r : List ℕ). words_bytes (take i into) ++ r) piece ∙ sym (words_bytes-push (take i into) n) ∙ ap words_bytes (sym more);
+      each = All-same (λ (w : ℕ). w < 2 ^ 64) (take (i + 1) (set into i n)) (take i into ++ n ∷ []) more (All-push (λ (w : ℕ). w < 2 ^ 64) (take i into) n before.each fits);
+      count = length-set into i n ∙ before.count;
+    }
+
+pub words_read : (bytes into : List ℕ) (i : ℕ) → 512 ≤ i → length bytes ≡ 4096 → WordsRead bytes into i → AreWords into × (bytes ≡ words_bytes into)
+words_read bytes into i done len was =
+    let whole : take i into ≡ into = take_all i into (omega (arith, was.count)) in (
+      record { count = was.count; each = All-same (λ (w : ℕ). w < 2 ^ 64) into (take i into) (sym whole) was.each },
+      sym (take_all (8 * i) bytes (omega arith)) ∙ was.bytes_are ∙ ap words_bytes whole,
+    )
+
+-- ---- free pages
+
+pub zero_words_are : (ws : List ℕ) → length ws ≡ 512 → All (λ w. w ≡ 0) ws → ws ≡ zero_words
+unfolding zero_words
+zero_words_are ws len all =
+    same_lists ws (replicate 512 0) (len ∙ sym (length-replicate {A = ℕ} 512 0)) (λ k d lt. all k d lt ∙ sym (get_or-replicate 512 k 0 d (omega arith)))
+
+pub are_zero_words : (ws : List ℕ) → ws ≡ zero_words → All (λ w. w ≡ 0) ws
+unfolding zero_words
+are_zero_words ws e = All-same (λ (w : ℕ). w ≡ 0) ws (replicate 512 0) e (All-replicate (λ (w : ℕ). w ≡ 0) 512 0 refl)
+
+zero_words_fit : AreWords zero_words
+unfolding zero_words
+zero_words_fit = record { count = length-replicate {A = ℕ} 512 0; each = All-replicate (λ (w : ℕ). w < 2 ^ 64) 512 0 (omega arith) }
+
+pub zero_words_bytes : words_bytes zero_words ≡ zeros 4096
+unfolding words_bytes zero_words zeros number
+zero_words_bytes = refl
+
+-- ---- frames
+
+words_fit : (c : Content Cap) → HoldsPage c → AreWords (page_words c)
+words_fit content.Free h = zero_words_fit
+words_fit (content.Page words) h = h
+words_fit (content.Node slots) h = absurd h
+words_fit (content.Root root) h = absurd h
+words_fit (content.Annex registers) h = absurd h
+words_fit (content.Bank limit) h = absurd h
+
+content_again : (c : Content Cap) → HoldsPage c → with_words (page_body_in (role_number (role_of c))) (page_words c) ≡ c
+content_again content.Free h = refl
+content_again (content.Page words) h = refl
+content_again (content.Node slots) h = absurd h
+content_again (content.Root root) h = absurd h
+content_again (content.Annex registers) h = absurd h
+content_again (content.Bank limit) h = absurd h
+
+pub record HasPageParts (f : Frame) (bytes : List ℕ) : Type 0 where
+  pub whole : bytes ≡ front_numbers (role_number (role_of f.content)) f.header ++ (zeros 480 ++ words_bytes (page_words f.content))
+  pub gap : take 480 (drop 32 bytes) ≡ zeros 480
+  pub last : drop 512 bytes ≡ words_bytes (page_words f.content)
+
+length-zeros : (n : ℕ) → length (zeros n) ≡ n
+unfolding zeros
+length-zeros n = length-replicate {A = ℕ} n 0
+
+pub page_parts : (f : Frame) (bytes : List ℕ) → bytes ≡ page_frame_bytes f → HasPageParts f bytes
+unfolding page_frame_bytes
+page_parts f bytes e =
+    let front : List ℕ = front_numbers (role_number (role_of f.content)) f.header in
+    let words : List ℕ = words_bytes (page_words f.content) in
+    let whole : bytes ≡ front ++ (zeros 480 ++ words) = e ∙ ap (λ (r : List ℕ). r ++ zeros 480 ++ words) (front_bytes_are f) ∙ append_assoc front (zeros 480) words in
+    let behind : drop 32 bytes ≡ zeros 480 ++ words = ap (drop 32) whole ∙ drop_at front (zeros 480 ++ words) 32 (length-front _ f.header) in
+    record {
+      whole = whole;
+      gap = ap (take 480) behind ∙ take_at (zeros 480) words 480 (length-zeros 480);
+      last = sym (drop-drop 480 32 bytes) ∙ ap (drop 480) behind ∙ drop_at (zeros 480) words 480 (length-zeros 480);
+    }
+
+pub record IsPageReadOf (f : Frame) (role : ℕ) (h : Header) (words : List ℕ) : Type 0 where
+  pub role_is : role ≡ role_number (role_of f.content)
+  pub header_is : h ≡ f.header
+  pub words_are : words ≡ page_words f.content
+
+pub page_told : (age role : ℕ) (h : Header) (words : List ℕ) (f : Frame) (bytes rest : List ℕ) → AllFit (front_list role h) → AreWords words
+    → bytes ≡ front_numbers role h ++ rest → drop 512 bytes ≡ words_bytes words → IsPageFrame age f → bytes ≡ page_frame_bytes f → IsPageReadOf f role h words
+page_told age role h words f bytes rest fits are front last is e =
+    let parts = page_parts f bytes e in
+    let told = front_told age role h f rest (zeros 480 ++ words_bytes (page_words f.content)) fits is.front (sym front ∙ parts.whole) in
+    let held = words_fit f.content is.holds in
+    let same = stream_splits words (page_words f.content) [] [] (all_fit words are.each) (all_fit (page_words f.content) held.each) (are.count ∙ sym held.count)
+    (sym (words_stream words) ∙ sym last ∙ parts.last ∙ words_stream (page_words f.content)) in
+    record { role_is = told.0; header_is = told.1; words_are = same.0 }
+
+pub page_body_told : (f : Frame) (role : ℕ) (h : Header) (words : List ℕ) (age : ℕ) → IsPageReadOf f role h words → HoldsPage f.content → IsFront age f
+    → IsPageBody role h.owner words (with_words (page_body_in role) words)
+page_body_told f role h words age read holds front =
+    let same : with_words (page_body_in role) words ≡ f.content =
+    ap (λ (r : ℕ). with_words (page_body_in r) words) read.role_is ∙ ap (λ (w : List ℕ). with_words (page_body_in (role_number (role_of f.content))) w) read.words_are ∙ content_again f.content holds in
+    subst (IsPageBody role h.owner words) (sym same)
+    (record { role_is = read.role_is; words_are = read.words_are; unowned = λ t. ap (λ (x : Header). x.owner) read.header_is ∙ front.unowned t })
+
+holds_words : (b : PageBody) (words : List ℕ) → AreWords words → HoldsPage (with_words b words)
+holds_words page_body.Free words are = tt
+holds_words page_body.Page words are = are
+
+pub page_found : (age role : ℕ) (h : Header) (words : List ℕ) (b : PageBody) (bytes : List ℕ) → AllFit (front_list role h)
+    → IsCount age h.allocations × IsCount age h.calls → AreWords words → IsPageBody role h.owner words (with_words b words)
+    → bytes ≡ front_numbers role h ++ drop 32 bytes → take 480 (drop 32 bytes) ≡ zeros 480 → drop 512 bytes ≡ words_bytes words
+    → IsPageFrame age (record { header = h; content = with_words b words }) × (bytes ≡ page_frame_bytes (record { header = h; content = with_words b words }))
+unfolding page_frame_bytes
+page_found age role h words b bytes fits counts are is front gap last =
+    let c : Content Cap = with_words b words in
+    let f : Frame = record { header = h; content = c } in
+    let behind : drop 32 bytes ≡ zeros 480 ++ words_bytes words = sym (take-append-drop 480 (drop 32 bytes)) ∙ ap (λ (r : List ℕ). r ++ drop 480 (drop 32 bytes)) gap
+    ∙ ap (λ (r : List ℕ). zeros 480 ++ r) (drop-drop 480 32 bytes ∙ last) in
+    let spelt : bytes ≡ front_bytes f ++ (zeros 480 ++ words_bytes (page_words c)) =
+    front ∙ ap (λ (r : List ℕ). front_numbers role h ++ r) (behind ∙ ap (λ (w : List ℕ). zeros 480 ++ words_bytes w) is.words_are)
+    ∙ ap (λ (r : ℕ). front_numbers r h ++ (zeros 480 ++ words_bytes (page_words c))) is.role_is
+    ∙ ap (λ (r : List ℕ). r ++ (zeros 480 ++ words_bytes (page_words c))) (sym (front_bytes_are f)) in (
+      record {
+        front = record { allocations = counts.0; calls = counts.1; owner = fits.1.1.1.0; unowned = is.unowned };
+        holds = holds_words b words are;
+      },
+      spelt ∙ sym (append_assoc (front_bytes f) (zeros 480) (words_bytes (page_words c))),
+    )
+
+-- given bytes spell at most one frame of a page's number
+pub one_page_frame : (age : ℕ) (e f : Frame) → IsPageFrame age e → IsPageFrame age f → page_frame_bytes e ≡ page_frame_bytes f → e ≡ f
+one_page_frame age e f ie if same =
+    let parts = page_parts e (page_frame_bytes e) refl in
+    let read = page_told age (role_number (role_of e.content)) e.header (page_words e.content) f (page_frame_bytes e) (zeros 480 ++ words_bytes (page_words e.content))
+    (role_fits (role_of e.content), (ie.front.allocations.1, (ie.front.calls.1, (ie.front.owner, tt)))) (words_fit e.content ie.holds) parts.whole parts.last if same in
+    let contents : e.content ≡ f.content = sym (content_again e.content ie.holds)
+    ∙ ap (λ (r : ℕ). with_words (page_body_in r) (page_words e.content)) read.role_is
+    ∙ ap (λ (w : List ℕ). with_words (page_body_in (role_number (role_of f.content))) w) read.words_are ∙ content_again f.content if.holds in
+    ap (λ (h : Header). record { header = h; content = e.content }) read.header_is ∙ ap (λ (c : Content Cap). record { header = f.header; content = c }) contents
+
+-- ---- writing
+
+take_gap : (xs : List ℕ) → take 480 (drop 32 xs) ≡ drop 32 (take 512 xs)
+take_gap xs = sym (drop-take 32 480 xs)
+
+pub page_written : (f : Frame) (blanked fronted new body : List ℕ) → take 512 blanked ≡ zeros 512
+    → take 32 fronted ≡ front_numbers (role_number (role_of f.content)) f.header → drop 32 fronted ≡ drop 32 blanked
+    → body ≡ words_bytes (page_words f.content) → new ≡ take 512 fronted ++ body → new ≡ page_frame_bytes f
+unfolding page_frame_bytes
+page_written f blanked fronted new body blank before after spelt is =
+    let gap : take 480 (drop 32 fronted) ≡ zeros 480 = ap (take 480) after ∙ take_gap blanked ∙ ap (drop 32) blank ∙ drop_zeros 32 512 in
+    let front : take 512 fronted ≡ front_bytes f ++ zeros 480 = take-add 32 480 fronted ∙ ap (λ (r : List ℕ). r ++ take 480 (drop 32 fronted)) (before ∙ sym (front_bytes_are f)) ∙ ap (λ (r : List ℕ). front_bytes f ++ r) gap in
+    is ∙ ap (λ (r : List ℕ). r ++ body) front ∙ ap (λ (r : List ℕ). front_bytes f ++ zeros 480 ++ r) spelt
+
+pub put_last : (xs ys : List ℕ) (at : ℕ) → put_mid at (length xs - at) xs ys ≡ take at xs ++ ys
+put_last xs ys at =
+    let past : drop (length xs - at) (drop at xs) ≡ [] = drop_all (length xs - at) (drop at xs) (omega (arith, length-drop at xs)) in
+    rw (past, append-nil) refl
+
+pub default_written : (f : Frame) (blanked fronted new : List ℕ) → take 512 blanked ≡ zeros 512
+    → take 32 fronted ≡ front_numbers (role_number (role_of f.content)) f.header → drop 32 fronted ≡ drop 32 blanked
+    → page_words f.content ≡ zero_words → new ≡ take 512 fronted ++ zeros 4096 → new ≡ page_frame_bytes f
+default_written f blanked fronted new blank before after words is =
+    page_written f blanked fronted new (zeros 4096) blank before after (sym zero_words_bytes ∙ ap words_bytes (sym words)) is
+
+pub blanked_front : (old new : List ℕ) (n : ℕ) → n ≤ length old → new ≡ zeros (length (take n old)) → (take n (new ++ drop n old) ≡ zeros n) × (drop n (new ++ drop n old) ≡ drop n old)
+blanked_front old new n room e =
+    let is : new ≡ zeros n = e ∙ ap zeros (length-take-le n old room) in
+    let size : length new ≡ n = ap length is ∙ length-zeros n in
+    (take_at new (drop n old) n size ∙ is, drop_at new (drop n old) n size)
+
+pub not_page : (c : Content Cap) → ((words : List ℕ) → c ≡ content.Page words → ⊥) → page_words c ≡ zero_words
+not_page content.Free h = refl
+not_page (content.Page words) h = absurd (h words refl)
+not_page (content.Node slots) h = refl
+not_page (content.Root root) h = refl
+not_page (content.Annex registers) h = refl
+not_page (content.Bank limit) h = refl
+
+pub free_body : (role owner : ℕ) (words : List ℕ) (b : PageBody) → b ≡ page_body.Free → role ≡ 0 → owner ≡ 0 → length words ≡ 512 → All (λ w. w ≡ 0) words → IsPageBody role owner words (with_words b words)
+free_body role owner words b is r o len all =
+    subst (λ (d : PageBody). IsPageBody role owner words (with_words d words)) (sym is) (record { role_is = r; words_are = zero_words_are words len all; unowned = λ _. o })
+
+pub free_words : (role owner : ℕ) (words : List ℕ) (b : PageBody) → b ≡ page_body.Free → IsPageBody role owner words (with_words b words) → All (λ w. w ≡ 0) words
+free_words role owner words b is body =
+    let f : IsPageBody role owner words content.Free = subst (λ (d : PageBody). IsPageBody role owner words (with_words d words)) is body in
+    are_zero_words words f.words_are

@@ -1,0 +1,11 @@
+use Rattle.std.proofs.Common.{◌++◌, ℕ, List, length, take, ap, ◌∙◌}
+use Rattle.std.proofs.lemmas.List.{take_rest, length-drop}
+use Rattle.layout.specs.Bytes.{zeros}
+use Rattle.layout.proofs.Pages.{put_last}
+use Rattle.layout.proofs.bytes.blank_from.Goals as goal
+
+pub returns : goal.returns
+returns c =
+    let old : List ℕ = c.args.bytes.now in
+    put_last old c.blank.new.bytes c.args.at
+    ∙ ap (λ (r : List ℕ). take c.args.at old ++ r) (c.blank.ensures ∙ ap (λ (r : List ℕ). zeros (length r)) (take_rest old c.args.at) ∙ ap zeros (length-drop c.args.at old))

@@ -1,0 +1,6 @@
+use Rattle.std.proofs.Common.{◌≡◌, ◌*◌, take}
+use Rattle.layout.specs.Directory.{directory_bytes}
+use Rattle.layout.proofs.directory.encode_directory.Given as goal
+
+abbrev pub invariant-loop-i : goal.invariant-loop-i
+invariant-loop-i l = take (16 * l.i) l.into ≡ directory_bytes (take l.i l.entries)

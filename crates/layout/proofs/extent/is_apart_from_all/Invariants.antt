@@ -1,0 +1,7 @@
+use Rattle.std.proofs.Common.{ℕ, ◌<◌, get_or}
+use Rattle.layout.specs.declared.extent.Extent.{Extent}
+use Rattle.layout.specs.Superblock.{IsApart}
+use Rattle.layout.proofs.extent.is_apart_from_all.Given as goal
+
+abbrev pub invariant-loop-other : goal.invariant-loop-other
+invariant-loop-other l = (k : ℕ) (d : Extent) → k < l.other-index → IsApart l.extent (get_or l.others k d)

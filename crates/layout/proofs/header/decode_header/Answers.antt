@@ -1,0 +1,37 @@
+use Rattle.std.proofs.Common.{◌∷◌, drop, refl, sym, ap, subst, ◌∙◌, ◌-◌, ℕ, List, arith, rules}
+use Rattle.std.proofs.lemmas.Bool.{false≢true}
+use Rattle.layout.specs.declared.header.CheckpointHeader.{CheckpointHeader}
+use Rattle.layout.specs.Bytes.{zeros}
+use Rattle.layout.specs.Header.{IsHeader}
+use Rattle.layout.proofs.Numbers.{stream}
+use Rattle.layout.proofs.Headers.{five_read, header_stream, spelt_header, fields}
+use Rattle.layout.proofs.header.decode_header.Goals as goal
+use Rattle.layout.proofs.header.decode_header.Goals.{else-magic-eq-HEADER_MAGIC-via-then-magic-eq-HEADER_MAGIC+then-is_blank+else-is_header, else-magic-eq-HEADER_MAGIC-via-then-magic-eq-HEADER_MAGIC+else-is_blank, else-magic-eq-HEADER_MAGIC-via-else-magic-eq-HEADER_MAGIC}
+
+pub returns-then-is_header-clause-found : goal.returns-then-is_header-clause-found
+returns-then-is_header-clause-found c =
+    let read = five_read c.args.bytes.now c.number_at-magic.result c.number_at-sequence.result c.number_at-generation.result c.number_at-entries.result c.number_at-age.result
+    c.number_at-magic.ensures c.number_at-sequence.ensures c.number_at-generation.ensures c.number_at-entries.ensures c.number_at-age.ensures in
+    let header : CheckpointHeader = record { sequence = c.number_at-sequence.result; generation = c.number_at-generation.result; entries = c.number_at-entries.result; age = c.number_at-age.result } in (
+      search rules,
+      read ∙ ap (λ (m : ℕ). stream (m ∷ fields header) (drop 40 c.args.bytes.now)) c.if-magic-eq-HEADER_MAGIC.true
+          ∙ ap (λ (r : List ℕ). stream (0x4441_4548_534f_5245 ∷ fields header) r) (c.is_blank_from-is_blank.ensures.0 c.if-is_blank.true ∙ ap (λ (n : ℕ). zeros (n - 40)) c.requires)
+          ∙ sym (header_stream header),
+    )
+
+pub returns-else-magic-eq-HEADER_MAGIC-clause-refused : goal.returns-else-magic-eq-HEADER_MAGIC-clause-refused
+returns-else-magic-eq-HEADER_MAGIC-clause-refused c =
+    let read = five_read c.args.bytes.now c.number_at-magic.result c.number_at-sequence.result c.number_at-generation.result c.number_at-entries.result c.number_at-age.result
+    c.number_at-magic.ensures c.number_at-sequence.ensures c.number_at-generation.ensures c.number_at-entries.ensures c.number_at-age.ensures in
+    let header : CheckpointHeader = record { sequence = c.number_at-sequence.result; generation = c.number_at-generation.result; entries = c.number_at-entries.result; age = c.number_at-age.result } in (
+      refl,
+      λ h is e.
+          let has = spelt_header c.args.room c.args.bytes.now _ c.number_at-magic.result header h (omega arith, (omega arith, (omega arith, (omega arith, (omega arith, tt))))) read is e in
+          elim c.else-magic-eq-HEADER_MAGIC.branch [
+            | else-magic-eq-HEADER_MAGIC-via-then-magic-eq-HEADER_MAGIC+then-is_blank+else-is_header w ↦
+                false≢true (sym w.if-is_header.false ∙ w.is_header.ensures.1 (subst (IsHeader c.args.room) (sym has.header_is) is))
+            | else-magic-eq-HEADER_MAGIC-via-then-magic-eq-HEADER_MAGIC+else-is_blank w ↦
+                false≢true (sym w.if-is_blank.false ∙ c.is_blank_from-is_blank.ensures.1 (has.rest_is ∙ ap (λ (n : ℕ). zeros (n - 40)) (sym c.requires)))
+            | else-magic-eq-HEADER_MAGIC-via-else-magic-eq-HEADER_MAGIC w ↦ w.if-magic-eq-HEADER_MAGIC.false has.magic_is
+          ],
+    )

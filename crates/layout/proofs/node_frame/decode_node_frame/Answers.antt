@@ -1,0 +1,54 @@
+use Rattle.std.proofs.Common.{◌≡◌, ◌-◌, ℕ, List, refl, sym, ap, subst, ◌∙◌, arith}
+use Rattle.std.proofs.lemmas.Bool.{false≢true}
+use Rattle.std.proofs.lemmas.Result.{err_from_is_err_and}
+use Rattle.model.specs.declared.capability.Cap.{Cap}
+use Rattle.model.specs.declared.frame.Header.{Header}
+use Rattle.layout.specs.Bytes.{zeros}
+use Rattle.layout.specs.Capability.{IsCount}
+use Rattle.layout.specs.declared.node_frame.NodeBody.{NodeBody}
+use Rattle.layout.specs.Frame.{IsBody, slots_of, with_slots, body_in}
+use Rattle.layout.proofs.Numbers.{AllFit}
+use Rattle.layout.proofs.Frames.{front_list, node_parts, node_told, body_told, node_found}
+use Rattle.layout.proofs.node_frame.decode_node_frame.Goals as goal
+use Rattle.layout.proofs.node_frame.decode_node_frame.Goals.{else-has_counts-via-then-has_counts+then-is_blank+else-is_body, else-has_counts-via-then-has_counts+else-is_blank, else-has_counts-via-else-has_counts}
+
+pub returns-in_err-decode_slots-clause-refused : goal.returns-in_err-decode_slots-clause-refused
+returns-in_err-decode_slots-clause-refused c =
+    let p = err_from_is_err_and c.from_residual.result c.from_residual.ensures.1 in
+    let refused = c.in_err-decode_slots.ensures.refused in
+    rw (p.1) (p.2 ∙ refused.0, λ f is e. refused.1 (slots_of f.content) is.slots (node_parts c.args.geometry c.args.age f c.args.bytes.now is e).middle)
+
+pub returns-then-is_body-clause-found : goal.returns-then-is_body-clause-found
+returns-then-is_body-clause-found c =
+    let role : ℕ = c.decode_front-role.result.0 in
+    let header = c.decode_front-role.result.1 in
+    let slots : List Cap = c.decode_slots.new.into in
+    let read = c.in_ok-decode_slots.ensures.found in
+    let body : NodeBody = c.body_in-body.result in
+    let is = subst (λ (s : List Cap). IsBody role header.owner s (with_slots body s)) c.as_slice-then-is_blank.ensures.value (c.is_body.ensures.0 c.if-is_body.true) in
+    node_found c.args.geometry c.args.age role header slots (with_slots body slots) c.args.bytes.now
+    (omega arith, (omega arith, (omega arith, (omega arith, tt)))) (c.has_counts-has_counts.ensures.0 c.if-has_counts.true) read.0 is
+    c.decode_front-role.ensures read.1 (c.is_blank_from-is_blank.ensures.0 c.if-is_blank.true ∙ ap (λ (n : ℕ). zeros (n - 800)) c.requires)
+
+pub returns-else-has_counts-clause-refused : goal.returns-else-has_counts-clause-refused
+returns-else-has_counts-clause-refused c =
+    let role : ℕ = c.decode_front-role.result.0 in
+    let header = c.decode_front-role.result.1 in
+    let slots : List Cap = c.decode_slots.new.into in
+    let read = c.in_ok-decode_slots.ensures.found in
+    let fits : AllFit (front_list role header) = (omega arith, (omega arith, (omega arith, (omega arith, tt)))) in (
+      refl,
+      λ f is e.
+          let told = node_told c.args.geometry c.args.age role header slots f c.args.bytes.now _ fits read.0 c.decode_front-role.ensures read.1 is e in
+          elim c.else-has_counts.branch [
+            | else-has_counts-via-then-has_counts+then-is_blank+else-is_body w ↦
+                let body : c.body_in-body.result ≡ body_in role slots = c.body_in-body.ensures ∙ ap (body_in role) c.as_slice.ensures.value in
+                let is_body = subst (λ (b : NodeBody). IsBody role header.owner slots (with_slots b slots)) (sym body) (body_told f role header slots c.args.age told is.role is.front) in
+                false≢true (sym w.if-is_body.false ∙ w.is_body.ensures.1 (subst (λ (s : List Cap). IsBody role header.owner s (with_slots c.body_in-body.result s)) (sym w.as_slice-then-is_blank.ensures.value) is_body))
+            | else-has_counts-via-then-has_counts+else-is_blank w ↦
+                false≢true (sym w.if-is_blank.false ∙ c.is_blank_from-is_blank.ensures.1 ((node_parts c.args.geometry c.args.age f c.args.bytes.now is e).last ∙ ap (λ (n : ℕ). zeros (n - 800)) (sym c.requires)))
+            | else-has_counts-via-else-has_counts w ↦
+                false≢true (sym w.if-has_counts.false ∙ c.has_counts-has_counts.ensures.1
+                (subst (λ (h : Header). IsCount c.args.age h.allocations × IsCount c.args.age h.calls) (sym told.header_is) (is.front.allocations, is.front.calls)))
+          ],
+    )

@@ -1,0 +1,6 @@
+use Rattle.std.proofs.Common.{◌≡◌, ◌*◌, take}
+use Rattle.layout.specs.Frame.{slots_bytes}
+use Rattle.layout.proofs.slots.encode_slots.Given as goal
+
+abbrev pub invariant-loop-i : goal.invariant-loop-i
+invariant-loop-i l = take (24 * l.i) l.into ≡ slots_bytes (take l.i l.caps)

@@ -1,0 +1,88 @@
+-- Capabilities as bytes.
+use Rattle.std.specs.Prelude.{◌≡◌, ℕ, ◌+◌, ◌*◌, ◌^◌, ◌<◌, ◌≤◌, ◌==◌, if◌then◌else◌, List, [], ◌∷◌, ◌++◌}
+use Rattle.model.specs.declared.access.Access.{Access}
+use Rattle.model.specs.declared.capability.Cap.{Cap}
+use Rattle.model.specs.declared.capability.Capability.{Capability}
+use Rattle.model.specs.declared.capability.Capability.TheVariants.{Void, Number, Page, Node, Space, Process, Start, Resume, Bank, Discrim}
+use Rattle.model.specs.declared.geometry.Geometry.{Geometry}
+use Rattle.model.specs.Capability.{tag_of, access_bits, IsAccess}
+use Rattle.layout.specs.Bytes.{number, short_number}
+
+-- the fields of a capability, and 0 for those that it hasn't
+abbrev pub key_of : Capability → ℕ
+key_of (Start p key) = key
+key_of _ = 0
+
+abbrev pub height_of : Capability → ℕ
+height_of (Space o h a) = h
+height_of _ = 0
+
+abbrev pub number_of : Capability → ℕ
+number_of Void = 0
+number_of (Number n) = n
+number_of (Page o a) = o
+number_of (Node o a) = o
+number_of (Space o h a) = o
+number_of (Process p) = p
+number_of (Start p key) = p
+number_of (Resume p) = p
+number_of (Bank b) = b
+number_of Discrim = 0
+
+-- tag, access, two bytes of key, height, and three zeros
+unfoldable pub head_bytes : Capability → List ℕ
+head_bytes k = (tag_of k ∷ access_bits k ∷ []) ++ short_number (key_of k) ++ height_of k ∷ 0 ∷ 0 ∷ 0 ∷ []
+
+-- the 24 bytes of a capability
+unfoldable pub capability_bytes : Cap → List ℕ
+capability_bytes c = head_bytes c.what ++ number (number_of c.what) ++ number c.count
+
+-- the first eight bytes as one number
+abbrev pub head_number : Capability → ℕ
+head_number k = tag_of k + 256 * access_bits k + 65536 * key_of k + 4294967296 * height_of k
+
+-- each of them fits its bytes
+pub record HeadFits (k : Capability) : Type 0 where
+  pub access : access_bits k < 256
+  pub key : key_of k < 65536
+  pub height : height_of k < 256
+
+-- the capability with a tag, of the fields that it has
+abbrev pub assembled : ℕ → Access → ℕ → ℕ → ℕ → Capability
+assembled tag access key height n =
+    if tag == 0 then Void else
+    if tag == 1 then Number n else
+    if tag == 2 then Page n access else
+    if tag == 3 then Node n access else
+    if tag == 4 then Space n height access else
+    if tag == 5 then Process n else
+    if tag == 6 then Start n key else
+    if tag == 7 then Resume n else
+    if tag == 8 then Bank n else Discrim
+
+-- a number of a node, of a page, and a count, each in eight bytes
+abbrev pub IsNodeNumber : Geometry → ℕ → Type 0
+IsNodeNumber g n = (n < g.nodes) × (n < 2 ^ 64)
+
+abbrev pub IsPageNumber : Geometry → ℕ → Type 0
+IsPageNumber g n = (g.nodes ≤ n) × (n < g.nodes + g.pages) × (n < 2 ^ 64)
+
+abbrev pub IsCount : ℕ → ℕ → Type 0
+IsCount age n = (n ≤ age) × (n < 2 ^ 64)
+
+-- what each kind of capability needs, a line for each tag
+abbrev pub Follows : Geometry → ℕ → ℕ → Capability → Type 0
+Follows g age count Void = count ≡ 0
+Follows g age count (Number n) = (n < 2 ^ 64) × (count ≡ 0)
+Follows g age count (Page o a) = IsAccess a × IsPageNumber g o × IsCount age count
+Follows g age count (Node o a) = IsAccess a × IsNodeNumber g o × IsCount age count
+Follows g age count (Space o h a) = IsAccess a × (1 ≤ h) × (h ≤ 4) × IsNodeNumber g o × IsCount age count
+Follows g age count (Process p) = IsNodeNumber g p × IsCount age count
+Follows g age count (Start p key) = (key < 2 ^ 16) × IsNodeNumber g p × IsCount age count
+Follows g age count (Resume p) = IsNodeNumber g p × IsCount age count
+Follows g age count (Bank b) = IsNodeNumber g b × IsCount age count
+Follows g age count Discrim = count ≡ 0
+
+-- a capability that has a spelling
+abbrev pub IsCapability : Geometry → ℕ → Cap → Type 0
+IsCapability g age c = Follows g age c.count c.what

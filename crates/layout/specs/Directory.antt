@@ -1,0 +1,42 @@
+-- The directory of a checkpoint.
+use Rattle.std.specs.Prelude.{◌≡◌, ℕ, ◌+◌, ◌^◌, ◌<◌, List, ◌++◌, length, slice_index_or}
+use Rattle.std.specs.List.{All, flat_map}
+use Rattle.model.specs.declared.geometry.Geometry.{Geometry}
+use Rattle.layout.specs.declared.directory.Entry.{Entry}
+use Rattle.layout.specs.Bytes.{number}
+
+-- the 16 bytes of an entry
+abbrev pub entry_bytes : Entry → List ℕ
+entry_bytes e = number e.object ++ number e.slot
+
+-- the bytes of a directory
+unfoldable pub directory_bytes : List Entry → List ℕ
+directory_bytes es = flat_map entry_bytes es
+
+abbrev pub entry_at : List Entry → ℕ → Entry
+entry_at es i = slice_index_or es i (record { object = 0; slot = 0 })
+
+-- an entry names an object of the device and a slot of a log half
+pub record IsEntry (g : Geometry) (e : Entry) : Type 0 where
+  pub object : e.object < g.nodes + g.pages
+  pub slot : e.slot < g.log
+  pub object_fits : e.object < 2 ^ 64
+  pub slot_fits : e.slot < 2 ^ 64
+
+-- each object has a greater number than the one before it
+abbrev pub AreRising : List Entry → Type 0
+AreRising es = (i : ℕ) → i + 1 < length es → (entry_at es i).object < (entry_at es (i + 1)).object
+
+-- no slot comes twice
+abbrev pub AreApart : List Entry → Type 0
+AreApart es = (i j : ℕ) → i < j → j < length es → (entry_at es i).slot ≡ (entry_at es j).slot → ⊥
+
+-- what a directory needs
+pub record IsDirectory (g : Geometry) (es : List Entry) : Type 0 where
+  pub each : All (IsEntry g) es
+  pub rising : AreRising es
+  pub apart : AreApart es
+
+-- the numbers of each entry fit their bytes
+abbrev pub AllFitting : List Entry → Type 0
+AllFitting es = All (λ e. (e.object < 2 ^ 64) × (e.slot < 2 ^ 64)) es

@@ -1,0 +1,186 @@
+-- What the sectors of a device denote, as far as frames go.
+use Rattle.std.specs.Prelude.{◌≡◌, ◌⊎◌, ℕ, zero, suc, ◌+◌, ◌-◌, ◌*◌, ◌/◌, ◌%◌, ◌<◌, ◌≤◌, ◌==◌, nat_lt, nat_le, ◌&&◌, if◌then◌else◌, Bool, true, false, Option, Some, None, List, [], ◌∷◌, ◌++◌, length, take, drop}
+use Rattle.model.specs.declared.frame.Frame.{Frame}
+use Rattle.model.specs.declared.geometry.Geometry.{Geometry}
+use Rattle.model.specs.Frame.{frame_at}
+use Rattle.layout.specs.declared.bad_image.BadImage.{BadImage}
+use Rattle.layout.specs.declared.bad_image.BadImage.TheVariants as bad
+use Rattle.layout.specs.declared.directory.Entry.{Entry}
+use Rattle.layout.specs.declared.extent.HomeRange.{HomeRange}
+use Rattle.layout.specs.declared.header.CheckpointHeader.{CheckpointHeader}
+use Rattle.layout.specs.Bytes.{number_from}
+use Rattle.layout.specs.Gate.{is_open}
+use Rattle.layout.specs.Header.{header_bytes, IsHeader}
+use Rattle.layout.specs.Directory.{directory_bytes, IsDirectory}
+use Rattle.layout.specs.Frame.{node_frame_bytes, page_frame_bytes, IsNodeFrame, IsPageFrame}
+use Rattle.layout.specs.Superblock.{Plan, superblock_bytes, HasMark, IsPlan}
+
+-- the 512 bytes of each sector
+abbrev pub Image : Type 0
+Image = ℕ → List ℕ
+
+-- the bytes of n sectors from one on
+unfoldable pub sectors_from : Image → ℕ → ℕ → List ℕ
+sectors_from image at zero = []
+sectors_from image at (suc n) = image at ++ sectors_from image (at + 1) n
+
+-- the total of a superblock and the sequence number of a header, whatever the other bytes are
+abbrev pub total_in : List ℕ → ℕ
+total_in bytes = number_from (drop 56 bytes)
+
+abbrev pub sequence_in : List ℕ → ℕ
+sequence_in bytes = number_from (drop 8 bytes)
+
+-- ---- which header is committed
+
+-- a header counts where its gate is open and it lies in the slot of its sequence number
+abbrev pub does_count : List ℕ → List ℕ → ℕ → Bool
+does_count header gate slot = is_open gate && (sequence_in header % 2 == slot)
+
+-- of two headers that count the one with the greater sequence number is committed
+abbrev pub committed_of : Bool → ℕ → Bool → ℕ → Option ℕ
+committed_of first m second n =
+    if first && second then Some (if nat_lt m n then 1 else 0) else
+    if first then Some 0 else
+    if second then Some 1 else None
+
+-- header slot 0 and its gate are sectors 1 and 2, header slot 1 and its gate sectors 3 and 4
+abbrev pub committed_slot : Image → Option ℕ
+committed_slot image = committed_of (does_count (image 1) (image 2) 0) (sequence_in (image 1)) (does_count (image 3) (image 4) 1) (sequence_in (image 3))
+
+abbrev pub option_at : Image → Option ℕ → Option (List ℕ)
+option_at image None = None
+option_at image (Some slot) = Some (image (1 + 2 * slot))
+
+-- the sector of the committed header
+abbrev pub committed_bytes : Image → Option (List ℕ)
+committed_bytes image = option_at image (committed_slot image)
+
+-- ---- where frames lie
+
+-- the first sector of the log half of a generation, of a slot in it, and of its directory
+abbrev pub half_sector : Plan → ℕ → ℕ
+half_sector p generation = if generation % 2 == 0 then p.half_0 else p.half_1
+
+abbrev pub slot_sector : Plan → ℕ → ℕ → ℕ
+slot_sector p generation slot = half_sector p generation + 9 * slot
+
+abbrev pub directory_sector : Plan → ℕ → ℕ
+directory_sector p generation = half_sector p generation + 9 * p.geometry.log
+
+-- the bytes of a directory of n entries: those behind the last entry aren't looked at
+abbrev pub directory_in : Image → Plan → ℕ → ℕ → List ℕ
+directory_in image p generation n = take (16 * n) (sectors_from image (directory_sector p generation) ((n + 31) / 32))
+
+-- the slot that a directory gives an object
+abbrev pub slot_in : List Entry → ℕ → Option ℕ
+slot_in [] object = None
+slot_in (e ∷ es) object = if e.object == object then Some e.slot else slot_in es object
+
+-- the home of an object: in the range that has its number, 2 sectors for each node and 9 for each page
+abbrev pub home_sector : Geometry → List HomeRange → ℕ → ℕ
+home_sector g [] object = 0
+home_sector g (r ∷ rs) object =
+    if nat_le r.first object && nat_lt object (r.first + r.count)
+    then r.sector + (if nat_lt object g.nodes then 2 else 9) * (object - r.first)
+    else home_sector g rs object
+
+abbrev pub sector_or : Option ℕ → (ℕ → ℕ) → ℕ → ℕ
+sector_or None in_log home = home
+sector_or (Some slot) in_log home = in_log slot
+
+-- the frame of an object is the one in its directory's slot, else the home frame
+abbrev pub frame_sector : Plan → ℕ → List Entry → ℕ → ℕ
+frame_sector p generation es object = sector_or (slot_in es object) (slot_sector p generation) (home_sector p.geometry p.ranges object)
+
+-- the bytes of the frame of an object
+abbrev pub frame_in : Image → Plan → ℕ → List Entry → ℕ → List ℕ
+frame_in image p generation es object = sectors_from image (frame_sector p generation es object) (if nat_lt object p.geometry.nodes then 2 else 9)
+
+abbrev pub IsFrameIf : Bool → Geometry → ℕ → List ℕ → Frame → Type 0
+IsFrameIf true g age bytes f = IsNodeFrame g age f × (bytes ≡ node_frame_bytes f)
+IsFrameIf false g age bytes f = IsPageFrame age f × (bytes ≡ page_frame_bytes f)
+
+-- the frame of an object is spelt by bytes
+abbrev pub IsFrameOf : Geometry → ℕ → ℕ → List ℕ → Frame → Type 0
+IsFrameOf g age object bytes f = IsFrameIf (nat_lt object g.nodes) g age bytes f
+
+-- ---- reasons to refuse an image
+
+-- 1: fewer than 5 sectors, or fewer than the total
+abbrev pub IsTooSmall : ℕ → Image → Type 0
+IsTooSmall size image = (size < 5) ⊎ (size < total_in (image 0))
+
+-- 2: another magic or version, or a byte behind the ranges that isn't 0
+abbrev pub IsNoSuperblock : Image → Type 0
+IsNoSuperblock image = HasMark (image 0) → ⊥
+
+-- 3: a number of the superblock outside its limits
+abbrev pub HasBadGeometry : Image → Type 0
+HasBadGeometry image = (p : Plan) → IsPlan p → image 0 ≡ superblock_bytes p → ⊥
+
+-- 4: no header that counts
+abbrev pub HasNoHeader : Image → Type 0
+HasNoHeader image = committed_slot image ≡ None
+
+-- 5: the committed header is no spelling of one
+abbrev pub HasBadHeader : Plan → Image → Type 0
+HasBadHeader p image = (h : CheckpointHeader) → IsHeader p.geometry.log h → committed_bytes image ≡ Some (header_bytes h) → ⊥
+
+-- 6: its directory is no spelling of one
+abbrev pub HasBadDirectory : Plan → CheckpointHeader → Image → Type 0
+HasBadDirectory p h image = (es : List Entry) → IsDirectory p.geometry es → length es ≡ h.entries → directory_in image p h.generation h.entries ≡ directory_bytes es → ⊥
+
+-- 7: the frame of some object is no spelling of one
+abbrev pub HasBadFrame : Plan → CheckpointHeader → List Entry → Image → Type 0
+HasBadFrame p h es image =
+    (object : ℕ) × (object < p.geometry.nodes + p.geometry.pages)
+    × ((f : Frame) → IsFrameOf p.geometry h.age object (frame_in image p h.generation es object) f → ⊥)
+
+-- ---- what an image denotes
+
+-- the superblock of an image
+pub record HasPlan (size : ℕ) (image : Image) (p : Plan) : Type 0 where
+  pub least : 5 ≤ size
+  pub whole : p.total ≤ size
+  pub fits : IsPlan p
+  pub spelt : image 0 ≡ superblock_bytes p
+
+-- its committed header
+pub record HasHeader (image : Image) (p : Plan) (h : CheckpointHeader) : Type 0 where
+  pub fits : IsHeader p.geometry.log h
+  pub spelt : committed_bytes image ≡ Some (header_bytes h)
+
+-- the directory of that
+pub record HasDirectory (image : Image) (p : Plan) (h : CheckpointHeader) (es : List Entry) : Type 0 where
+  pub count : length es ≡ h.entries
+  pub fits : IsDirectory p.geometry es
+  pub spelt : directory_in image p h.generation h.entries ≡ directory_bytes es
+
+-- a saved state of frames
+pub record Saved : Type 0 where
+  pub plan : Plan
+  pub header : CheckpointHeader
+  pub directory : List Entry
+  pub frames : List Frame
+
+-- an image denotes a saved state where none of the reasons holds
+pub record Denotes (size : ℕ) (image : Image) (s : Saved) : Type 0 where
+  pub plan : HasPlan size image s.plan
+  pub header : HasHeader image s.plan s.header
+  pub directory : HasDirectory image s.plan s.header s.directory
+  pub count : length s.frames ≡ s.plan.geometry.nodes + s.plan.geometry.pages
+  pub each : (object : ℕ) → object < s.plan.geometry.nodes + s.plan.geometry.pages →
+      IsFrameOf s.plan.geometry s.header.age object (frame_in image s.plan s.header.generation s.directory object) (frame_at s.frames object)
+
+-- the least reason that holds, where it is one of the first seven
+abbrev pub IsBadBy : ℕ → Image → BadImage → Type 0
+IsBadBy size image bad.Small = IsTooSmall size image
+IsBadBy size image bad.NotASuperblock = (IsTooSmall size image → ⊥) × IsNoSuperblock image
+IsBadBy size image bad.BadGeometry = (IsTooSmall size image → ⊥) × HasMark (image 0) × HasBadGeometry image
+IsBadBy size image bad.NoHeader = (p : Plan) × HasPlan size image p × HasNoHeader image
+IsBadBy size image bad.BadHeader = (p : Plan) × HasPlan size image p × (HasNoHeader image → ⊥) × HasBadHeader p image
+IsBadBy size image bad.BadDirectory = (p : Plan) × (h : CheckpointHeader) × HasPlan size image p × HasHeader image p h × HasBadDirectory p h image
+IsBadBy size image bad.BadFrame =
+    (p : Plan) × (h : CheckpointHeader) × (es : List Entry) × HasPlan size image p × HasHeader image p h × HasDirectory image p h es × HasBadFrame p h es image
+IsBadBy size image _ = ⊥

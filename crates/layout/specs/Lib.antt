@@ -1,0 +1,9 @@
+pub mod Bytes
+pub mod Capability
+pub mod Gate
+pub mod Header
+pub mod Frame
+pub mod Directory
+pub mod Superblock
+pub mod Image
+pub mod Laws

@@ -1,0 +1,110 @@
+-- The superblock: how much a device holds, and where.
+use Rattle.std.specs.Prelude.{◌≡◌, ◌⊎◌, ℕ, ◌+◌, ◌-◌, ◌*◌, ◌/◌, ◌<◌, ◌≤◌, ◌^◌, nat_lt, if◌then◌else◌, List, [], ◌∷◌, ◌++◌, length, map, take, drop, replicate, slice_index_or, codes}
+use Rattle.std.specs.List.{All, flat_map}
+use Rattle.model.specs.declared.geometry.Geometry.{Geometry}
+use Rattle.layout.specs.declared.bad_image.BadImage.{BadImage}
+use Rattle.layout.specs.declared.bad_image.BadImage.TheVariants.{NotASuperblock, BadGeometry}
+use Rattle.layout.specs.declared.extent.Extent.{Extent}
+use Rattle.layout.specs.declared.extent.HomeRange.{HomeRange}
+use Rattle.layout.specs.Bytes.{number, half_number, zeros}
+
+-- what a superblock tells
+pub record Plan : Type 0 where
+  pub geometry : Geometry
+  pub ranges : List HomeRange
+  pub half_0 : ℕ
+  pub half_1 : ℕ
+  pub total : ℕ
+
+-- the 24 bytes of a home range
+abbrev pub range_bytes : HomeRange → List ℕ
+range_bytes r = number r.first ++ number r.count ++ number r.sector
+
+unfoldable pub ranges_bytes : List HomeRange → List ℕ
+ranges_bytes rs = flat_map range_bytes rs
+
+abbrev pub unused : HomeRange
+unused = record { first = 0; count = 0; sector = 0 }
+
+-- the sector of a superblock: eight ranges, of which the last are unused
+unfoldable pub superblock_bytes : Plan → List ℕ
+superblock_bytes p =
+    codes "EROSCKPT" ++ half_number 1 ++ half_number (length p.ranges)
+    ++ number p.geometry.nodes ++ number p.geometry.pages ++ number p.geometry.log
+    ++ number p.half_0 ++ number p.half_1 ++ number p.total
+    ++ ranges_bytes (p.ranges ++ replicate (8 - length p.ranges) unused) ++ zeros 256
+
+-- magic, version and the bytes from 256 on are those of a superblock
+pub record HasMark (bytes : List ℕ) : Type 0 where
+  pub magic : take 8 bytes ≡ codes "EROSCKPT"
+  pub version : take 4 (drop 8 bytes) ≡ half_number 1
+  pub blank : drop 256 bytes ≡ zeros 256
+
+-- how much a device may hold
+pub record IsGeometry (g : Geometry) : Type 0 where
+  pub least_nodes : 16 ≤ g.nodes
+  pub most_nodes : g.nodes ≤ 4096
+  pub least_pages : 1 ≤ g.pages
+  pub most_pages : g.pages ≤ 4096
+  pub least_log : 16 ≤ g.log
+  pub most_log : g.log ≤ 4096
+
+-- a range is of nodes alone or of pages alone
+abbrev pub IsOfOneKind : Geometry → HomeRange → Type 0
+IsOfOneKind g r = (r.first + r.count ≤ g.nodes) ⊎ (g.nodes ≤ r.first)
+
+-- a range goes on at a number, is not empty, and is of one kind
+abbrev pub IsNext : Geometry → HomeRange → ℕ → Type 0
+IsNext g r n = (r.first ≡ n) × (0 < r.count) × IsOfOneKind g r
+
+-- ranges go on from a number without a gap to the last number
+abbrev pub Cover : Geometry → ℕ → List HomeRange → Type 0
+Cover g n [] = n ≡ g.nodes + g.pages
+Cover g n (r ∷ rs) = IsNext g r n × Cover g (n + r.count) rs
+
+-- the sectors of a range, 2 for a node and 9 for a page, and those of a log half
+abbrev pub range_extent : Geometry → HomeRange → Extent
+range_extent g r = record { sector = r.sector; length = if nat_lt r.first g.nodes then 2 * r.count else 9 * r.count }
+
+abbrev pub half_extent : Geometry → ℕ → Extent
+half_extent g sector = record { sector = sector; length = 9 * g.log + (g.log + 31) / 32 }
+
+abbrev pub extents : Plan → List Extent
+extents p = map (range_extent p.geometry) p.ranges ++ half_extent p.geometry p.half_0 ∷ half_extent p.geometry p.half_1 ∷ []
+
+-- sectors behind the headers and before the end
+abbrev pub IsWithin : ℕ → Extent → Type 0
+IsWithin total e = (5 ≤ e.sector) × (e.sector + e.length ≤ total)
+
+-- no sector is in both
+abbrev pub IsApart : Extent → Extent → Type 0
+IsApart d e = (d.sector + d.length ≤ e.sector) ⊎ (e.sector + e.length ≤ d.sector)
+
+abbrev pub extent_at : List Extent → ℕ → Extent
+extent_at es i = slice_index_or es i (record { sector = 0; length = 0 })
+
+abbrev pub AreApart : List Extent → Type 0
+AreApart es = (i j : ℕ) → i < j → j < length es → IsApart (extent_at es i) (extent_at es j)
+
+-- what a superblock needs
+pub record IsPlan (p : Plan) : Type 0 where
+  pub geometry : IsGeometry p.geometry
+  pub some : 1 ≤ length p.ranges
+  pub few : length p.ranges ≤ 8
+  pub total : p.total ≤ 131072
+  pub cover : Cover p.geometry 0 p.ranges
+  pub within : All (IsWithin p.total) (extents p)
+  pub apart : AreApart (extents p)
+
+-- why a sector is refused as a superblock
+abbrev pub IsRefused : List ℕ → BadImage → Type 0
+IsRefused bytes NotASuperblock = HasMark bytes → ⊥
+IsRefused bytes BadGeometry = HasMark bytes × ((p : Plan) → IsPlan p → bytes ≡ superblock_bytes p → ⊥)
+IsRefused bytes _ = ⊥
+
+-- the numbers of a range fit their bytes
+abbrev pub RangeFits : HomeRange → Type 0
+RangeFits r = (r.first < 2 ^ 64) × (r.count < 2 ^ 64) × (r.sector < 2 ^ 64)
+
+abbrev pub plan_of : Geometry → List HomeRange → ℕ → ℕ → ℕ → Plan
+plan_of g rs half_0 half_1 total = record { geometry = g; ranges = rs; half_0 = half_0; half_1 = half_1; total = total }

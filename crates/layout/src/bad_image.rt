@@ -1,0 +1,26 @@
+use thiserror::Error;
+
+/// Why an image is refused. Of the reasons that hold the least is given.
+#[derive(Clone, Copy, PartialEq, Eq, Debug, Error)]
+pub enum BadImage {
+    #[error("the device is smaller than the image")]
+    Small = 1,
+    #[error("the superblock has another magic or version")]
+    NotASuperblock = 2,
+    #[error("the superblock has a number outside its limits")]
+    BadGeometry = 3,
+    #[error("no checkpoint is committed")]
+    NoHeader = 4,
+    #[error("the header of the checkpoint is damaged")]
+    BadHeader = 5,
+    #[error("the directory of the checkpoint is damaged")]
+    BadDirectory = 6,
+    #[error("a frame is damaged")]
+    BadFrame = 7,
+    #[error("a capability names an object that it can't name")]
+    BadCapability = 8,
+    #[error("a process hasn't one root and one annex")]
+    BadProcess = 9,
+    #[error("an object hasn't an owner within its limit")]
+    BadBank = 10,
+}

@@ -1,0 +1,147 @@
+ghost use Rattle.std.specs.Prelude.{◌≡◌, ℕ, ◌+◌, ◌*◌, ◌^◌, ◌<◌, ◌≤◌, ◌++◌, ◌↔◌, length, IsTrue, IfOk, IfErr};
+ghost use Rattle.model.specs.declared.access.Access.{Access};
+ghost use Rattle.model.specs.declared.capability.Cap.{Cap};
+ghost use Rattle.model.specs.Capability.{IsAccess};
+ghost use Rattle.layout.specs.Capability.{capability_bytes, head_number, HeadFits, number_of, assembled, IsCapability};
+
+use crate::bad_image::BadImage;
+use crate::bytes::{number_at, put_number};
+use bitflags::Flags;
+use model::{Access, Cap, Capability, Geometry};
+
+/// How many bytes a capability takes.
+pub const CAPABILITY_BYTES: usize = 24;
+
+// The first eight bytes of a capability as one number: its tag, access, key and height.
+fn head_of(what: Capability) -> u64
+    ensures number { result ≡ head_number what }
+    ensures fits { HeadFits what }
+{
+    match what {
+        Capability::Void => 0,
+        Capability::Number(_) => 1,
+        Capability::Page { access, .. } => 2 + 256 * access.bits() as u64,
+        Capability::Node { access, .. } => 3 + 256 * access.bits() as u64,
+        Capability::Space { height, access, .. } => {
+            4 + 256 * access.bits() as u64 + 4294967296 * height as u64
+        }
+        Capability::Process(_) => 5,
+        Capability::Start { key, .. } => 6 + 65536 * key as u64,
+        Capability::Resume(_) => 7,
+        Capability::Bank(_) => 8,
+        Capability::Discrim => 9,
+    }
+}
+
+// The number that a capability has: of the object that it names, or its own.
+fn number_of(what: Capability) -> u64
+    ensures { result ≡ number_of what }
+{
+    match what {
+        Capability::Void | Capability::Discrim => 0,
+        Capability::Number(number) => number,
+        Capability::Page { object, .. }
+        | Capability::Node { object, .. }
+        | Capability::Space { object, .. }
+        | Capability::Process(object)
+        | Capability::Start {
+            process: object,
+            ..
+        }
+        | Capability::Resume(object)
+        | Capability::Bank(object) => object,
+    }
+}
+
+// The capability with a tag, of the fields that it has.
+fn assembled(tag: u64, access: Access, key: u16, height: u8, object: u64) -> Capability
+    ensures { result ≡ assembled tag access key height object }
+{
+    match tag {
+        0 => Capability::Void,
+        1 => Capability::Number(object),
+        2 => Capability::Page { object, access },
+        3 => Capability::Node { object, access },
+        4 => Capability::Space {
+            object,
+            height,
+            access,
+        },
+        5 => Capability::Process(object),
+        6 => Capability::Start {
+            process: object,
+            key,
+        },
+        7 => Capability::Resume(object),
+        8 => Capability::Bank(object),
+        _ => Capability::Discrim,
+    }
+}
+
+fn is_access(access: Access) -> bool
+    ensures { IsTrue result ↔ IsAccess access }
+{
+    matches!(access.bits(), 0 | 1 | 3)
+}
+
+fn is_capability(geometry: Geometry, age: u64, cap: Cap) -> bool
+    ensures { IsTrue result ↔ IsCapability geometry age cap }
+{
+    match cap.what {
+        Capability::Void | Capability::Number(_) | Capability::Discrim => cap.count == 0,
+        Capability::Page { object, access } => {
+            let is_page = object >= geometry.nodes && object - geometry.nodes < geometry.pages;
+            is_access(access) && is_page && cap.count <= age
+        }
+        Capability::Node { object, access } => {
+            is_access(access) && object < geometry.nodes && cap.count <= age
+        }
+        Capability::Space {
+            object,
+            height,
+            access,
+        } => {
+            let is_height = height >= 1 && height <= 4;
+            is_access(access) && is_height && object < geometry.nodes && cap.count <= age
+        }
+        Capability::Process(object)
+        | Capability::Start {
+            process: object,
+            ..
+        }
+        | Capability::Resume(object)
+        | Capability::Bank(object) => object < geometry.nodes && cap.count <= age,
+    }
+}
+
+/// Writes a capability.
+pub fn encode_capability(cap: Cap, into: &mut [u8])
+    requires { length into.old ≡ 24 }
+    ensures { into.new ≡ capability_bytes cap }
+{
+    put_number(into, 0, head_of(cap.what));
+    put_number(into, 8, number_of(cap.what));
+    put_number(into, 16, cap.count);
+}
+
+/// Reads a capability. Its object has to be of its kind, and its count at most the age. All that is
+/// no spelling of such a capability is a `BadFrame`.
+pub fn decode_capability(bytes: &[u8], geometry: Geometry, age: u64) -> Result<Cap, BadImage>
+    requires { length bytes.now ≡ 24 }
+    ensures found { IfOk result (λ c. IsCapability geometry age c × (bytes.now ≡ capability_bytes c)) }
+    ensures refused { IfErr result (λ e. (e ≡ BadImage.BadFrame) × ((c : Cap) → IsCapability geometry age c → bytes.now ≡ capability_bytes c → ⊥)) }
+{
+    let head = number_at(bytes, 0);
+    let object = number_at(bytes, 8);
+    let count = number_at(bytes, 16);
+    let access = Access::from_bits_retain((head / 256 % 256) as u8);
+    let key = (head / 65536 % 65536) as u16;
+    let height = (head / 4294967296 % 256) as u8;
+    let what = assembled(head % 256, access, key, height, object);
+    let cap = Cap { what, count };
+    if head_of(what) == head && number_of(what) == object && is_capability(geometry, age, cap) {
+        Ok(cap)
+    } else {
+        Err(BadImage::BadFrame)
+    }
+}

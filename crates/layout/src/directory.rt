@@ -1,0 +1,109 @@
+ghost use Rattle.std.specs.Prelude.{◌≡◌, ℕ, ◌+◌, ◌*◌, ◌<◌, ◌≤◌, ◌↔◌, List, length, IsTrue, OnOk, IfErr};
+ghost use Rattle.std.specs.List.{All};
+ghost use Rattle.layout.specs.declared.directory.Entry.{Entry};
+ghost use Rattle.layout.specs.Directory.{directory_bytes, IsEntry, AreRising, AreApart, IsDirectory, AllFitting};
+
+use crate::bad_image::BadImage;
+use crate::bytes::{number_at, put_number};
+use model::Geometry;
+
+/// How many bytes an entry takes.
+pub const ENTRY_BYTES: usize = 16;
+
+/// The greatest number of slots of a log half.
+pub const MAX_LOG: usize = 4096;
+
+/// Which object lies in which slot of the log.
+#[derive(Clone, Copy, PartialEq, Eq, Debug)]
+pub struct Entry {
+    pub object: u64,
+    pub slot: u64,
+}
+
+fn is_entry(geometry: Geometry, entry: Entry) -> bool
+    ensures { IsTrue result ↔ IsEntry geometry entry }
+{
+    let is_object = entry.object < geometry.nodes || entry.object - geometry.nodes < geometry.pages;
+    is_object && entry.slot < geometry.log
+}
+
+fn are_rising(entries: &[Entry]) -> bool
+    ensures { IsTrue result ↔ AreRising entries.now }
+{
+    for i in 1..entries.len() {
+        if entries[i - 1].object >= entries[i].object {
+            return false;
+        }
+    }
+    true
+}
+
+fn are_apart(entries: &[Entry]) -> bool
+    requires { All (λ e. e.slot < MAX_LOG) entries.now }
+    ensures { IsTrue result ↔ AreApart entries.now }
+{
+    let mut used = [false; MAX_LOG];
+    for entry in entries {
+        let slot = entry.slot as usize;
+        if used[slot] {
+            return false;
+        }
+        used[slot] = true;
+    }
+    true
+}
+
+fn is_directory(geometry: Geometry, entries: &[Entry]) -> bool
+    requires { geometry.log ≤ MAX_LOG }
+    ensures { IsTrue result ↔ IsDirectory geometry entries.now }
+{
+    entries.iter().all(|entry| is_entry(geometry, *entry))
+        && are_rising(entries)
+        && are_apart(entries)
+}
+
+/// Writes a directory.
+pub fn encode_directory(entries: &[Entry], into: &mut [u8])
+    requires { length into.old ≡ 16 * length entries.now }
+    ensures { into.new ≡ directory_bytes entries.now }
+{
+    for (i, entry) in entries.iter().enumerate() {
+        let at = ENTRY_BYTES * i;
+        put_number(into, at, entry.object);
+        put_number(into, at + 8, entry.slot);
+    }
+}
+
+fn read_entries(bytes: &[u8], into: &mut [Entry])
+    requires { length bytes.now ≡ 16 * length into.old }
+    ensures bytes { bytes.now ≡ directory_bytes into.new }
+    ensures fits { AllFitting into.new }
+{
+    for i in 0..into.len() {
+        let at = ENTRY_BYTES * i;
+        into[i] = Entry {
+            object: number_at(bytes, at),
+            slot: number_at(bytes, at + 8),
+        };
+    }
+}
+
+/// Reads a directory of as many entries as `into` has. All that is no spelling of such a directory is
+/// a `BadDirectory`, which leaves any entries.
+pub fn decode_directory(
+    bytes: &[u8],
+    geometry: Geometry,
+    into: &mut [Entry],
+) -> Result<(), BadImage>
+    requires size { length bytes.now ≡ 16 * length into.old }
+    requires log { geometry.log ≤ MAX_LOG }
+    ensures found { OnOk result (IsDirectory geometry into.new × (bytes.now ≡ directory_bytes into.new)) }
+    ensures refused { IfErr result (λ e. (e ≡ BadImage.BadDirectory) × ((es : List Entry) → IsDirectory geometry es → bytes.now ≡ directory_bytes es → ⊥)) }
+{
+    read_entries(bytes, into);
+    if is_directory(geometry, into) {
+        Ok(())
+    } else {
+        Err(BadImage::BadDirectory)
+    }
+}

@@ -1,0 +1,121 @@
+ghost use Rattle.std.specs.Prelude.{◌≡◌, ◌⊎◌, ℕ, ◌+◌, ◌<◌, ◌≤◌, ◌++◌, ◌∷◌, ◌↔◌, [], List, length, map, IsTrue};
+ghost use Rattle.std.specs.List.{All};
+ghost use Rattle.layout.specs.Superblock.{range_extent, half_extent, IsWithin, IsApart, AreApart};
+
+use model::Geometry;
+
+/// Consecutive numbers of objects whose frames lie one after the other.
+#[derive(Clone, Copy, PartialEq, Eq, Debug)]
+pub struct HomeRange {
+    /// The first number.
+    pub first: u64,
+    /// How many numbers.
+    pub count: u64,
+    /// The sector where the frame of the first number begins.
+    pub sector: u64,
+}
+
+/// Consecutive sectors.
+#[derive(Clone, Copy, PartialEq, Eq, Debug)]
+pub struct Extent {
+    pub sector: u64,
+    /// How many sectors.
+    pub length: u64,
+}
+
+/// The sectors of a range.
+pub fn range_extent(geometry: Geometry, range: HomeRange) -> Extent
+    requires { range.count ≤ 8192 }
+    ensures { result ≡ range_extent geometry range }
+{
+    let sector = range.sector;
+    if range.first < geometry.nodes {
+        Extent {
+            sector,
+            length: 2 * range.count,
+        }
+    } else {
+        Extent {
+            sector,
+            length: 9 * range.count,
+        }
+    }
+}
+
+/// The sectors of a log half: its slots and its directory.
+pub fn half_extent(geometry: Geometry, sector: u64) -> Extent
+    requires { geometry.log ≤ 4096 }
+    ensures { result ≡ half_extent geometry sector }
+{
+    Extent {
+        sector,
+        length: 9 * geometry.log + (geometry.log + 31) / 32,
+    }
+}
+
+/// Writes the sectors of ranges and of two log halves.
+pub fn fill_extents(
+    geometry: Geometry,
+    ranges: &[HomeRange],
+    half_0: u64,
+    half_1: u64,
+    into: &mut [Extent],
+)
+    requires size { length into.old ≡ length ranges.now + 2 }
+    requires log { geometry.log ≤ 4096 }
+    requires counts { All (λ r. r.count ≤ 8192) ranges.now }
+    ensures { into.new ≡ map (range_extent geometry) ranges.now ++ half_extent geometry half_0 ∷ half_extent geometry half_1 ∷ [] }
+{
+    for (i, range) in ranges.iter().enumerate() {
+        into[i] = range_extent(geometry, *range);
+    }
+    into[ranges.len()] = half_extent(geometry, half_0);
+    into[ranges.len() + 1] = half_extent(geometry, half_1);
+}
+
+fn is_within(total: u64, extent: Extent) -> bool
+    ensures { IsTrue result ↔ IsWithin total extent }
+{
+    extent.sector >= 5 && extent.length <= total && extent.sector <= total - extent.length
+}
+
+/// Whether all lie behind the headers and before the end.
+pub fn are_within(total: u64, extents: &[Extent]) -> bool
+    ensures { IsTrue result ↔ All (IsWithin total) extents.now }
+{
+    extents.iter().all(|extent| is_within(total, *extent))
+}
+
+fn is_apart(extent: Extent, other: Extent) -> bool
+    requires first { extent.sector + extent.length ≤ 131072 }
+    requires second { other.sector + other.length ≤ 131072 }
+    ensures { IsTrue result ↔ IsApart extent other }
+{
+    extent.sector + extent.length <= other.sector || other.sector + other.length <= extent.sector
+}
+
+fn is_apart_from_all(extent: Extent, others: &[Extent]) -> bool
+    requires first { extent.sector + extent.length ≤ 131072 }
+    requires others { All (λ e. e.sector + e.length ≤ 131072) others.now }
+    ensures { IsTrue result ↔ All (IsApart extent) others.now }
+{
+    for other in others {
+        if !is_apart(extent, *other) {
+            return false;
+        }
+    }
+    true
+}
+
+/// Whether no sector is in two of them.
+pub fn are_apart(extents: &[Extent]) -> bool
+    requires { All (λ e. e.sector + e.length ≤ 131072) extents.now }
+    ensures { IsTrue result ↔ AreApart extents.now }
+{
+    for (i, extent) in extents.iter().enumerate() {
+        if !is_apart_from_all(*extent, &extents[i + 1..]) {
+            return false;
+        }
+    }
+    true
+}

@@ -1,0 +1,32 @@
+ghost use Rattle.std.specs.Prelude.{◌≡◌, ℕ, ◌<◌, length};
+ghost use Rattle.layout.specs.Gate.{gate_bytes, gate_of};
+
+use crate::bytes::blank;
+
+/// Whether a header counts.
+#[derive(Clone, Copy, PartialEq, Eq, Debug)]
+pub enum Gate {
+    Closed = 0,
+    Open = 1,
+}
+
+/// Writes the sector of a gate.
+pub fn encode_gate(gate: Gate, into: &mut [u8])
+    requires { length into.old ≡ 512 }
+    ensures { into.new ≡ gate_bytes gate }
+{
+    blank(into);
+    into[0] = gate as u8;
+}
+
+/// Reads a gate by its first byte alone: what a torn write left of the others doesn't matter.
+pub fn decode_gate(bytes: &[u8]) -> Gate
+    requires { 0 < length bytes.now }
+    ensures { result ≡ gate_of bytes.now }
+{
+    if bytes[0] == 1 {
+        Gate::Open
+    } else {
+        Gate::Closed
+    }
+}

@@ -1,0 +1,79 @@
+ghost use Rattle.std.specs.Prelude.{◌≡◌, ℕ, ◌<◌, ◌↔◌, length, IsTrue, IfOk, IfErr};
+ghost use Rattle.layout.specs.declared.header.CheckpointHeader.{CheckpointHeader};
+ghost use Rattle.layout.specs.Header.{header_bytes, IsHeader};
+
+use crate::bad_image::BadImage;
+use crate::bytes::{blank, is_blank_from, number_at, put_number};
+
+// The bytes of EROSHEAD as a number.
+const HEADER_MAGIC: u64 = 0x4441_4548_534f_5245;
+
+const MAX_AGE: u64 = 0x4000_0000_0000_0000;
+
+/// What a committed checkpoint tells of itself.
+#[derive(Clone, Copy, PartialEq, Eq, Debug)]
+pub struct CheckpointHeader {
+    /// Counts the headers written. Of two open headers the one with the greater number counts.
+    pub sequence: u64,
+    /// Counts the checkpoints committed.
+    pub generation: u64,
+    /// How many objects lie in the log.
+    pub entries: u64,
+    /// How many steps were taken when the checkpoint was made.
+    pub age: u64,
+}
+
+// Whether the fields of a header are within their limits.
+fn is_header(room: u64, header: CheckpointHeader) -> bool
+    ensures { IsTrue result ↔ IsHeader room header }
+{
+    if header.entries > room || header.age > MAX_AGE {
+        return false;
+    }
+    let twice = 2 * header.age;
+    let most = if header.entries == 0 {
+        twice + 1
+    } else {
+        twice
+    };
+    header.generation <= twice && header.sequence <= most
+}
+
+/// Writes the sector of a header.
+pub fn encode_header(header: CheckpointHeader, into: &mut [u8])
+    requires { length into.old ≡ 512 }
+    ensures { into.new ≡ header_bytes header }
+{
+    blank(into);
+    put_number(into, 0, HEADER_MAGIC);
+    put_number(into, 8, header.sequence);
+    put_number(into, 16, header.generation);
+    put_number(into, 24, header.entries);
+    put_number(into, 32, header.age);
+}
+
+/// Reads the sector of a header, on a device whose log half has room for so many objects. All that is
+/// no spelling of such a header is a `BadHeader`.
+pub fn decode_header(bytes: &[u8], room: u64) -> Result<CheckpointHeader, BadImage>
+    requires { length bytes.now ≡ 512 }
+    ensures found { IfOk result (λ h. IsHeader room h × (bytes.now ≡ header_bytes h)) }
+    ensures refused { IfErr result (λ e. (e ≡ BadImage.BadHeader) × ((h : CheckpointHeader) → IsHeader room h → bytes.now ≡ header_bytes h → ⊥)) }
+{
+    let magic = number_at(bytes, 0);
+    let sequence = number_at(bytes, 8);
+    let generation = number_at(bytes, 16);
+    let entries = number_at(bytes, 24);
+    let age = number_at(bytes, 32);
+    let header = CheckpointHeader {
+        sequence,
+        generation,
+        entries,
+        age,
+    };
+    let is_blank = is_blank_from(bytes, 40);
+    if magic == HEADER_MAGIC && is_blank && is_header(room, header) {
+        Ok(header)
+    } else {
+        Err(BadImage::BadHeader)
+    }
+}

@@ -1,0 +1,35 @@
+//! The bytes of an image: each structure has one spelling, and a decoder takes no other bytes.
+#![tactic(auto)]
+
+mod bad_image;
+mod bytes;
+mod capability;
+mod directory;
+mod extent;
+mod fields;
+mod front;
+mod gate;
+mod header;
+mod laws;
+mod node_frame;
+mod page_frame;
+mod slots;
+mod superblock;
+
+pub use bad_image::BadImage;
+pub use capability::{CAPABILITY_BYTES, decode_capability, encode_capability};
+pub use directory::{ENTRY_BYTES, Entry, MAX_LOG, decode_directory, encode_directory};
+pub use extent::HomeRange;
+pub use fields::{sequence_in, total_in};
+pub use gate::{Gate, decode_gate, encode_gate};
+pub use header::{CheckpointHeader, decode_header, encode_header};
+pub use laws::{denote_one_state, spell_one_value};
+pub use node_frame::{NODE_FRAME_BYTES, NodeBody, decode_node_frame, encode_node_frame};
+pub use page_frame::{PAGE_FRAME_BYTES, PageBody, decode_page_frame, encode_page_frame};
+pub use slots::VOID;
+pub use superblock::{
+    MAX_RANGES, MAX_SECTORS, SECTOR_BYTES, Superblock, decode_superblock, encode_superblock,
+};
+
+#[cfg(test)]
+mod tests;

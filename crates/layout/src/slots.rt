@@ -1,0 +1,66 @@
+ghost use Rattle.std.specs.Prelude.{◌≡◌, ℕ, ◌*◌, ◌-◌, ◌++◌, ◌<◌, ◌≤◌, ◌↔◌, List, length, replicate, IsTrue, OnOk, IfErr};
+ghost use Rattle.std.specs.List.{All};
+ghost use Rattle.model.specs.declared.capability.Cap.{Cap};
+ghost use Rattle.layout.specs.Frame.{AreSlots, slots_bytes, void_cap};
+
+use crate::bad_image::BadImage;
+use crate::capability::{CAPABILITY_BYTES, decode_capability, encode_capability};
+use model::{Cap, Capability, Geometry, Slots};
+
+/// A capability that conveys nothing.
+pub const VOID: Cap = Cap {
+    what: Capability::Void,
+    count: 0,
+};
+
+// Whether all are void.
+fn are_void(caps: &[Cap]) -> bool
+    ensures { IsTrue result ↔ All (λ c. c ≡ void_cap) caps.now }
+{
+    caps.iter().all(|cap| *cap == VOID)
+}
+
+fn are_same(caps: &[Cap], others: &[Cap]) -> bool
+    ensures { IsTrue result ↔ (caps.now ≡ others.now) }
+{
+    caps == others
+}
+
+/// Whether 32 slots hold these capabilities first, and void ones behind them.
+pub fn are_held(caps: &[Cap], slots: &[Cap]) -> bool
+    requires size { length slots.now ≡ 32 }
+    requires few { length caps.now ≤ 32 }
+    ensures { IsTrue result ↔ (slots.now ≡ caps.now ++ replicate (32 - length caps.now) void_cap) }
+{
+    are_same(&slots[..caps.len()], caps) && are_void(&slots[caps.len()..])
+}
+
+/// Writes capabilities one after the other.
+pub fn encode_slots(caps: &[Cap], into: &mut [u8])
+    requires { length into.old ≡ 24 * length caps.now }
+    ensures { into.new ≡ slots_bytes caps.now }
+{
+    for (i, cap) in caps.iter().enumerate() {
+        let at = CAPABILITY_BYTES * i;
+        encode_capability(*cap, &mut into[at..at + CAPABILITY_BYTES]);
+    }
+}
+
+/// Reads 32 capabilities.
+pub fn decode_slots(
+    bytes: &[u8],
+    geometry: Geometry,
+    age: u64,
+    into: &mut Slots<Cap>,
+) -> Result<(), BadImage>
+    requires { length bytes.now ≡ 768 }
+    ensures found { OnOk result (AreSlots geometry age into.new × (bytes.now ≡ slots_bytes into.new)) }
+    ensures refused { IfErr result (λ e. (e ≡ BadImage.BadFrame) × ((slots : List Cap) → AreSlots geometry age slots → bytes.now ≡ slots_bytes slots → ⊥)) }
+{
+    for i in 0..into.as_slice().len() {
+        let at = CAPABILITY_BYTES * i;
+        let cap = decode_capability(&bytes[at..at + CAPABILITY_BYTES], geometry, age)?;
+        into.set(i, cap);
+    }
+    Ok(())
+}

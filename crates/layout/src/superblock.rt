@@ -1,0 +1,258 @@
+ghost use Rattle.std.specs.Prelude.{if◌then◌else◌, ◌≡◌, ℕ, ◌+◌, ◌*◌, ◌-◌, ◌<◌, ◌≤◌, ◌++◌, ◌↔◌, ◌^◌, List, length, take, drop, map, replicate, IsTrue, IfOk, IfErr, IfSome, IfNone, slice_index};
+ghost use Rattle.std.specs.List.{All};
+ghost use Rattle.layout.specs.Superblock.{Plan, superblock_bytes, ranges_bytes, unused, IsGeometry, IsNext, Cover, extents, IsPlan, IsRefused, RangeFits, plan_of};
+
+use crate::bad_image::BadImage;
+use crate::bytes::{blank, is_blank_from, number_at, put_number};
+use crate::extent::{Extent, HomeRange, are_apart, are_within, fill_extents};
+use model::Geometry;
+use std::marker::Model;
+
+/// How many bytes a sector has.
+pub const SECTOR_BYTES: usize = 512;
+
+/// How many home ranges a device may have.
+pub const MAX_RANGES: usize = 8;
+
+/// How many sectors a device may have.
+pub const MAX_SECTORS: u64 = 131072;
+
+// The bytes of EROSCKPT as a number.
+const SUPERBLOCK_MAGIC: u64 = 0x5450_4b43_534f_5245;
+
+const VERSION: u64 = 1;
+
+const RANGE_BYTES: usize = 24;
+
+// Where the ranges stand in the sector, and where the zeros behind them begin.
+const RANGES_AT: usize = 64;
+
+const RANGES_END: usize = 256;
+
+const UNUSED: HomeRange = HomeRange {
+    first: 0,
+    count: 0,
+    sector: 0,
+};
+
+fn is_geometry(geometry: Geometry) -> bool
+    ensures { IsTrue result ↔ IsGeometry geometry }
+{
+    let nodes = geometry.nodes >= 16 && geometry.nodes <= 4096;
+    let pages = geometry.pages >= 1 && geometry.pages <= 4096;
+    let log = geometry.log >= 16 && geometry.log <= 4096;
+    nodes && pages && log
+}
+
+fn is_next(geometry: Geometry, range: HomeRange, next: u64) -> bool
+    requires { geometry.nodes + geometry.pages ≤ 8192 }
+    ensures { IsTrue result ↔ IsNext geometry range next }
+{
+    let is_of_one_kind = range.first >= geometry.nodes
+        || range.count <= geometry.nodes - range.first;
+    range.first == next && range.count > 0 && is_of_one_kind
+}
+
+fn do_cover(geometry: Geometry, ranges: &[HomeRange]) -> bool
+    requires { IsGeometry geometry }
+    ensures { IsTrue result ↔ Cover geometry 0 ranges.now }
+{
+    let end = geometry.nodes + geometry.pages;
+    let mut next = 0;
+    for range in ranges {
+        if !is_next(geometry, *range, next) || range.count > end - next {
+            return false;
+        }
+        next += range.count;
+    }
+    next == end
+}
+
+fn is_plan(geometry: Geometry, ranges: &[HomeRange], half_0: u64, half_1: u64, total: u64) -> bool
+    ensures { IsTrue result ↔ IsPlan (plan_of geometry ranges.now half_0 half_1 total) }
+{
+    if !is_geometry(geometry) || ranges.is_empty() || ranges.len() > MAX_RANGES {
+        return false;
+    }
+    if total > MAX_SECTORS || !do_cover(geometry, ranges) {
+        return false;
+    }
+    let mut extents = [Extent {
+        sector: 0,
+        length: 0,
+    }; 10];
+    let used = &mut extents[..ranges.len() + 2];
+    fill_extents(geometry, ranges, half_0, half_1, used);
+    are_within(total, used) && are_apart(used)
+}
+
+/// How much a device holds, and where. Only what fits the limits is a superblock: the ranges cover
+/// all objects, and no sector is in two ranges or halves of the log.
+#[derive(Drop)]
+pub struct Superblock {
+    geometry: Geometry,
+    ranges: [HomeRange; MAX_RANGES],
+    used: usize,
+    half_0: u64,
+    half_1: u64,
+    total: u64,
+}
+
+impl Model for Superblock {
+    ghost use Rattle.std.specs.Prelude.{◌≡◌, ◌≤◌, ◌++◌, ◌-◌, take, replicate};
+    ghost use Rattle.layout.specs.Superblock.{Plan, plan_of, IsPlan, unused};
+
+    ghost Value = { Plan };
+
+    ghost view = { λ s. plan_of s.geometry (take s.used s.ranges) s.half_0 s.half_1 s.total };
+
+    ghost invariant = { λ s. (s.used ≤ 8) × IsPlan (plan_of s.geometry (take s.used s.ranges) s.half_0 s.half_1 s.total) };
+}
+
+impl Superblock {
+    /// The superblock with these parts, or `None` where they don't fit.
+    pub fn new(
+        geometry: Geometry,
+        ranges: &[HomeRange],
+        half_0: u64,
+        half_1: u64,
+        total: u64,
+    ) -> Option<Self>
+        ensures some { IfSome result (λ s. s ≡ plan_of geometry ranges.now half_0 half_1 total) }
+        ensures fits { IfSome result (λ s. IsPlan s) }
+        ensures none { IfNone result (IsPlan (plan_of geometry ranges.now half_0 half_1 total) → ⊥) }
+    {
+        if !is_plan(geometry, ranges, half_0, half_1, total) {
+            return None;
+        }
+        let mut held = [UNUSED; MAX_RANGES];
+        let used = ranges.len();
+        held[..used].copy_from_slice(ranges);
+        Some(Superblock {
+            geometry,
+            ranges: held,
+            used,
+            half_0,
+            half_1,
+            total,
+        })
+    }
+
+    pub fn geometry(&self) -> Geometry
+        ensures value { result ≡ self.now.geometry }
+        ensures fits { IsPlan self.now }
+    {
+        self.geometry
+    }
+
+    /// The home ranges, in the order of their numbers.
+    pub fn ranges(&self) -> &[HomeRange]
+        ensures value { result.now ≡ self.now.ranges }
+        ensures fits { IsPlan self.now }
+    {
+        &self.ranges[..self.used]
+    }
+
+    /// The first sector of a half of the log: of half 1, or else of half 0.
+    pub fn half(&self, second: bool) -> u64
+        ensures value { result ≡ (if second then self.now.half_1 else self.now.half_0) }
+        ensures fits { IsPlan self.now }
+    {
+        if second { self.half_1 } else { self.half_0 }
+    }
+
+    /// How many sectors the image takes.
+    pub fn total(&self) -> u64
+        ensures value { result ≡ self.now.total }
+        ensures fits { IsPlan self.now }
+    {
+        self.total
+    }
+}
+
+fn read_ranges(bytes: &[u8], into: &mut [HomeRange])
+    requires { length bytes.now ≡ 24 * length into.old }
+    ensures bytes { bytes.now ≡ ranges_bytes into.new }
+    ensures fits { All RangeFits into.new }
+{
+    for i in 0..into.len() {
+        let at = RANGE_BYTES * i;
+        into[i] = HomeRange {
+            first: number_at(bytes, at),
+            count: number_at(bytes, at + 8),
+            sector: number_at(bytes, at + 16),
+        };
+    }
+}
+
+fn write_ranges(ranges: &[HomeRange], into: &mut [u8])
+    requires { length into.old ≡ 24 * length ranges.now }
+    ensures { into.new ≡ ranges_bytes ranges.now }
+{
+    for (i, range) in ranges.iter().enumerate() {
+        let at = RANGE_BYTES * i;
+        put_number(into, at, range.first);
+        put_number(into, at + 8, range.count);
+        put_number(into, at + 16, range.sector);
+    }
+}
+
+fn are_unused(ranges: &[HomeRange]) -> bool
+    ensures { IsTrue result ↔ All (λ r. r ≡ unused) ranges.now }
+{
+    ranges.iter().all(|range| *range == UNUSED)
+}
+
+/// Writes the sector of a superblock.
+pub fn encode_superblock(superblock: &Superblock, into: &mut [u8])
+    requires { length into.old ≡ 512 }
+    ensures { into.new ≡ superblock_bytes superblock.now }
+{
+    let geometry = superblock.geometry();
+    let ranges = superblock.ranges();
+    blank(into);
+    put_number(into, 0, SUPERBLOCK_MAGIC);
+    put_number(into, 8, VERSION + 4294967296 * ranges.len() as u64);
+    put_number(into, 16, geometry.nodes);
+    put_number(into, 24, geometry.pages);
+    put_number(into, 32, geometry.log);
+    put_number(into, 40, superblock.half(false));
+    put_number(into, 48, superblock.half(true));
+    put_number(into, 56, superblock.total());
+    let end = RANGES_AT + RANGE_BYTES * ranges.len();
+    write_ranges(ranges, &mut into[RANGES_AT..end]);
+}
+
+/// Reads the sector of a superblock. Another magic or version, or a byte behind the ranges that isn't
+/// 0, is `NotASuperblock`; all else that is no spelling of a superblock is a `BadGeometry`.
+pub fn decode_superblock(bytes: &[u8]) -> Result<Superblock, BadImage>
+    requires { length bytes.now ≡ 512 }
+    ensures found { IfOk result (λ s. bytes.now ≡ superblock_bytes s) }
+    ensures fits { IfOk result (λ s. IsPlan s) }
+    ensures refused { IfErr result (λ e. IsRefused bytes.now e) }
+{
+    let magic = number_at(bytes, 0);
+    let second = number_at(bytes, 8);
+    let is_version = second % 4294967296 == VERSION;
+    if magic != SUPERBLOCK_MAGIC || !is_version || !is_blank_from(bytes, RANGES_END) {
+        return Err(BadImage::NotASuperblock);
+    }
+    let geometry = Geometry {
+        nodes: number_at(bytes, 16),
+        pages: number_at(bytes, 24),
+        log: number_at(bytes, 32),
+    };
+    let half_0 = number_at(bytes, 40);
+    let half_1 = number_at(bytes, 48);
+    let total = number_at(bytes, 56);
+    let mut ranges = [UNUSED; MAX_RANGES];
+    read_ranges(&bytes[RANGES_AT..RANGES_END], &mut ranges);
+    let used = (second / 4294967296) as usize;
+    if used > MAX_RANGES || !are_unused(&ranges[used..]) {
+        return Err(BadImage::BadGeometry);
+    }
+    match Superblock::new(geometry, &ranges[..used], half_0, half_1, total) {
+        Some(superblock) => Ok(superblock),
+        None => Err(BadImage::BadGeometry),
+    }
+}

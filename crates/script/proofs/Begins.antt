@@ -1,0 +1,29 @@
+-- The world F0 is one that scripts of calls can run over.
+use Rattle.std.proofs.Common.{◌≡◌, ℕ, Result, Ok, Err, sym, subst, ⊎_elim}
+use Rattle.std.specs.Prelude.{IfOk}
+use Rattle.capability.specs.Plain.{PlainState, world_of}
+use Rattle.gate.specs.Plan.{IsStorage, HoldOnlyStorage}
+use Rattle.model.specs.declared.geometry.Geometry.{Geometry}
+use Rattle.model.specs.Sound.{IsSound}
+use Rattle.model.specs.World.{World}
+use Rattle.model.specs.Worlds.{small, f0}
+use Rattle.model.proofs.SoundWorlds.{f0_sound, f0_slots}
+use Rattle.script.specs.First.{IsStorageWorld}
+
+-- F0 holds nothing but a node and a page
+f0_storage : HoldOnlyStorage f0.objects
+f0_storage n i = ⊎_elim
+    (λ is. subst IsStorage (sym is) tt)
+    (λ other. ⊎_elim (λ is. subst IsStorage (sym is) tt) (λ is. subst IsStorage (sym is) tt) other)
+    (f0_slots n i)
+
+pub begins : (plain : PlainState) → world_of plain ≡ f0 → plain.geometry ≡ small → IsStorageWorld plain
+begins plain world geometry = record {
+    sound = subst (λ (g : Geometry). IsSound g (world_of plain)) (sym geometry) (subst (IsSound small) (sym world) f0_sound);
+    storage = subst (λ (w : World). HoldOnlyStorage w.objects) (sym world) f0_storage;
+  }
+
+-- a store that was made for it, if one was
+pub begins_where_made : {E : Type 0} (made : Result PlainState E) → IfOk made (λ p. world_of p ≡ f0) → IfOk made (λ p. p.geometry ≡ small) → IfOk made IsStorageWorld
+begins_where_made (Ok plain) world geometry = begins plain world geometry
+begins_where_made (Err e) world geometry = tt
