@@ -41,7 +41,7 @@ impl<C: Copy> Slots<C> {
         ensures value { slice_get self.now index ≡ Some result }
         ensures length { length self.now ≡ 32 }
     {
-        self.items[index]
+        self.as_slice()[index]
     }
 
     /// The slots in order.

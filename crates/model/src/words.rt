@@ -35,7 +35,7 @@ impl Words {
         ensures value { result ≡ slice_index self.now index }
         ensures length { length self.now ≡ 512 }
     {
-        self.items[index]
+        self.as_slice()[index]
     }
 
     /// The words in order.

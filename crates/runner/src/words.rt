@@ -2,10 +2,10 @@ use clap::{Arg, Command};
 use std::alloc::{AllocError, Global};
 
 /// The argument that names the script.
-pub const SCRIPT: &str = "SCRIPT";
+pub(crate) const SCRIPT: &str = "SCRIPT";
 
 /// What can be asked of `eros`.
-pub fn command<'a>(alloc: Global) -> Result<Command<'a>, AllocError> {
+pub(crate) fn command<'a>(alloc: Global) -> Result<Command<'a>, AllocError> {
     let script = Arg::new(alloc, SCRIPT)
         .help("The script, a command a line")
         .required(true);
@@ -13,6 +13,7 @@ pub fn command<'a>(alloc: Global) -> Result<Command<'a>, AllocError> {
         .about("Runs a script of calls over a small world in memory")
         .arg(script)?;
     Command::new(alloc, "eros")
+        .bin_name("eros")?
         .about("The core of a persistent capability system")
         .subcommand_required(true)
         .subcommand(first)

@@ -5,8 +5,8 @@ use thiserror::Error;
 pub enum RunFault {
     /// The reader of the script failed.
     #[error("cannot read script")]
-    Read,
+    Read = 1,
     /// The writer of the answers failed, or took nothing.
     #[error("cannot write output")]
-    Write,
+    Write = 2,
 }

@@ -1,6 +1,6 @@
-ghost use Rattle.std.specs.Prelude.{◌≡◌, ◌+◌, ◌*◌, ◌<◌, ◌≤◌, ◌∷◌, ◌++◌, length, decimal};
+ghost use Rattle.std.specs.Prelude.{◌≡◌, ◌+◌, ◌*◌, ◌<◌, ◌≤◌, [], ◌∷◌, ◌++◌, length, decimal};
 ghost use Rattle.std.specs.List.{flat_map};
-ghost use Rattle.model.specs.Text.{line_of};
+ghost use Rattle.model.specs.Text.{line_of, spaced};
 ghost use Rattle.script.specs.Writing.{Writes};
 
 use crate::fault::RunFault;
@@ -37,6 +37,18 @@ impl LineText {
         line
     }
 
+    /// A line that begins with the word and the number.
+    pub fn numbered(word: &[u8], number: u64) -> Self
+        requires { length word.now ≤ 299 }
+        ensures text { result ≡ spaced (word.now ∷ decimal number ∷ []) }
+        ensures short { length result ≤ length word.now + 21 }
+    {
+        let mut line = LineText::new(word);
+        line.number(number);
+        line
+    }
+
+    /// Adds the text.
     pub fn push(&mut self, text: &[u8])
         requires { length self.old + length text.now ≤ 320 }
         ensures { self.new ≡ self.old ++ text.now }
@@ -61,6 +73,16 @@ impl LineText {
     {
         let mut buffer = Buffer::new();
         self.word(buffer.format(number).as_bytes());
+    }
+
+    /// Adds a space and the word, and a space and the number.
+    pub fn named(&mut self, word: &[u8], number: u64)
+        requires { length self.old + length word.now + 22 ≤ 320 }
+        ensures text { self.new ≡ (self.old ++ 32 ∷ word.now) ++ 32 ∷ decimal number }
+        ensures short { length self.new ≤ length self.old + length word.now + 22 }
+    {
+        self.word(word);
+        self.number(number);
     }
 
     /// Adds the numbers, with a space before each.

@@ -82,7 +82,8 @@ fn next_byte<R: Read>(reader: &mut R) -> Next
 /// `Err(RunFault::Read)` where the reader fails: what was taken then has no newline. A read that
 /// was interrupted is tried again. It takes no memory.
 pub fn next_line<R: Read>(reader: &mut R) -> Result<Option<Line>, RunFault>
-    ensures ok { IfOk result (λ found. TakesLine (R.remaining reader.old) (R.remaining reader.new) found) }
+    ensures ok { IfOk result (λ found.
+        TakesLine (R.remaining reader.old) (R.remaining reader.new) found) }
     ensures err { OnErr result (TakesNoLine (R.remaining reader.old) (R.remaining reader.new)) }
     ensures fault { IfErr result (λ e. e ≡ RunFault.Read) }
 {

@@ -3,7 +3,8 @@ ghost use Rattle.std.specs.Str.Parse.{AllDigits, digits_value};
 
 /// The value of the digits, if they are digits and it is below 2^64.
 fn value_of(digits: &[u8]) -> Option<u64>
-    ensures found { IfSome result (λ n. (n < 2 ^ 64) × AllDigits 10 digits.now × (n ≡ digits_value 10 digits.now)) }
+    ensures found { IfSome result (λ n.
+        (n < 2 ^ 64) × AllDigits 10 digits.now × (n ≡ digits_value 10 digits.now)) }
     ensures none { IfNone result (AllDigits 10 digits.now → 2 ^ 64 ≤ digits_value 10 digits.now) }
 {
     let mut value: u64 = 0;

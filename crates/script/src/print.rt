@@ -1,5 +1,5 @@
 ghost use Rattle.std.specs.Prelude.{◌≡◌, ◌≤◌, [], ◌∷◌, length, decimal};
-ghost use Rattle.model.specs.Text.{spaced, refusal_text, printed, bad_line};
+ghost use Rattle.model.specs.Text.{refusal_text, printed, bad_line};
 ghost use Rattle.script.specs.Writing.{Writes};
 
 use crate::fault::RunFault;
@@ -8,16 +8,6 @@ use crate::shown::print_object;
 use crate::writing::write_fully;
 use model::{Answer, Refusal};
 use std::io::Write;
-
-fn numbered(word: &[u8], number: u64) -> LineText
-    requires { length word.now ≤ 20 }
-    ensures text { result ≡ spaced (word.now ∷ decimal number ∷ []) }
-    ensures short { length result ≤ 41 }
-{
-    let mut line = LineText::new(word);
-    line.number(number);
-    line
-}
 
 fn refusal_line(refusal: Refusal) -> LineText
     ensures text { result ≡ refusal_text refusal }
@@ -32,7 +22,7 @@ fn refusal_line(refusal: Refusal) -> LineText
         Refusal::LogFull => LineText::new(b"log full"),
         Refusal::CheckpointRunning => LineText::new(b"checkpoint running"),
         Refusal::MigrationPending => LineText::new(b"migration pending"),
-        Refusal::NotStable(left) => numbered(b"not stable", left),
+        Refusal::NotStable(left) => LineText::numbered(b"not stable", left),
         Refusal::NoCheckpoint => LineText::new(b"no checkpoint"),
         Refusal::NoMemory => LineText::new(b"no memory"),
         Refusal::Fault => LineText::new(b"fault"),
@@ -50,13 +40,17 @@ pub fn print_answer<W: Write>(answer: &Answer, writer: &mut W) -> Result<(), Run
 {
     match answer {
         Answer::Done => write_fully(writer, b"done\n"),
-        Answer::Value(word) => numbered(b"value", *word).write_to(writer),
-        Answer::MemoryFault(fault) => numbered(b"memory fault", *fault as u64).write_to(writer),
-        Answer::Frozen(count) => numbered(b"frozen", *count).write_to(writer),
-        Answer::Left(count) => numbered(b"left", *count).write_to(writer),
-        Answer::Committed(generation) => numbered(b"committed", *generation).write_to(writer),
+        Answer::Value(word) => LineText::numbered(b"value", *word).write_to(writer),
+        Answer::MemoryFault(fault) => LineText::numbered(b"memory fault", *fault as u64).write_to(
+            writer,
+        ),
+        Answer::Frozen(count) => LineText::numbered(b"frozen", *count).write_to(writer),
+        Answer::Left(count) => LineText::numbered(b"left", *count).write_to(writer),
+        Answer::Committed(generation) => LineText::numbered(b"committed", *generation).write_to(
+            writer,
+        ),
         Answer::At { generation, age } => {
-            let mut line = numbered(b"at", *generation);
+            let mut line = LineText::numbered(b"at", *generation);
             line.number(*age);
             line.write_to(writer)
         }

@@ -42,18 +42,13 @@ fn push_capability(line: &mut LineText, capability: Capability)
 {
     match capability {
         Capability::Void => line.word(b"void"),
-        Capability::Number(number) => {
-            line.word(b"number");
-            line.number(number);
-        }
+        Capability::Number(number) => line.named(b"number", number),
         Capability::Page { object, access } => {
-            line.word(b"page");
-            line.number(object);
+            line.named(b"page", object);
             push_access(line, access);
         }
         Capability::Node { object, access } => {
-            line.word(b"node");
-            line.number(object);
+            line.named(b"node", object);
             push_access(line, access);
         }
         Capability::Space {
@@ -61,28 +56,17 @@ fn push_capability(line: &mut LineText, capability: Capability)
             height,
             access,
         } => {
-            line.word(b"space");
-            line.number(object);
+            line.named(b"space", object);
             line.number(u64::from(height));
             push_access(line, access);
         }
-        Capability::Process(process) => {
-            line.word(b"process");
-            line.number(process);
-        }
+        Capability::Process(process) => line.named(b"process", process),
         Capability::Start { process, key } => {
-            line.word(b"start");
-            line.number(process);
+            line.named(b"start", process);
             line.number(u64::from(key));
         }
-        Capability::Resume(process) => {
-            line.word(b"resume");
-            line.number(process);
-        }
-        Capability::Bank(bank) => {
-            line.word(b"bank");
-            line.number(bank);
-        }
+        Capability::Resume(process) => line.named(b"resume", process),
+        Capability::Bank(bank) => line.named(b"bank", bank),
         Capability::Discrim => line.word(b"discrim"),
     }
 }
@@ -100,20 +84,30 @@ fn state_word(state: State) -> &'static [u8]
 
 fn process_line(number: u64, owner: u64, root: &Root<Capability>) -> LineText
     ensures text { result ≡ spaced (headed (codes "process") number owner
-        ++ (codes "annex" ∷ decimal root.now.annex ∷ state_text root.now.state ∷ codes "key" ∷ decimal root.now.key ∷ codes "words" ∷ [])
+        ++ (codes "annex" ∷ decimal root.now.annex ∷ state_text root.now.state
+        ∷ codes "key" ∷ decimal root.now.key ∷ codes "words" ∷ [])
         ++ map decimal root.now.words ++ (codes "space" ∷ capability_text root.now.space ∷ [])) }
     ensures short { length result < 320 }
 {
     let mut line = heading(b"process", number, owner);
-    line.word(b"annex");
-    line.number(root.annex);
+    line.named(b"annex", root.annex);
     line.word(state_word(root.state));
-    line.word(b"key");
-    line.number(u64::from(root.key));
+    line.named(b"key", u64::from(root.key));
     line.word(b"words");
     line.numbers(&root.words);
     line.word(b"space");
     push_capability(&mut line, root.space);
+    line
+}
+
+fn bank_line(number: u64, owner: u64, limit: u64, used: u64) -> LineText
+    ensures text { result ≡ spaced (headed (codes "bank") number owner
+        ++ (codes "limit" ∷ decimal limit ∷ codes "used" ∷ decimal used ∷ [])) }
+    ensures short { length result < 320 }
+{
+    let mut line = heading(b"bank", number, owner);
+    line.named(b"limit", limit);
+    line.named(b"used", used);
     line
 }
 
@@ -147,7 +141,8 @@ fn print_capability<W: Write>(
     writer: &mut W,
 ) -> Result<(), RunFault>
     requires { length name.now ≤ 8 }
-    ensures { Writes (W.contents writer.old) (W.contents writer.new) result (capability_line name.now (index, capability)) }
+    ensures { Writes (W.contents writer.old) (W.contents writer.new) result
+        (capability_line name.now (index, capability)) }
 {
     if let Capability::Void = capability {
         return Ok(());
@@ -164,7 +159,8 @@ fn print_capabilities<W: Write>(
     writer: &mut W,
 ) -> Result<(), RunFault>
     requires { length name.now ≤ 8 }
-    ensures { Writes (W.contents writer.old) (W.contents writer.new) result (capability_lines name.now capabilities.now) }
+    ensures { Writes (W.contents writer.old) (W.contents writer.new) result
+        (capability_lines name.now capabilities.now) }
 {
     for (index, capability) in capabilities.iter().enumerate() {
         print_capability(name, index, *capability, writer)?;
@@ -190,15 +186,12 @@ pub fn print_object<W: Write>(
     used: u64,
     writer: &mut W,
 ) -> Result<(), RunFault>
-    ensures { Writes (W.contents writer.old) (W.contents writer.new) result (object_text number object.now registers.now used) }
+    ensures { Writes (W.contents writer.old) (W.contents writer.new) result
+        (object_text number object.now registers.now used) }
 {
     let owner = object.owner;
     match &object.content {
-        Content::Free => {
-            let mut line = LineText::new(b"free");
-            line.number(number);
-            line.write_to(writer)
-        }
+        Content::Free => LineText::numbered(b"free", number).write_to(writer),
         Content::Page(words) => {
             heading(b"page", number, owner).write_to(writer)?;
             print_words(words.as_slice(), writer)
@@ -215,13 +208,6 @@ pub fn print_object<W: Write>(
             heading(b"annex", number, owner).write_to(writer)?;
             print_capabilities(b"register", slots.as_slice(), writer)
         }
-        Content::Bank { limit } => {
-            let mut line = heading(b"bank", number, owner);
-            line.word(b"limit");
-            line.number(*limit);
-            line.word(b"used");
-            line.number(used);
-            line.write_to(writer)
-        }
+        Content::Bank { limit } => bank_line(number, owner, *limit, used).write_to(writer),
     }
 }

@@ -42,7 +42,8 @@ impl<'a> Words<'a> {
 
     /// Takes the next word.
     pub fn next(&mut self) -> Option<&'a [u8]>
-        ensures { MatchOption result ((self.old ≡ []) × (self.new ≡ [])) (λ w. self.old ≡ w.now ∷ self.new) }
+        ensures { MatchOption result ((self.old ≡ []) × (self.new ≡ []))
+            (λ w. self.old ≡ w.now ∷ self.new) }
     {
         let rest = self.rest?;
         match first_space(rest) {

@@ -1,12 +1,12 @@
-use Rattle.std.proofs.Common.{codes, sym, ap, ◌∙◌}
+use Rattle.std.proofs.Common.{codes, sym}
 use Rattle.std.proofs.lemmas.Result.{err_from_is_err_and}
-use Rattle.model.specs.Text.{line_of, word_lines, capability_lines, registers_of}
+use Rattle.model.specs.Text.{word_lines, capability_lines, registers_of}
 use Rattle.script.proofs.Fronts.{writes_same, line_fails, line_and}
-use Rattle.script.proofs.Texts.{object_free, object_page, object_node, object_annex, object_root, object_bank, bank_text}
+use Rattle.script.proofs.Texts.{object_free, object_page, object_node, object_annex, object_root, object_bank}
 use Rattle.script.proofs.shown.print_object.Goals as goal
 
 pub returns-in-Free : goal.returns-in-Free
-returns-in-Free g c = writes_same _ _ _ _ _ (rw (c.number.ensures.text, c.new-line.ensures) (sym (object_free _ _ _ _ c.in-Free.is))) c.write_to.ensures
+returns-in-Free g c = writes_same _ _ _ _ _ (rw c.numbered.ensures.text (sym (object_free _ _ _ _ c.in-Free.is))) c.write_to.ensures
 
 pub returns-in_err-write_to-in-Page : goal.returns-in_err-write_to-in-Page
 returns-in_err-write_to-in-Page g c =
@@ -49,7 +49,4 @@ returns-in_ok-write_to-in-Annex g c =
     c.in_ok-write_to-in-Annex.ensures (rw c.as_slice-in-Annex.ensures.value at c.print_capabilities-in-Annex.ensures)
 
 pub returns-in-Bank : goal.returns-in-Bank
-returns-in-Bank g c = writes_same _ _ _ _ _
-    (rw (c.number-in-Bank-2.ensures.text, c.word-in-Bank.ensures, c.number-in-Bank.ensures.text, c.word.ensures, c.heading-line.ensures.text)
-    (ap line_of (bank_text c.args.number c.args.object.now.owner c.in-Bank.limit c.args.used) ∙ sym (object_bank _ _ _ _ c.in-Bank.limit c.in-Bank.is)))
-    c.write_to-in-Bank.ensures
+returns-in-Bank g c = writes_same _ _ _ _ _ (rw c.bank_line.ensures.text (sym (object_bank _ _ _ _ c.in-Bank.limit c.in-Bank.is))) c.write_to-in-Bank.ensures
