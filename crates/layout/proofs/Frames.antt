@@ -1,9 +1,9 @@
 -- Frames read back from their bytes.
-use Rattle.std.proofs.Common.{◌≡◌, ℕ, zero, suc, ◌+◌, ◌-◌, ◌*◌, ◌%◌, ◌^◌, ◌<◌, List, [], ◌∷◌, ◌++◌, length, take, drop, refl, sym, ap, subst, ◌∙◌, append_assoc, arith}
+use Rattle.std.proofs.Common.{◌≡◌, ℕ, zero, suc, ◌+◌, ◌-◌, ◌*◌, ◌%◌, ◌^◌, ◌<◌, ◌≤◌, List, [], ◌∷◌, ◌++◌, length, take, drop, refl, sym, ap, subst, ◌∙◌, append_assoc, arith}
 use Rattle.std.specs.Prelude.{replicate, map}
 use Rattle.std.specs.List.{between}
 use borrow.Rule.Slice.PartMut.{put_mid}
-use Rattle.std.proofs.lemmas.List.{replicate-append-replicate, drop-replicate, drop-drop, take_at, drop_at, take-append-drop, append-nil, length-append, length-map}
+use Rattle.std.proofs.lemmas.List.{replicate-append-replicate, drop-replicate, drop-drop, take_at, drop_at, take-append-drop, length-append, length-take-le, length-map}
 use Rattle.model.specs.declared.capability.Cap.{Cap}
 use Rattle.model.specs.declared.frame.Frame.{Frame}
 use Rattle.model.specs.declared.frame.Header.{Header}
@@ -96,22 +96,31 @@ rest_size n k e = omega arith
 regroup : (a b c d : List ℕ) → a ++ b ++ (c ++ d) ≡ a ++ (b ++ c) ++ d
 regroup a b c d = simp append_assoc
 
-pub node_written : (f : Frame) (blanked fronted new : List ℕ) (caps : List Cap) (k : ℕ)
-    → take 32 fronted ≡ front_numbers (role_number (role_of f.content)) f.header → drop 32 fronted ≡ drop 32 blanked → blanked ≡ zeros 1024
+pub node_written : (f : Frame) (fronted new : List ℕ) (caps : List Cap) (k : ℕ)
+    → take 32 fronted ≡ front_numbers (role_number (role_of f.content)) f.header
     → slots_of f.content ≡ caps ++ replicate k void_cap → length caps + k ≡ 32
-    → new ≡ take 32 fronted ++ slots_bytes caps ++ drop (32 + 24 * length caps) fronted → new ≡ node_frame_bytes f
+    → new ≡ take 32 fronted ++ slots_bytes caps ++ zeros (992 - 24 * length caps) → new ≡ node_frame_bytes f
 unfolding node_frame_bytes
-node_written f blanked fronted new caps k before after blank slots all is =
+node_written f fronted new caps k before slots all is =
     let n : ℕ = length caps in
-    let rest : drop (32 + 24 * n) fronted ≡ zeros (24 * k) ++ zeros 224 =
-    sym (drop-drop (24 * n) 32 fronted) ∙ ap (drop (24 * n)) (after ∙ ap (drop 32) blank ∙ drop_zeros 32 1024) ∙ drop_zeros (24 * n) 992
-    ∙ ap zeros (rest_size n k all) ∙ sym (zeros_add (24 * k) 224) in
+    let rest : zeros (992 - 24 * n) ≡ zeros (24 * k) ++ zeros 224 = ap zeros (rest_size n k all) ∙ sym (zeros_add (24 * k) 224) in
     let spelt : slots_bytes (slots_of f.content) ≡ slots_bytes caps ++ zeros (24 * k) =
     ap slots_bytes slots ∙ slots_bytes-append caps (replicate k void_cap) ∙ ap (λ (r : List ℕ). slots_bytes caps ++ r) (voids_bytes k) in
-    is ∙ ap (λ (r : List ℕ). r ++ slots_bytes caps ++ drop (32 + 24 * n) fronted) (before ∙ sym (front_bytes_are f))
+    is ∙ ap (λ (r : List ℕ). r ++ slots_bytes caps ++ zeros (992 - 24 * n)) (before ∙ sym (front_bytes_are f))
     ∙ ap (λ (r : List ℕ). front_bytes f ++ slots_bytes caps ++ r) rest
     ∙ regroup (front_bytes f) (slots_bytes caps) (zeros (24 * k)) (zeros 224)
     ∙ ap (λ (r : List ℕ). front_bytes f ++ r ++ zeros 224) (sym spelt)
+
+-- slots that were put into a frame
+pub slots_put : (old mid new : List ℕ) (caps : List Cap) (k : ℕ) → length caps ≤ 32 → length old ≡ 1024 → k ≡ 24 * length caps → mid ≡ put_mid 32 k old (slots_bytes caps)
+    → new ≡ take (32 + 24 * length caps) mid ++ zeros (1024 - (32 + 24 * length caps)) → new ≡ take 32 old ++ slots_bytes caps ++ zeros (992 - 24 * length caps)
+slots_put old mid new caps k few len size is put =
+    let n : ℕ = length caps in
+    let front : length (take 32 old ++ slots_bytes caps) ≡ 32 + 24 * n = length-append (take 32 old) (slots_bytes caps) ∙ omega (arith, length-take-le 32 old (omega arith), length-slots caps) in
+    let less : 1024 - (32 + 24 * n) ≡ 992 - 24 * n = omega arith in
+    put ∙ ap (λ (r : List ℕ). take (32 + 24 * n) r ++ zeros (1024 - (32 + 24 * n))) (is ∙ mid_put 32 k old (slots_bytes caps))
+    ∙ ap (λ (r : List ℕ). r ++ zeros (1024 - (32 + 24 * n))) (take_at (take 32 old ++ slots_bytes caps) (drop (32 + k) old) (32 + 24 * n) front)
+    ∙ ap (λ (m : ℕ). take 32 old ++ slots_bytes caps ++ zeros m) less
 
 -- ---- a content is told by its role and its slots
 
@@ -252,12 +261,6 @@ one_node_frame g age e f ie if same =
     ∙ ap (λ (r : ℕ). with_slots (body_in r (slots_of e.content)) (slots_of e.content)) read.role_is
     ∙ ap (λ (s : List Cap). with_slots (body_in (role_number (role_of f.content)) s) s) read.slots_are ∙ content_again f.content if.role in
     ap (λ (h : Header). record { header = h; content = e.content }) read.header_is ∙ ap (λ (c : Content Cap). record { header = f.header; content = c }) contents
-
-pub free_written : (f : Frame) (blanked new : List ℕ) → take 32 new ≡ front_numbers (role_number (role_of f.content)) f.header → drop 32 new ≡ drop 32 blanked → blanked ≡ zeros 1024
-    → slots_of f.content ≡ replicate 32 void_cap → new ≡ node_frame_bytes f
-free_written f blanked new before after blank slots =
-    node_written f blanked new new [] 32 before after blank slots refl
-    (sym (take-append-drop 32 new) ∙ ap (λ (r : List ℕ). r ++ drop 32 new) (sym (append-nil (take 32 new)) ∙ ap (λ (r : List ℕ). take 32 new ++ r) (sym slots_bytes-nil)))
 
 pub root_count : (r : Root Cap) (held : List Cap) → held ≡ root_slots r → length r.words ≡ 4 → length held + 24 ≡ 32
 root_count r held e len =

@@ -7,3 +7,4 @@ pub mod Directory
 pub mod Superblock
 pub mod Image
 pub mod Laws
+pub use Rattle.byteorder.specs.Endian

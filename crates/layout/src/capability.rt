@@ -12,44 +12,31 @@ use model::{Access, Cap, Capability, Geometry};
 /// How many bytes a capability takes.
 pub const CAPABILITY_BYTES: usize = 24;
 
-// The first eight bytes of a capability as one number: its tag, access, key and height.
-fn head_of(what: Capability) -> u64
-    ensures number { result ≡ head_number what }
+// The first eight bytes of a capability as one number, which are its tag, access, key and height, and
+// the number that it has, of the object that it names or its own.
+fn fields_of(what: Capability) -> (u64, u64)
+    ensures head { result.0 ≡ head_number what }
+    ensures number { result.1 ≡ number_of what }
     ensures fits { HeadFits what }
 {
     match what {
-        Capability::Void => 0,
-        Capability::Number(_) => 1,
-        Capability::Page { access, .. } => 2 + 256 * access.bits() as u64,
-        Capability::Node { access, .. } => 3 + 256 * access.bits() as u64,
-        Capability::Space { height, access, .. } => {
-            4 + 256 * access.bits() as u64 + 4294967296 * height as u64
-        }
-        Capability::Process(_) => 5,
-        Capability::Start { key, .. } => 6 + 65536 * key as u64,
-        Capability::Resume(_) => 7,
-        Capability::Bank(_) => 8,
-        Capability::Discrim => 9,
-    }
-}
-
-// The number that a capability has: of the object that it names, or its own.
-fn number_of(what: Capability) -> u64
-    ensures { result ≡ number_of what }
-{
-    match what {
-        Capability::Void | Capability::Discrim => 0,
-        Capability::Number(number) => number,
-        Capability::Page { object, .. }
-        | Capability::Node { object, .. }
-        | Capability::Space { object, .. }
-        | Capability::Process(object)
-        | Capability::Start {
-            process: object,
-            ..
-        }
-        | Capability::Resume(object)
-        | Capability::Bank(object) => object,
+        Capability::Void => (0, 0),
+        Capability::Number(number) => (1, number),
+        Capability::Page { object, access } => (2 + 256 * access.bits() as u64, object),
+        Capability::Node { object, access } => (3 + 256 * access.bits() as u64, object),
+        Capability::Space {
+            object,
+            height,
+            access,
+        } => (
+            4 + 256 * access.bits() as u64 + 4294967296 * height as u64,
+            object,
+        ),
+        Capability::Process(process) => (5, process),
+        Capability::Start { process, key } => (6 + 65536 * key as u64, process),
+        Capability::Resume(process) => (7, process),
+        Capability::Bank(bank) => (8, bank),
+        Capability::Discrim => (9, 0),
     }
 }
 
@@ -114,22 +101,26 @@ fn is_capability(geometry: Geometry, age: u64, cap: Cap) -> bool
     }
 }
 
-/// Writes a capability.
+/// Writes the 24 bytes of a capability.
 pub fn encode_capability(cap: Cap, into: &mut [u8])
     requires { length into.old ≡ 24 }
     ensures { into.new ≡ capability_bytes cap }
 {
-    put_number(into, 0, head_of(cap.what));
-    put_number(into, 8, number_of(cap.what));
+    let (head, number) = fields_of(cap.what);
+    put_number(into, 0, head);
+    put_number(into, 8, number);
     put_number(into, 16, cap.count);
 }
 
-/// Reads a capability. Its object has to be of its kind, and its count at most the age. All that is
-/// no spelling of such a capability is a `BadFrame`.
+/// Reads a capability from its 24 bytes. Its object has to be of its kind on a device of this
+/// geometry, and its count at most the age. All that is no spelling of such a capability is a
+/// `BadFrame`.
 pub fn decode_capability(bytes: &[u8], geometry: Geometry, age: u64) -> Result<Cap, BadImage>
     requires { length bytes.now ≡ 24 }
-    ensures found { IfOk result (λ c. IsCapability geometry age c × (bytes.now ≡ capability_bytes c)) }
-    ensures refused { IfErr result (λ e. (e ≡ BadImage.BadFrame) × ((c : Cap) → IsCapability geometry age c → bytes.now ≡ capability_bytes c → ⊥)) }
+    ensures found { IfOk result (λ c. IsCapability geometry age c
+        × (bytes.now ≡ capability_bytes c)) }
+    ensures refused { IfErr result (λ e. (e ≡ BadImage.BadFrame)
+        × ((c : Cap) → IsCapability geometry age c → bytes.now ≡ capability_bytes c → ⊥)) }
 {
     let head = number_at(bytes, 0);
     let object = number_at(bytes, 8);
@@ -139,7 +130,8 @@ pub fn decode_capability(bytes: &[u8], geometry: Geometry, age: u64) -> Result<C
     let height = (head / 4294967296 % 256) as u8;
     let what = assembled(head % 256, access, key, height, object);
     let cap = Cap { what, count };
-    if head_of(what) == head && number_of(what) == object && is_capability(geometry, age, cap) {
+    let (same_head, same_number) = fields_of(what);
+    if same_head == head && same_number == object && is_capability(geometry, age, cap) {
         Ok(cap)
     } else {
         Err(BadImage::BadFrame)

@@ -13,7 +13,7 @@ pub const ENTRY_BYTES: usize = 16;
 /// The greatest number of slots of a log half.
 pub const MAX_LOG: usize = 4096;
 
-/// Which object lies in which slot of the log.
+/// Which object lies in which slot of a log half.
 #[derive(Clone, Copy, PartialEq, Eq, Debug)]
 pub struct Entry {
     pub object: u64,
@@ -62,7 +62,7 @@ fn is_directory(geometry: Geometry, entries: &[Entry]) -> bool
         && are_apart(entries)
 }
 
-/// Writes a directory.
+/// Writes a directory, 16 bytes for each entry.
 pub fn encode_directory(entries: &[Entry], into: &mut [u8])
     requires { length into.old ≡ 16 * length entries.now }
     ensures { into.new ≡ directory_bytes entries.now }
@@ -88,8 +88,9 @@ fn read_entries(bytes: &[u8], into: &mut [Entry])
     }
 }
 
-/// Reads a directory of as many entries as `into` has. All that is no spelling of such a directory is
-/// a `BadDirectory`, which leaves any entries.
+/// Reads a directory of as many entries as `into` has, 16 bytes for each. The numbers of the
+/// objects have to rise and be on the device, and no slot may come twice or be outside a log half.
+/// All that is no spelling of such a directory is a `BadDirectory`, which leaves any entries.
 pub fn decode_directory(
     bytes: &[u8],
     geometry: Geometry,
@@ -97,8 +98,10 @@ pub fn decode_directory(
 ) -> Result<(), BadImage>
     requires size { length bytes.now ≡ 16 * length into.old }
     requires log { geometry.log ≤ MAX_LOG }
-    ensures found { OnOk result (IsDirectory geometry into.new × (bytes.now ≡ directory_bytes into.new)) }
-    ensures refused { IfErr result (λ e. (e ≡ BadImage.BadDirectory) × ((es : List Entry) → IsDirectory geometry es → bytes.now ≡ directory_bytes es → ⊥)) }
+    ensures found { OnOk result (IsDirectory geometry into.new
+        × (bytes.now ≡ directory_bytes into.new)) }
+    ensures refused { IfErr result (λ e. (e ≡ BadImage.BadDirectory)
+        × ((es : List Entry) → IsDirectory geometry es → bytes.now ≡ directory_bytes es → ⊥)) }
 {
     read_entries(bytes, into);
     if is_directory(geometry, into) {

@@ -10,7 +10,7 @@ pub enum Gate {
     Open = 1,
 }
 
-/// Writes the sector of a gate.
+/// Writes the 512 bytes of a gate's sector.
 pub fn encode_gate(gate: Gate, into: &mut [u8])
     requires { length into.old ≡ 512 }
     ensures { into.new ≡ gate_bytes gate }

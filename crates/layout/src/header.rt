@@ -39,7 +39,7 @@ fn is_header(room: u64, header: CheckpointHeader) -> bool
     header.generation <= twice && header.sequence <= most
 }
 
-/// Writes the sector of a header.
+/// Writes the 512 bytes of a header's sector.
 pub fn encode_header(header: CheckpointHeader, into: &mut [u8])
     requires { length into.old ≡ 512 }
     ensures { into.new ≡ header_bytes header }
@@ -52,12 +52,13 @@ pub fn encode_header(header: CheckpointHeader, into: &mut [u8])
     put_number(into, 32, header.age);
 }
 
-/// Reads the sector of a header, on a device whose log half has room for so many objects. All that is
-/// no spelling of such a header is a `BadHeader`.
+/// Reads the 512 bytes of a header's sector, on a device whose log half has room for so many
+/// objects. All that is no spelling of such a header is a `BadHeader`.
 pub fn decode_header(bytes: &[u8], room: u64) -> Result<CheckpointHeader, BadImage>
     requires { length bytes.now ≡ 512 }
     ensures found { IfOk result (λ h. IsHeader room h × (bytes.now ≡ header_bytes h)) }
-    ensures refused { IfErr result (λ e. (e ≡ BadImage.BadHeader) × ((h : CheckpointHeader) → IsHeader room h → bytes.now ≡ header_bytes h → ⊥)) }
+    ensures refused { IfErr result (λ e. (e ≡ BadImage.BadHeader)
+        × ((h : CheckpointHeader) → IsHeader room h → bytes.now ≡ header_bytes h → ⊥)) }
 {
     let magic = number_at(bytes, 0);
     let sequence = number_at(bytes, 8);

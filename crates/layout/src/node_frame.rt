@@ -1,12 +1,13 @@
-ghost use Rattle.std.specs.Prelude.{◌≡◌, ℕ, ◌+◌, ◌*◌, ◌<◌, ◌≤◌, ◌++◌, ◌↔◌, ◌^◌, List, length, take, drop, IsTrue, IfOk, IfErr};
+ghost use Rattle.std.specs.Prelude.{◌-◌, ◌≡◌, ℕ, ◌+◌, ◌*◌, ◌<◌, ◌≤◌, ◌++◌, ◌↔◌, ◌^◌, List, length, take, drop, IsTrue, IfOk, IfErr};
 ghost use Rattle.model.specs.declared.frame.Frame.{Frame};
 ghost use Rattle.model.specs.declared.object.Content.TheVariants as content;
 ghost use Rattle.model.specs.Object.{state_number};
 ghost use Rattle.model.specs.Sound.{IsSpace};
+ghost use Rattle.layout.specs.Bytes.{zeros};
 ghost use Rattle.layout.specs.Frame.{number_in, number_cap, state_in, root_in, body_in, root_slots, slots_of, slots_bytes, with_slots, node_frame, node_frame_bytes, FollowsRole, IsBody, IsNodeFrame};
 
 use crate::bad_image::BadImage;
-use crate::bytes::{blank, is_blank_from};
+use crate::bytes::{blank_from, is_blank_from};
 use crate::capability::CAPABILITY_BYTES;
 use crate::front::{decode_front, encode_front, has_counts, role_of};
 use crate::slots::{VOID, are_held, decode_slots, encode_slots};
@@ -147,8 +148,9 @@ fn is_body(body: &NodeBody, role: u64, owner: u64, slots: &[Cap]) -> bool
     }
 }
 
-/// Reads a frame with the number of a node. The slots of a node or an annex are left in `slots`, and
-/// no memory is taken. All that is no spelling of such a frame is a `BadFrame`, which leaves any slots.
+/// Reads the 1024 bytes of a frame with the number of a node. The slots of a node or an annex are
+/// left in `slots`, and no memory is taken. All that is no spelling of such a frame is a
+/// `BadFrame`, which leaves any slots.
 pub fn decode_node_frame(
     bytes: &[u8],
     geometry: Geometry,
@@ -156,8 +158,10 @@ pub fn decode_node_frame(
     slots: &mut Slots<Cap>,
 ) -> Result<(Header, NodeBody), BadImage>
     requires { length bytes.now ≡ 1024 }
-    ensures found { IfOk result (λ read. IsNodeFrame geometry age (node_frame read slots.new) × (bytes.now ≡ node_frame_bytes (node_frame read slots.new))) }
-    ensures refused { IfErr result (λ e. (e ≡ BadImage.BadFrame) × ((f : Frame) → IsNodeFrame geometry age f → bytes.now ≡ node_frame_bytes f → ⊥)) }
+    ensures found { IfOk result (λ read. IsNodeFrame geometry age (node_frame read slots.new)
+        × (bytes.now ≡ node_frame_bytes (node_frame read slots.new))) }
+    ensures refused { IfErr result (λ e. (e ≡ BadImage.BadFrame)
+        × ((f : Frame) → IsNodeFrame geometry age f → bytes.now ≡ node_frame_bytes f → ⊥)) }
 {
     let (role, header) = decode_front(bytes);
     decode_slots(&bytes[32..800], geometry, age, slots)?;
@@ -171,26 +175,27 @@ pub fn decode_node_frame(
     }
 }
 
-// Writes capabilities into a frame behind its front.
+// Writes capabilities into a frame behind its front, and zeros behind them.
 fn put_slots(caps: &[Cap], into: &mut [u8])
     requires few { length caps.now ≤ 32 }
     requires size { length into.old ≡ 1024 }
-    ensures { into.new ≡ take 32 into.old ++ slots_bytes caps.now ++ drop (32 + 24 * length caps.now) into.old }
+    ensures { into.new ≡ take 32 into.old ++ slots_bytes caps.now ++ zeros (992 - 24 * length caps.now) }
 {
     let end = 32 + CAPABILITY_BYTES * caps.len();
     encode_slots(caps, &mut into[32..end]);
+    blank_from(into, end);
 }
 
-/// Writes a frame with the number of a node, which holds no page.
+/// Writes the 1024 bytes of a frame with the number of a node. A frame that holds a page has no
+/// spelling here: it is written with its role and void slots.
 pub fn encode_node_frame(frame: &Frame, into: &mut [u8])
     requires { length into.old ≡ 1024 }
     ensures { into.new ≡ node_frame_bytes frame.now }
 {
-    blank(into);
     encode_front(role_of(&frame.content), frame.header, into);
     match &frame.content {
-        Content::Free => {}
-        Content::Page(_) => {}
+        Content::Free => put_slots(&[], into),
+        Content::Page(_) => put_slots(&[], into),
         Content::Node(slots) => put_slots(slots.as_slice(), into),
         Content::Annex(registers) => put_slots(registers.as_slice(), into),
         Content::Root(root) => put_slots(&root_slots(root), into),

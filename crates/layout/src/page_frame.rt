@@ -65,16 +65,19 @@ fn is_body(body: PageBody, role: u64, owner: u64, words: &[u64]) -> bool
     }
 }
 
-/// Reads a frame with the number of a page. The words of a page are left in `words`, and no memory is
-/// taken. All that is no spelling of such a frame is a `BadFrame`, which leaves any words.
+/// Reads the 4608 bytes of a frame with the number of a page. The words of a page are left in
+/// `words`, and no memory is taken. All that is no spelling of such a frame is a `BadFrame`, which
+/// leaves any words.
 pub fn decode_page_frame(
     bytes: &[u8],
     age: u64,
     words: &mut Words,
 ) -> Result<(Header, PageBody), BadImage>
     requires { length bytes.now ≡ 4608 }
-    ensures found { IfOk result (λ read. IsPageFrame age (page_frame read words.new) × (bytes.now ≡ page_frame_bytes (page_frame read words.new))) }
-    ensures refused { IfErr result (λ e. (e ≡ BadImage.BadFrame) × ((f : Frame) → IsPageFrame age f → bytes.now ≡ page_frame_bytes f → ⊥)) }
+    ensures found { IfOk result (λ read. IsPageFrame age (page_frame read words.new)
+        × (bytes.now ≡ page_frame_bytes (page_frame read words.new))) }
+    ensures refused { IfErr result (λ e. (e ≡ BadImage.BadFrame)
+        × ((f : Frame) → IsPageFrame age f → bytes.now ≡ page_frame_bytes f → ⊥)) }
 {
     let (role, header) = decode_front(bytes);
     decode_words(&bytes[FRONT_BYTES..], words);
@@ -88,7 +91,8 @@ pub fn decode_page_frame(
     }
 }
 
-/// Writes a frame with the number of a page, which is free or holds a page.
+/// Writes the 4608 bytes of a frame with the number of a page. A frame that is neither free nor
+/// holds a page has no spelling here: it is written with its role and words of 0.
 pub fn encode_page_frame(frame: &Frame, into: &mut [u8])
     requires { length into.old ≡ 4608 }
     ensures { into.new ≡ page_frame_bytes frame.now }

@@ -54,8 +54,10 @@ pub fn decode_slots(
     into: &mut Slots<Cap>,
 ) -> Result<(), BadImage>
     requires { length bytes.now ≡ 768 }
-    ensures found { OnOk result (AreSlots geometry age into.new × (bytes.now ≡ slots_bytes into.new)) }
-    ensures refused { IfErr result (λ e. (e ≡ BadImage.BadFrame) × ((slots : List Cap) → AreSlots geometry age slots → bytes.now ≡ slots_bytes slots → ⊥)) }
+    ensures found { OnOk result (AreSlots geometry age into.new
+        × (bytes.now ≡ slots_bytes into.new)) }
+    ensures refused { IfErr result (λ e. (e ≡ BadImage.BadFrame)
+        × ((slots : List Cap) → AreSlots geometry age slots → bytes.now ≡ slots_bytes slots → ⊥)) }
 {
     for i in 0..into.as_slice().len() {
         let at = CAPABILITY_BYTES * i;

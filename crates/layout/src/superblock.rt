@@ -106,11 +106,13 @@ impl Model for Superblock {
 
     ghost view = { λ s. plan_of s.geometry (take s.used s.ranges) s.half_0 s.half_1 s.total };
 
-    ghost invariant = { λ s. (s.used ≤ 8) × IsPlan (plan_of s.geometry (take s.used s.ranges) s.half_0 s.half_1 s.total) };
+    ghost invariant = { λ s. (s.used ≤ 8)
+        × IsPlan (plan_of s.geometry (take s.used s.ranges) s.half_0 s.half_1 s.total) };
 }
 
 impl Superblock {
-    /// The superblock with these parts, or `None` where they don't fit.
+    /// The superblock with these parts: home ranges, the first sectors of both log halves, and how
+    /// many sectors the image takes. `None` where they are outside the limits.
     pub fn new(
         geometry: Geometry,
         ranges: &[HomeRange],
@@ -138,6 +140,7 @@ impl Superblock {
         })
     }
 
+    /// How many objects the device holds.
     pub fn geometry(&self) -> Geometry
         ensures value { result ≡ self.now.geometry }
         ensures fits { IsPlan self.now }
@@ -203,7 +206,7 @@ fn are_unused(ranges: &[HomeRange]) -> bool
     ranges.iter().all(|range| *range == UNUSED)
 }
 
-/// Writes the sector of a superblock.
+/// Writes the 512 bytes of a superblock's sector.
 pub fn encode_superblock(superblock: &Superblock, into: &mut [u8])
     requires { length into.old ≡ 512 }
     ensures { into.new ≡ superblock_bytes superblock.now }
@@ -223,8 +226,9 @@ pub fn encode_superblock(superblock: &Superblock, into: &mut [u8])
     write_ranges(ranges, &mut into[RANGES_AT..end]);
 }
 
-/// Reads the sector of a superblock. Another magic or version, or a byte behind the ranges that isn't
-/// 0, is `NotASuperblock`; all else that is no spelling of a superblock is a `BadGeometry`.
+/// Reads the 512 bytes of a superblock's sector. Another magic or version, or a byte behind the
+/// ranges that isn't 0, is `NotASuperblock`; all else that is no spelling of a superblock is a
+/// `BadGeometry`.
 pub fn decode_superblock(bytes: &[u8]) -> Result<Superblock, BadImage>
     requires { length bytes.now ≡ 512 }
     ensures found { IfOk result (λ s. bytes.now ≡ superblock_bytes s) }
