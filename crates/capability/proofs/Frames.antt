@@ -1,5 +1,5 @@
 -- Frames against the objects that they stand for.
-use Rattle.std.proofs.Common.{◌≡◌, ℕ, ◌<◌, Bool, true, false, List, [], ◌∷◌, map, length, slice_get, slice_index, slice_index_or, slice_set, Some, refl, sym, ap, ◌∙◌, if◌then◌else◌, nat_lt, ◌≤◌, ⊎_elim, arith}
+use Rattle.std.proofs.Common.{◌≡◌, ℕ, ◌<◌, true, false, List, [], map, length, slice_get, slice_index, slice_index_or, slice_set, Some, refl, sym, ap, ◌∙◌, if◌then◌else◌, nat_lt, ◌≤◌, ⊎_elim, arith}
 use Rattle.std.proofs.Math.ListN.{get_or-map}
 use Rattle.std.proofs.Math.Seq.{map-set_same}
 use Rattle.std.proofs.lemmas.Bool.{cases_lt}
@@ -18,8 +18,8 @@ use Rattle.model.specs.declared.object.Root.{Root}
 use Rattle.model.specs.declared.object.State.TheVariants.{Running}
 use Rattle.std.proofs.lemmas.Bool.Decides.{nat_tests}
 use Rattle.model.specs.Frame.{blank_frame, frame_at, headers, header_at, conveyed, current_count, object_of, objects_of}
-use Rattle.model.specs.Object.{free, is_free, map_content, slots_in, words_in, root_in, is_root, is_page, is_node, is_annex, with_slot_in, with_word_in}
-use Rattle.model.specs.World.{object_at, content_at, owner_at, slot_at, word_at, root_at, annex_at, is_process, with_content, with_word, with_slot, with_root}
+use Rattle.model.specs.Object.{is_free, map_content, slots_in, words_in, root_in, is_root, is_page, is_node, is_annex, with_slot_in, with_word_in}
+use Rattle.model.specs.World.{object_at, content_at, owner_at, slot_at, word_at, is_process, with_content, with_word, with_slot, with_root}
 use Rattle.capability.specs.Objects.{with_message}
 
 -- what stands at a number
@@ -82,7 +82,7 @@ module _ (fs : List Frame) (n : ℕ) (frame : Frame) (c : Content Cap) (is_there
       ap (λ (d : Content Capability). slice_index_or (slots_in d) i Void) content_there
       ∙ ap (λ (cs : List Capability). slice_index_or cs i Void) (slots_in_map (conveyed (headers fs)) c)
       ∙ get_or_from_slice_get (map (conveyed (headers fs)) (slots_in c)) i (conveyed (headers fs) held) Void
-        (slice_get-map (conveyed (headers fs)) (slots_in c) i ∙ ap (option_map (conveyed (headers fs))) at)
+      (slice_get-map (conveyed (headers fs)) (slots_in c) i ∙ ap (option_map (conveyed (headers fs))) at)
 
   pub no_slot_there : (i : ℕ) → slots_in c ≡ [] → slot_at (objects_of fs) n i ≡ Void
   no_slot_there i none =
@@ -100,13 +100,13 @@ pub headers_same : (fs : List Frame) (n : ℕ) (f : Frame) → f.header ≡ (fra
 headers_same fs n f same = map-set_same (λ (f : Frame). f.header) fs n f blank_frame same
 
 pub objects_of_edit : (fs : List Frame) (n : ℕ) (f : Frame) → f.header ≡ (frame_at fs n).header →
-  objects_of (slice_set fs n f) ≡ with_content (objects_of fs) n (map_content (conveyed (headers fs)) f.content)
+    objects_of (slice_set fs n f) ≡ with_content (objects_of fs) n (map_content (conveyed (headers fs)) f.content)
 unfolding objects_of with_content
 objects_of_edit fs n f same =
     ap (λ (hs : List Header). map (object_of hs) (slice_set fs n f)) (headers_same fs n f same)
     ∙ map-set (object_of (headers fs)) fs n f
     ∙ ap (λ (owner : ℕ). slice_set (map (object_of (headers fs)) fs) n (record { owner = owner; content = map_content (conveyed (headers fs)) f.content }))
-      (ap (λ (h : Header). h.owner) same ∙ sym (ap (λ (o : Object). o.owner) (get_or-map (object_of (headers fs)) fs n blank_frame)))
+    (ap (λ (h : Header). h.owner) same ∙ sym (ap (λ (o : Object). o.owner) (get_or-map (object_of (headers fs)) fs n blank_frame)))
 
 -- a content that is neither a node nor an annex has no slots, and one that is no page no words
 pub no_slots : {C : Type 0} (c : Content C) → ((x : List C) → c ≡ content.Node x → ⊥) → ((x : List C) → c ≡ content.Annex x → ⊥) → slots_in c ≡ []
@@ -185,31 +185,31 @@ module _ (fs : List Frame) (n : ℕ) (frame : Frame) (is_there : frame ≡ frame
   refill k = objects_of_edit fs n (refilled frame k) (ap (λ (f : Frame). f.header) is_there)
 
   pub put_slot : (i : ℕ) (held : Cap) (k : Content Cap) → k ≡ with_slot_in frame.content i held →
-    objects_of (slice_set fs n (refilled frame k)) ≡ with_slot (objects_of fs) n i (conveyed (headers fs) held)
+      objects_of (slice_set fs n (refilled frame k)) ≡ with_slot (objects_of fs) n i (conveyed (headers fs) held)
   unfolding with_slot
   put_slot i held k is =
       refill k
       ∙ ap (λ (d : Content Cap). with_content (objects_of fs) n (map_content (conveyed (headers fs)) d)) is
       ∙ ap (with_content (objects_of fs) n) (slot_through_map (conveyed (headers fs)) frame.content i held
-        ∙ ap (λ (d : Content Capability). with_slot_in d i (conveyed (headers fs) held)) (sym (content_there fs n frame frame.content is_there refl)))
+      ∙ ap (λ (d : Content Capability). with_slot_in d i (conveyed (headers fs) held)) (sym (content_there fs n frame frame.content is_there refl)))
 
   pub put_word : (i word : ℕ) (k : Content Cap) → k ≡ with_word_in frame.content i word →
-    objects_of (slice_set fs n (refilled frame k)) ≡ with_word (objects_of fs) n i word
+      objects_of (slice_set fs n (refilled frame k)) ≡ with_word (objects_of fs) n i word
   unfolding with_word
   put_word i word k is =
       refill k
       ∙ ap (λ (d : Content Cap). with_content (objects_of fs) n (map_content (conveyed (headers fs)) d)) is
       ∙ ap (with_content (objects_of fs) n) (word_through_map (conveyed (headers fs)) frame.content i word
-        ∙ ap (λ (d : Content Capability). with_word_in d i word) (sym (content_there fs n frame frame.content is_there refl)))
+      ∙ ap (λ (d : Content Capability). with_word_in d i word) (sym (content_there fs n frame frame.content is_there refl)))
 
   pub put_message : (words : List ℕ) (key : ℕ) (r : Root Cap) → frame.content ≡ content.Root r →
-    objects_of (slice_set fs n (refilled frame (content.Root (record { state = Running; words = words; key = key; annex = r.annex; space = r.space }))))
+      objects_of (slice_set fs n (refilled frame (content.Root (record { state = Running; words = words; key = key; annex = r.annex; space = r.space }))))
       ≡ with_message (objects_of fs) n words key
   unfolding with_message with_root
   put_message words key r is =
       refill (content.Root (record { state = Running; words = words; key = key; annex = r.annex; space = r.space }))
       ∙ ap (λ (q : Root Capability). with_content (objects_of fs) n (content.Root (record { state = Running; words = words; key = key; annex = q.annex; space = q.space })))
-        (sym (ap root_in (content_there fs n frame (content.Root r) is_there is)))
+      (sym (ap root_in (content_there fs n frame (content.Root r) is_there is)))
 
 -- a capability that is given its object's count conveys itself
 pub live : (hs : List Header) (c : Capability) → conveyed hs (record { what = c; count = current_count hs c }) ≡ c
@@ -220,7 +220,7 @@ made_live hs c count is = ap (λ (n : ℕ). conveyed hs (record { what = c; coun
 
 -- where the content is no root there is no process
 pub no_root_there : (fs : List Frame) (n : ℕ) (frame : Frame) (c : Content Cap) → frame ≡ frame_at fs n → frame.content ≡ c →
-  ((x : Root Cap) → c ≡ content.Root x → ⊥) → is_process (objects_of fs) n ≡ false
+    ((x : Root Cap) → c ≡ content.Root x → ⊥) → is_process (objects_of fs) n ≡ false
 no_root_there fs n frame c is_there is root =
     ap is_root (content_there fs n frame c is_there is) ∙ is_root_map (conveyed (headers fs)) c ∙ no_root c root
 
@@ -274,13 +274,13 @@ node_used (content.Annex registers) is = refl
 node_used (content.Bank limit) is = refl
 
 pub no_annex_there : (fs : List Frame) (n : ℕ) (frame : Frame) → frame ≡ frame_at fs n →
-  ((x : List Cap) → frame.content ≡ content.Annex x → ⊥) → is_annex (content_at (objects_of fs) n) ≡ false
+    ((x : List Cap) → frame.content ≡ content.Annex x → ⊥) → is_annex (content_at (objects_of fs) n) ≡ false
 no_annex_there fs n frame is_there annex =
     ap is_annex (content_there fs n frame frame.content is_there refl) ∙ is_annex_map (conveyed (headers fs)) frame.content ∙ no_annex frame.content annex
 
 -- the object that a frame with that header and content stands for
 pub object_there : (fs : List Frame) (n : ℕ) (frame : Frame) (c : Content Capability) → frame ≡ frame_at fs n →
-  c ≡ map_content (conveyed (headers fs)) frame.content → record { owner = frame.header.owner; content = c } ≡ object_at (objects_of fs) n
+    c ≡ map_content (conveyed (headers fs)) frame.content → record { owner = frame.header.owner; content = c } ≡ object_at (objects_of fs) n
 object_there fs n frame c is_there is =
     ap (λ (d : Content Capability). record { owner = frame.header.owner; content = d }) is
     ∙ ap (object_of (headers fs)) is_there

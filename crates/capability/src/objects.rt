@@ -32,7 +32,8 @@ pub fn current_count<F: PresentFrames>(store: &F, capability: Capability) -> u64
         | Capability::Space { object, .. } => header(store, object).allocations,
         Capability::Process(number)
         | Capability::Start {
-            process: number, ..
+            process: number,
+            ..
         }
         | Capability::Bank(number) => header(store, number).allocations,
         Capability::Resume(process) => header(store, process).calls,

@@ -57,7 +57,6 @@ impl Plain {
     {
         self.age += 1;
     }
-
 }
 
 impl PresentFrames for Plain {

@@ -48,11 +48,7 @@ fn conveyed_content<F: PresentFrames>(
 
 /// An object that is fetched, as it is now, its stale capabilities void. Fails only where memory
 /// runs out.
-pub fn object<F: PresentFrames>(
-    alloc: Global,
-    store: &F,
-    number: u64,
-) -> Result<Object, AllocError>
+pub fn object<F: PresentFrames>(alloc: Global, store: &F, number: u64) -> Result<Object, AllocError>
     requires { F.IsFetched store.now number }
     ensures { IfOk result (λ object. object ≡ object_at (objects_of (F.frames store.now)) number) }
 {

@@ -1,14 +1,13 @@
 -- What a call of void, a number, a page, a node or an address space comes to.
-use Rattle.std.proofs.Common.{◌≡◌, ℕ, ◌+◌, ◌<◌, ◌≤◌, Bool, true, false, cond, ◌&&◌, List, [], ◌∷◌, ◌++◌, length, get_or, set, map, slice_set, slice_index_or, Option, None, Some, refl, sym, ap, ◌∙◌, subst, arith, ⊎_elim, if◌then◌else◌}
+use Rattle.std.proofs.Common.{◌≡◌, ℕ, ◌<◌, ◌≤◌, Bool, true, false, cond, ◌&&◌, List, [], ◌∷◌, ◌++◌, length, get_or, slice_set, None, Some, refl, sym, ap, ◌∙◌, subst, arith, ⊎_elim, if◌then◌else◌}
 use Rattle.std.specs.Prelude.{IsTrue}
-use Rattle.std.specs.Option.{option_to_list}
 use Rattle.std.proofs.Math.ListN.{get_or-map}
 use Rattle.std.proofs.Math.Seq.{map-set_same}
 use Rattle.std.proofs.lemmas.Bool.{cases_lt}
 use Rattle.std.proofs.lemmas.List.{set_past}
 use Rattle.std.proofs.lemmas.List.Sums.{sum_by-set}
 use Rattle.model.specs.declared.capability.Capability.{Capability}
-use Rattle.model.specs.declared.capability.Capability.TheVariants.{Void, Number, Page, Node, Space, Process, Start, Resume, Bank, Discrim}
+use Rattle.model.specs.declared.capability.Capability.TheVariants.{Void, Number, Page, Node, Space, Start, Resume}
 use Rattle.model.specs.declared.command.Invocation.{Invocation}
 use Rattle.model.specs.declared.command.Operation.{Operation}
 use Rattle.model.specs.declared.command.Operation.TheVariants.{Call, Return, Send}
@@ -25,13 +24,13 @@ use Rattle.model.specs.Machine.{touching, touched_count}
 use Rattle.model.specs.Object.{free, root_in, with_word_in, with_slot_in}
 use Rattle.model.specs.Order.{Outcome}
 use Rattle.model.specs.Sound.{NamesItsKind}
-use Rattle.model.specs.World.{object_at, is_process, is_running_process, content_at, root_at, annex_at, register_at, with_content, with_word, with_slot}
+use Rattle.model.specs.World.{is_process, is_running_process, content_at, root_at, annex_at, register_at, with_content, with_word, with_slot}
 use Rattle.capability.proofs.Frames.{known_used, page_used, node_used}
 use Rattle.gate.specs.declared.plan.Change.{Change}
 use Rattle.gate.specs.declared.plan.Change.TheVariants as change
 use Rattle.gate.specs.declared.plan.Plan.{Plan}
 use Rattle.gate.specs.Call.{Invokes, Overfills, written_by_call}
-use Rattle.gate.specs.Plan.{changed, outcome_of, target_of, IsStorage}
+use Rattle.gate.specs.Plan.{changed, outcome_of, IsStorage}
 
 -- a change of a word or a slot leaves the root of each process
 root_with_word : (c : Content Capability) (i word : ℕ) → root_in (with_word_in c i word) ≡ root_in c
@@ -54,7 +53,7 @@ abbrev root_of : Object → Root Capability
 root_of o = root_in o.content
 
 root_with_content : (os : List Object) (n : ℕ) (c : Content Capability) (p : ℕ) → root_in c ≡ root_in (content_at os n) →
-  root_at (with_content os n c) p ≡ root_at os p
+    root_at (with_content os n c) p ≡ root_at os p
 unfolding with_content
 root_with_content os n c p same =
     sym (get_or-map root_of (with_content os n c) p free)
@@ -78,9 +77,10 @@ storage_known fs _ storage kind n is = absurd storage
 
 -- an invocation of one is never stalled
 invoked_by : (os : List Object) (i : Invocation) (c : Capability) → IsStorage c → (elim c [
-    Start q key ↦ if can_start os i q then Some (through_gate os i q key) else None
+  | Start q key ↦ if can_start os i q then Some (through_gate os i q key) else None
   | Resume q ↦ let effect = through_gate os i q 0 in Some (record { objects = consume q effect.objects; written = effect.written })
-  | _ ↦ Some (on_kernel_object os i) ]) ≡ Some (on_kernel_object os i)
+  | _ ↦ Some (on_kernel_object os i)
+]) ≡ Some (on_kernel_object os i)
 invoked_by os i Void storage = refl
 invoked_by os i (Number n) storage = refl
 invoked_by os i (Page o a) storage = refl
@@ -95,12 +95,12 @@ storage_invoked os i storage = invoked_by os i (register_at os i.process i.regis
 -- a call that goes as planned
 abbrev effect_by : Invocation → ℕ → Operation → Outcome → Effect
 effect_by i annex operation outcome = record {
-    objects = replied outcome.objects i outcome;
-    written = (elim operation [ Call ↦ i.process ∷ annex ∷ [] | Return ↦ i.process ∷ [] | Send ↦ [] ]) ++ outcome.written;
-  }
+  objects = replied outcome.objects i outcome;
+  written = (elim operation [ Call ↦ i.process ∷ annex ∷ [] | Return ↦ i.process ∷ [] | Send ↦ [] ]) ++ outcome.written;
+}
 
 pub planned_effect : (os : List Object) (i : Invocation) (plan : Plan) → i.operation ≡ Call → outcome_of os plan ≡ ordered os i →
-  on_kernel_object os i ≡ record {
+    on_kernel_object os i ≡ record {
       objects = replied (changed os plan.change) i (outcome_of os plan);
       written = written_by_call i.process (annex_at os i.process) plan.change;
     }
@@ -131,44 +131,48 @@ annex_kept before now c p a after is =
 
 -- a call that was carried out, from what each part of it told
 pub call_invokes : (before there : List Frame) (i : Invocation) (plan : Plan) (annex : ℕ) (after : List Object) (touched touched_there touched_after : List Bool) (log : ℕ) →
-  IsStorage (register_at (objects_of before) i.process i.register) → i.operation ≡ Call → there ≡ before → touched_there ≡ touched →
-  annex ≡ annex_at (objects_of before) i.process → outcome_of (objects_of before) plan ≡ ordered (objects_of before) i →
-  after ≡ replied (changed (objects_of there) plan.change) i (outcome_of (objects_of there) plan) →
-  touched_after ≡ touching touched_there (written_by_call i.process annex plan.change) → touched_count touched_after ≤ log →
-  Invokes i log (objects_of before) touched after touched_after
+    IsStorage (register_at (objects_of before) i.process i.register) → i.operation ≡ Call → there ≡ before → touched_there ≡ touched →
+    annex ≡ annex_at (objects_of before) i.process → outcome_of (objects_of before) plan ≡ ordered (objects_of before) i →
+    after ≡ replied (changed (objects_of there) plan.change) i (outcome_of (objects_of there) plan) →
+    touched_after ≡ touching touched_there (written_by_call i.process annex plan.change) → touched_count touched_after ≤ log →
+    Invokes i log (objects_of before) touched after touched_after
 call_invokes before there i plan annex after touched touched_there touched_after log storage call same same_touched is as_planned finished announced within =
     let effect : Effect = record {
-        objects = replied (changed (objects_of before) plan.change) i (outcome_of (objects_of before) plan);
-        written = written_by_call i.process (annex_at (objects_of before) i.process) plan.change;
-      } in
-    ( effect
-    , storage_invoked (objects_of before) i storage ∙ ap Some (planned_effect (objects_of before) i plan call as_planned)
-    , finished ∙ ap (λ (fs : List Frame). replied (changed (objects_of fs) plan.change) i (outcome_of (objects_of fs) plan)) same
-    , announced ∙ ap (λ (ts : List Bool). touching ts (written_by_call i.process annex plan.change)) same_touched
-      ∙ ap (λ (a : ℕ). touching touched (written_by_call i.process a plan.change)) is
-    , within )
+      objects = replied (changed (objects_of before) plan.change) i (outcome_of (objects_of before) plan);
+      written = written_by_call i.process (annex_at (objects_of before) i.process) plan.change;
+    } in (
+      effect,
+      storage_invoked (objects_of before) i storage ∙ ap Some (planned_effect (objects_of before) i plan call as_planned),
+      finished ∙ ap (λ (fs : List Frame). replied (changed (objects_of fs) plan.change) i (outcome_of (objects_of fs) plan)) same,
+      announced ∙ ap (λ (ts : List Bool). touching ts (written_by_call i.process annex plan.change)) same_touched
+          ∙ ap (λ (a : ℕ). touching touched (written_by_call i.process a plan.change)) is,
+      within,
+    )
 
 -- one that wasn't, since it would write too many numbers; and one before which there were too many already
 pub call_overfills : (before : List Frame) (i : Invocation) (plan : Plan) (annex : ℕ) (touched touched_there : List Bool) (log : ℕ) →
-  IsStorage (register_at (objects_of before) i.process i.register) → i.operation ≡ Call → touched_there ≡ touched →
-  annex ≡ annex_at (objects_of before) i.process → outcome_of (objects_of before) plan ≡ ordered (objects_of before) i →
-  log < touched_count (touching touched_there (written_by_call i.process annex plan.change)) → Overfills i log (objects_of before) touched
+    IsStorage (register_at (objects_of before) i.process i.register) → i.operation ≡ Call → touched_there ≡ touched →
+    annex ≡ annex_at (objects_of before) i.process → outcome_of (objects_of before) plan ≡ ordered (objects_of before) i →
+    log < touched_count (touching touched_there (written_by_call i.process annex plan.change)) → Overfills i log (objects_of before) touched
 call_overfills before i plan annex touched touched_there log storage call same_touched is as_planned over =
     let effect : Effect = record {
-        objects = replied (changed (objects_of before) plan.change) i (outcome_of (objects_of before) plan);
-        written = written_by_call i.process (annex_at (objects_of before) i.process) plan.change;
-      } in
-    ( effect
-    , storage_invoked (objects_of before) i storage ∙ ap Some (planned_effect (objects_of before) i plan call as_planned)
-    , subst (λ (ts : List Bool). log < touched_count ts)
-        (ap (λ (ts : List Bool). touching ts (written_by_call i.process annex plan.change)) same_touched
-        ∙ ap (λ (a : ℕ). touching touched (written_by_call i.process a plan.change)) is) over )
+      objects = replied (changed (objects_of before) plan.change) i (outcome_of (objects_of before) plan);
+      written = written_by_call i.process (annex_at (objects_of before) i.process) plan.change;
+    } in (
+      effect,
+      storage_invoked (objects_of before) i storage ∙ ap Some (planned_effect (objects_of before) i plan call as_planned),
+      subst (λ (ts : List Bool). log < touched_count ts)
+          (ap (λ (ts : List Bool). touching ts (written_by_call i.process annex plan.change)) same_touched
+          ∙ ap (λ (a : ℕ). touching touched (written_by_call i.process a plan.change)) is) over,
+    )
 
 pub full_overfills : (before : List Frame) (i : Invocation) (touched : List Bool) (log : ℕ) →
-  IsStorage (register_at (objects_of before) i.process i.register) → log < touched_count touched → Overfills i log (objects_of before) touched
-full_overfills before i touched log storage over =
-    (on_kernel_object (objects_of before) i, storage_invoked (objects_of before) i storage,
-      omega (arith, touching_more touched (on_kernel_object (objects_of before) i).written))
+    IsStorage (register_at (objects_of before) i.process i.register) → log < touched_count touched → Overfills i log (objects_of before) touched
+full_overfills before i touched log storage over = (
+  on_kernel_object (objects_of before) i,
+  storage_invoked (objects_of before) i storage,
+  omega (arith, touching_more touched (on_kernel_object (objects_of before) i).written),
+)
 
 -- a running process is a process
 pub running_process : (os : List Object) (p : ℕ) → IsTrue (is_running_process os p) → IsTrue (is_process os p)

@@ -9,8 +9,8 @@ use Rattle.capability.proofs.Frames.{known_used, annex_used}
 
 -- the annex of a process has one, also after a look at other frames
 pub annex_known : (before now : List Frame) (p a : ℕ) → now ≡ before → a ≡ annex_at (objects_of now) p →
-  IsTrue (is_annex (content_at (objects_of before) (annex_at (objects_of before) p))) → a < length now
+    IsTrue (is_annex (content_at (objects_of before) (annex_at (objects_of before) p))) → a < length now
 annex_known before now p a same is annex =
     subst (λ (fs : List Frame). a ≡ annex_at (objects_of fs) p → a < length fs) (sym same)
-      (λ here. subst (λ (n : ℕ). n < length before) (sym here) (known_used before (annex_at (objects_of before) p) (annex_used (content_at (objects_of before) (annex_at (objects_of before) p)) annex)))
-      is
+    (λ here. subst (λ (n : ℕ). n < length before) (sym here) (known_used before (annex_at (objects_of before) p) (annex_used (content_at (objects_of before) (annex_at (objects_of before) p)) annex)))
+    is

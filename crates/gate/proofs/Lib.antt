@@ -1,4 +1,5 @@
 pub mod Calls
+pub mod FirstWorld
 pub mod Known
 pub mod Looking
 pub mod Messages

@@ -23,7 +23,7 @@ ok_not_full x is = cc
 module _ {S T U : Type 0} (frames_of : S → List Frame) (touched_of : S → List Bool) (geometry_of : S → Geometry) (failures_of : S → ℕ)
     (Leads : S → S → Type 0) (twice : (s t u : S) → Leads s t → Leads t u → Leads s u) where
   pub looks_on : (s t u : S) (x : T) (r : Result U PrepareFault) → LooksUp frames_of touched_of geometry_of failures_of Leads s t (Ok x) →
-    LooksUp frames_of touched_of geometry_of failures_of Leads t u r → LooksUp frames_of touched_of geometry_of failures_of Leads s u r
+      LooksUp frames_of touched_of geometry_of failures_of Leads t u r → LooksUp frames_of touched_of geometry_of failures_of Leads s u r
   looks_on s t u x r a b =
       let same : failures_of t ≡ failures_of s = unfailed (failures_of s) (failures_of t) a.later (λ rose. ok_no_fault x (a.cause.1 rose)) in
       record {
@@ -34,7 +34,7 @@ module _ {S T U : Type 0} (frames_of : S → List Frame) (touched_of : S → Lis
         later = subst (λ (n : ℕ). n ≤ failures_of u) same b.later;
         cause = subst (λ (n : ℕ). IsErrOf r fault.Failed ↔ (n < failures_of u)) same b.cause;
         full = λ is. subst (λ (ts : List Bool). (geometry_of s).log < touched_count ts) a.touched
-          (subst (λ (g : Geometry). g.log < touched_count (touched_of t)) a.geometry (b.full is));
+            (subst (λ (g : Geometry). g.log < touched_count (touched_of t)) a.geometry (b.full is));
       }
 
 -- no look at all
@@ -42,14 +42,14 @@ module _ {S T : Type 0} (frames_of : S → List Frame) (touched_of : S → List 
     (Leads : S → S → Type 0) (same : (s : S) → Leads s s) where
   pub looks_none : (s : S) (x : T) → LooksUp frames_of touched_of geometry_of failures_of Leads s s (Ok x)
   looks_none s x = record {
-      frames = refl;
-      touched = refl;
-      geometry = refl;
-      leads = same s;
-      later = omega arith;
-      cause = (λ is. absurd (ok_no_fault x is), λ rose. absurd (omega arith));
-      full = λ is. absurd (ok_not_full x is);
-    }
+    frames = refl;
+    touched = refl;
+    geometry = refl;
+    leads = same s;
+    later = omega arith;
+    cause = (λ is. absurd (ok_no_fault x is), λ rose. absurd (omega arith));
+    full = λ is. absurd (ok_not_full x is);
+  }
 
 -- an error is what it is beside any answer
 pub same_error : {T U : Type 0} (e f : PrepareFault) → IsErrOf {T = T} (Err e) f → IsErrOf {T = U} (Err e) f

@@ -10,14 +10,14 @@ use Rattle.capability.specs.Objects.{with_message}
 
 -- one more capability goes into the next slot
 pub with_slots_push : (os : List Object) (n k : ℕ) (cs : List Capability) (c : Capability) →
-  with_slots_from os n k (cs ++ c ∷ []) ≡ with_slot (with_slots_from os n k cs) n (k + length cs) c
+    with_slots_from os n k (cs ++ c ∷ []) ≡ with_slot (with_slots_from os n k cs) n (k + length cs) c
 with_slots_push os n k [] c = ap (λ (i : ℕ). with_slot os n i c) (sym (add-zero k))
 with_slots_push os n k (d ∷ cs) c =
     with_slots_push (with_slot os n k d) n (k + 1) cs c
     ∙ ap (λ (i : ℕ). with_slot (with_slots_from (with_slot os n k d) n (k + 1) cs) n i c) (omega arith)
 
 pub with_slots_more : (os : List Object) (n k : ℕ) (cs : List Capability) (i : ℕ) → i < length cs →
-  with_slots_from os n k (take (i + 1) cs) ≡ with_slot (with_slots_from os n k (take i cs)) n (k + i) (get_or cs i Void)
+    with_slots_from os n k (take (i + 1) cs) ≡ with_slot (with_slots_from os n k (take i cs)) n (k + i) (get_or cs i Void)
 with_slots_more os n k cs i within =
     ap (with_slots_from os n k) (take_more cs i Void within)
     ∙ with_slots_push os n k (take i cs) (get_or cs i Void)
@@ -25,19 +25,19 @@ with_slots_more os n k cs i within =
 
 -- a message is delivered to the root, and then to the registers
 pub deliver_by_parts : (os : List Object) (p : ℕ) (words : List ℕ) (key : ℕ) (cs : List Capability) →
-  deliver os p (record { words = words; key = key; capabilities = cs }) ≡ with_slots_from (with_message os p words key) (annex_at os p) 28 cs
+    deliver os p (record { words = words; key = key; capabilities = cs }) ≡ with_slots_from (with_message os p words key) (annex_at os p) 28 cs
 unfolding deliver with_message
 deliver_by_parts os p words key cs = refl
 
 -- a step of the delivery, and its end
 pub delivered_more : (before now after : List Object) (n i : ℕ) (cs : List Capability) → now ≡ with_slots_from before n 28 (take i cs) →
-  after ≡ with_slot now n (28 + i) (get_or cs i Void) → i < length cs → after ≡ with_slots_from before n 28 (take (i + 1) cs)
+    after ≡ with_slot now n (28 + i) (get_or cs i Void) → i < length cs → after ≡ with_slots_from before n 28 (take (i + 1) cs)
 delivered_more before now after n i cs so_far step within =
     step ∙ ap (λ (os : List Object). with_slot os n (28 + i) (get_or cs i Void)) so_far ∙ sym (with_slots_more before n 28 cs i within)
 
 pub delivered_all : (os now : List Object) (p : ℕ) (words : List ℕ) (key : ℕ) (cs : List Capability) (n i : ℕ) →
-  now ≡ with_slots_from (with_message os p words key) n 28 (take i cs) → n ≡ annex_at os p → length cs ≤ i →
-  now ≡ deliver os p (record { words = words; key = key; capabilities = cs })
+    now ≡ with_slots_from (with_message os p words key) n 28 (take i cs) → n ≡ annex_at os p → length cs ≤ i →
+    now ≡ deliver os p (record { words = words; key = key; capabilities = cs })
 delivered_all os now p words key cs n i so_far is all =
     so_far
     ∙ ap (with_slots_from (with_message os p words key) n 28) (take_all i cs all)

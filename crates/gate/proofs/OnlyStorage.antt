@@ -1,10 +1,10 @@
 -- Where there are only void, numbers, pages, nodes and address spaces, a call leaves only such.
-use Rattle.std.proofs.Common.{◌≡◌, ℕ, ◌+◌, ◌==◌, Bool, true, false, cond, not, ◌||◌, List, [], ◌∷◌, set, get_or, map, slice_index_or, Option, None, Some, refl, sym, ap, ◌∙◌, subst}
+use Rattle.std.proofs.Common.{◌≡◌, ℕ, ◌==◌, Bool, true, false, cond, not, ◌||◌, List, [], ◌∷◌, map, slice_index_or, Option, None, Some, subst}
 use Rattle.std.specs.Prelude.{nat_lt, slice_index, if◌then◌else◌}
 use Rattle.model.specs.declared.object.State.TheVariants.{Available}
 use Rattle.model.specs.declared.access.Access.{Access}
 use Rattle.model.specs.declared.capability.Capability.{Capability}
-use Rattle.model.specs.declared.capability.Capability.TheVariants.{Void, Number, Page, Node, Space, Process, Start, Resume, Bank, Discrim}
+use Rattle.model.specs.declared.capability.Capability.TheVariants.{Void, Number, Page, Node, Space}
 use Rattle.model.specs.declared.command.Invocation.{Invocation}
 use Rattle.model.specs.declared.command.Operation.{Operation}
 use Rattle.model.specs.declared.command.Operation.TheVariants.{Call, Return, Send}
@@ -17,11 +17,11 @@ use Rattle.model.specs.declared.order.NodeOrder.TheVariants as node
 use Rattle.model.specs.declared.order.PageOrder.{PageOrder}
 use Rattle.model.specs.declared.order.PageOrder.TheVariants as page
 use Rattle.model.specs.declared.order.ResultCode.TheVariants as code
-use Rattle.model.specs.Capability.{diminished, union}
-use Rattle.model.specs.Invoke.{Effect, Message, invoke, ordered, replied, reply_of, deliver, sent_by, after_order, on_kernel_object}
+use Rattle.model.specs.Capability.{diminished}
+use Rattle.model.specs.Invoke.{Effect, invoke, ordered, reply_of, deliver, sent_by, after_order, on_kernel_object}
 use Rattle.model.specs.Object.{slots_in, with_word_in, with_slot_in}
-use Rattle.model.specs.Order.{Arguments, Outcome, refused, told, given, wrote, order, on_page, on_node, page_order, node_order, fetched, stored, reduces, code_number}
-use Rattle.model.specs.World.{content_at, slot_at, root_at, register_at, is_running_process, with_content, with_word, with_slot, with_root, with_state, with_slots_from}
+use Rattle.model.specs.Order.{Arguments, Outcome, refused, order, on_page, on_node, page_order, node_order, fetched, stored, reduces, code_number}
+use Rattle.model.specs.World.{content_at, slot_at, register_at, is_running_process, with_content, with_word, with_slot, with_root, with_state}
 use Rattle.model.proofs.SoundEdits.{at_set, at_content}
 use Rattle.gate.specs.Plan.{IsStorage, HoldOnlyStorage}
 use Rattle.gate.proofs.Calls.{storage_invoked}
@@ -88,13 +88,13 @@ module _ (os : List Object) (only : HoldOnlyStorage os) (args : Arguments) (stor
   page_leaves o a page.Read = either (nat_lt args.first 512) _ _ (record { given = tt; left = only }) (stays code.BadIndex)
   page_leaves o a page.Write =
       either (not (a.0 == 0)) _ _ (stays code.NoAccess)
-        (either (nat_lt args.first 512) _ _ (record { given = tt; left = only_word os o args.first args.second only }) (stays code.BadIndex))
+      (either (nat_lt args.first 512) _ _ (record { given = tt; left = only_word os o args.first args.second only }) (stays code.BadIndex))
   page_leaves o a page.Reduce = either (reduces args.first) _ _ (record { given = tt; left = only }) (stays code.BadIndex)
 
   stored_leaves : (o : ℕ) (a : Access) (slot : ℕ) (c : Capability) → IsStorage c → IsStorageOutcome (stored os o a slot c)
   stored_leaves o a slot c held =
       either (not (a.0 == 0)) _ _ (stays code.NoAccess)
-        (either (nat_lt slot 32) _ _ (record { given = tt; left = only_slot os o slot c only held }) (stays code.BadIndex))
+      (either (nat_lt slot 32) _ _ (record { given = tt; left = only_slot os o slot c only held }) (stays code.BadIndex))
 
   node_leaves : (o : ℕ) (a : Access) (asked : NodeOrder) → IsStorageOutcome (on_node os o a asked args)
   unfolding on_node
@@ -106,12 +106,12 @@ module _ (os : List Object) (only : HoldOnlyStorage os) (args : Arguments) (stor
   node_leaves o a node.PutNumber = stored_leaves o a args.first (Number args.second) tt
 
   by_page_order : (o : ℕ) (a : Access) (asked : Option PageOrder) →
-    IsStorageOutcome (elim asked [ None ↦ refused os code.NoOrder | Some known ↦ on_page os o a known args ])
+      IsStorageOutcome (elim asked [ None ↦ refused os code.NoOrder | Some known ↦ on_page os o a known args ])
   by_page_order o a None = stays code.NoOrder
   by_page_order o a (Some known) = page_leaves o a known
 
   by_node_order : (o : ℕ) (a : Access) (asked : Option NodeOrder) →
-    IsStorageOutcome (elim asked [ None ↦ refused os code.NoOrder | Some known ↦ on_node os o a known args ])
+      IsStorageOutcome (elim asked [ None ↦ refused os code.NoOrder | Some known ↦ on_node os o a known args ])
   by_node_order o a None = stays code.NoOrder
   by_node_order o a (Some known) = node_leaves o a known
 
@@ -127,14 +127,14 @@ module _ (os : List Object) (only : HoldOnlyStorage os) (args : Arguments) (stor
 
 -- a message of storage leaves only storage
 only_delivered : (os : List Object) (p : ℕ) (words : List ℕ) (key : ℕ) (c : Capability) → HoldOnlyStorage os → IsStorage c →
-  HoldOnlyStorage (deliver os p (record { words = words; key = key; capabilities = c ∷ Void ∷ Void ∷ Void ∷ [] }))
+    HoldOnlyStorage (deliver os p (record { words = words; key = key; capabilities = c ∷ Void ∷ Void ∷ Void ∷ [] }))
 unfolding deliver
 only_delivered os p words key c only storage =
     only_slot _ _ _ Void (only_slot _ _ _ Void (only_slot _ _ _ Void (only_slot _ _ _ c (only_root os p _ only) storage) tt) tt) tt
 
 -- the parts of an invocation of a kernel object
 state_leaves : (os : List Object) (p : ℕ) (operation : Operation) → HoldOnlyStorage os →
-  HoldOnlyStorage (elim operation [ Return ↦ with_state os p Available | _ ↦ os ])
+    HoldOnlyStorage (elim operation [ Return ↦ with_state os p Available | _ ↦ os ])
 unfolding with_state
 state_leaves os p Call only = only
 state_leaves os p Return only = only_root os p _ only
@@ -145,7 +145,7 @@ sent_storage os p [] only = tt
 sent_storage os p (r ∷ rs) only = only _ r
 
 reply_leaves : (p : ℕ) (operation : Operation) (running : Bool) (outcome : Outcome) → IsStorageOutcome outcome →
-  HoldOnlyStorage (elim operation [ Call ↦ if running then deliver outcome.objects p (reply_of outcome) else outcome.objects | _ ↦ outcome.objects ])
+    HoldOnlyStorage (elim operation [ Call ↦ if running then deliver outcome.objects p (reply_of outcome) else outcome.objects | _ ↦ outcome.objects ])
 reply_leaves p Call true outcome storage = only_delivered outcome.objects p (code_number outcome.code ∷ outcome.words) 0 outcome.capability storage.left storage.given
 reply_leaves p Call false outcome storage = storage.left
 reply_leaves p Return running outcome storage = storage.left
@@ -156,8 +156,8 @@ unfolding on_kernel_object
 kernel_leaves os i only =
     let args : Arguments = record { first = slice_index i.words 1; second = slice_index i.words 2; capability = slice_index_or (sent_by os i) 0 Void } in
     reply_leaves i.process i.operation (is_running_process (ordered os i).objects i.process) (ordered os i)
-      (order_leaves (after_order os i) (state_leaves os i.process i.operation only) args (sent_storage os i.process i.sent only)
-        (register_at os i.process i.register) (slice_index i.words 0) (only _ i.register))
+    (order_leaves (after_order os i) (state_leaves os i.process i.operation only) args (sent_storage os i.process i.sent only)
+    (register_at os i.process i.register) (slice_index i.words 0) (only _ i.register))
 
 -- an invocation where there is only storage leaves only storage
 pub invocation_leaves : (os : List Object) (i : Invocation) (e : Effect) → HoldOnlyStorage os → invoke os i ≡ Some e → HoldOnlyStorage e.objects

@@ -1,4 +1,4 @@
-use Rattle.std.specs.Prelude.{◌≡◌, ◌↔◌, ℕ, ◌<◌, ◌≤◌, Bool, List, ◌∷◌, Option, Some, Result, IsErrOf}
+use Rattle.std.specs.Prelude.{◌≡◌, ◌↔◌, ℕ, ◌<◌, ◌≤◌, Bool, List, ◌∷◌, Some, Result, IsErrOf}
 use Rattle.std.specs.Option.{option_to_list}
 use Rattle.model.specs.declared.command.Invocation.{Invocation}
 use Rattle.model.specs.declared.frame.Frame.{Frame}
@@ -27,7 +27,7 @@ pub record LooksUp {S T : Type 0} (frames_of : S → List Frame) (touched_of : S
 abbrev pub Invokes : Invocation → ℕ → List Object → List Bool → List Object → List Bool → Type 0
 Invokes i log before touched after touched_after =
     (effect : Effect) × (invoke before i ≡ Some effect) × (after ≡ effect.objects)
-      × (touched_after ≡ touching touched effect.written) × (touched_count touched_after ≤ log)
+    × (touched_after ≡ touching touched effect.written) × (touched_count touched_after ≤ log)
 
 -- an invocation that would write more numbers than half of the log holds
 abbrev pub Overfills : Invocation → ℕ → List Object → List Bool → Type 0

@@ -25,12 +25,12 @@ target_of (change.Slot node slot capability) = Some node
 -- what comes of an order that goes as planned
 abbrev pub outcome_of : List Object → Plan → Outcome
 outcome_of os plan = record {
-    code = plan.code;
-    words = plan.words;
-    capability = plan.capability;
-    objects = changed os plan.change;
-    written = option_to_list (target_of plan.change);
-  }
+  code = plan.code;
+  words = plan.words;
+  capability = plan.capability;
+  objects = changed os plan.change;
+  written = option_to_list (target_of plan.change);
+}
 
 -- void, a number, or a page, node or space
 abbrev pub IsStorage : Capability → Type 0

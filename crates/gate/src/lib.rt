@@ -8,3 +8,5 @@ pub mod node;
 pub mod page;
 pub mod plan;
 pub mod storage;
+#[cfg(test)]
+mod tests;

@@ -27,7 +27,8 @@ pub fn object_named(capability: Capability) -> Option<u64>
         | Capability::Space { object, .. }
         | Capability::Process(object)
         | Capability::Start {
-            process: object, ..
+            process: object,
+            ..
         }
         | Capability::Resume(object)
         | Capability::Bank(object) => Some(object),
@@ -37,13 +38,7 @@ pub fn object_named(capability: Capability) -> Option<u64>
 
 /// What an order on an address space comes to.
 #[tactic(auto, unfolding(model::specs::Order::order))]
-fn on_space(
-    object: u64,
-    height: u8,
-    access: Access,
-    word: u64,
-    arguments: Arguments,
-) -> Plan
+fn on_space(object: u64, height: u8, access: Access, word: u64, arguments: Arguments) -> Plan
     ensures only { IsFor (Capability.Space object height access) result }
     ensures outcome { (os : List Object) → outcome_of os result
         ≡ order os (Capability.Space object height access) word (record { first = arguments.first; second = arguments.second; capability = arguments.capability }) }

@@ -12,14 +12,22 @@ use model::{Access, Cap, Capability, Geometry};
 /// How many bytes a capability takes.
 pub const CAPABILITY_BYTES: usize = 24;
 
-// The first eight bytes of a capability as one number, which are its tag, access, key and height, and
-// the number that it has, of the object that it names or its own.
-fn fields_of(what: Capability) -> (u64, u64)
-    ensures head { result.0 ≡ head_number what }
-    ensures number { result.1 ≡ number_of what }
+// A capability with the numbers that spell it: its tag, access, key and height in the first eight
+// bytes, and the number of the object that it names or its own.
+#[derive(Drop)]
+struct Spelling {
+    what: Capability,
+    head: u64,
+    number: u64,
+}
+
+fn spelling_of(what: Capability) -> Spelling
+    ensures what { result.what ≡ what }
+    ensures head { result.head ≡ head_number what }
+    ensures number { result.number ≡ number_of what }
     ensures fits { HeadFits what }
 {
-    match what {
+    let (head, number) = match what {
         Capability::Void => (0, 0),
         Capability::Number(number) => (1, number),
         Capability::Page { object, access } => (2 + 256 * access.bits() as u64, object),
@@ -37,31 +45,35 @@ fn fields_of(what: Capability) -> (u64, u64)
         Capability::Resume(process) => (7, process),
         Capability::Bank(bank) => (8, bank),
         Capability::Discrim => (9, 0),
-    }
+    };
+    Spelling { what, head, number }
 }
 
-// The capability with a tag, of the fields that it has.
-fn assembled(tag: u64, access: Access, key: u16, height: u8, object: u64) -> Capability
-    ensures { result ≡ assembled tag access key height object }
+// The capability with a tag, of the fields that it has, and what spells it.
+fn assembled(tag: u64, access: Access, key: u16, height: u8, object: u64) -> Spelling
+    ensures what { result.what ≡ assembled tag access key height object }
+    ensures head { result.head ≡ head_number result.what }
+    ensures number { result.number ≡ number_of result.what }
+    ensures fits { HeadFits result.what }
 {
     match tag {
-        0 => Capability::Void,
-        1 => Capability::Number(object),
-        2 => Capability::Page { object, access },
-        3 => Capability::Node { object, access },
-        4 => Capability::Space {
+        0 => spelling_of(Capability::Void),
+        1 => spelling_of(Capability::Number(object)),
+        2 => spelling_of(Capability::Page { object, access }),
+        3 => spelling_of(Capability::Node { object, access }),
+        4 => spelling_of(Capability::Space {
             object,
             height,
             access,
-        },
-        5 => Capability::Process(object),
-        6 => Capability::Start {
+        }),
+        5 => spelling_of(Capability::Process(object)),
+        6 => spelling_of(Capability::Start {
             process: object,
             key,
-        },
-        7 => Capability::Resume(object),
-        8 => Capability::Bank(object),
-        _ => Capability::Discrim,
+        }),
+        7 => spelling_of(Capability::Resume(object)),
+        8 => spelling_of(Capability::Bank(object)),
+        _ => spelling_of(Capability::Discrim),
     }
 }
 
@@ -106,9 +118,9 @@ pub fn encode_capability(cap: Cap, into: &mut [u8])
     requires { length into.old ≡ 24 }
     ensures { into.new ≡ capability_bytes cap }
 {
-    let (head, number) = fields_of(cap.what);
-    put_number(into, 0, head);
-    put_number(into, 8, number);
+    let spelling = spelling_of(cap.what);
+    put_number(into, 0, spelling.head);
+    put_number(into, 8, spelling.number);
     put_number(into, 16, cap.count);
 }
 
@@ -128,10 +140,12 @@ pub fn decode_capability(bytes: &[u8], geometry: Geometry, age: u64) -> Result<C
     let access = Access::from_bits_retain((head / 256 % 256) as u8);
     let key = (head / 65536 % 65536) as u16;
     let height = (head / 4294967296 % 256) as u8;
-    let what = assembled(head % 256, access, key, height, object);
-    let cap = Cap { what, count };
-    let (same_head, same_number) = fields_of(what);
-    if same_head == head && same_number == object && is_capability(geometry, age, cap) {
+    let read = assembled(head % 256, access, key, height, object);
+    let cap = Cap {
+        what: read.what,
+        count,
+    };
+    if read.head == head && read.number == object && is_capability(geometry, age, cap) {
         Ok(cap)
     } else {
         Err(BadImage::BadFrame)

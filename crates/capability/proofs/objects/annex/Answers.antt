@@ -10,7 +10,7 @@ pub returns-in_default : goal.returns-in_default
 returns-in_default g c =
     let now = c.frame.result.now in
     sym (ap (λ (d : Content Capability). (root_in d).annex) (content_there _ c.args.process now now.content c.frame.ensures refl)
-      ∙ blank_annex _ now.content c.in_default.not-Root)
+    ∙ blank_annex _ now.content c.in_default.not-Root)
 
 pub returns-in-Root : goal.returns-in-Root
 returns-in-Root g c =

@@ -1,4 +1,4 @@
-use Rattle.std.proofs.Common.{sym, ap, ◌∙◌, refl}
+use Rattle.std.proofs.Common.{ap, ◌∙◌, refl}
 use Rattle.model.specs.Frame.{objects_of}
 use Rattle.capability.proofs.Frames.{put_message, no_root_there}
 use Rattle.capability.proofs.objects.set_message.Goals as goal

@@ -12,6 +12,6 @@ pub returns-in-Node : goal.returns-in-Node
 returns-in-Node g c =
     let now = c.frame.result.now in
     c.conveyed.ensures ∙ sym (⊎_elim
-      (λ is. slot_there _ c.args.number now (content.Node c.in-Node.slots) c.frame.ensures is c.args.slot c.get.result c.get.ensures.value)
-      (λ is. slot_there _ c.args.number now (content.Annex c.in-Node.slots) c.frame.ensures is c.args.slot c.get.result c.get.ensures.value)
-      c.in-Node.is)
+    (λ is. slot_there _ c.args.number now (content.Node c.in-Node.slots) c.frame.ensures is c.args.slot c.get.result c.get.ensures.value)
+    (λ is. slot_there _ c.args.number now (content.Annex c.in-Node.slots) c.frame.ensures is c.args.slot c.get.result c.get.ensures.value)
+    c.in-Node.is)

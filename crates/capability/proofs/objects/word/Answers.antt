@@ -7,7 +7,7 @@ pub returns-in_default : goal.returns-in_default
 returns-in_default g c =
     let now = c.frame.result.now in
     sym (words_there _ c.args.number now now.content c.frame.ensures refl c.args.index
-      ∙ ap (λ (ws : List ℕ). slice_index ws c.args.index) (no_words now.content c.in_default.not-Page))
+    ∙ ap (λ (ws : List ℕ). slice_index ws c.args.index) (no_words now.content c.in_default.not-Page))
 
 pub returns-in-Page : goal.returns-in-Page
 returns-in-Page g c =

@@ -4,6 +4,6 @@ use Rattle.capability.proofs.view.conveyed_slots.Given as goal
 
 abbrev pub invariant-loop-i : goal.invariant-loop-i
 invariant-loop-i g l = record {
-    whole : length l.slots ≡ 32;
-    front : take l.i l.slots ≡ map (conveyed (headers (g.F.PresentFrames.frames l.store))) (take l.i l.held);
-  }
+  whole : length l.slots ≡ 32;
+  front : take l.i l.slots ≡ map (conveyed (headers (g.F.PresentFrames.frames l.store))) (take l.i l.held);
+}

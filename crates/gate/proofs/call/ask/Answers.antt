@@ -15,6 +15,6 @@ returns-clause-looks g c =
     let F = g.F.PresentFrames in
     let twice = g.met.F.PresentFrames.leads_twice in
     looks_on F.frames F.touched F.geometry F.failures F.LeadsTo twice _ _ _ _ _ c.in_ok-fetch.ensures.looks
-      (looks_on F.frames F.touched F.geometry F.failures F.LeadsTo twice _ _ _ _ _ c.in_ok-fetch-2.ensures.looks
-        (looks_on F.frames F.touched F.geometry F.failures F.LeadsTo twice _ _ _ (c.in_ok-fetch_named.field-0) _ c.in_ok-fetch_named.ensures.looks
-          (looks_none F.frames F.touched F.geometry F.failures F.LeadsTo g.met.F.PresentFrames.leads_same _ _)))
+    (looks_on F.frames F.touched F.geometry F.failures F.LeadsTo twice _ _ _ _ _ c.in_ok-fetch-2.ensures.looks
+    (looks_on F.frames F.touched F.geometry F.failures F.LeadsTo twice _ _ _ (c.in_ok-fetch_named.field-0) _ c.in_ok-fetch_named.ensures.looks
+    (looks_none F.frames F.touched F.geometry F.failures F.LeadsTo g.met.F.PresentFrames.leads_same _ _)))

@@ -1,4 +1,4 @@
-use Rattle.std.proofs.Common.{refl, ◌≡◌, ◌∙◌, ◌+◌, ◌<◌, ◌≤◌, sym, ap, length, arith}
+use Rattle.std.proofs.Common.{◌≡◌, ◌∙◌, ◌<◌, ◌≤◌, sym, length, arith}
 use Rattle.model.specs.Frame.{objects_of}
 use Rattle.capability.proofs.PlainUsage.{used_more, used_same_itself, used_same_other, used_whole, length-objects}
 use Rattle.capability.proofs.plain.usage.usage.Goals as goal

@@ -1,0 +1,8 @@
+use Rattle.gate.proofs.FirstWorld.{made_sound, made_storage}
+use Rattle.gate.proofs.tests.first_world.Goals as goal
+
+pub returns-clause-sound : goal.returns-clause-sound
+returns-clause-sound c = made_sound c.f0.result c.f0.ensures.world c.f0.ensures.geometry
+
+pub returns-clause-storage : goal.returns-clause-storage
+returns-clause-storage c = made_storage c.f0.result c.f0.ensures.world
