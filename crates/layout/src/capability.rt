@@ -1,8 +1,8 @@
-ghost use Rattle.std.specs.Prelude.{◌≡◌, ℕ, ◌+◌, ◌*◌, ◌^◌, ◌<◌, ◌≤◌, ◌++◌, ◌↔◌, length, IsTrue, IfOk, IfErr};
+ghost use Rattle.std.specs.Prelude.{◌≡◌, ℕ, ◌+◌, ◌*◌, ◌^◌, ◌%◌, ◌<◌, ◌≤◌, ◌++◌, ◌↔◌, length, IsTrue, IfOk, IfErr};
 ghost use Rattle.model.specs.declared.access.Access.{Access};
 ghost use Rattle.model.specs.declared.capability.Cap.{Cap};
 ghost use Rattle.model.specs.Capability.{IsAccess};
-ghost use Rattle.layout.specs.Capability.{capability_bytes, head_number, HeadFits, number_of, assembled, IsCapability};
+ghost use Rattle.layout.specs.Capability.{capability_bytes, head_number, HeadFits, number_of, assembled, IsCapability, Follows};
 
 use crate::bad_image::BadImage;
 use crate::bytes::{number_at, put_number};
@@ -12,22 +12,22 @@ use model::{Access, Cap, Capability, Geometry};
 /// How many bytes a capability takes.
 pub const CAPABILITY_BYTES: usize = 24;
 
-// A capability with the numbers that spell it: its tag, access, key and height in the first eight
-// bytes, and the number of the object that it names or its own.
-#[derive(Drop)]
-struct Spelling {
-    what: Capability,
+// The three numbers of a capability's bytes: its tag, access, key and height as one; of the object
+// that it names, or its own; and its count.
+#[derive(Clone, Copy)]
+struct Numbers {
     head: u64,
-    number: u64,
+    object: u64,
+    count: u64,
 }
 
-fn spelling_of(what: Capability) -> Spelling
-    ensures what { result.what ≡ what }
-    ensures head { result.head ≡ head_number what }
-    ensures number { result.number ≡ number_of what }
-    ensures fits { HeadFits what }
+fn numbers_of(cap: Cap) -> Numbers
+    ensures head { result.head ≡ head_number cap.what }
+    ensures object { result.object ≡ number_of cap.what }
+    ensures count { result.count ≡ cap.count }
+    ensures fits { HeadFits cap.what }
 {
-    let (head, number) = match what {
+    let (head, object) = match cap.what {
         Capability::Void => (0, 0),
         Capability::Number(number) => (1, number),
         Capability::Page { object, access } => (2 + 256 * access.bits() as u64, object),
@@ -46,34 +46,11 @@ fn spelling_of(what: Capability) -> Spelling
         Capability::Bank(bank) => (8, bank),
         Capability::Discrim => (9, 0),
     };
-    Spelling { what, head, number }
-}
-
-// The capability with a tag, of the fields that it has, and what spells it.
-fn assembled(tag: u64, access: Access, key: u16, height: u8, object: u64) -> Spelling
-    ensures what { result.what ≡ assembled tag access key height object }
-    ensures head { result.head ≡ head_number result.what }
-    ensures number { result.number ≡ number_of result.what }
-    ensures fits { HeadFits result.what }
-{
-    match tag {
-        0 => spelling_of(Capability::Void),
-        1 => spelling_of(Capability::Number(object)),
-        2 => spelling_of(Capability::Page { object, access }),
-        3 => spelling_of(Capability::Node { object, access }),
-        4 => spelling_of(Capability::Space {
-            object,
-            height,
-            access,
-        }),
-        5 => spelling_of(Capability::Process(object)),
-        6 => spelling_of(Capability::Start {
-            process: object,
-            key,
-        }),
-        7 => spelling_of(Capability::Resume(object)),
-        8 => spelling_of(Capability::Bank(object)),
-        _ => spelling_of(Capability::Discrim),
+    let count = cap.count;
+    Numbers {
+        head,
+        object,
+        count,
     }
 }
 
@@ -113,15 +90,77 @@ fn is_capability(geometry: Geometry, age: u64, cap: Cap) -> bool
     }
 }
 
+// A capability, and whether it has a spelling and that is of the numbers that were read.
+#[derive(Drop)]
+struct Reading {
+    what: Capability,
+    is_spelt: bool,
+}
+
+#[inline(always)]
+fn read_as(what: Capability, numbers: Numbers, geometry: Geometry, age: u64) -> Reading
+    ensures what { result.what ≡ what }
+    ensures spelt { IsTrue result.is_spelt ↔ ((head_number what ≡ numbers.head)
+        × (number_of what ≡ numbers.object) × Follows geometry age numbers.count what) }
+    ensures fits { HeadFits what }
+{
+    let count = numbers.count;
+    let cap = Cap { what, count };
+    let same = numbers_of(cap);
+    let is_same = same.head == numbers.head && same.object == numbers.object;
+    let is_spelt = is_same && is_capability(geometry, age, cap);
+    Reading { what, is_spelt }
+}
+
+// The capability with the tag that was read, of the fields that it has.
+#[inline(always)]
+fn assembled(
+    access: Access,
+    key: u16,
+    height: u8,
+    numbers: Numbers,
+    geometry: Geometry,
+    age: u64,
+) -> Reading
+    ensures what { result.what ≡ assembled (numbers.head % 256) access key height numbers.object }
+    ensures spelt { IsTrue result.is_spelt ↔ ((head_number result.what ≡ numbers.head)
+        × (number_of result.what ≡ numbers.object) × Follows geometry age numbers.count result.what) }
+    ensures fits { HeadFits result.what }
+{
+    let object = numbers.object;
+    match numbers.head % 256 {
+        0 => read_as(Capability::Void, numbers, geometry, age),
+        1 => read_as(Capability::Number(object), numbers, geometry, age),
+        2 => read_as(Capability::Page { object, access }, numbers, geometry, age),
+        3 => read_as(Capability::Node { object, access }, numbers, geometry, age),
+        4 => {
+            let space = Capability::Space {
+                object,
+                height,
+                access,
+            };
+            read_as(space, numbers, geometry, age)
+        }
+        5 => read_as(Capability::Process(object), numbers, geometry, age),
+        6 => {
+            let process = object;
+            read_as(Capability::Start { process, key }, numbers, geometry, age)
+        }
+        7 => read_as(Capability::Resume(object), numbers, geometry, age),
+        8 => read_as(Capability::Bank(object), numbers, geometry, age),
+        _ => read_as(Capability::Discrim, numbers, geometry, age),
+    }
+}
+
 /// Writes the 24 bytes of a capability.
 pub fn encode_capability(cap: Cap, into: &mut [u8])
     requires { length into.old ≡ 24 }
     ensures { into.new ≡ capability_bytes cap }
 {
-    let spelling = spelling_of(cap.what);
-    put_number(into, 0, spelling.head);
-    put_number(into, 8, spelling.number);
-    put_number(into, 16, cap.count);
+    let numbers = numbers_of(cap);
+    put_number(into, 0, numbers.head);
+    put_number(into, 8, numbers.object);
+    put_number(into, 16, numbers.count);
 }
 
 /// Reads a capability from its 24 bytes. Its object has to be of its kind on a device of this
@@ -140,13 +179,17 @@ pub fn decode_capability(bytes: &[u8], geometry: Geometry, age: u64) -> Result<C
     let access = Access::from_bits_retain((head / 256 % 256) as u8);
     let key = (head / 65536 % 65536) as u16;
     let height = (head / 4294967296 % 256) as u8;
-    let read = assembled(head % 256, access, key, height, object);
-    let cap = Cap {
-        what: read.what,
+    let numbers = Numbers {
+        head,
+        object,
         count,
     };
-    if read.head == head && read.number == object && is_capability(geometry, age, cap) {
-        Ok(cap)
+    let read = assembled(access, key, height, numbers, geometry, age);
+    if read.is_spelt {
+        Ok(Cap {
+            what: read.what,
+            count,
+        })
     } else {
         Err(BadImage::BadFrame)
     }

@@ -100,11 +100,7 @@ fn copies(alloc: Global, words: usize, rounds: u64) -> Result<u64, AllocError>
 {
     let mut values = vec![in alloc; 7u64; words]?;
     let mut bytes = vec![in alloc; 0; 8 * words]?;
-    Ok(copy_words(
-        values.as_mut_slice(),
-        bytes.as_mut_slice(),
-        rounds,
-    ))
+    Ok(copy_words(values.as_mut_slice(), bytes.as_mut_slice(), rounds))
 }
 
 /// Does what the words say: a kind and how many times. With no words, each kind once.

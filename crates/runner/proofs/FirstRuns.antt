@@ -19,16 +19,16 @@ up_at w touched saved to_move = Up (record { now = w; touched = touched; frozen 
 module _ (before : PlainState) (world : world_of before ≡ f0) (geometry : before.geometry ≡ small) (touched : before.touched ≡ untouched small)
     (saved : Saved) (to_move : ℕ) (after : Machine) (input left output written : Option (List ℕ)) where
   pub runs_first : (r : Result (Unit {0}) RunFault) → Runs before.geometry knows_first (machine_of before saved to_move) after input left output written r →
-    Runs small knows_first (first_machine saved to_move) after input left output written r
+      Runs small knows_first (first_machine saved to_move) after input left output written r
   runs_first r run =
       let same : machine_of before saved to_move ≡ first_machine saved to_move =
-          ap (λ (w : World). up_at w before.touched saved to_move) world ∙ ap (λ (ts : List Bool). up_at f0 ts saved to_move) touched in
+      ap (λ (w : World). up_at w before.touched saved to_move) world ∙ ap (λ (ts : List Bool). up_at f0 ts saved to_move) touched in
       subst (λ (g : Geometry). Runs g knows_first (first_machine saved to_move) after input left output written r) geometry
-        (subst (λ (m : Machine). Runs before.geometry knows_first m after input left output written r) same run)
+      (subst (λ (m : Machine). Runs before.geometry knows_first m after input left output written r) same run)
 
   pub fails_first : (f : RunFault) (e : Fault) → (f ≡ run_fault.Read → e ≡ fault.CannotReadScript) → (f ≡ run_fault.Write → e ≡ fault.CannotWriteOutput) →
-    Runs before.geometry knows_first (machine_of before saved to_move) after input left output written (Err f) →
-    RunsFirst input left output written saved to_move (Err e)
+      Runs before.geometry knows_first (machine_of before saved to_move) after input left output written (Err f) →
+      RunsFirst input left output written saved to_move (Err e)
   fails_first run_fault.Read e read write run =
       subst (λ (d : Fault). RunsFirst input left output written saved to_move (Err d)) (sym (read refl)) (after, runs_first (Err run_fault.Read) run)
   fails_first run_fault.Write e read write run =

@@ -19,9 +19,9 @@ f0_storage n i = ⊎_elim
 
 pub begins : (plain : PlainState) → world_of plain ≡ f0 → plain.geometry ≡ small → IsStorageWorld plain
 begins plain world geometry = record {
-    sound = subst (λ (g : Geometry). IsSound g (world_of plain)) (sym geometry) (subst (IsSound small) (sym world) f0_sound);
-    storage = subst (λ (w : World). HoldOnlyStorage w.objects) (sym world) f0_storage;
-  }
+  sound = subst (λ (g : Geometry). IsSound g (world_of plain)) (sym geometry) (subst (IsSound small) (sym world) f0_sound);
+  storage = subst (λ (w : World). HoldOnlyStorage w.objects) (sym world) f0_storage;
+}
 
 -- a store that was made for it, if one was
 pub begins_where_made : {E : Type 0} (made : Result PlainState E) → IfOk made (λ p. world_of p ≡ f0) → IfOk made (λ p. p.geometry ≡ small) → IfOk made IsStorageWorld

@@ -35,49 +35,51 @@ use Rattle.script.specs.First.{machine_of, IsStorageWorld, early_refusal}
 -- the answer by the refusal that applies
 abbrev AnswersBy : Geometry → Running → Command → Answer → Machine → Option Refusal → Type 0
 AnswersBy g s c a after r = elim r [
-    Some why ↦ (a ≡ answer.Refused why) × (after ≡ Up s)
-  | None ↦ (a ≡ (carried_out g s c).answer) × (after ≡ Up (carried_out g s c).after) ]
+  | Some why ↦ (a ≡ answer.Refused why) × (after ≡ Up s)
+  | None ↦ (a ≡ (carried_out g s c).answer) × (after ≡ Up (carried_out g s c).after)
+]
 
 pub refused_step : (g : Geometry) (s : Running) (c : Command) (why : Refusal) → refusal_of g s c ≡ Some why → Step g (Up s) c (answer.Refused why) (Up s)
 refused_step g s c why is = inl (subst (AnswersBy g s c (answer.Refused why) (Up s)) (sym is) (refl, refl))
 
 pub done_step : (g : Geometry) (s : Running) (c : Command) (a : Answer) (after : Machine) → refusal_of g s c ≡ None →
-  a ≡ (carried_out g s c).answer → after ≡ Up (carried_out g s c).after → Step g (Up s) c a after
+    a ≡ (carried_out g s c).answer → after ≡ Up (carried_out g s c).after → Step g (Up s) c a after
 done_step g s c a after none told then = inl (subst (AnswersBy g s c a after) (sym none) (told, then))
 
 -- the early refusal is the first; without one the process runs and the age may rise
 early_first : (a b c : Bool) (next : Option Refusal) (why : Refusal) →
-  unless a refusal.NoProcess (unless b refusal.NotRunning (unless c refusal.Worn None)) ≡ Some why →
-  unless a refusal.NoProcess (unless b refusal.NotRunning (unless c refusal.Worn next)) ≡ Some why
+    unless a refusal.NoProcess (unless b refusal.NotRunning (unless c refusal.Worn None)) ≡ Some why →
+    unless a refusal.NoProcess (unless b refusal.NotRunning (unless c refusal.Worn next)) ≡ Some why
 early_first true true true next why is = cc
 early_first true true false next why is = is
 early_first true false c next why is = is
 early_first false b c next why is = is
 
 early_none : (a b c : Bool) → unless a refusal.NoProcess (unless b refusal.NotRunning (unless c refusal.Worn None)) ≡ None →
-  (a ≡ true) × (b ≡ true) × (c ≡ true)
+    (a ≡ true) × (b ≡ true) × (c ≡ true)
 early_none true true true is = (refl, refl, refl)
 early_none true true false is = cc
 early_none true false c is = cc
 early_none false b c is = cc
 
 pub early_step : (g : Geometry) (s : Running) (i : Invocation) (why : Refusal) → early_refusal s.now i.process ≡ Some why →
-  Step g (Up s) (command.Invoke i) (answer.Refused why) (Up s)
+    Step g (Up s) (command.Invoke i) (answer.Refused why) (Up s)
 unfolding refusal_of
 early_step g s i why early =
     refused_step g s (command.Invoke i) why
-      (early_first (is_process s.now.objects i.process) (is_running_process s.now.objects i.process) (nat_lt s.now.age (2 ^ 62)) _ why early)
+    (early_first (is_process s.now.objects i.process) (is_running_process s.now.objects i.process) (nat_lt s.now.age (2 ^ 62)) _ why early)
 
 pub may_invoke : (w : World) (p : ℕ) → early_refusal w p ≡ None →
-  IsTrue (is_process w.objects p) × IsTrue (is_running_process w.objects p) × (nat_lt w.age (2 ^ 62) ≡ true)
+    IsTrue (is_process w.objects p) × IsTrue (is_running_process w.objects p) × (nat_lt w.age (2 ^ 62) ≡ true)
 may_invoke w p none = early_none (is_process w.objects p) (is_running_process w.objects p) (nat_lt w.age (2 ^ 62)) none
 
 -- a running process that may invoke is refused only where too many numbers would be written
 module _ (g : Geometry) (s : Running) (i : Invocation) (e : Effect) (none : early_refusal s.now i.process ≡ None) (is : invoke s.now.objects i ≡ Some e) where
   abbrev in_order : Bool → Bool → Bool → Option Effect → Option Refusal
   in_order a b c o = unless a refusal.NoProcess (unless b refusal.NotRunning (unless c refusal.Worn (elim o [
-      None ↦ Some refusal.Stalled
-    | Some effect ↦ unless (not (overfills g s.touched effect.written)) refusal.LogFull None ])))
+    | None ↦ Some refusal.Stalled
+    | Some effect ↦ unless (not (overfills g s.touched effect.written)) refusal.LogFull None
+  ])))
 
   refusal_by_log : refusal_of g s (command.Invoke i) ≡ unless (not (overfills g s.touched e.written)) refusal.LogFull None
   unfolding refusal_of
@@ -90,21 +92,22 @@ module _ (g : Geometry) (s : Running) (i : Invocation) (e : Effect) (none : earl
 
   abbrev after_invoking : Option Effect → Outcome
   after_invoking o = elim o [
-      None ↦ record { answer = answer.Done; after = s }
-    | Some effect ↦ record { answer = answer.Done; after = writing s effect.objects (s.now.age + 1) effect.written } ]
+    | None ↦ record { answer = answer.Done; after = s }
+    | Some effect ↦ record { answer = answer.Done; after = writing s effect.objects (s.now.age + 1) effect.written }
+  ]
 
   done_by_effect : carried_out g s (command.Invoke i) ≡ after_invoking (Some e)
   unfolding carried_out
   done_by_effect = ap after_invoking is
 
   pub invoke_step : (after : Machine) → touched_count (touching s.touched e.written) ≤ g.log →
-    after ≡ Up (writing s e.objects (s.now.age + 1) e.written) → Step g (Up s) (command.Invoke i) answer.Done after
+      after ≡ Up (writing s e.objects (s.now.age + 1) e.written) → Step g (Up s) (command.Invoke i) answer.Done after
   invoke_step after within then =
       let fits : overfills g s.touched e.written ≡ false = grind (arith, nat_tests) in
       done_step g s (command.Invoke i) answer.Done after
-        (refusal_by_log ∙ ap (λ (b : Bool). unless (not b) refusal.LogFull None) fits)
-        (sym (ap (λ (o : Outcome). o.answer) done_by_effect))
-        (then ∙ sym (ap (λ (o : Outcome). Up o.after) done_by_effect))
+      (refusal_by_log ∙ ap (λ (b : Bool). unless (not b) refusal.LogFull None) fits)
+      (sym (ap (λ (o : Outcome). o.answer) done_by_effect))
+      (then ∙ sym (ap (λ (o : Outcome). Up o.after) done_by_effect))
 
   pub full_step : g.log < touched_count (touching s.touched e.written) → Step g (Up s) (command.Invoke i) (answer.Refused refusal.LogFull) (Up s)
   full_step over =
@@ -117,14 +120,17 @@ module _ (g : Geometry) (s : Running) (i : Invocation) (e : Effect) (none : earl
 
   pub no_memory_step : Step g (Up s) (command.Invoke i) (answer.Refused refusal.NoMemory) (Up s)
   no_memory_step = inr (inl (
-      ap gives_way refusal_by_log ∙ gives_way_by_log (not (overfills g s.touched e.written)), refl, refl))
+    ap gives_way refusal_by_log ∙ gives_way_by_log (not (overfills g s.touched e.written)),
+    refl,
+    refl,
+  ))
 
 -- machines that are alike in what a store in memory has
 abbrev standing : Saved → ℕ → List Object → ℕ → List Bool → Machine
 standing saved to_move os age touched = Up (record { now = record { objects = os; age = age }; touched = touched; frozen = None; saved = saved; to_move = to_move })
 
 machine_same : (saved : Saved) (to_move : ℕ) (os us : List Object) (age older : ℕ) (touched more : List Bool) → os ≡ us → age ≡ older → touched ≡ more →
-  standing saved to_move os age touched ≡ standing saved to_move us older more
+    standing saved to_move os age touched ≡ standing saved to_move us older more
 machine_same saved to_move os us age older touched more a b c =
     ap (λ (os : List Object). standing saved to_move os age touched) a
     ∙ ap (λ (n : ℕ). standing saved to_move us n touched) b
@@ -137,52 +143,52 @@ raised p = record { geometry = p.geometry; frames = p.frames; touched = p.touche
 -- a call over a store in memory
 module _ (before : PlainState) (i : Invocation) (world : IsStorageWorld before) (none : early_refusal (world_of before) i.process ≡ None) where
   pub plain_done : (after : PlainState) → Invokes i before.geometry.log (world_of before).objects before.touched (world_of after).objects after.touched →
-    after.age ≡ before.age + 1 → (saved : Saved) (to_move : ℕ) →
-    Step before.geometry (machine_of before saved to_move) (command.Invoke i) answer.Done (machine_of after saved to_move)
+      after.age ≡ before.age + 1 → (saved : Saved) (to_move : ℕ) →
+      Step before.geometry (machine_of before saved to_move) (command.Invoke i) answer.Done (machine_of after saved to_move)
   plain_done after invokes aged saved to_move =
       invoke_step before.geometry _ i invokes.0 none invokes.1 (machine_of after saved to_move)
-        (subst (λ (ts : List Bool). touched_count ts ≤ before.geometry.log) invokes.3 invokes.4)
-        (machine_same saved to_move _ _ _ _ _ _ invokes.2 aged invokes.3)
+      (subst (λ (ts : List Bool). touched_count ts ≤ before.geometry.log) invokes.3 invokes.4)
+      (machine_same saved to_move _ _ _ _ _ _ invokes.2 aged invokes.3)
 
   pub plain_world : (after : PlainState) → Fits (command.Invoke i) → Invokes i before.geometry.log (world_of before).objects before.touched (world_of after).objects after.touched →
-    after.age ≡ before.age + 1 → after.geometry ≡ before.geometry → IsStorageWorld after
+      after.age ≡ before.age + 1 → after.geometry ≡ before.geometry → IsStorageWorld after
   plain_world after fits invokes aged geometry =
-    let may = may_invoke (world_of before) i.process none in
-    let young : before.age < 2 ^ 62 = grind (arith, nat_tests, may.2) in
-    record {
-      sound = subst (λ (h : Geometry). IsSound h (world_of after)) (sym geometry)
-        (subst (λ (os : List Object). IsSound before.geometry (record { objects = os; age = after.age })) (sym invokes.2)
-          (subst (λ (n : ℕ). IsSound before.geometry (record { objects = invokes.0.objects; age = n })) (sym aged)
+      let may = may_invoke (world_of before) i.process none in
+      let young : before.age < 2 ^ 62 = grind (arith, nat_tests, may.2) in
+      record {
+        sound = subst (λ (h : Geometry). IsSound h (world_of after)) (sym geometry)
+            (subst (λ (os : List Object). IsSound before.geometry (record { objects = os; age = after.age })) (sym invokes.2)
+            (subst (λ (n : ℕ). IsSound before.geometry (record { objects = invokes.0.objects; age = n })) (sym aged)
             (invocation_keeps before.geometry (world_of before) i invokes.0 world.sound fits may.1 young invokes.1)));
-      storage = subst HoldOnlyStorage (sym invokes.2) (invocation_leaves (world_of before).objects i invokes.0 world.storage invokes.1);
-    }
+        storage = subst HoldOnlyStorage (sym invokes.2) (invocation_leaves (world_of before).objects i invokes.0 world.storage invokes.1);
+      }
 
   pub plain_full : Overfills i before.geometry.log (world_of before).objects before.touched → (saved : Saved) (to_move : ℕ) →
-    Step before.geometry (machine_of before saved to_move) (command.Invoke i) (answer.Refused refusal.LogFull) (machine_of before saved to_move)
+      Step before.geometry (machine_of before saved to_move) (command.Invoke i) (answer.Refused refusal.LogFull) (machine_of before saved to_move)
   plain_full over saved to_move = full_step before.geometry _ i over.0 none over.1 over.2
 
   pub plain_no_memory : (saved : Saved) (to_move : ℕ) →
-    Step before.geometry (machine_of before saved to_move) (command.Invoke i) (answer.Refused refusal.NoMemory) (machine_of before saved to_move)
+      Step before.geometry (machine_of before saved to_move) (command.Invoke i) (answer.Refused refusal.NoMemory) (machine_of before saved to_move)
   plain_no_memory saved to_move =
       no_memory_step before.geometry _ i _ none (storage_invoked (world_of before).objects i (world.storage _ i.register))
 
   -- after the age was raised
   pub raised_done : (called after : PlainState) → after ≡ record { geometry = called.geometry; frames = called.frames; touched = called.touched; age = called.age + 1 } →
-    GoesOn before called → Invokes i before.geometry.log (world_of before).objects before.touched (world_of called).objects called.touched →
-    (saved : Saved) (to_move : ℕ) → Step before.geometry (machine_of before saved to_move) (command.Invoke i) answer.Done (machine_of after saved to_move)
+      GoesOn before called → Invokes i before.geometry.log (world_of before).objects before.touched (world_of called).objects called.touched →
+      (saved : Saved) (to_move : ℕ) → Step before.geometry (machine_of before saved to_move) (command.Invoke i) answer.Done (machine_of after saved to_move)
   raised_done called after is goes invokes saved to_move =
       subst (λ (p : PlainState). Step before.geometry (machine_of before saved to_move) (command.Invoke i) answer.Done (machine_of p saved to_move)) (sym is)
-        (plain_done (raised called) invokes (ap (λ (n : ℕ). n + 1) goes.1) saved to_move)
+      (plain_done (raised called) invokes (ap (λ (n : ℕ). n + 1) goes.1) saved to_move)
 
   pub raised_world : (called after : PlainState) → after ≡ record { geometry = called.geometry; frames = called.frames; touched = called.touched; age = called.age + 1 } →
-    GoesOn before called → Fits (command.Invoke i) →
-    Invokes i before.geometry.log (world_of before).objects before.touched (world_of called).objects called.touched → IsStorageWorld after
+      GoesOn before called → Fits (command.Invoke i) →
+      Invokes i before.geometry.log (world_of before).objects before.touched (world_of called).objects called.touched → IsStorageWorld after
   raised_world called after is goes fits invokes =
       subst IsStorageWorld (sym is) (plain_world (raised called) fits invokes (ap (λ (n : ℕ). n + 1) goes.1) goes.0)
 
 -- a store that a refused call left as it was stands for the same machine
 pub unchanged_machine : (before after : PlainState) (saved : Saved) (to_move : ℕ) → after.frames ≡ before.frames → after.touched ≡ before.touched → after.age ≡ before.age →
-  machine_of before saved to_move ≡ machine_of after saved to_move
+    machine_of before saved to_move ≡ machine_of after saved to_move
 unchanged_machine before after saved to_move frames touched age =
     sym (machine_same saved to_move _ _ _ _ _ _ (ap objects_of frames) age touched)
 
@@ -198,7 +204,7 @@ no_root (content.Bank limit) free = refl
 pub no_process_past : (fs : List Frame) (age p : ℕ) → length fs ≤ p → Some refusal.NoProcess ≡ early_refusal (record { objects = objects_of fs; age = age }) p
 no_process_past fs age p past =
     sym (ap (λ (b : Bool). unless b refusal.NoProcess (unless (is_running_process (objects_of fs) p) refusal.NotRunning (unless (nat_lt age (2 ^ 62)) refusal.Worn None)))
-      (no_root (content_at (objects_of fs) p) (free_past fs p past)))
+    (no_root (content_at (objects_of fs) p) (free_past fs p past)))
 
 -- show
 module _ (g : Geometry) (s : Running) (n : ℕ) where

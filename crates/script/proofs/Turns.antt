@@ -22,14 +22,14 @@ use Rattle.script.specs.Runs.{TakesWhole, TakesToEnd, TakesLines, Runs, lines_in
 
 -- a command that is known is answered as the machine answers it
 pub told_known : (g : Geometry) (knows : Command → Bool) (l : Line) (c : Command) (before : Machine) (a : Answer) (after : Machine) →
-  l ≡ line.Command c → knows c ≡ true → Step g before c a after → Replies g (understood knows l) before (Told a) after
+    l ≡ line.Command c → knows c ≡ true → Step g before c a after → Replies g (understood knows l) before (Told a) after
 told_known g knows l c before a after is known step =
     subst (λ (m : Line). Replies g (understood knows m) before (Told a) after) (sym is)
-      (subst (λ (b : Bool). Replies g (if b then line.Command c else line.Bad) before (Told a) after) (sym known) (a, refl, step))
+    (subst (λ (b : Bool). Replies g (if b then line.Command c else line.Bad) before (Told a) after) (sym known) (a, refl, step))
 
 -- one more turn
 pub run_more : (g : Geometry) (knows : Command → Bool) (m : Machine) (ts : List Turn) (mid : Machine) (t : Turn) →
-  IsRun g knows m ts mid → t.before ≡ mid → IsTurn g knows t → IsRun g knows m (ts ++ t ∷ []) t.after
+    IsRun g knows m ts mid → t.before ≡ mid → IsTurn g knows t → IsRun g knows m (ts ++ t ∷ []) t.after
 run_more g knows m [] mid t run begins turn = (begins ∙ run, turn, refl)
 run_more g knows m (u ∷ us) mid t run begins turn = (run.0, run.1, run_more g knows u.after us mid t run.2 begins turn)
 
@@ -54,13 +54,13 @@ not_at_end x xs ys some is none = absurd (omega (arith, ap length is, ap length 
 
 -- nothing more after whole lines, or at the end
 whole_next : (xs ys zs text : List ℕ) (lines : List (List ℕ)) → xs ≡ (flat_map line_of lines ++ []) ++ ys → ys ≡ line_of text ++ zs →
-  xs ≡ (flat_map line_of (lines ++ text ∷ []) ++ []) ++ zs
+    xs ≡ (flat_map line_of (lines ++ text ∷ []) ++ []) ++ zs
 whole_next xs ys zs text lines w t =
     w ∙ ap (λ (l : List ℕ). (flat_map line_of lines ++ []) ++ l) t
     ∙ sym (simp (flat_map-append line_of lines (text ∷ []), append-nil, append_assoc))
 
 taken_next : (old now new : Option (List ℕ)) (lines : List (List ℕ)) (text : List ℕ) → TakesWhole old now lines [] ⊎ TakesToEnd old now lines [] →
-  TakesText now new text → TakesWhole old new (lines ++ text ∷ []) [] ⊎ TakesToEnd old new (lines ++ text ∷ []) []
+    TakesText now new text → TakesWhole old new (lines ++ text ∷ []) [] ⊎ TakesToEnd old new (lines ++ text ∷ []) []
 taken_next None now new lines text taken next = inl (tt, All-nil (λ b. b ≢ 10))
 taken_next (Some xs) None new lines text (inl w) next = absurd w.0
 taken_next (Some xs) None new lines text (inr e) next = absurd e.4
@@ -75,13 +75,13 @@ taken_next (Some xs) (Some ys) (Some zs) lines text (inr e) (inr t) = absurd (no
 
 -- the next line is taken after those before it
 pub lines_taken : (old now new : Option (List ℕ)) (lines : List (List ℕ)) (text : List ℕ) → TakesLines old now lines [] → IsOneLine text → TakesText now new text →
-  TakesLines old new (lines ++ text ∷ []) []
+    TakesLines old new (lines ++ text ∷ []) []
 lines_taken old now new lines text taken one next =
     (All-append IsOneLine lines (text ∷ []) taken.0 (All-cons IsOneLine text [] one (All-nil IsOneLine)), taken_next old now new lines text taken.1 next)
 
 -- what is taken after them has no newline
 rest_next : (old now new : Option (List ℕ)) (lines : List (List ℕ)) (text : List ℕ) → TakesWhole old now lines [] ⊎ TakesToEnd old now lines [] →
-  IsOneLine text → Consumes now new text → (rest : List ℕ) × (TakesWhole old new lines rest ⊎ TakesToEnd old new lines rest)
+    IsOneLine text → Consumes now new text → (rest : List ℕ) × (TakesWhole old new lines rest ⊎ TakesToEnd old new lines rest)
 rest_next None now new lines text taken one next = ([], inl (tt, All-nil (λ b. b ≢ 10)))
 rest_next (Some xs) None new lines text (inl w) one next = absurd w.0
 rest_next (Some xs) None new lines text (inr e) one next = absurd e.4
@@ -93,14 +93,14 @@ rest_next (Some xs) (Some ys) (Some zs) lines text (inr e) one next =
     ([], inr (e.0, e.1, e.2, e.3, e.4 ∙ ap (λ (l : List ℕ). (flat_map line_of e.0 ++ e.1) ++ l) (e.5 ∙ sym none), none, refl))
 
 pub rest_taken : (old now new : Option (List ℕ)) (lines : List (List ℕ)) → TakesLines old now lines [] → TakesNoLine now new →
-  (rest : List ℕ) × TakesLines old new lines rest
+    (rest : List ℕ) × TakesLines old new lines rest
 rest_taken old now new lines taken next =
     let found = rest_next old now new lines next.0 taken.1 next.1 next.2 in
     (found.0, (taken.0, found.1))
 
 -- nothing is taken after them
 end_next : (old now new : Option (List ℕ)) (lines : List (List ℕ)) → TakesWhole old now lines [] ⊎ TakesToEnd old now lines [] →
-  Consumes now new [] → TakesWhole old new lines [] ⊎ TakesToEnd old new lines []
+    Consumes now new [] → TakesWhole old new lines [] ⊎ TakesToEnd old new lines []
 end_next None now new lines taken next = inl (tt, All-nil (λ b. b ≢ 10))
 end_next (Some xs) None new lines (inl w) next = absurd w.0
 end_next (Some xs) None new lines (inr e) next = absurd e.4
@@ -125,8 +125,8 @@ appends_none (Some xs) = sym (append-nil xs)
 abbrev pub SoFar : Geometry → (Command → Bool) → Machine → Machine → Option (List ℕ) → Option (List ℕ) → Option (List ℕ) → Option (List ℕ) → Type 0
 SoFar g knows before after input input_left output output_left =
     (turns : List Turn) × IsRun g knows before turns after
-      × TakesLines input input_left (lines_in turns) []
-      × Appends output output_left (output_of turns)
+    × TakesLines input input_left (lines_in turns) []
+    × Appends output output_left (output_of turns)
 
 pub begun : (g : Geometry) (knows : Command → Bool) (m : Machine) (input output : Option (List ℕ)) → SoFar g knows m m input input output output
 begun g knows m input output = ([], refl, none_taken input, appends_none output)
@@ -147,24 +147,32 @@ module _ (g h : Geometry) (same : h ≡ g) (knows : Command → Bool) (m mid aft
   more_run : IsRun g knows m (so_far.0 ++ turn_of ∷ []) after
   more_run =
       run_more g knows m so_far.0 mid turn_of so_far.1 refl
-        (says, line_found.3, subst (λ (k : Geometry). Replies k (understood knows says) mid reply after) same replies)
+      (says, line_found.3, subst (λ (k : Geometry). Replies k (understood knows says) mid reply after) same replies)
 
   more_lines : TakesLines input left (lines_in so_far.0 ++ line_found.0 ∷ []) []
   more_lines = lines_taken input read left (lines_in so_far.0) line_found.0 so_far.2 line_found.1 line_found.2
 
   pub goes_on : Appends written wrote (reply_text reply) → SoFar g knows m after input left output wrote
-  goes_on all =
-      ( so_far.0 ++ turn_of ∷ []
-      , more_run
-      , subst (λ (ls : List (List ℕ)). TakesLines input left ls []) (sym (lines_more so_far.0 turn_of)) more_lines
-      , subst (Appends output wrote) (sym (output_more so_far.0 turn_of)) (appends_more output written wrote (output_of so_far.0) (reply_text reply) so_far.3 all) )
+  goes_on all = (
+    so_far.0 ++ turn_of ∷ [],
+    more_run,
+    subst (λ (ls : List (List ℕ)). TakesLines input left ls []) (sym (lines_more so_far.0 turn_of)) more_lines,
+    subst (Appends output wrote) (sym (output_more so_far.0 turn_of)) (appends_more output written wrote (output_of so_far.0) (reply_text reply) so_far.3 all),
+  )
 
   pub fails_writing : (e : RunFault) → e ≡ fault.Write → AppendsFront written wrote (reply_text reply) →
-    Runs g knows m after input left output wrote (Err e)
+      Runs g knows m after input left output wrote (Err e)
   fails_writing e write cut =
-      subst (λ (d : RunFault). Runs g knows m after input left output wrote (Err d)) (sym write)
-        ( so_far.0, turn_of, more_run, more_lines, cut.0, cut.1, cut.2
-        , appends_more output written wrote (output_of so_far.0) cut.0 so_far.3 cut.3 )
+      subst (λ (d : RunFault). Runs g knows m after input left output wrote (Err d)) (sym write) (
+        so_far.0,
+        turn_of,
+        more_run,
+        more_lines,
+        cut.0,
+        cut.1,
+        cut.2,
+        appends_more output written wrote (output_of so_far.0) cut.0 so_far.3 cut.3,
+      )
 
 -- the end of a run
 module _ (g : Geometry) (knows : Command → Bool) (m after : Machine) (input read left output written : Option (List ℕ))
@@ -178,8 +186,8 @@ module _ (g : Geometry) (knows : Command → Bool) (m after : Machine) (input re
   fails_reading e reading taken =
       let rest = rest_taken input read left (lines_in so_far.0) so_far.2 taken in
       subst (λ (d : RunFault). Runs g knows m after input left output written (Err d)) (sym reading)
-        (so_far.0, rest.0, so_far.1, rest.1, so_far.3)
+      (so_far.0, rest.0, so_far.1, rest.1, so_far.3)
 
 pub stops_reading : (g : Geometry) (knows : Command → Bool) (m after : Machine) (input read output written : Option (List ℕ)) →
-  SoFar g knows m after input read output written → Runs g knows m after input read output written (Err fault.Read)
+    SoFar g knows m after input read output written → Runs g knows m after input read output written (Err fault.Read)
 stops_reading g knows m after input read output written so_far = (so_far.0, [], so_far.1, so_far.2, so_far.3)

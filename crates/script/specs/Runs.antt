@@ -19,7 +19,7 @@ TakesWhole old new lines rest = Consumes old new (flat_map line_of lines ++ rest
 abbrev pub TakesToEnd : Option (List ℕ) → Option (List ℕ) → List (List ℕ) → List ℕ → Type 0
 TakesToEnd old new lines rest =
     (front : List (List ℕ)) × (last : List ℕ) × (lines ≡ front ++ last ∷ []) × (0 < length last)
-      × Consumes old new (flat_map line_of front ++ last) × IsAtEnd new × (rest ≡ [])
+    × Consumes old new (flat_map line_of front ++ last) × IsAtEnd new × (rest ≡ [])
 
 -- the lines that were taken from a reader, and a rest that wasn't taken as a line
 abbrev pub TakesLines : Option (List ℕ) → Option (List ℕ) → List (List ℕ) → List ℕ → Type 0
@@ -33,17 +33,17 @@ lines_in turns = map (λ t. t.line) turns
 -- written. Where the reader failed the same holds of the lines read whole. Where the writer failed only
 -- the answer to the last line taken may be cut short.
 abbrev pub Runs : Geometry → (Command → Bool) → Machine → Machine → Option (List ℕ) → Option (List ℕ) → Option (List ℕ) → Option (List ℕ) →
-  Result (Unit {0}) RunFault → Type 0
+    Result (Unit {0}) RunFault → Type 0
 Runs g knows before after input input_left output output_left (Ok a) =
     (turns : List Turn) × IsRun g knows before turns after
-      × TakesLines input input_left (lines_in turns) [] × IsAtEnd input_left
-      × Appends output output_left (output_of turns)
+    × TakesLines input input_left (lines_in turns) [] × IsAtEnd input_left
+    × Appends output output_left (output_of turns)
 Runs g knows before after input input_left output output_left (Err fault.Read) =
     (turns : List Turn) × (rest : List ℕ) × IsRun g knows before turns after
-      × TakesLines input input_left (lines_in turns) rest
-      × Appends output output_left (output_of turns)
+    × TakesLines input input_left (lines_in turns) rest
+    × Appends output output_left (output_of turns)
 Runs g knows before after input input_left output output_left (Err fault.Write) =
     (turns : List Turn) × (last : Turn) × IsRun g knows before (turns ++ last ∷ []) after
-      × TakesLines input input_left (lines_in turns ++ last.line ∷ []) []
-      × (front : List ℕ) × (cut : List ℕ) × (reply_text last.reply ≡ front ++ cut)
-      × Appends output output_left (output_of turns ++ front)
+    × TakesLines input input_left (lines_in turns ++ last.line ∷ []) []
+    × (front : List ℕ) × (cut : List ℕ) × (reply_text last.reply ≡ front ++ cut)
+    × Appends output output_left (output_of turns ++ front)

@@ -54,7 +54,7 @@ pub fn first_run<R: Read, W: Write>(
     requires { IsStorageWorld plain.old }
     ensures run { (saved : Saved) (to_move : ℕ) →
         Runs plain.old.geometry knows_first (machine_of plain.old saved to_move) (machine_of plain.new saved to_move)
-          (R.remaining reader.old) (R.remaining reader.new) (W.contents writer.old) (W.contents writer.new) result }
+        (R.remaining reader.old) (R.remaining reader.new) (W.contents writer.old) (W.contents writer.new) result }
     ensures world { IsStorageWorld plain.new }
 {
     for _ in 0..u64::MAX {

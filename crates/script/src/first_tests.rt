@@ -43,7 +43,8 @@ page 16 owner 0\nword 3 99\nend\n";
 
 #[test]
 fn fetches_weakly(rt: HostRuntime) -> Result<(), Fail> {
-    let script = b"call 1 5 2 0 0 0 6 0 0 0\ncall 1 5 3 3 0 0 0 0 0 0\ncall 1 28 1 0 0 0 0 0 0 0\nshow 2\n\
+    let script =
+        b"call 1 5 2 0 0 0 6 0 0 0\ncall 1 5 3 3 0 0 0 0 0 0\ncall 1 28 1 0 0 0 0 0 0 0\nshow 2\n\
 call 1 28 2 0 9 0 0 0 0 0\nshow 1\ncall 1 0 1 0 0 0 0 0 0 0\nshow 1\nload 1 0\n";
     let answers = answers_to(rt.alloc(), script)?;
     let expected = b"done\ndone\ndone\n\
@@ -59,7 +60,8 @@ bad line\n";
 
 #[test]
 fn refuses_in_order(rt: HostRuntime) -> Result<(), Fail> {
-    let script = b"call 0 0 1 0 0 0 0 0 0 0\ncall 24 0 1 0 0 0 0 0 0 0\nshow 24\nshow 18446744073709551615\nshow 0\n";
+    let script =
+        b"call 0 0 1 0 0 0 0 0 0 0\ncall 24 0 1 0 0 0 0 0 0 0\nshow 24\nshow 18446744073709551615\nshow 0\n";
     let answers = answers_to(rt.alloc(), script)?;
     let expected = b"no process\nno process\nbad number\nbad number\n\
 bank 0 owner 0 limit 1000 used 4\nend\n";
@@ -69,10 +71,12 @@ bank 0 owner 0 limit 1000 used 4\nend\n";
 
 #[test]
 fn bad_lines_are_answered(rt: HostRuntime) -> Result<(), Fail> {
-    let script = b"show  5\nshow 01\ncall 1 32 0 0 0 0 0 0 0 0\nshow 5\r\nshow 18446744073709551616\n\
+    let script =
+        b"show  5\nshow 01\ncall 1 32 0 0 0 0 0 0 0 0\nshow 5\r\nshow 18446744073709551616\n\
 return 1 0 0 0 0 0 0 0 0 0\nsend 1 0 0 0 0 0 0 0 0 0\ncheckpoint\n\n# a comment\nshow 5";
     let answers = answers_to(rt.alloc(), script)?;
-    let expected = b"bad line\nbad line\nbad line\nbad line\nbad line\nbad line\nbad line\nbad line\n\
+    let expected =
+        b"bad line\nbad line\nbad line\nbad line\nbad line\nbad line\nbad line\nbad line\n\
 node 5 owner 0\nend\n";
     assert_eq!(rt; answers.as_slice(), expected.as_slice());
     Ok(())
@@ -110,7 +114,9 @@ impl Read for Failing<'_> {
 fn a_failing_reader_ends_the_run(rt: HostRuntime) -> Result<(), Fail> {
     let alloc = rt.alloc();
     let mut plain = first_world(alloc)?;
-    let mut reader = Failing { rest: b"show 5\nsho" };
+    let mut reader = Failing {
+        rest: b"show 5\nsho",
+    };
     let mut answers = Vec::new(alloc);
     let outcome = first_run(alloc, &mut plain, &mut reader, &mut answers);
     assert_eq!(rt; outcome, Err(RunFault::Read));

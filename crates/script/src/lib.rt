@@ -21,6 +21,6 @@ pub use parse::parse_line;
 pub use print::{print_answer, print_bad_line};
 
 #[cfg(test)]
-mod tests;
-#[cfg(test)]
 mod first_tests;
+#[cfg(test)]
+mod tests;

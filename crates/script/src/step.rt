@@ -10,7 +10,9 @@ ghost use Rattle.script.specs.First.{machine_of, IsStorageWorld, early_refusal, 
 
 use capability::{Plain, objects, usage, view};
 use gate::call::call;
-use model::{Answer, Command, Content, Invocation, Operation, PrepareFault, PresentFrames, Refusal, State};
+use model::{
+    Answer, Command, Content, Invocation, Operation, PrepareFault, PresentFrames, Refusal, State,
+};
 use std::alloc::{AllocError, Global};
 
 /// The age at which nothing can be invoked any more.

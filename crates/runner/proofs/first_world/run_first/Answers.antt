@@ -9,12 +9,13 @@ first_run-requires g c = begins c.in-Ok.plain c.in-Ok.ensures.world c.in-Ok.ensu
 
 pub returns-in-Ok-first_run : goal.returns-in-Ok-first_run
 returns-in-Ok-first_run g c saved to_move =
-    let after = machine_of c.first_run.new.plain saved to_move in
-    ( after
-    , runs_first c.in-Ok.plain c.in-Ok.ensures.world c.in-Ok.ensures.geometry c.in-Ok.ensures.touched saved to_move after _ _ _ _
-        (Ok c.in-Ok-first_run.field-0) (c.in-Ok-first_run.ensures.run saved to_move) )
+    let after = machine_of c.first_run.new.plain saved to_move in (
+      after,
+      runs_first c.in-Ok.plain c.in-Ok.ensures.world c.in-Ok.ensures.geometry c.in-Ok.ensures.touched saved to_move after _ _ _ _
+          (Ok c.in-Ok-first_run.field-0) (c.in-Ok-first_run.ensures.run saved to_move),
+    )
 
 pub returns : goal.returns
 returns g c saved to_move =
     fails_first c.in-Ok.plain c.in-Ok.ensures.world c.in-Ok.ensures.geometry c.in-Ok.ensures.touched saved to_move (machine_of c.first_run.new.plain saved to_move) _ _ _ _
-      c.in-Err.fault c.of_run.result c.of_run.ensures.read c.of_run.ensures.write (c.in-Err.ensures.run saved to_move)
+    c.in-Err.fault c.of_run.result c.of_run.ensures.read c.of_run.ensures.write (c.in-Err.ensures.run saved to_move)

@@ -21,17 +21,17 @@ returns-in_err-take-clause-run g c saved to_move =
     let p = err_from_is_err_and c.from_residual-in_err-take.result c.from_residual-in_err-take.ensures.1 in
     let turn = c.in_err-take.ensures.turn saved to_move in
     rw (p.1, p.2) (fails_writing c.args.plain.now.geometry _ c.loop.invariant.geometry knows_first _ _ _ _ _ _ _ _ _ (c.loop.invariant.run saved to_move)
-      c.in_ok-line.field-0 c.in-Some.line c.in-Some.is c.in_ok-line.ensures.ok turn.0 turn.1 c.in_err-take.field-0.0 turn.2.0 turn.2.1)
+    c.in_ok-line.field-0 c.in-Some.line c.in-Some.is c.in_ok-line.ensures.ok turn.0 turn.1 c.in_err-take.field-0.0 turn.2.0 turn.2.1)
 
 pub loop-preserved : goal.loop-preserved
 loop-preserved g c = record {
-    geometry = c.in_ok-take.ensures.geometry ∙ c.loop.invariant.geometry;
-    world = c.in_ok-take.ensures.world;
-    run = λ saved to_move.
+  geometry = c.in_ok-take.ensures.geometry ∙ c.loop.invariant.geometry;
+  world = c.in_ok-take.ensures.world;
+  run = λ saved to_move.
       let turn = c.in_ok-take.ensures.turn saved to_move in
       goes_on c.args.plain.now.geometry _ c.loop.invariant.geometry knows_first _ _ _ _ _ _ _ _ _ (c.loop.invariant.run saved to_move)
-        c.in_ok-line.field-0 c.in-Some.line c.in-Some.is c.in_ok-line.ensures.ok turn.0 turn.1 turn.2;
-  }
+      c.in_ok-line.field-0 c.in-Some.line c.in-Some.is c.in_ok-line.ensures.ok turn.0 turn.1 turn.2;
+}
 
 pub returns-clause-run : goal.returns-clause-run
 returns-clause-run g c saved to_move = stops_reading c.args.plain.now.geometry knows_first _ _ _ _ _ _ (c.loop.invariant.run saved to_move)

@@ -8,10 +8,10 @@ use Rattle.script.proofs.first.first_run.Given as goal
 
 abbrev pub invariant-loop : goal.invariant-loop
 invariant-loop g l = record {
-    geometry : l.plain.geometry ≡ l.fn.plain.geometry;
-    world : IsStorageWorld l.plain;
-    run : (saved : Saved) (to_move : _) → (turns : List Turn)
+  geometry : l.plain.geometry ≡ l.fn.plain.geometry;
+  world : IsStorageWorld l.plain;
+  run : (saved : Saved) (to_move : _) → (turns : List Turn)
       × IsRun l.fn.plain.geometry knows_first (machine_of l.fn.plain saved to_move) turns (machine_of l.plain saved to_move)
       × TakesLines (g.R.Read.remaining l.fn.reader) (g.R.Read.remaining l.reader) (lines_in turns) []
       × Appends (g.W.Write.contents l.fn.writer) (g.W.Write.contents l.writer) (output_of turns);
-  }
+}

@@ -1,0 +1,3 @@
+pub mod Home
+pub mod Fault
+pub mod Laws

@@ -1,0 +1,193 @@
+ghost use Rattle.std.specs.Prelude.{◌≡◌, ℕ, ◌<◌, ◌≤◌, IfOk};
+ghost use Rattle.device.specs.Fuse.{fused};
+ghost use Rattle.device.specs.Memory.{memory_disk};
+
+use crate::{Home, HomeFault};
+use device::{Device, Failed, Fuse, Memory, Outcome};
+use layout::{BadImage, HomeRange, NodeBody, PageBody, Superblock, VOID};
+use model::{Cap, Capability, Content, Frame, Geometry, Header, Slots, Words};
+use std::alloc::Global;
+use std::test::Fail;
+
+const AGE: u64 = 10;
+
+const HEADER: Header = Header {
+    allocations: 1,
+    calls: 2,
+    owner: 3,
+};
+
+const NUMBER: Cap = Cap {
+    what: Capability::Number(77),
+    count: 0,
+};
+
+fn range(first: u64, count: u64, sector: u64) -> HomeRange
+    ensures { result ≡ record { first = first; count = count; sector = sector } }
+{
+    HomeRange {
+        first,
+        count,
+        sector,
+    }
+}
+
+// 16 nodes and 8 pages.
+fn home(ranges: &[HomeRange], half_0: u64, half_1: u64, total: u64) -> Result<Home, Fail>
+    ensures nodes { IfOk result (λ h. h.geometry.nodes ≡ 16) }
+    ensures pages { IfOk result (λ h. h.geometry.pages ≡ 8) }
+    ensures total { IfOk result (λ h. h.total ≡ total) }
+{
+    let geometry = Geometry {
+        nodes: 16,
+        pages: 8,
+        log: 16,
+    };
+    let superblock = Superblock::new(geometry, ranges, half_0, half_1, total).ok_or(
+        "within the limits",
+    )?;
+    Ok(Home::new(&superblock))
+}
+
+// The nodes from sector 5 on, then the pages, then the log.
+fn in_order() -> Result<Home, Fail>
+    ensures nodes { IfOk result (λ h. h.geometry.nodes ≡ 16) }
+    ensures pages { IfOk result (λ h. h.geometry.pages ≡ 8) }
+    ensures total { IfOk result (λ h. h.total ≡ 399) }
+{
+    home(&[range(0, 16, 5), range(16, 8, 37)], 109, 254, 399)
+}
+
+fn device(alloc: Global) -> Result<Memory, Fail>
+    ensures { IfOk result (λ m. (memory_disk m).sectors ≡ 399) }
+{
+    Ok(Memory::new(alloc, 399, 40, Outcome::Drop)?)
+}
+
+#[test]
+fn places_in_two_ranges(rt: HostRuntime) -> Result<(), Fail> {
+    let home = in_order()?;
+    for (number, place) in [(0, 5), (3, 11), (15, 35), (16, 37), (17, 46), (23, 100)] {
+        if number < 24 {
+            assert_eq!(rt; home.place(number), place, "of {number}");
+        }
+    }
+    assert_eq!(rt; home.geometry().log, 16);
+    Ok(())
+}
+
+#[test]
+fn places_in_scattered_ranges(rt: HostRuntime) -> Result<(), Fail> {
+    let ranges = [
+        range(0, 10, 200),
+        range(10, 6, 5),
+        range(16, 3, 17),
+        range(19, 5, 44),
+    ];
+    let home = home(&ranges, 220, 365, 510)?;
+    for (number, place) in [
+        (0, 200),
+        (9, 218),
+        (10, 5),
+        (12, 9),
+        (18, 35),
+        (19, 44),
+        (23, 80),
+    ] {
+        if number < 24 {
+            assert_eq!(rt; home.place(number), place, "of {number}");
+        }
+    }
+    Ok(())
+}
+
+#[test]
+fn a_node_is_read_back(rt: HostRuntime) -> Result<(), Fail> {
+    let home = in_order()?;
+    let mut memory = device(rt.alloc())?;
+    let mut slots = Slots::new(rt.alloc(), VOID)?;
+    slots.set(31, NUMBER);
+    let frame = Frame {
+        header: HEADER,
+        content: Content::Node(slots),
+    };
+    home.write_frame(&mut memory, 3, &frame)?;
+
+    let mut found = Slots::new(rt.alloc(), VOID)?;
+    let (header, body) = home
+        .read_node_frame(&mut memory, 3, AGE, &mut found)
+        .ok()
+        .ok_or("a frame")?;
+    assert_eq!(rt; header, HEADER);
+    assert!(rt; matches!(body, NodeBody::Node));
+    assert_eq!(rt; found.get(31), NUMBER);
+    assert_eq!(rt; found.get(30), VOID);
+
+    let mut sector = [9; 512];
+    memory.read(11, &mut sector)?;
+    assert_eq!(rt; sector[0], 2, "the role of a node");
+    memory.read(10, &mut sector)?;
+    assert_eq!(rt; sector[0], 0);
+    memory.read(13, &mut sector)?;
+    assert_eq!(rt; sector[0], 0);
+
+    sector[0] = 9;
+    memory.write(13, &sector)?;
+    let refused = home.read_node_frame(&mut memory, 4, AGE, &mut found);
+    assert_eq!(rt; refused.err(), Some(HomeFault::Bad(BadImage::BadFrame)));
+    Ok(())
+}
+
+#[test]
+fn a_page_is_read_back(rt: HostRuntime) -> Result<(), Fail> {
+    let home = in_order()?;
+    let mut memory = device(rt.alloc())?;
+    let mut words = Words::new(rt.alloc())?;
+    words.set(511, 600);
+    let frame = Frame {
+        header: HEADER,
+        content: Content::Page(words),
+    };
+    home.write_frame(&mut memory, 17, &frame)?;
+
+    let mut found = Words::new(rt.alloc())?;
+    let read = home.read_page_frame(&mut memory, 17, AGE, &mut found);
+    assert_eq!(rt; read, Ok((HEADER, PageBody::Page)));
+    assert_eq!(rt; found.get(511), 600);
+    assert_eq!(rt; found.get(510), 0);
+
+    let mut sector = [9; 512];
+    memory.read(54, &mut sector)?;
+    assert_eq!(rt; sector[504], 88, "the lowest byte of the last word");
+    memory.read(55, &mut sector)?;
+    assert_eq!(rt; sector, [0; 512]);
+
+    sector[1] = 1;
+    memory.write(55, &sector)?;
+    let refused = home.read_page_frame(&mut memory, 18, AGE, &mut found);
+    assert_eq!(rt; refused, Err(HomeFault::Bad(BadImage::BadFrame)));
+    Ok(())
+}
+
+#[test]
+fn a_fuse_stops_each_call(rt: HostRuntime) -> Result<(), Fail> {
+    let home = in_order()?;
+    let frame = Frame {
+        header: HEADER,
+        content: Content::Bank { limit: 8 },
+    };
+    for calls in 0..4 {
+        let mut fuse = Fuse::new(device(rt.alloc())?, calls);
+        let mut slots = Slots::new(rt.alloc(), VOID)?;
+        let mut words = Words::new(rt.alloc())?;
+        let written = home.write_frame(&mut fuse, 15, &frame);
+        assert_eq!(rt; written.is_ok(), calls > 0);
+        let node = home.read_node_frame(&mut fuse, 15, AGE, &mut slots);
+        assert_eq!(rt; node.err() == Some(HomeFault::Failed), calls < 2);
+        let page = home.read_page_frame(&mut fuse, 16, AGE, &mut words);
+        assert_eq!(rt; page.err() == Some(HomeFault::Failed), calls < 3);
+        let last = home.write_frame(&mut fuse, 16, &frame);
+        assert_eq!(rt; last, Err(Failed));
+    }
+    Ok(())
+}
