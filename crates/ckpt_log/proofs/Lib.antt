@@ -1,0 +1,5 @@
+pub mod Commits
+pub mod Runs
+pub mod SavedStates
+pub mod Sectors
+pub mod Winners

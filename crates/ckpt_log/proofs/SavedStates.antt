@@ -1,0 +1,61 @@
+-- Images that agree in the sectors that a saved state is read from.
+use Rattle.std.proofs.Common.{◌≡◌, ◌<◌, ◌+◌, ◌*◌, ◌/◌, ℕ, zero, suc, Option, Some, None, List, ◌++◌, take, refl, sym, ap, subst, ◌∙◌, arith}
+use Rattle.layout.specs.Image.{Image, sectors_from, committed_slot, option_at, IsFrameOf, frame_sector, directory_sector}
+use Rattle.ckpt_log.specs.Saved.{SameFrom, SameHeader, SameDirectory, SameFrames, SameSaved, frame_length}
+use Rattle.ckpt_log.proofs.Winners.{slot_of_image}
+use Rattle.model.specs.Frame.{frame_at}
+
+same_rest : (at n : ℕ) (old new : Image) → SameFrom at (suc n) old new → SameFrom (at + 1) n old new
+same_rest at n old new same i lt =
+    let place : at + (i + 1) ≡ at + 1 + i = omega arith in
+    subst (λ (k : ℕ). new k ≡ old k) place (same (i + 1) (omega (arith, lt)))
+
+pub same_sectors : (at n : ℕ) (old new : Image) → SameFrom at n old new → sectors_from new at n ≡ sectors_from old at n
+unfolding sectors_from
+same_sectors at zero old new same = refl
+same_sectors at (suc n) old new same =
+    let place : at + 0 ≡ at = omega arith in
+    let first : new at ≡ old at = subst (λ (k : ℕ). new k ≡ old k) place (same 0 (omega arith)) in
+    ap (λ (b : List ℕ). b ++ sectors_from new (at + 1) n) first
+    ∙ ap (λ (b : List ℕ). old at ++ b) (same_sectors (at + 1) n old new (same_rest at n old new same))
+
+same_slot : (old new : Image) → SameFrom 1 4 old new → committed_slot new ≡ committed_slot old
+same_slot old new same =
+    let one : new 1 ≡ old 1 = same 0 (omega arith) in
+    let two : new 2 ≡ old 2 = same 1 (omega arith) in
+    let three : new 3 ≡ old 3 = same 2 (omega arith) in
+    let four : new 4 ≡ old 4 = same 3 (omega arith) in
+    rw (one, two, three, four) refl
+
+same_option : (old new : Image) (slot : Option ℕ) → SameFrom 1 4 old new → committed_slot old ≡ slot → option_at new slot ≡ option_at old slot
+same_option old new None same is = refl
+same_option old new (Some k) same is =
+    let below : k < 2 = slot_of_image old k is in
+    let place : 1 + 2 * k ≡ 1 + (2 * k) = omega arith in
+    ap (λ (b : List ℕ). Some b) (subst (λ (i : ℕ). new i ≡ old i) (sym place) (same (2 * k) (omega (arith, below))))
+
+pub same_header : SameHeader
+same_header old new same = (
+  same_slot old new same,
+  ap (option_at new) (same_slot old new same) ∙ same_option old new (committed_slot old) same refl,
+)
+
+pub same_directory : SameDirectory
+same_directory p h es old new same is = record {
+  count = is.count;
+  fits = is.fits;
+  spelt = ap (λ (b : List ℕ). take (16 * h.entries) b) (same_sectors (directory_sector p h.generation) ((h.entries + 31) / 32) old new same) ∙ is.spelt;
+}
+
+pub same_frames : SameFrames
+same_frames p h es object old new same = same_sectors (frame_sector p h.generation es object) (frame_length p object) old new same
+
+pub same_saved : SameSaved
+same_saved size s old new superblock same is = record {
+  plan = record { least = is.plan.least; whole = is.plan.whole; fits = is.plan.fits; spelt = superblock 0 (omega arith) ∙ is.plan.spelt };
+  header = record { fits = is.header.fits; spelt = (same_header old new same.headers).1 ∙ is.header.spelt };
+  directory = same_directory s.plan s.header s.directory old new same.directory is.directory;
+  count = is.count;
+  each = λ object lt. subst (λ (b : List ℕ). IsFrameOf s.plan.geometry s.header.age object b (frame_at s.frames object))
+      (sym (same_frames s.plan s.header s.directory object old new (same.frames object lt))) (is.each object lt);
+}

@@ -1,0 +1,53 @@
+-- One sector of a device.
+use Rattle.std.proofs.Common.{◌≡◌, ◌<◌, ◌+◌, ◌*◌, ◌/◌, ◌%◌, ◌++◌, ℕ, zero, suc, List, [], ◌∷◌, Result, Ok, Err, length, take, drop, refl, sym, ap, ◌∙◌, arith, length-drop}
+use Rattle.std.proofs.lemmas.List.{take_all, take-append-drop, drop-drop}
+use Rattle.std.specs.Prelude.{OnOk}
+use Rattle.device.specs.Disk.{Image, Disk}
+use Rattle.device.specs.Calls.{AreSectors, sectors_of, image_of}
+use Rattle.layout.specs.Image.{sectors_from}
+use Rattle.device.specs.Moments.{LeavesOnly}
+use Rattle.device.proofs.Moments.{CountsNow, ends}
+
+pub one_sector : (bytes : List ℕ) → length bytes ≡ 512 → sectors_of bytes ≡ 1
+one_sector bytes size = ap (λ (n : ℕ). n / 512) size
+
+-- the bytes of one sector
+pub sector_is : (image : Image) (at : ℕ) (bytes : List ℕ) → length bytes ≡ 512 → AreSectors image at bytes → bytes ≡ image at
+sector_is image at bytes size are =
+    let first : take 512 (drop (512 * 0) bytes) ≡ image (at + 0) = are 0 (omega (arith, one_sector bytes size)) in
+    let place : at + 0 ≡ at = omega arith in
+    sym (take_all 512 bytes (omega (arith, size))) ∙ first ∙ ap image place
+
+-- what a read gives where a run ends has what a crash leaves
+pub seen_has : {old new : Disk} {P : Image → Type 0} → LeavesOnly old new P → CountsNow new → new.may_leave new.seen → P new.seen
+seen_has {old} {new} {P} run counts_now left = ends run counts_now new.seen left
+
+-- what follows from what is so at Ok
+pub on_ok : {T E : Type 0} (result : Result T E) {P Q : Type 0} → (P → Q) → OnOk result P → OnOk result Q
+on_ok (Ok value) {P} {Q} follows is = follows is
+on_ok (Err error) {P} {Q} follows is = tt
+
+no_bytes : (bytes : List ℕ) → length bytes ≡ 0 → [] ≡ bytes
+no_bytes [] e = refl
+no_bytes (b ∷ bs) e = absurd (omega (arith, e))
+
+sectors_are : (image : Image) (at n : ℕ) (bytes : List ℕ) → length bytes ≡ 512 * n → ((i : ℕ) → i < n → image_of bytes i ≡ image (at + i)) → sectors_from image at n ≡ bytes
+unfolding sectors_from
+sectors_are image at zero bytes size same = no_bytes bytes (omega (arith, size))
+sectors_are image at (suc n) bytes size same =
+    let rest = sectors_are image (at + 1) n (drop 512 bytes) (omega (arith, size, length-drop 512 bytes)) (λ i lt.
+    let one = same (suc i) (omega arith) in
+    let place : at + suc i ≡ at + 1 + i = omega arith in
+    let size : 512 + 512 * i ≡ 512 * suc i = omega arith in
+    ap (take 512) (drop-drop (512 * i) 512 bytes ∙ ap (λ (m : ℕ). drop m bytes) size) ∙ one ∙ ap image place) in
+    let first = same 0 (omega arith) in
+    let here : at + 0 ≡ at = omega arith in
+    ap (λ (front : List ℕ). front ++ sectors_from image (at + 1) n) (sym (first ∙ ap image here))
+    ∙ ap (λ (back : List ℕ). take 512 bytes ++ back) rest ∙ take-append-drop 512 bytes
+
+-- the bytes of whole sectors
+pub whole_sectors : (image : Image) (at : ℕ) (bytes : List ℕ) → length bytes % 512 ≡ 0 → AreSectors image at bytes → sectors_from image at (sectors_of bytes) ≡ bytes
+whole_sectors image at bytes whole same = sectors_are image at (sectors_of bytes) bytes (omega arith) same
+
+pub sectors_are_of : (n : ℕ) (bytes : List ℕ) → length bytes ≡ 512 * n → sectors_of bytes ≡ n
+sectors_are_of n bytes size = omega (arith, size)

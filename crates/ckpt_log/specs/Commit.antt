@@ -1,0 +1,44 @@
+-- What a commit writes, and what a crash in its course leaves.
+use Rattle.std.specs.Prelude.{◌≡◌, ◌⊎◌, ℕ, ◌+◌, ◌*◌, ◌%◌, Some, List}
+use Rattle.layout.specs.declared.header.CheckpointHeader.{CheckpointHeader}
+use Rattle.layout.specs.Header.{header_bytes}
+use Rattle.layout.specs.Image.{committed_bytes, sequence_in}
+use Rattle.device.specs.Disk.{Image, Disk}
+use Rattle.device.specs.Calls.{Elsewhere}
+
+-- the sector of a header; its gate is the next one
+abbrev pub header_sector : CheckpointHeader → ℕ
+header_sector h = 1 + 2 * (h.sequence % 2)
+
+abbrev pub gate_sector : CheckpointHeader → ℕ
+gate_sector h = 2 + 2 * (h.sequence % 2)
+
+-- the committed header of an image is h
+abbrev pub Commits : CheckpointHeader → Image → Type 0
+Commits h image = committed_bytes image ≡ Some (header_bytes h)
+
+-- a crash leaves the committed header that a read gives
+abbrev pub CommitsOne : Disk → Type 0
+CommitsOne disk = (c : Image) → disk.may_leave c → committed_bytes c ≡ committed_bytes disk.seen
+
+-- an image has a committed header, and h is the next one by its sequence number
+abbrev pub Precedes : Image → CheckpointHeader → Type 0
+Precedes image h = (bytes : List ℕ) × (committed_bytes image ≡ Some bytes) × (sequence_in bytes + 1 ≡ h.sequence)
+
+-- nothing is touched but the slot of h, and the committed header is the one before it
+pub record KeepsHeader (h : CheckpointHeader) (old new : Image) : Type 0 where
+  pub elsewhere : Elsewhere (header_sector h) 2 old new
+  pub committed : committed_bytes new ≡ committed_bytes old
+
+-- nothing is touched but the slot of h, and h is the committed header
+pub record HasNew (h : CheckpointHeader) (old new : Image) : Type 0 where
+  pub elsewhere : Elsewhere (header_sector h) 2 old new
+  pub committed : Commits h new
+
+abbrev pub IsOldOrNew : CheckpointHeader → Image → Image → Type 0
+IsOldOrNew h old new = KeepsHeader h old new ⊎ HasNew h old new
+
+-- what a crash could have left before, but for the slot of h, with the committed header from before
+pub record IsOld (h : CheckpointHeader) (disk : Disk) (c : Image) : Type 0 where
+  pub could_be : (d : Image) × disk.may_leave d × Elsewhere (header_sector h) 2 d c
+  pub committed : committed_bytes c ≡ committed_bytes disk.seen

@@ -1,0 +1,4 @@
+pub mod Commit
+pub mod Log
+pub mod Saved
+pub mod Slot

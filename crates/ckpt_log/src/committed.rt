@@ -1,0 +1,91 @@
+// Which header is the committed one.
+ghost use Rattle.std.specs.Prelude.{◌≡◌, ◌≤◌, ◌<◌, ◌+◌, ◌*◌, ◌↔◌, ℕ, length, IfOk, IfErr, OnOk, IsErrOf};
+ghost use Rattle.layout.specs.Image.{does_count, committed_of, sequence_in, HasHeader};
+ghost use Rattle.layout.specs.Superblock.{Plan};
+ghost use Rattle.device.specs.Calls.{Agrees, Counts};
+ghost use Rattle.device.specs.Moments.{Peeks};
+ghost use Rattle.ckpt_log.specs.Log.{IsLogOf, chosen, IsHeaderIn, IsRefusedBy, IsRefusal};
+
+use crate::fault::LogFault;
+use crate::log::Log;
+use crate::sector::read_sector;
+use device::{Device, Failed, SECTOR_SIZE};
+use layout::{BadImage, CheckpointHeader, Gate, decode_gate, decode_header, sequence_in};
+
+// Reads the header of a slot, and answers whether it counts: its gate is open, and it belongs in this slot.
+fn read_header<D: Device>(device: &mut D, slot: u64, into: &mut [u8]) -> Result<bool, Failed>
+    requires slot { slot < 2 }
+    requires inside { 5 ≤ (D.disk device.old).sectors }
+    requires one { length into.old ≡ 512 }
+    ensures counts { IfOk result (λ counts. counts ≡ does_count ((D.disk device.old).seen (1 + 2 * slot)) ((D.disk device.old).seen (2 + 2 * slot)) slot) }
+    ensures bytes { OnOk result (into.new ≡ (D.disk device.old).seen (1 + 2 * slot)) }
+    ensures size { (D.disk device.new).sectors ≡ (D.disk device.old).sectors }
+    ensures seen { Agrees (D.disk device.new).seen (D.disk device.old).seen }
+    ensures any_moment { Peeks (D.disk device.old) (D.disk device.new) }
+    ensures cause { Counts (D.disk device.old) (D.disk device.new) result }
+{
+    let mut gate = [0; SECTOR_SIZE];
+    read_sector(device, 1 + 2 * slot, into)?;
+    read_sector(device, 2 + 2 * slot, &mut gate)?;
+    Ok(decode_gate(&gate) == Gate::Open && sequence_in(into) % 2 == slot)
+}
+
+// Of two headers that count the one with the greater sequence number is committed.
+fn committed_of(first: bool, m: u64, second: bool, n: u64) -> Option<u64>
+    ensures { result ≡ committed_of first m second n }
+{
+    match (first, second) {
+        (true, true) => Some(if m < n { 1 } else { 0 }),
+        (true, false) => Some(0),
+        (false, true) => Some(1),
+        (false, false) => None,
+    }
+}
+
+// Reads the header of a slot from the bytes of both. A greater one that is malformed is not passed over.
+fn choose(
+    slot: Option<u64>,
+    first: &[u8],
+    second: &[u8],
+    room: u64,
+) -> Result<CheckpointHeader, BadImage>
+    requires first { length first.now ≡ 512 }
+    requires second { length second.now ≡ 512 }
+    ensures found { IfOk result (λ h. IsHeaderIn room (chosen slot first.now second.now) h) }
+    ensures refused { IfErr result (λ e. IsRefusedBy room (chosen slot first.now second.now) e) }
+{
+    match slot {
+        None => Err(BadImage::NoHeader),
+        Some(0) => decode_header(first, room),
+        Some(_) => decode_header(second, room),
+    }
+}
+
+impl Log {
+    /// The committed header. It takes no memory and writes nothing.
+    ///
+    /// `Failed` is told exactly where the device failed; `BadImage::NoHeader` where no header counts, and
+    /// `BadImage::BadHeader` where the committed one is malformed, though another may count too.
+    pub fn find_committed<D: Device>(&self, device: &mut D) -> Result<CheckpointHeader, LogFault>
+        requires inside { 5 ≤ (D.disk device.old).sectors }
+        ensures found { IfOk result (λ h. (p : Plan) → IsLogOf self.now p → HasHeader (D.disk device.old).seen p h) }
+        ensures refused { IfErr result (λ e. (p : Plan) → IsLogOf self.now p → IsRefusal p (D.disk device.old).seen e) }
+        ensures failed { IsErrOf result LogFault.Failed ↔ ((D.disk device.old).failures < (D.disk device.new).failures) }
+        ensures never_falls { (D.disk device.old).failures ≤ (D.disk device.new).failures }
+        ensures size { (D.disk device.new).sectors ≡ (D.disk device.old).sectors }
+        ensures seen { Agrees (D.disk device.new).seen (D.disk device.old).seen }
+        ensures any_moment { Peeks (D.disk device.old) (D.disk device.new) }
+    {
+        let mut first = [0; SECTOR_SIZE];
+        let mut second = [0; SECTOR_SIZE];
+        let first_counts = read_header(device, 0, &mut first)?;
+        let second_counts = read_header(device, 1, &mut second)?;
+        let slot = committed_of(
+            first_counts,
+            sequence_in(&first),
+            second_counts,
+            sequence_in(&second),
+        );
+        Ok(choose(slot, &first, &second, self.geometry.log)?)
+    }
+}

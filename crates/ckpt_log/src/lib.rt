@@ -1,0 +1,19 @@
+//! The log of checkpoints. One header commits: at every moment a crash leaves a device whose committed header is
+//! the one before or the next.
+#![tactic(auto)]
+
+mod committed;
+mod directory;
+mod fault;
+mod laws;
+mod log;
+mod publish;
+mod sector;
+mod slots;
+
+pub use fault::LogFault;
+pub use laws::saved_is_read_from_its_sectors;
+pub use log::Log;
+
+#[cfg(test)]
+mod tests;

@@ -1,0 +1,300 @@
+ghost use Rattle.std.specs.Prelude.{◌≡◌, ◌≤◌, ◌+◌, IfOk};
+ghost use Rattle.device.specs.Memory.{memory_disk};
+ghost use Rattle.ckpt_log.specs.Log.{HasNumbers};
+
+use crate::{Log, LogFault};
+use device::{Device, Failed, Fuse, Memory, Outcome, SECTOR_SIZE};
+use layout::{
+    BadImage, CheckpointHeader, Entry, Gate, HomeRange, NodeBody, PageBody, Superblock, VOID,
+    encode_gate, encode_header,
+};
+use model::{Content, Frame, Geometry, Header, Slots, Words};
+use std::alloc::Global;
+use std::test::Fail;
+
+fn superblock() -> Result<Superblock, Failed> {
+    let geometry = Geometry {
+        nodes: 16,
+        pages: 8,
+        log: 16,
+    };
+    let nodes = HomeRange {
+        first: 0,
+        count: 16,
+        sector: 5,
+    };
+    let pages = HomeRange {
+        first: 16,
+        count: 8,
+        sector: 37,
+    };
+    Superblock::new(geometry, &[nodes, pages], 109, 254, 399).ok_or(Failed)
+}
+
+// Its log: half 0 from sector 109 on, and half 1 from 254 on.
+fn log() -> Result<Log, Failed>
+    ensures { IfOk result (λ log. HasNumbers log 109 254 16 16) }
+{
+    let log = Log::new(&superblock()?);
+    if log.half_0 != 109
+        || log.half_1 != 254
+        || log.geometry.log != 16
+        || log.geometry.nodes != 16
+    {
+        return Err(Failed);
+    }
+    Ok(log)
+}
+
+fn header(sequence: u64) -> CheckpointHeader {
+    CheckpointHeader {
+        sequence,
+        generation: 0,
+        entries: 0,
+        age: 9,
+    }
+}
+
+// Writes a header and then a gate, each of them synced, the header with this byte at its end.
+fn put_slot(
+    memory: &mut Memory,
+    at: u64,
+    header: CheckpointHeader,
+    last: u8,
+    gate: Gate,
+) -> Result<(), Failed>
+    requires { at + 2 ≤ (memory_disk memory.old).sectors }
+    ensures { (memory_disk memory.new).sectors ≡ (memory_disk memory.old).sectors }
+{
+    let mut sector = [0; SECTOR_SIZE];
+    encode_header(header, &mut sector);
+    sector[511] = last;
+    memory.write(at, &sector)?;
+    memory.sync()?;
+    encode_gate(gate, &mut sector);
+    memory.write(at + 1, &sector)?;
+    memory.sync()
+}
+
+// A device whose slot 0 has an open header with sequence number 0, and whose slot 1 is closed.
+fn built(alloc: Global, outcome: Outcome) -> Result<Memory, Fail>
+    ensures { IfOk result (λ m. (memory_disk m).sectors ≡ 5) }
+{
+    let mut memory = Memory::new(alloc, 5, 64, outcome)?;
+    put_slot(&mut memory, 1, header(0), 0, Gate::Open)?;
+    Ok(memory)
+}
+
+// Syncs the device, publishes the header after the committed one, and answers whether that succeeded.
+fn publish_next<D: Device>(device: &mut D, superblock: &Superblock) -> Result<bool, Fail>
+    requires { 5 ≤ (D.disk device.old).sectors }
+    ensures { (D.disk device.new).sectors ≡ (D.disk device.old).sectors }
+{
+    let log = Log::new(superblock);
+    device.sync()?;
+    let committed = log.find_committed(device)?;
+    let next = CheckpointHeader {
+        sequence: committed.sequence + 1,
+        generation: committed.generation,
+        entries: committed.entries,
+        age: committed.age,
+    };
+    Ok(log.publish(device, next).is_ok())
+}
+
+// The calls that `publish_next` makes before it publishes.
+const CALLS_BEFORE: u64 = 5;
+
+// Whether a publish that stops after so many calls succeeds, and the sequence number that a power cut then leaves.
+fn left_by_stop(memory: Memory, superblock: &Superblock, calls: u64) -> Result<(bool, u64), Fail>
+    requires { 5 ≤ (memory_disk memory).sectors }
+{
+    let mut fuse = Fuse::new(memory, calls);
+    let published = publish_next(&mut fuse, superblock)?;
+    fuse.power_cut();
+    let committed = Log::new(superblock).find_committed(&mut fuse)?;
+    Ok((published, committed.sequence))
+}
+
+const OUTCOMES: [(Outcome, bool); 4] = [
+    (Outcome::Keep, true),
+    (Outcome::Drop, false),
+    (Outcome::Fill(0), false),
+    (Outcome::Fill(1), true),
+];
+
+// A publish from 0 to 1 makes six calls: the gate of slot 1 is closed and isn't written.
+#[test]
+fn a_stop_leaves_the_first_header_or_the_next(rt: HostRuntime) -> Result<(), Fail> {
+    let superblock = superblock()?;
+    for (outcome, opened) in OUTCOMES {
+        for calls in 0..8 {
+            let memory = built(rt.alloc(), outcome)?;
+            let left = left_by_stop(memory, &superblock, CALLS_BEFORE + calls)?;
+            let is_new = calls > 5 || calls == 5 && opened;
+            assert_eq!(rt; left, (calls > 5, if is_new { 1 } else { 0 }));
+        }
+    }
+    Ok(())
+}
+
+// A publish from 1 to 2 makes eight: the gate of slot 0 is open.
+#[test]
+fn a_stop_leaves_the_second_header_or_the_next(rt: HostRuntime) -> Result<(), Fail> {
+    let superblock = superblock()?;
+    for (outcome, opened) in OUTCOMES {
+        for calls in 0..10 {
+            let mut memory = built(rt.alloc(), outcome)?;
+            assert_eq!(rt; publish_next(&mut memory, &superblock)?, true);
+            let left = left_by_stop(memory, &superblock, CALLS_BEFORE + calls)?;
+            let is_new = calls > 7 || calls == 7 && opened;
+            assert_eq!(rt; left, (calls > 7, if is_new { 2 } else { 1 }));
+        }
+    }
+    Ok(())
+}
+
+#[test]
+fn a_device_without_an_open_header_has_none(rt: HostRuntime) -> Result<(), Fail> {
+    let log = Log::new(&superblock()?);
+    let mut memory = Memory::new(rt.alloc(), 5, 64, Outcome::Drop)?;
+    let none = LogFault::Bad(BadImage::NoHeader);
+    assert_eq!(rt; log.find_committed(&mut memory), Err(none));
+    put_slot(&mut memory, 1, header(4), 0, Gate::Closed)?;
+    put_slot(&mut memory, 3, header(4), 0, Gate::Open)?;
+    assert_eq!(rt; log.find_committed(&mut memory), Err(none));
+    Ok(())
+}
+
+#[test]
+fn a_greater_malformed_header_is_not_passed_over(rt: HostRuntime) -> Result<(), Fail> {
+    let log = Log::new(&superblock()?);
+    let mut memory = built(rt.alloc(), Outcome::Drop)?;
+    put_slot(&mut memory, 3, header(1), 1, Gate::Open)?;
+    let bad = LogFault::Bad(BadImage::BadHeader);
+    assert_eq!(rt; log.find_committed(&mut memory), Err(bad));
+    put_slot(&mut memory, 1, header(2), 0, Gate::Open)?;
+    assert_eq!(rt; log.find_committed(&mut memory), Ok(header(2)));
+    Ok(())
+}
+
+// Such a gate is closed at the next publish.
+#[test]
+fn a_header_in_the_other_slot_counts_as_closed(rt: HostRuntime) -> Result<(), Fail> {
+    let superblock = superblock()?;
+    let mut memory = built(rt.alloc(), Outcome::Drop)?;
+    put_slot(&mut memory, 3, header(6), 0, Gate::Open)?;
+    assert_eq!(rt;
+        Log::new(&superblock).find_committed(&mut memory),
+        Ok(header(0))
+    );
+    let mut fuse = Fuse::new(memory, CALLS_BEFORE + 4);
+    assert_eq!(rt; publish_next(&mut fuse, &superblock)?, false);
+    fuse.power_cut();
+    let mut gate = [7; SECTOR_SIZE];
+    fuse.read(4, &mut gate)?;
+    assert_eq!(rt; gate, [0; SECTOR_SIZE]);
+    let left = left_by_stop(fuse.into_inner(), &superblock, CALLS_BEFORE + 6)?;
+    assert_eq!(rt; left, (true, 1));
+    Ok(())
+}
+
+#[test]
+fn a_device_that_fails_has_no_header(rt: HostRuntime) -> Result<(), Fail> {
+    let log = Log::new(&superblock()?);
+    for calls in 0..4 {
+        let mut fuse = Fuse::new(built(rt.alloc(), Outcome::Drop)?, calls);
+        assert_eq!(rt; log.find_committed(&mut fuse), Err(LogFault::Failed));
+        fuse.power_cut();
+        assert_eq!(rt; log.find_committed(&mut fuse), Ok(header(0)));
+    }
+    Ok(())
+}
+
+const FRONT: Header = Header {
+    allocations: 1,
+    calls: 2,
+    owner: 3,
+};
+
+// Slot 2 of half 1 begins at sector 272.
+#[test]
+fn a_node_is_read_back_from_its_slot(rt: HostRuntime) -> Result<(), Fail> {
+    let log = log()?;
+    let mut memory = Memory::new(rt.alloc(), 399, 64, Outcome::Drop)?;
+    let frame = Frame {
+        header: FRONT,
+        content: Content::Bank { limit: 8 },
+    };
+    log.write_slot(&mut memory, 3, 2, 5, &frame)?;
+    let mut slots = Slots::new(rt.alloc(), VOID)?;
+    let (header, body) = log
+        .read_node_slot(&mut memory, 3, 2, 5, 9, &mut slots)
+        .ok()
+        .ok_or(Failed)?;
+    assert_eq!(rt; header, FRONT);
+    assert!(rt; matches!(body, NodeBody::Bank { limit: 8 }));
+    let mut sector = [9; SECTOR_SIZE];
+    memory.read(272, &mut sector)?;
+    assert_eq!(rt; sector[0], 5, "the role of a bank");
+    memory.read(274, &mut sector)?;
+    assert_eq!(rt; sector, [0; SECTOR_SIZE]);
+    sector[0] = 6;
+    memory.write(272, &sector)?;
+    let refused = log.read_node_slot(&mut memory, 3, 2, 5, 9, &mut slots);
+    assert_eq!(rt; refused.err(), Some(LogFault::Bad(BadImage::BadFrame)));
+    Ok(())
+}
+
+// Slot 1 of half 0 begins at sector 118.
+#[test]
+fn a_page_is_read_back_from_its_slot(rt: HostRuntime) -> Result<(), Fail> {
+    let log = log()?;
+    let mut memory = Memory::new(rt.alloc(), 399, 64, Outcome::Drop)?;
+    let mut words = Words::new(rt.alloc())?;
+    words.set(511, 600);
+    let frame = Frame {
+        header: FRONT,
+        content: Content::Page(words),
+    };
+    log.write_slot(&mut memory, 0, 1, 16, &frame)?;
+    let mut found = Words::new(rt.alloc())?;
+    let read = log.read_page_slot(&mut memory, 0, 1, 16, 9, &mut found);
+    assert_eq!(rt; read, Ok((FRONT, PageBody::Page)));
+    assert_eq!(rt; found.get(511), 600);
+    let mut sector = [9; SECTOR_SIZE];
+    memory.read(126, &mut sector)?;
+    assert_eq!(rt; sector[504], 88, "the lowest byte of the last word");
+    memory.read(127, &mut sector)?;
+    assert_eq!(rt; sector, [0; SECTOR_SIZE]);
+    memory.write(118, &[9; SECTOR_SIZE])?;
+    let refused = log.read_page_slot(&mut memory, 0, 1, 16, 9, &mut found);
+    assert_eq!(rt; refused, Err(LogFault::Bad(BadImage::BadFrame)));
+    Ok(())
+}
+
+// The directory of half 1 is sector 398.
+#[test]
+fn a_directory_is_read_back(rt: HostRuntime) -> Result<(), Fail> {
+    let log = log()?;
+    let mut memory = Memory::new(rt.alloc(), 399, 64, Outcome::Drop)?;
+    let entries = [
+        Entry { object: 3, slot: 1 },
+        Entry {
+            object: 20,
+            slot: 0,
+        },
+    ];
+    log.write_directory(&mut memory, 1, &entries)?;
+    let mut found = [Entry { object: 0, slot: 0 }; 2];
+    log.read_directory(&mut memory, 1, &mut found)?;
+    assert_eq!(rt; found, entries);
+    let mut sector = [9; SECTOR_SIZE];
+    memory.read(398, &mut sector)?;
+    assert_eq!(rt; sector[16], 20, "the object of the second entry");
+    sector[0] = 20;
+    memory.write(398, &sector)?;
+    let refused = log.read_directory(&mut memory, 1, &mut found);
+    assert_eq!(rt; refused, Err(LogFault::Bad(BadImage::BadDirectory)));
+    Ok(())
+}
