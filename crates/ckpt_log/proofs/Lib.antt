@@ -1,4 +1,6 @@
 pub mod Commits
+pub mod Places
+pub mod Refusals
 pub mod Runs
 pub mod SavedStates
 pub mod Sectors

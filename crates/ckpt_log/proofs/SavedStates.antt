@@ -1,23 +1,10 @@
 -- Images that agree in the sectors that a saved state is read from.
 use Rattle.std.proofs.Common.{◌≡◌, ◌<◌, ◌+◌, ◌*◌, ◌/◌, ℕ, zero, suc, Option, Some, None, List, ◌++◌, take, refl, sym, ap, subst, ◌∙◌, arith}
-use Rattle.layout.specs.Image.{Image, sectors_from, committed_slot, option_at, IsFrameOf, frame_sector, directory_sector}
-use Rattle.ckpt_log.specs.Saved.{SameFrom, SameHeader, SameDirectory, SameFrames, SameSaved, frame_length}
+use Rattle.layout.specs.Image.{Image, sectors_from, committed_slot, option_at, IsFrameOf, frame_sector, frame_length, directory_sector, directory_length}
+use Rattle.layout.proofs.Sectors.{same_sectors}
+use Rattle.ckpt_log.specs.Saved.{SameFrom, SameHeader, SameDirectory, SameFrames, SameSaved}
 use Rattle.ckpt_log.proofs.Winners.{slot_of_image}
 use Rattle.model.specs.Frame.{frame_at}
-
-same_rest : (at n : ℕ) (old new : Image) → SameFrom at (suc n) old new → SameFrom (at + 1) n old new
-same_rest at n old new same i lt =
-    let place : at + (i + 1) ≡ at + 1 + i = omega arith in
-    subst (λ (k : ℕ). new k ≡ old k) place (same (i + 1) (omega (arith, lt)))
-
-pub same_sectors : (at n : ℕ) (old new : Image) → SameFrom at n old new → sectors_from new at n ≡ sectors_from old at n
-unfolding sectors_from
-same_sectors at zero old new same = refl
-same_sectors at (suc n) old new same =
-    let place : at + 0 ≡ at = omega arith in
-    let first : new at ≡ old at = subst (λ (k : ℕ). new k ≡ old k) place (same 0 (omega arith)) in
-    ap (λ (b : List ℕ). b ++ sectors_from new (at + 1) n) first
-    ∙ ap (λ (b : List ℕ). old at ++ b) (same_sectors (at + 1) n old new (same_rest at n old new same))
 
 same_slot : (old new : Image) → SameFrom 1 4 old new → committed_slot new ≡ committed_slot old
 same_slot old new same =
@@ -44,7 +31,7 @@ pub same_directory : SameDirectory
 same_directory p h es old new same is = record {
   count = is.count;
   fits = is.fits;
-  spelt = ap (λ (b : List ℕ). take (16 * h.entries) b) (same_sectors (directory_sector p h.generation) ((h.entries + 31) / 32) old new same) ∙ is.spelt;
+  spelt = ap (λ (b : List ℕ). take (16 * h.entries) b) (same_sectors (directory_sector p h.generation) (directory_length h.entries) old new same) ∙ is.spelt;
 }
 
 pub same_frames : SameFrames

@@ -27,27 +27,5 @@ pub on_ok : {T E : Type 0} (result : Result T E) {P Q : Type 0} → (P → Q) �
 on_ok (Ok value) {P} {Q} follows is = follows is
 on_ok (Err error) {P} {Q} follows is = tt
 
-no_bytes : (bytes : List ℕ) → length bytes ≡ 0 → [] ≡ bytes
-no_bytes [] e = refl
-no_bytes (b ∷ bs) e = absurd (omega (arith, e))
-
-sectors_are : (image : Image) (at n : ℕ) (bytes : List ℕ) → length bytes ≡ 512 * n → ((i : ℕ) → i < n → image_of bytes i ≡ image (at + i)) → sectors_from image at n ≡ bytes
-unfolding sectors_from
-sectors_are image at zero bytes size same = no_bytes bytes (omega (arith, size))
-sectors_are image at (suc n) bytes size same =
-    let rest = sectors_are image (at + 1) n (drop 512 bytes) (omega (arith, size, length-drop 512 bytes)) (λ i lt.
-    let one = same (suc i) (omega arith) in
-    let place : at + suc i ≡ at + 1 + i = omega arith in
-    let size : 512 + 512 * i ≡ 512 * suc i = omega arith in
-    ap (take 512) (drop-drop (512 * i) 512 bytes ∙ ap (λ (m : ℕ). drop m bytes) size) ∙ one ∙ ap image place) in
-    let first = same 0 (omega arith) in
-    let here : at + 0 ≡ at = omega arith in
-    ap (λ (front : List ℕ). front ++ sectors_from image (at + 1) n) (sym (first ∙ ap image here))
-    ∙ ap (λ (back : List ℕ). take 512 bytes ++ back) rest ∙ take-append-drop 512 bytes
-
--- the bytes of whole sectors
-pub whole_sectors : (image : Image) (at : ℕ) (bytes : List ℕ) → length bytes % 512 ≡ 0 → AreSectors image at bytes → sectors_from image at (sectors_of bytes) ≡ bytes
-whole_sectors image at bytes whole same = sectors_are image at (sectors_of bytes) bytes (omega arith) same
-
 pub sectors_are_of : (n : ℕ) (bytes : List ℕ) → length bytes ≡ 512 * n → sectors_of bytes ≡ n
 sectors_are_of n bytes size = omega (arith, size)

@@ -1,22 +1,18 @@
 -- The sectors that a saved state is read from.
-use Rattle.std.specs.Prelude.{◌≡◌, ℕ, ◌+◌, ◌/◌, ◌<◌, nat_lt, if◌then◌else◌, List}
+use Rattle.std.specs.Prelude.{◌≡◌, ℕ, ◌+◌, ◌<◌, List}
 use Rattle.layout.specs.declared.directory.Entry.{Entry}
 use Rattle.layout.specs.declared.header.CheckpointHeader.{CheckpointHeader}
-use Rattle.layout.specs.Image.{Image, HasDirectory, frame_in, frame_sector, directory_sector, Saved, Denotes, committed_slot, committed_bytes}
+use Rattle.layout.specs.Image.{Image, HasDirectory, frame_in, frame_sector, frame_length, directory_sector, directory_length, Saved, Denotes, committed_slot, committed_bytes}
 use Rattle.layout.specs.Superblock.{Plan}
 
 -- the same bytes in n sectors from one on
 abbrev pub SameFrom : ℕ → ℕ → Image → Image → Type 0
 SameFrom at n old new = (i : ℕ) → i < n → new (at + i) ≡ old (at + i)
 
--- how many sectors the frame of an object takes
-abbrev pub frame_length : Plan → ℕ → ℕ
-frame_length p object = if nat_lt object p.geometry.nodes then 2 else 9
-
 -- the same bytes in the header slots and their gates, in the directory of h, and in the frame of each object
 pub record SameWhereRead (p : Plan) (h : CheckpointHeader) (es : List Entry) (old new : Image) : Type 0 where
   pub headers : SameFrom 1 4 old new
-  pub directory : SameFrom (directory_sector p h.generation) ((h.entries + 31) / 32) old new
+  pub directory : SameFrom (directory_sector p h.generation) (directory_length h.entries) old new
   pub frames : (object : ℕ) → object < p.geometry.nodes + p.geometry.pages → SameFrom (frame_sector p h.generation es object) (frame_length p object) old new
 
 -- images that agree in these sectors have the same committed header
@@ -25,7 +21,7 @@ SameHeader = (old new : Image) → SameFrom 1 4 old new → (committed_slot new 
 
 -- the same directory
 abbrev pub SameDirectory : Type 0
-SameDirectory = (p : Plan) (h : CheckpointHeader) (es : List Entry) (old new : Image) → SameFrom (directory_sector p h.generation) ((h.entries + 31) / 32) old new
+SameDirectory = (p : Plan) (h : CheckpointHeader) (es : List Entry) (old new : Image) → SameFrom (directory_sector p h.generation) (directory_length h.entries) old new
     → HasDirectory old p h es → HasDirectory new p h es
 
 -- the same frames

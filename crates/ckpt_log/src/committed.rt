@@ -1,16 +1,16 @@
-// Which header is the committed one.
-ghost use Rattle.std.specs.Prelude.{◌≡◌, ◌≤◌, ◌<◌, ◌+◌, ◌*◌, ◌↔◌, ℕ, length, IfOk, IfErr, OnOk, IsErrOf};
+// Which header is the committed one, and its directory.
+ghost use Rattle.std.specs.Prelude.{◌≡◌, ◌≤◌, ◌<◌, ◌+◌, ◌*◌, ℕ, length, IfOk, IfErr, OnOk};
 ghost use Rattle.layout.specs.Image.{does_count, committed_of, sequence_in, HasHeader};
-ghost use Rattle.layout.specs.Superblock.{Plan};
 ghost use Rattle.device.specs.Calls.{Agrees, Counts};
 ghost use Rattle.device.specs.Moments.{Peeks};
-ghost use Rattle.ckpt_log.specs.Log.{IsLogOf, chosen, IsHeaderIn, IsRefusedBy, IsRefusal};
+ghost use Rattle.ckpt_log.specs.Log.{chosen, IsHeaderIn, IsRefusedBy, HasNone, HasCommitted, IsRefusal};
+ghost use Rattle.ckpt_log.specs.Slot.{CountsFailed};
 
 use crate::fault::LogFault;
 use crate::log::Log;
 use crate::sector::read_sector;
 use device::{Device, Failed, SECTOR_SIZE};
-use layout::{BadImage, CheckpointHeader, Gate, decode_gate, decode_header, sequence_in};
+use layout::{BadImage, CheckpointHeader, Entry, Gate, decode_gate, decode_header, sequence_in};
 
 // Reads the header of a slot, and answers whether it counts: its gate is open, and it belongs in this slot.
 fn read_header<D: Device>(device: &mut D, slot: u64, into: &mut [u8]) -> Result<bool, Failed>
@@ -62,20 +62,17 @@ fn choose(
 }
 
 impl Log {
-    /// The committed header. It takes no memory and writes nothing.
-    ///
-    /// `Failed` is told exactly where the device failed; `BadImage::NoHeader` where no header counts, and
-    /// `BadImage::BadHeader` where the committed one is malformed, though another may count too.
-    pub fn find_committed<D: Device>(&self, device: &mut D) -> Result<CheckpointHeader, LogFault>
-        requires inside { 5 ≤ (D.disk device.old).sectors }
-        ensures found { IfOk result (λ h. (p : Plan) → IsLogOf self.now p → HasHeader (D.disk device.old).seen p h) }
-        ensures refused { IfErr result (λ e. (p : Plan) → IsLogOf self.now p → IsRefusal p (D.disk device.old).seen e) }
-        ensures failed { IsErrOf result LogFault.Failed ↔ ((D.disk device.old).failures < (D.disk device.new).failures) }
-        ensures never_falls { (D.disk device.old).failures ≤ (D.disk device.new).failures }
+    // The committed header.
+    fn find_header<D: Device>(&self, device: &mut D) -> Result<CheckpointHeader, LogFault>
+        requires inside { self.now.total ≤ (D.disk device.old).sectors }
+        ensures found { IfOk result (λ h. HasHeader (D.disk device.old).seen self.now h) }
+        ensures refused { IfErr result (λ e. HasNone self.now (D.disk device.old).seen e) }
         ensures size { (D.disk device.new).sectors ≡ (D.disk device.old).sectors }
         ensures seen { Agrees (D.disk device.new).seen (D.disk device.old).seen }
         ensures any_moment { Peeks (D.disk device.old) (D.disk device.new) }
+        ensures cause { CountsFailed (D.disk device.old) (D.disk device.new) result }
     {
+        let room = self.geometry().log;
         let mut first = [0; SECTOR_SIZE];
         let mut second = [0; SECTOR_SIZE];
         let first_counts = read_header(device, 0, &mut first)?;
@@ -86,6 +83,32 @@ impl Log {
             second_counts,
             sequence_in(&second),
         );
-        Ok(choose(slot, &first, &second, self.geometry.log)?)
+        Ok(choose(slot, &first, &second, room)?)
+    }
+
+    /// The committed header, with its directory in the first of the entries. It takes no memory and writes nothing.
+    ///
+    /// `Failed` is told exactly where the device failed; `BadImage::NoHeader` where no header counts,
+    /// `BadImage::BadHeader` where the committed one is malformed, though another may count too, and
+    /// `BadImage::BadDirectory` where its directory is malformed. A refusal leaves any entries.
+    pub fn find_committed<D: Device>(
+        &self,
+        device: &mut D,
+        directory: &mut [Entry],
+    ) -> Result<CheckpointHeader, LogFault>
+        requires room { self.now.geometry.log ≤ length directory.old }
+        requires inside { self.now.total ≤ (D.disk device.old).sectors }
+        ensures found { IfOk result (λ h. HasCommitted (D.disk device.old).seen self.now h directory.new) }
+        ensures refused { IfErr result (λ e. IsRefusal self.now (D.disk device.old).seen e) }
+        ensures length { length directory.new ≡ length directory.old }
+        ensures size { (D.disk device.new).sectors ≡ (D.disk device.old).sectors }
+        ensures seen { Agrees (D.disk device.new).seen (D.disk device.old).seen }
+        ensures any_moment { Peeks (D.disk device.old) (D.disk device.new) }
+        ensures cause { CountsFailed (D.disk device.old) (D.disk device.new) result }
+    {
+        let header = self.find_header(device)?;
+        let named = &mut directory[..header.entries as usize];
+        self.read_directory(device, header.generation, named)?;
+        Ok(header)
     }
 }

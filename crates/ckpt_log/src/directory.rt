@@ -1,10 +1,10 @@
 // The directories of the log.
 ghost use Rattle.std.specs.Prelude.{◌≡◌, ◌+◌, ◌*◌, ◌^◌, ◌<◌, ◌≤◌, length, take, IfErr, OnOk};
 ghost use Rattle.layout.specs.Directory.{directory_bytes, IsDirectory};
-ghost use Rattle.layout.specs.Image.{sectors_from};
-ghost use Rattle.device.specs.Calls.{Agrees, Elsewhere, Tears, Counts};
+ghost use Rattle.layout.specs.Image.{sectors_from, directory_sector, directory_length, directory_in};
+ghost use Rattle.device.specs.Calls.{Agrees, Elsewhere, Tears, IsTorn, Counts};
 ghost use Rattle.device.specs.Moments.{Elapses, LeavesOnly, Peeks};
-ghost use Rattle.ckpt_log.specs.Slot.{directory_place, directory_length, directory_read, IsTorn, IsBadDirectory, CountsFailed};
+ghost use Rattle.ckpt_log.specs.Slot.{IsBadDirectory, CountsFailed};
 
 use crate::fault::LogFault;
 use crate::log::Log;
@@ -42,19 +42,6 @@ fn write_run<D: Device>(device: &mut D, at: u64, sectors: usize, from: &[u8]) ->
 }
 
 impl Log {
-    // The first sector of a directory.
-    fn directory_place(&self, generation: u64) -> u64
-        requires fits { directory_place self.now generation < 2 ^ 64 }
-        ensures { result ≡ directory_place self.now generation }
-    {
-        let half = if generation % 2 == 0 {
-            self.half_0
-        } else {
-            self.half_1
-        };
-        half + 9 * self.geometry.log
-    }
-
     /// Writes the directory of the half of a generation, and touches its sectors alone: a crash at any moment leaves
     /// all other sectors as they could have been left before. It is refused where the device fails, and the sectors
     /// may then hold any bytes. It takes no memory.
@@ -64,21 +51,22 @@ impl Log {
         generation: u64,
         entries: &[Entry],
     ) -> Result<(), Failed>
-        requires few { length entries.now ≤ 4096 }
-        requires inside { directory_place self.now generation + directory_length (length entries.now) ≤ (D.disk device.old).sectors }
-        ensures written { OnOk result (directory_read (D.disk device.new).seen self.now generation (length entries.now) ≡ directory_bytes entries.now) }
+        requires few { length entries.now ≤ self.now.geometry.log }
+        requires inside { self.now.total ≤ (D.disk device.old).sectors }
+        ensures written { OnOk result (directory_in (D.disk device.new).seen self.now generation (length entries.now) ≡ directory_bytes entries.now) }
         ensures size { (D.disk device.new).sectors ≡ (D.disk device.old).sectors }
-        ensures elsewhere { Elsewhere (directory_place self.now generation) (directory_length (length entries.now)) (D.disk device.old).seen (D.disk device.new).seen }
-        ensures crash { Tears (directory_place self.now generation) (directory_length (length entries.now)) (D.disk device.old) (D.disk device.new) }
-        ensures any_moment { LeavesOnly (D.disk device.old) (D.disk device.new) (λ c. IsTorn (directory_place self.now generation) (directory_length (length entries.now)) (D.disk device.old) c) }
+        ensures elsewhere { Elsewhere (directory_sector self.now generation) (directory_length (length entries.now)) (D.disk device.old).seen (D.disk device.new).seen }
+        ensures crash { Tears (directory_sector self.now generation) (directory_length (length entries.now)) (D.disk device.old) (D.disk device.new) }
+        ensures any_moment { LeavesOnly (D.disk device.old) (D.disk device.new) (λ c. IsTorn (directory_sector self.now generation) (directory_length (length entries.now)) (D.disk device.old) c) }
         ensures time { Elapses (D.disk device.old) (D.disk device.new) }
         ensures cause { Counts (D.disk device.old) (D.disk device.new) result }
     {
+        let at = self.directory_sector(generation);
         let mut bytes = [0; MAX_BYTES];
         let sectors = (entries.len() + ENTRIES_IN_SECTOR - 1) / ENTRIES_IN_SECTOR;
         let run = &mut bytes[..SECTOR_SIZE * sectors];
         encode_front(entries, run);
-        write_run(device, self.directory_place(generation), sectors, run)
+        write_run(device, at, sectors, run)
     }
 
     /// Reads a directory of as many entries as `into` takes from the half of a generation. It takes no memory.
@@ -91,24 +79,20 @@ impl Log {
         generation: u64,
         into: &mut [Entry],
     ) -> Result<(), LogFault>
-        requires log { self.now.geometry.log ≤ 4096 }
-        requires few { length into.old ≤ 4096 }
-        requires inside { directory_place self.now generation + directory_length (length into.old) ≤ (D.disk device.old).sectors }
-        ensures found { OnOk result (IsDirectory self.now.geometry into.new × (directory_read (D.disk device.new).seen self.now generation (length into.old) ≡ directory_bytes into.new)) }
-        ensures refused { IfErr result (λ e. IsBadDirectory self.now (directory_read (D.disk device.new).seen self.now generation (length into.old)) e) }
+        requires few { length into.old ≤ self.now.geometry.log }
+        requires inside { self.now.total ≤ (D.disk device.old).sectors }
+        ensures found { OnOk result (IsDirectory self.now.geometry into.new × (directory_in (D.disk device.new).seen self.now generation (length into.old) ≡ directory_bytes into.new)) }
+        ensures refused { IfErr result (λ e. IsBadDirectory self.now (directory_in (D.disk device.new).seen self.now generation (length into.old)) e) }
         ensures size { (D.disk device.new).sectors ≡ (D.disk device.old).sectors }
         ensures seen { Agrees (D.disk device.new).seen (D.disk device.old).seen }
         ensures any_moment { Peeks (D.disk device.old) (D.disk device.new) }
         ensures cause { CountsFailed (D.disk device.old) (D.disk device.new) result }
     {
+        let at = self.directory_sector(generation);
         let mut bytes = [0; MAX_BYTES];
         let length = SECTOR_SIZE * into.len().div_ceil(ENTRIES_IN_SECTOR);
-        read_sectors(
-            device,
-            self.directory_place(generation),
-            &mut bytes[..length],
-        )?;
-        decode_directory(&bytes[..ENTRY_BYTES * into.len()], self.geometry, into)?;
+        read_sectors(device, at, &mut bytes[..length])?;
+        decode_directory(&bytes[..ENTRY_BYTES * into.len()], self.geometry(), into)?;
         Ok(())
     }
 }

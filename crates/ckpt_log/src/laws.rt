@@ -1,3 +1,4 @@
+ghost use Rattle.ckpt_log.specs.Places.{SlotsAreInside, DirectoriesAreInside, HalvesAreWithin, HalvesAreApart, SlotsAreApart, SlotsSpareDirectories};
 ghost use Rattle.ckpt_log.specs.Saved.{SameHeader, SameDirectory, SameFrames, SameSaved};
 
 /// Images that agree in the header slots and their gates, in the directory of the committed header and in the
@@ -8,4 +9,16 @@ pub fn saved_is_read_from_its_sectors()
     ensures directory { SameDirectory }
     ensures frames { SameFrames }
     ensures saved { SameSaved }
+{}
+
+/// The slots and the directory of a generation lie in its half of the log and apart from one another; the halves
+/// lie behind the headers, before the end, and apart. So what is written for the next generation touches nothing
+/// that the last one is read from. It does nothing: its contract is the law.
+pub fn keep_halves_apart()
+    ensures slots { SlotsAreInside }
+    ensures directories { DirectoriesAreInside }
+    ensures within { HalvesAreWithin }
+    ensures apart { HalvesAreApart }
+    ensures slots_apart { SlotsAreApart }
+    ensures slots_spare_directories { SlotsSpareDirectories }
 {}

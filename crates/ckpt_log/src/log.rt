@@ -1,26 +1,72 @@
-ghost use Rattle.std.specs.Prelude.{◌≡◌};
-ghost use Rattle.ckpt_log.specs.Log.{IsLogOf};
+ghost use Rattle.std.specs.Prelude.{◌≡◌, ◌+◌, ◌*◌, ◌<◌, ◌≤◌};
+ghost use Rattle.layout.specs.Superblock.{IsWithin, half_extent};
+ghost use Rattle.layout.specs.Image.{half_sector, slot_sector, directory_sector, directory_length};
 
 use layout::Superblock;
 use model::Geometry;
+use std::marker::Model;
 
 /// Where the log of a device lies, and for how many objects it has room. The device is lent to it in each call.
-#[derive(Clone, Copy)]
+#[derive(Drop)]
 pub struct Log {
-    pub(crate) geometry: Geometry,
-    pub(crate) half_0: u64,
-    pub(crate) half_1: u64,
+    superblock: Superblock,
+}
+
+impl Model for Log {
+    ghost use Rattle.layout.specs.Superblock.{Plan};
+
+    ghost Value = { Plan };
+
+    ghost view = { λ log. log.superblock };
 }
 
 impl Log {
     /// The log of a device with this superblock.
     pub fn new(superblock: &Superblock) -> Log
-        ensures { IsLogOf result superblock.now }
+        ensures { result ≡ superblock.now }
     {
         Log {
-            geometry: superblock.geometry(),
-            half_0: superblock.half(false),
-            half_1: superblock.half(true),
+            superblock: superblock.copy(),
         }
+    }
+
+    // How many objects there are, and how many slots in a half of the log.
+    pub(crate) fn geometry(&self) -> Geometry
+        ensures value { result ≡ self.now.geometry }
+        ensures room { self.now.geometry.log ≤ 4096 }
+        ensures total { 5 ≤ self.now.total }
+    {
+        self.superblock.geometry()
+    }
+
+    // The first sector of the half of a generation.
+    fn half_sector(&self, generation: u64) -> u64
+        ensures value { result ≡ half_sector self.now generation }
+        ensures within { IsWithin self.now.total (half_extent self.now.geometry (half_sector self.now generation)) }
+        ensures total { self.now.total ≤ 131072 }
+    {
+        if generation % 2 == 0 {
+            self.superblock.half(false)
+        } else {
+            self.superblock.half(true)
+        }
+    }
+
+    // The first sector of a slot.
+    pub(crate) fn slot_sector(&self, generation: u64, slot: u64) -> u64
+        requires slot { slot < self.now.geometry.log }
+        ensures value { result ≡ slot_sector self.now generation slot }
+        ensures inside { result + 9 ≤ self.now.total }
+    {
+        self.half_sector(generation) + 9 * slot
+    }
+
+    // The first sector of a directory.
+    pub(crate) fn directory_sector(&self, generation: u64) -> u64
+        ensures value { result ≡ directory_sector self.now generation }
+        ensures inside { result + directory_length self.now.geometry.log ≤ self.now.total }
+        ensures room { self.now.geometry.log ≤ 4096 }
+    {
+        self.half_sector(generation) + 9 * self.geometry().log
     }
 }

@@ -1,9 +1,8 @@
 // One sector of a device, and runs of sectors said of their bytes as a whole.
 ghost use Rattle.std.specs.Prelude.{◌≡◌, ◌<◌, ◌≤◌, ◌+◌, ◌%◌, length, OnOk};
 ghost use Rattle.layout.specs.Image.{sectors_from};
-ghost use Rattle.device.specs.Calls.{Agrees, Elsewhere, Only, Tears, Counts, sectors_of};
+ghost use Rattle.device.specs.Calls.{Agrees, Elsewhere, Only, Tears, IsTorn, Counts, sectors_of};
 ghost use Rattle.device.specs.Moments.{Elapses, LeavesOnly, Peeks};
-ghost use Rattle.ckpt_log.specs.Slot.{IsTorn};
 
 use device::{Device, Failed, write_durably};
 
@@ -40,7 +39,7 @@ pub(crate) fn put_sector<D: Device>(device: &mut D, at: u64, bytes: &[u8]) -> Re
 }
 
 /// Reads sectors.
-#[tactic(auto, using(crate::proofs::Sectors::whole_sectors))]
+#[tactic(auto, using(layout::proofs::Sectors::whole_sectors))]
 pub(crate) fn read_sectors<D: Device>(
     device: &mut D,
     at: u64,
@@ -58,7 +57,7 @@ pub(crate) fn read_sectors<D: Device>(
 }
 
 /// Writes sectors. Until a sync a crash may leave any bytes in them.
-#[tactic(auto, using(crate::proofs::Sectors::whole_sectors))]
+#[tactic(auto, using(layout::proofs::Sectors::whole_sectors))]
 pub(crate) fn write_sectors<D: Device>(device: &mut D, at: u64, from: &[u8]) -> Result<(), Failed>
     requires whole { length from.now % 512 ≡ 0 }
     requires inside { at + sectors_of from.now ≤ (D.disk device.old).sectors }

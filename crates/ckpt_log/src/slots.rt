@@ -1,10 +1,10 @@
 // The slots of the log.
-ghost use Rattle.std.specs.Prelude.{◌≡◌, ◌+◌, ◌^◌, ◌<◌, ◌≤◌, IfOk, IfErr, OnOk};
+ghost use Rattle.std.specs.Prelude.{◌≡◌, ◌<◌, ◌≤◌, IfOk, IfErr, OnOk};
 ghost use Rattle.layout.specs.Frame.{node_frame, page_frame, node_frame_bytes, page_frame_bytes};
-ghost use Rattle.layout.specs.Image.{IsFrameOf, sectors_from};
-ghost use Rattle.device.specs.Calls.{Agrees, Elsewhere, Tears, Counts};
+ghost use Rattle.layout.specs.Image.{IsFrameOf, sectors_from, slot_sector, frame_length, frame_bytes};
+ghost use Rattle.device.specs.Calls.{Agrees, Elsewhere, Tears, IsTorn, Counts};
 ghost use Rattle.device.specs.Moments.{Elapses, LeavesOnly, Peeks};
-ghost use Rattle.ckpt_log.specs.Slot.{half_place, slot_place, slot_length, slot_bytes, frame_bytes, IsTorn, IsBadSlot, CountsFailed};
+ghost use Rattle.ckpt_log.specs.Slot.{slot_bytes, IsBadSlot, CountsFailed};
 
 use crate::fault::LogFault;
 use crate::log::Log;
@@ -17,19 +17,6 @@ use layout::{
 use model::{Cap, Frame, Header, Slots, Words};
 
 impl Log {
-    // The first sector of a slot.
-    fn slot_place(&self, generation: u64, slot: u64) -> u64
-        requires fits { slot_place self.now generation slot < 2 ^ 64 }
-        ensures { result ≡ slot_place self.now generation slot }
-    {
-        let half = if generation % 2 == 0 {
-            self.half_0
-        } else {
-            self.half_1
-        };
-        half + 9 * slot
-    }
-
     /// Reads the frame of a node in a slot of the half of a generation. The slots of a node or an annex are left in
     /// `slots`, and no memory is taken.
     ///
@@ -45,7 +32,8 @@ impl Log {
         slots: &mut Slots<Cap>,
     ) -> Result<(Header, NodeBody), LogFault>
         requires node { object < self.now.geometry.nodes }
-        requires inside { slot_place self.now generation slot + 2 ≤ (D.disk device.old).sectors }
+        requires slot { slot < self.now.geometry.log }
+        requires inside { self.now.total ≤ (D.disk device.old).sectors }
         ensures found { IfOk result (λ read. IsFrameOf self.now.geometry age object (slot_bytes (D.disk device.new).seen self.now generation slot object) (node_frame read slots.new)) }
         ensures refused { IfErr result (λ e. IsBadSlot self.now age object (slot_bytes (D.disk device.new).seen self.now generation slot object) e) }
         ensures size { (D.disk device.new).sectors ≡ (D.disk device.old).sectors }
@@ -54,8 +42,8 @@ impl Log {
         ensures cause { CountsFailed (D.disk device.old) (D.disk device.new) result }
     {
         let mut node = [0; NODE_FRAME_BYTES];
-        read_sectors(device, self.slot_place(generation, slot), &mut node)?;
-        let read = decode_node_frame(&node, self.geometry, age, slots)?;
+        read_sectors(device, self.slot_sector(generation, slot), &mut node)?;
+        let read = decode_node_frame(&node, self.geometry(), age, slots)?;
         Ok(read)
     }
 
@@ -72,7 +60,8 @@ impl Log {
         words: &mut Words,
     ) -> Result<(Header, PageBody), LogFault>
         requires page { self.now.geometry.nodes ≤ object }
-        requires inside { slot_place self.now generation slot + 9 ≤ (D.disk device.old).sectors }
+        requires slot { slot < self.now.geometry.log }
+        requires inside { self.now.total ≤ (D.disk device.old).sectors }
         ensures found { IfOk result (λ read. IsFrameOf self.now.geometry age object (slot_bytes (D.disk device.new).seen self.now generation slot object) (page_frame read words.new)) }
         ensures refused { IfErr result (λ e. IsBadSlot self.now age object (slot_bytes (D.disk device.new).seen self.now generation slot object) e) }
         ensures size { (D.disk device.new).sectors ≡ (D.disk device.old).sectors }
@@ -81,7 +70,7 @@ impl Log {
         ensures cause { CountsFailed (D.disk device.old) (D.disk device.new) result }
     {
         let mut page = [0; PAGE_FRAME_BYTES];
-        read_sectors(device, self.slot_place(generation, slot), &mut page)?;
+        read_sectors(device, self.slot_sector(generation, slot), &mut page)?;
         let read = decode_page_frame(&page, age, words)?;
         Ok(read)
     }
@@ -94,18 +83,19 @@ impl Log {
         slot: u64,
         frame: &Frame,
     ) -> Result<(), Failed>
-        requires inside { slot_place self.now generation slot + 2 ≤ (D.disk device.old).sectors }
-        ensures written { OnOk result (sectors_from (D.disk device.new).seen (slot_place self.now generation slot) 2 ≡ node_frame_bytes frame.now) }
+        requires slot { slot < self.now.geometry.log }
+        requires inside { self.now.total ≤ (D.disk device.old).sectors }
+        ensures written { OnOk result (sectors_from (D.disk device.new).seen (slot_sector self.now generation slot) 2 ≡ node_frame_bytes frame.now) }
         ensures size { (D.disk device.new).sectors ≡ (D.disk device.old).sectors }
-        ensures elsewhere { Elsewhere (slot_place self.now generation slot) 2 (D.disk device.old).seen (D.disk device.new).seen }
-        ensures crash { Tears (slot_place self.now generation slot) 2 (D.disk device.old) (D.disk device.new) }
-        ensures any_moment { LeavesOnly (D.disk device.old) (D.disk device.new) (λ c. IsTorn (slot_place self.now generation slot) 2 (D.disk device.old) c) }
+        ensures elsewhere { Elsewhere (slot_sector self.now generation slot) 2 (D.disk device.old).seen (D.disk device.new).seen }
+        ensures crash { Tears (slot_sector self.now generation slot) 2 (D.disk device.old) (D.disk device.new) }
+        ensures any_moment { LeavesOnly (D.disk device.old) (D.disk device.new) (λ c. IsTorn (slot_sector self.now generation slot) 2 (D.disk device.old) c) }
         ensures time { Elapses (D.disk device.old) (D.disk device.new) }
         ensures cause { Counts (D.disk device.old) (D.disk device.new) result }
     {
         let mut node = [0; NODE_FRAME_BYTES];
         encode_node_frame(frame, &mut node);
-        write_sectors(device, self.slot_place(generation, slot), &node)
+        write_sectors(device, self.slot_sector(generation, slot), &node)
     }
 
     // Writes the frame of a page into a slot.
@@ -116,18 +106,19 @@ impl Log {
         slot: u64,
         frame: &Frame,
     ) -> Result<(), Failed>
-        requires inside { slot_place self.now generation slot + 9 ≤ (D.disk device.old).sectors }
-        ensures written { OnOk result (sectors_from (D.disk device.new).seen (slot_place self.now generation slot) 9 ≡ page_frame_bytes frame.now) }
+        requires slot { slot < self.now.geometry.log }
+        requires inside { self.now.total ≤ (D.disk device.old).sectors }
+        ensures written { OnOk result (sectors_from (D.disk device.new).seen (slot_sector self.now generation slot) 9 ≡ page_frame_bytes frame.now) }
         ensures size { (D.disk device.new).sectors ≡ (D.disk device.old).sectors }
-        ensures elsewhere { Elsewhere (slot_place self.now generation slot) 9 (D.disk device.old).seen (D.disk device.new).seen }
-        ensures crash { Tears (slot_place self.now generation slot) 9 (D.disk device.old) (D.disk device.new) }
-        ensures any_moment { LeavesOnly (D.disk device.old) (D.disk device.new) (λ c. IsTorn (slot_place self.now generation slot) 9 (D.disk device.old) c) }
+        ensures elsewhere { Elsewhere (slot_sector self.now generation slot) 9 (D.disk device.old).seen (D.disk device.new).seen }
+        ensures crash { Tears (slot_sector self.now generation slot) 9 (D.disk device.old) (D.disk device.new) }
+        ensures any_moment { LeavesOnly (D.disk device.old) (D.disk device.new) (λ c. IsTorn (slot_sector self.now generation slot) 9 (D.disk device.old) c) }
         ensures time { Elapses (D.disk device.old) (D.disk device.new) }
         ensures cause { Counts (D.disk device.old) (D.disk device.new) result }
     {
         let mut page = [0; PAGE_FRAME_BYTES];
         encode_page_frame(frame, &mut page);
-        write_sectors(device, self.slot_place(generation, slot), &page)
+        write_sectors(device, self.slot_sector(generation, slot), &page)
     }
 
     /// Writes the frame of an object into a slot of the half of a generation, and touches that slot alone: a crash
@@ -141,16 +132,17 @@ impl Log {
         object: u64,
         frame: &Frame,
     ) -> Result<(), Failed>
-        requires inside { slot_place self.now generation slot + slot_length self.now object ≤ (D.disk device.old).sectors }
+        requires slot { slot < self.now.geometry.log }
+        requires inside { self.now.total ≤ (D.disk device.old).sectors }
         ensures written { OnOk result (slot_bytes (D.disk device.new).seen self.now generation slot object ≡ frame_bytes self.now object frame.now) }
         ensures size { (D.disk device.new).sectors ≡ (D.disk device.old).sectors }
-        ensures elsewhere { Elsewhere (slot_place self.now generation slot) (slot_length self.now object) (D.disk device.old).seen (D.disk device.new).seen }
-        ensures crash { Tears (slot_place self.now generation slot) (slot_length self.now object) (D.disk device.old) (D.disk device.new) }
-        ensures any_moment { LeavesOnly (D.disk device.old) (D.disk device.new) (λ c. IsTorn (slot_place self.now generation slot) (slot_length self.now object) (D.disk device.old) c) }
+        ensures elsewhere { Elsewhere (slot_sector self.now generation slot) (frame_length self.now object) (D.disk device.old).seen (D.disk device.new).seen }
+        ensures crash { Tears (slot_sector self.now generation slot) (frame_length self.now object) (D.disk device.old) (D.disk device.new) }
+        ensures any_moment { LeavesOnly (D.disk device.old) (D.disk device.new) (λ c. IsTorn (slot_sector self.now generation slot) (frame_length self.now object) (D.disk device.old) c) }
         ensures time { Elapses (D.disk device.old) (D.disk device.new) }
         ensures cause { Counts (D.disk device.old) (D.disk device.new) result }
     {
-        if object < self.geometry.nodes {
+        if object < self.geometry().nodes {
             self.write_node_slot(device, generation, slot, frame)
         } else {
             self.write_page_slot(device, generation, slot, frame)

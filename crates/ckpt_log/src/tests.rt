@@ -1,6 +1,5 @@
 ghost use Rattle.std.specs.Prelude.{◌≡◌, ◌≤◌, ◌+◌, IfOk};
 ghost use Rattle.device.specs.Memory.{memory_disk};
-ghost use Rattle.ckpt_log.specs.Log.{HasNumbers};
 
 use crate::{Log, LogFault};
 use device::{Device, Failed, Fuse, Memory, Outcome, SECTOR_SIZE};
@@ -12,7 +11,12 @@ use model::{Content, Frame, Geometry, Header, Slots, Words};
 use std::alloc::Global;
 use std::test::Fail;
 
-fn superblock() -> Result<Superblock, Failed> {
+// A log of 16 slots in each half, half 0 from sector 109 on and half 1 from 254 on.
+fn log() -> Result<Log, Failed>
+    ensures nodes { IfOk result (λ p. p.geometry.nodes ≡ 16) }
+    ensures slots { IfOk result (λ p. p.geometry.log ≡ 16) }
+    ensures total { IfOk result (λ p. p.total ≡ 399) }
+{
     let geometry = Geometry {
         nodes: 16,
         pages: 8,
@@ -28,22 +32,8 @@ fn superblock() -> Result<Superblock, Failed> {
         count: 8,
         sector: 37,
     };
-    Superblock::new(geometry, &[nodes, pages], 109, 254, 399).ok_or(Failed)
-}
-
-// Its log: half 0 from sector 109 on, and half 1 from 254 on.
-fn log() -> Result<Log, Failed>
-    ensures { IfOk result (λ log. HasNumbers log 109 254 16 16) }
-{
-    let log = Log::new(&superblock()?);
-    if log.half_0 != 109
-        || log.half_1 != 254
-        || log.geometry.log != 16
-        || log.geometry.nodes != 16
-    {
-        return Err(Failed);
-    }
-    Ok(log)
+    let superblock = Superblock::new(geometry, &[nodes, pages], 109, 254, 399).ok_or(Failed)?;
+    Ok(Log::new(&superblock))
 }
 
 fn header(sequence: u64) -> CheckpointHeader {
@@ -78,21 +68,34 @@ fn put_slot(
 
 // A device whose slot 0 has an open header with sequence number 0, and whose slot 1 is closed.
 fn built(alloc: Global, outcome: Outcome) -> Result<Memory, Fail>
-    ensures { IfOk result (λ m. (memory_disk m).sectors ≡ 5) }
+    ensures { IfOk result (λ m. (memory_disk m).sectors ≡ 399) }
 {
-    let mut memory = Memory::new(alloc, 5, 64, outcome)?;
+    let mut memory = Memory::new(alloc, 399, 64, outcome)?;
     put_slot(&mut memory, 1, header(0), 0, Gate::Open)?;
     Ok(memory)
 }
 
-// Syncs the device, publishes the header after the committed one, and answers whether that succeeded.
-fn publish_next<D: Device>(device: &mut D, superblock: &Superblock) -> Result<bool, Fail>
-    requires { 5 ≤ (D.disk device.old).sectors }
+const NOTHING: Entry = Entry { object: 0, slot: 0 };
+
+// The committed header, without its directory.
+fn committed<D: Device>(device: &mut D, log: &Log) -> Result<CheckpointHeader, LogFault>
+    requires slots { log.now.geometry.log ≡ 16 }
+    requires inside { log.now.total ≤ (D.disk device.old).sectors }
     ensures { (D.disk device.new).sectors ≡ (D.disk device.old).sectors }
 {
-    let log = Log::new(superblock);
+    log.find_committed(device, &mut [NOTHING; 16])
+}
+
+// Syncs the device, publishes the header after the committed one, and answers whether that succeeded.
+fn publish_next<D: Device>(device: &mut D, log: &Log) -> Result<bool, Fail>
+    requires slots { log.now.geometry.log ≡ 16 }
+    requires inside { log.now.total ≤ (D.disk device.old).sectors }
+    requires headers { 5 ≤ (D.disk device.old).sectors }
+    ensures { (D.disk device.new).sectors ≡ (D.disk device.old).sectors }
+{
+    let mut directory = [NOTHING; 16];
     device.sync()?;
-    let committed = log.find_committed(device)?;
+    let committed = log.find_committed(device, &mut directory)?;
     let next = CheckpointHeader {
         sequence: committed.sequence + 1,
         generation: committed.generation,
@@ -102,17 +105,19 @@ fn publish_next<D: Device>(device: &mut D, superblock: &Superblock) -> Result<bo
     Ok(log.publish(device, next).is_ok())
 }
 
-// The calls that `publish_next` makes before it publishes.
-const CALLS_BEFORE: u64 = 5;
+// The calls that `publish_next` makes before it publishes: a sync, both headers with their gates, the directory.
+const CALLS_BEFORE: u64 = 6;
 
 // Whether a publish that stops after so many calls succeeds, and the sequence number that a power cut then leaves.
-fn left_by_stop(memory: Memory, superblock: &Superblock, calls: u64) -> Result<(bool, u64), Fail>
-    requires { 5 ≤ (memory_disk memory).sectors }
+fn left_by_stop(memory: Memory, log: &Log, calls: u64) -> Result<(bool, u64), Fail>
+    requires slots { log.now.geometry.log ≡ 16 }
+    requires inside { log.now.total ≤ (memory_disk memory).sectors }
+    requires headers { 5 ≤ (memory_disk memory).sectors }
 {
     let mut fuse = Fuse::new(memory, calls);
-    let published = publish_next(&mut fuse, superblock)?;
+    let published = publish_next(&mut fuse, log)?;
     fuse.power_cut();
-    let committed = Log::new(superblock).find_committed(&mut fuse)?;
+    let committed = committed(&mut fuse, log)?;
     Ok((published, committed.sequence))
 }
 
@@ -126,11 +131,11 @@ const OUTCOMES: [(Outcome, bool); 4] = [
 // A publish from 0 to 1 makes six calls: the gate of slot 1 is closed and isn't written.
 #[test]
 fn a_stop_leaves_the_first_header_or_the_next(rt: HostRuntime) -> Result<(), Fail> {
-    let superblock = superblock()?;
+    let log = log()?;
     for (outcome, opened) in OUTCOMES {
         for calls in 0..8 {
             let memory = built(rt.alloc(), outcome)?;
-            let left = left_by_stop(memory, &superblock, CALLS_BEFORE + calls)?;
+            let left = left_by_stop(memory, &log, CALLS_BEFORE + calls)?;
             let is_new = calls > 5 || calls == 5 && opened;
             assert_eq!(rt; left, (calls > 5, if is_new { 1 } else { 0 }));
         }
@@ -141,12 +146,12 @@ fn a_stop_leaves_the_first_header_or_the_next(rt: HostRuntime) -> Result<(), Fai
 // A publish from 1 to 2 makes eight: the gate of slot 0 is open.
 #[test]
 fn a_stop_leaves_the_second_header_or_the_next(rt: HostRuntime) -> Result<(), Fail> {
-    let superblock = superblock()?;
+    let log = log()?;
     for (outcome, opened) in OUTCOMES {
         for calls in 0..10 {
             let mut memory = built(rt.alloc(), outcome)?;
-            assert_eq!(rt; publish_next(&mut memory, &superblock)?, true);
-            let left = left_by_stop(memory, &superblock, CALLS_BEFORE + calls)?;
+            assert_eq!(rt; publish_next(&mut memory, &log)?, true);
+            let left = left_by_stop(memory, &log, CALLS_BEFORE + calls)?;
             let is_new = calls > 7 || calls == 7 && opened;
             assert_eq!(rt; left, (calls > 7, if is_new { 2 } else { 1 }));
         }
@@ -156,57 +161,54 @@ fn a_stop_leaves_the_second_header_or_the_next(rt: HostRuntime) -> Result<(), Fa
 
 #[test]
 fn a_device_without_an_open_header_has_none(rt: HostRuntime) -> Result<(), Fail> {
-    let log = Log::new(&superblock()?);
-    let mut memory = Memory::new(rt.alloc(), 5, 64, Outcome::Drop)?;
+    let log = log()?;
+    let mut memory = Memory::new(rt.alloc(), 399, 64, Outcome::Drop)?;
     let none = LogFault::Bad(BadImage::NoHeader);
-    assert_eq!(rt; log.find_committed(&mut memory), Err(none));
+    assert_eq!(rt; committed(&mut memory, &log), Err(none));
     put_slot(&mut memory, 1, header(4), 0, Gate::Closed)?;
     put_slot(&mut memory, 3, header(4), 0, Gate::Open)?;
-    assert_eq!(rt; log.find_committed(&mut memory), Err(none));
+    assert_eq!(rt; committed(&mut memory, &log), Err(none));
     Ok(())
 }
 
 #[test]
 fn a_greater_malformed_header_is_not_passed_over(rt: HostRuntime) -> Result<(), Fail> {
-    let log = Log::new(&superblock()?);
+    let log = log()?;
     let mut memory = built(rt.alloc(), Outcome::Drop)?;
     put_slot(&mut memory, 3, header(1), 1, Gate::Open)?;
     let bad = LogFault::Bad(BadImage::BadHeader);
-    assert_eq!(rt; log.find_committed(&mut memory), Err(bad));
+    assert_eq!(rt; committed(&mut memory, &log), Err(bad));
     put_slot(&mut memory, 1, header(2), 0, Gate::Open)?;
-    assert_eq!(rt; log.find_committed(&mut memory), Ok(header(2)));
+    assert_eq!(rt; committed(&mut memory, &log), Ok(header(2)));
     Ok(())
 }
 
 // Such a gate is closed at the next publish.
 #[test]
 fn a_header_in_the_other_slot_counts_as_closed(rt: HostRuntime) -> Result<(), Fail> {
-    let superblock = superblock()?;
+    let log = log()?;
     let mut memory = built(rt.alloc(), Outcome::Drop)?;
     put_slot(&mut memory, 3, header(6), 0, Gate::Open)?;
-    assert_eq!(rt;
-        Log::new(&superblock).find_committed(&mut memory),
-        Ok(header(0))
-    );
+    assert_eq!(rt; committed(&mut memory, &log), Ok(header(0)));
     let mut fuse = Fuse::new(memory, CALLS_BEFORE + 4);
-    assert_eq!(rt; publish_next(&mut fuse, &superblock)?, false);
+    assert_eq!(rt; publish_next(&mut fuse, &log)?, false);
     fuse.power_cut();
     let mut gate = [7; SECTOR_SIZE];
     fuse.read(4, &mut gate)?;
     assert_eq!(rt; gate, [0; SECTOR_SIZE]);
-    let left = left_by_stop(fuse.into_inner(), &superblock, CALLS_BEFORE + 6)?;
+    let left = left_by_stop(fuse.into_inner(), &log, CALLS_BEFORE + 6)?;
     assert_eq!(rt; left, (true, 1));
     Ok(())
 }
 
 #[test]
 fn a_device_that_fails_has_no_header(rt: HostRuntime) -> Result<(), Fail> {
-    let log = Log::new(&superblock()?);
-    for calls in 0..4 {
+    let log = log()?;
+    for calls in 0..5 {
         let mut fuse = Fuse::new(built(rt.alloc(), Outcome::Drop)?, calls);
-        assert_eq!(rt; log.find_committed(&mut fuse), Err(LogFault::Failed));
+        assert_eq!(rt; committed(&mut fuse, &log), Err(LogFault::Failed));
         fuse.power_cut();
-        assert_eq!(rt; log.find_committed(&mut fuse), Ok(header(0)));
+        assert_eq!(rt; committed(&mut fuse, &log), Ok(header(0)));
     }
     Ok(())
 }
@@ -295,6 +297,32 @@ fn a_directory_is_read_back(rt: HostRuntime) -> Result<(), Fail> {
     sector[0] = 20;
     memory.write(398, &sector)?;
     let refused = log.read_directory(&mut memory, 1, &mut found);
+    assert_eq!(rt; refused, Err(LogFault::Bad(BadImage::BadDirectory)));
+    Ok(())
+}
+
+// The directory of half 1 belongs to the committed header.
+#[test]
+fn a_committed_header_comes_with_its_directory(rt: HostRuntime) -> Result<(), Fail> {
+    let log = log()?;
+    let mut memory = built(rt.alloc(), Outcome::Drop)?;
+    let entry = Entry {
+        object: 20,
+        slot: 3,
+    };
+    log.write_directory(&mut memory, 1, &[entry])?;
+    let next = CheckpointHeader {
+        sequence: 1,
+        generation: 1,
+        entries: 1,
+        age: 9,
+    };
+    put_slot(&mut memory, 3, next, 0, Gate::Open)?;
+    let mut found = [NOTHING; 16];
+    assert_eq!(rt; log.find_committed(&mut memory, &mut found), Ok(next));
+    assert_eq!(rt; found[0], entry);
+    memory.write(398, &[1; SECTOR_SIZE])?;
+    let refused = log.find_committed(&mut memory, &mut found);
     assert_eq!(rt; refused, Err(LogFault::Bad(BadImage::BadDirectory)));
     Ok(())
 }

@@ -32,9 +32,13 @@ pub record Patches (test : ℕ → Bool) (from old new : Image) : Type 0 where
 abbrev pub Narrows : Disk → Disk → Type 0
 Narrows old new = (c : Image) → new.may_leave c → old.may_leave c
 
--- a crash may leave what it could have left before, but with any bytes in the n sectors from `at` on
+-- what a crash could have left, but with any bytes in the n sectors from `at` on
+abbrev pub IsTorn : ℕ → ℕ → Disk → Image → Type 0
+IsTorn at n disk c = (d : Image) × disk.may_leave d × Elsewhere at n d c
+
+-- a crash may leave no more than that
 abbrev pub Tears : ℕ → ℕ → Disk → Disk → Type 0
-Tears at n old new = (c : Image) → new.may_leave c → (d : Image) × old.may_leave d × Elsewhere at n d c
+Tears at n old new = (c : Image) → new.may_leave c → IsTorn at n old c
 
 -- a crash leaves this image and nothing else
 abbrev pub Only : Image → Disk → Type 0

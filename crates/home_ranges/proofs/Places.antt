@@ -7,9 +7,10 @@ use Rattle.std.proofs.lemmas.Bool.Decides.{nat_tests}
 use Rattle.model.specs.declared.geometry.Geometry.{Geometry}
 use Rattle.layout.specs.declared.extent.Extent.{Extent}
 use Rattle.layout.specs.declared.extent.HomeRange.{HomeRange}
-use Rattle.layout.specs.Superblock.{Plan, IsPlan, Cover, IsOfOneKind, IsWithin, IsApart, extent_at, extents, range_extent, half_extent}
-use Rattle.layout.specs.Image.{home_sector}
-use Rattle.home_ranges.specs.Home.{IsObject, frame_length, home_place, place_in}
+use Rattle.layout.specs.Superblock.{Plan, IsPlan, Cover, IsOfOneKind, IsWithin, IsApart, IsInside, extent_at, extents, range_extent, half_extent}
+use Rattle.layout.specs.Image.{home_sector, frame_length}
+use Rattle.layout.proofs.Halves.{itself, apart_inside, apart_turned, many, half_at}
+use Rattle.home_ranges.specs.Home.{IsObject, home_place, place_in}
 use Rattle.home_ranges.specs.Laws.{home_extent, PlacesAreWithin, PlacesAreApart, PlacesSpareLog}
 
 abbrev range_at : List HomeRange → ℕ → HomeRange
@@ -96,11 +97,6 @@ extent_in g r number = record { sector = place_in g r number; length = length_of
 abbrev extent_of : ℕ → ℕ → Extent
 extent_of sector length = record { sector = sector; length = length }
 
--- sectors that are among others
-record IsInside (inner outer : Extent) : Type 0 where
-  pub starts : outer.sector ≤ inner.sector
-  pub ends : inner.sector + inner.length ≤ outer.sector + outer.length
-
 inside_range : (g : Geometry) (r : HomeRange) (number : ℕ) → Has g r number → IsInside (extent_in g r number) (range_extent g r)
 inside_range g r number has = elim has.kind [
   | inl nodes ↦
@@ -132,12 +128,6 @@ apart_in_one g r a b has_a has_b differ = elim (cases_lt a b) [
   | inr le ↦ inr (ends_before g r b a has_b has_a (omega (arith, differ)))
 ]
 
-apart_inside : (d e outer_d outer_e : Extent) → IsInside d outer_d → IsInside e outer_e → IsApart outer_d outer_e → IsApart d e
-apart_inside d e outer_d outer_e in_d in_e apart = ⊎_elim (λ le. inl (omega (arith, in_d.ends, in_e.starts, le))) (λ le. inr (omega (arith, in_d.starts, in_e.ends, le))) apart
-
-apart_turned : (d e : Extent) → IsApart d e → IsApart e d
-apart_turned d e apart = ⊎_elim (λ le. inr le) (λ le. inl le) apart
-
 -- ---- ranges and log halves as extents
 
 ranges_extent : (p : Plan) (i : ℕ) → i < length p.ranges → extent_at (extents p) i ≡ range_extent p.geometry (range_at p.ranges i)
@@ -145,16 +135,6 @@ ranges_extent p i lt =
     let size : length (map (range_extent p.geometry) p.ranges) ≡ length p.ranges = length-map p.ranges (range_extent p.geometry) in
     get_or_append_left (map (range_extent p.geometry) p.ranges) (half_extent p.geometry p.half_0 ∷ half_extent p.geometry p.half_1 ∷ []) (record { sector = 0; length = 0 }) i (omega arith)
     ∙ get_or-map (range_extent p.geometry) p.ranges i (record { first = 0; count = 0; sector = 0 }) (record { sector = 0; length = 0 }) lt
-
-half_at : (p : Plan) (k : ℕ) → extent_at (extents p) (length p.ranges + k) ≡ extent_at (half_extent p.geometry p.half_0 ∷ half_extent p.geometry p.half_1 ∷ []) k
-half_at p k =
-    let size : length (map (range_extent p.geometry) p.ranges) ≡ length p.ranges = length-map p.ranges (range_extent p.geometry) in
-    let place : length p.ranges + k - length p.ranges ≡ k = omega arith in
-    get_or-append_right (map (range_extent p.geometry) p.ranges) (half_extent p.geometry p.half_0 ∷ half_extent p.geometry p.half_1 ∷ []) (length p.ranges) (length p.ranges + k) (record { sector = 0; length = 0 }) size (omega arith)
-    ∙ ap (extent_at (half_extent p.geometry p.half_0 ∷ half_extent p.geometry p.half_1 ∷ [])) place
-
-many : (p : Plan) → length (extents p) ≡ length p.ranges + 2
-many p = omega (arith, length-append (map (range_extent p.geometry) p.ranges) (half_extent p.geometry p.half_0 ∷ half_extent p.geometry p.half_1 ∷ []), length-map p.ranges (range_extent p.geometry))
 
 range_within : (p : Plan) (i : ℕ) → IsPlan p → i < length p.ranges → IsWithin p.total (range_extent p.geometry (range_at p.ranges i))
 range_within p i fits lt = subst (IsWithin p.total) (ranges_extent p i lt) (fits.within i (record { sector = 0; length = 0 }) (omega (arith, many p)))
@@ -205,9 +185,6 @@ places_apart p a b fits is_a is_b differ =
             (apart_in_one p.geometry (range_at p.ranges at_a.0) a b at_a.1.has b_there.has differ))
       ]
     ]
-
-itself : (e : Extent) → IsInside e e
-itself e = record { starts = omega arith; ends = omega arith }
 
 pub places_spare_log : PlacesSpareLog
 places_spare_log p a fits is =

@@ -5,8 +5,8 @@ use Rattle.device.specs.Calls.{Elsewhere}
 use Rattle.layout.specs.declared.directory.Entry.{Entry}
 use Rattle.layout.specs.declared.extent.Extent.{Extent}
 use Rattle.layout.specs.Superblock.{Plan, IsPlan, IsWithin, IsApart, half_extent}
-use Rattle.layout.specs.Image.{slot_in, frame_in}
-use Rattle.home_ranges.specs.Home.{IsObject, frame_length, home_place, home_bytes}
+use Rattle.layout.specs.Image.{slot_in, frame_in, frame_length}
+use Rattle.home_ranges.specs.Home.{IsObject, home_place, home_bytes}
 
 -- the sectors of the home frame of a number
 abbrev pub home_extent : Plan → ℕ → Extent

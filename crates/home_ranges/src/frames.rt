@@ -1,9 +1,9 @@
 ghost use Rattle.std.specs.Prelude.{◌≡◌, ℕ, ◌+◌, ◌<◌, ◌≤◌, IfOk, IfErr, OnOk};
-ghost use Rattle.device.specs.Calls.{Agrees, Elsewhere, Narrows, Tears, Counts};
+ghost use Rattle.device.specs.Calls.{Agrees, Elsewhere, Narrows, Tears, IsTorn, Counts};
 ghost use Rattle.device.specs.Moments.{Elapses, LeavesOnly, Peeks};
 ghost use Rattle.layout.specs.Frame.{node_frame, page_frame, node_frame_bytes, page_frame_bytes};
-ghost use Rattle.layout.specs.Image.{IsFrameOf};
-ghost use Rattle.home_ranges.specs.Home.{IsObject, IsNode, IsPage, frame_length, home_place, home_bytes, frame_bytes, IsTorn};
+ghost use Rattle.layout.specs.Image.{IsFrameOf, frame_length, frame_bytes};
+ghost use Rattle.home_ranges.specs.Home.{IsObject, IsNode, IsPage, home_place, home_bytes};
 ghost use Rattle.home_ranges.specs.Fault.{IsRefused, CountsFailed};
 
 use crate::fault::HomeFault;

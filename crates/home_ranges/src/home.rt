@@ -1,6 +1,7 @@
 ghost use Rattle.std.specs.Prelude.{◌≡◌, ℕ, ◌+◌, ◌<◌, ◌≤◌};
 ghost use Rattle.layout.specs.Superblock.{IsPlan};
-ghost use Rattle.home_ranges.specs.Home.{IsObject, frame_length, home_place, place_in};
+ghost use Rattle.layout.specs.Image.{frame_length};
+ghost use Rattle.home_ranges.specs.Home.{IsObject, home_place, place_in};
 
 use layout::{HomeRange, MAX_RANGES, Superblock};
 use model::Geometry;

@@ -1,13 +1,12 @@
 // One read or one write of whole sectors, said of their bytes as a whole.
 ghost use Rattle.std.specs.Prelude.{◌≡◌, ◌+◌, ◌*◌, ◌/◌, ◌%◌, ◌≤◌, length, OnOk};
-ghost use Rattle.device.specs.Calls.{sectors_of, Agrees, Elsewhere, Narrows, Tears, Counts};
+ghost use Rattle.device.specs.Calls.{sectors_of, Agrees, Elsewhere, Narrows, Tears, IsTorn, Counts};
 ghost use Rattle.device.specs.Moments.{Elapses, LeavesOnly, Peeks};
 ghost use Rattle.layout.specs.Image.{sectors_from};
-ghost use Rattle.home_ranges.specs.Home.{IsTorn};
 
 use device::{Device, Failed};
 
-#[tactic(auto, using(crate::proofs::Runs::whole_sectors))]
+#[tactic(auto, using(layout::proofs::Sectors::whole_sectors))]
 pub fn read_sectors<D: Device>(device: &mut D, at: u64, into: &mut [u8]) -> Result<(), Failed>
     requires whole { length into.old % 512 ≡ 0 }
     requires inside { at + sectors_of into.old ≤ (D.disk device.old).sectors }
@@ -23,7 +22,7 @@ pub fn read_sectors<D: Device>(device: &mut D, at: u64, into: &mut [u8]) -> Resu
     device.read(at, into)
 }
 
-#[tactic(auto, using(crate::proofs::Runs::whole_sectors))]
+#[tactic(auto, using(layout::proofs::Sectors::whole_sectors))]
 pub fn write_sectors<D: Device>(device: &mut D, at: u64, from: &[u8]) -> Result<(), Failed>
     requires whole { length from.now % 512 ≡ 0 }
     requires inside { at + sectors_of from.now ≤ (D.disk device.old).sectors }

@@ -68,9 +68,13 @@ slot_sector p generation slot = half_sector p generation + 9 * slot
 abbrev pub directory_sector : Plan → ℕ → ℕ
 directory_sector p generation = half_sector p generation + 9 * p.geometry.log
 
+-- how many sectors a directory of n entries takes
+abbrev pub directory_length : ℕ → ℕ
+directory_length n = (n + 31) / 32
+
 -- the bytes of a directory of n entries: those behind the last entry aren't looked at
 abbrev pub directory_in : Image → Plan → ℕ → ℕ → List ℕ
-directory_in image p generation n = take (16 * n) (sectors_from image (directory_sector p generation) ((n + 31) / 32))
+directory_in image p generation n = take (16 * n) (sectors_from image (directory_sector p generation) (directory_length n))
 
 -- the slot that a directory gives an object
 abbrev pub slot_in : List Entry → ℕ → Option ℕ
@@ -93,9 +97,17 @@ sector_or (Some slot) in_log home = in_log slot
 abbrev pub frame_sector : Plan → ℕ → List Entry → ℕ → ℕ
 frame_sector p generation es object = sector_or (slot_in es object) (slot_sector p generation) (home_sector p.geometry p.ranges object)
 
+-- how many sectors the frame of an object takes
+abbrev pub frame_length : Plan → ℕ → ℕ
+frame_length p object = if nat_lt object p.geometry.nodes then 2 else 9
+
 -- the bytes of the frame of an object
 abbrev pub frame_in : Image → Plan → ℕ → List Entry → ℕ → List ℕ
-frame_in image p generation es object = sectors_from image (frame_sector p generation es object) (if nat_lt object p.geometry.nodes then 2 else 9)
+frame_in image p generation es object = sectors_from image (frame_sector p generation es object) (frame_length p object)
+
+-- the bytes that spell a frame of an object
+abbrev pub frame_bytes : Plan → ℕ → Frame → List ℕ
+frame_bytes p object f = if nat_lt object p.geometry.nodes then node_frame_bytes f else page_frame_bytes f
 
 abbrev pub IsFrameIf : Bool → Geometry → ℕ → List ℕ → Frame → Type 0
 IsFrameIf true g age bytes f = IsNodeFrame g age f × (bytes ≡ node_frame_bytes f)

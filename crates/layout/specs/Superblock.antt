@@ -80,6 +80,11 @@ IsWithin total e = (5 ≤ e.sector) × (e.sector + e.length ≤ total)
 abbrev pub IsApart : Extent → Extent → Type 0
 IsApart d e = (d.sector + d.length ≤ e.sector) ⊎ (e.sector + e.length ≤ d.sector)
 
+-- sectors that are among others
+pub record IsInside (inner outer : Extent) : Type 0 where
+  pub starts : outer.sector ≤ inner.sector
+  pub ends : inner.sector + inner.length ≤ outer.sector + outer.length
+
 abbrev pub extent_at : List Extent → ℕ → Extent
 extent_at es i = slice_index_or es i (record { sector = 0; length = 0 })
 

@@ -140,6 +140,20 @@ impl Superblock {
         })
     }
 
+    /// Another superblock with the same parts.
+    pub fn copy(&self) -> Self
+        ensures { result ≡ self.now }
+    {
+        Superblock {
+            geometry: self.geometry,
+            ranges: self.ranges,
+            used: self.used,
+            half_0: self.half_0,
+            half_1: self.half_1,
+            total: self.total,
+        }
+    }
+
     /// How many objects the device holds.
     pub fn geometry(&self) -> Geometry
         ensures value { result ≡ self.now.geometry }

@@ -8,8 +8,8 @@ use Rattle.ckpt_log.proofs.tests.publish_next.Goals as goal
 
 pub overflow_add-next : goal.overflow_add-next
 overflow_add-next g c =
-    let has = c.in_ok-committed.ensures.found c.args.superblock.now c.new-log.ensures in
-    let more = next_fits c.args.superblock.now.geometry.log c.in_ok-committed.committed has.fits in
+    let has = c.in_ok-committed.ensures.found.0 in
+    let more = next_fits c.args.log.now.geometry.log c.in_ok-committed.committed has.fits in
     omega (arith, more)
 
 pub publish-requires-clause-one : goal.publish-requires-clause-one
@@ -18,10 +18,10 @@ publish-requires-clause-one g c =
 
 pub publish-requires-clause-next : goal.publish-requires-clause-next
 publish-requires-clause-next g c =
-    let has = c.in_ok-committed.ensures.found c.args.superblock.now c.new-log.ensures in
+    let has = c.in_ok-committed.ensures.found.0 in
     let h = c.in_ok-committed.committed in
     let next : CheckpointHeader = record { sequence = h.sequence + 1; generation = h.generation; entries = h.entries; age = h.age } in
-    let more = next_fits c.args.superblock.now.geometry.log h has.fits in
+    let more = next_fits c.args.log.now.geometry.log h has.fits in
     precedes (g.D.Device.disk c.find_committed.new.device).seen h next
     (ap committed_bytes (agrees_is (g.D.Device.disk c.find_committed.new.device).seen (g.D.Device.disk c.sync.new.self).seen c.find_committed.ensures.seen) ∙ has.spelt)
     (omega (arith, more)) refl

@@ -1,0 +1,28 @@
+-- Where slots and directories lie in a half of the log.
+use Rattle.std.proofs.Common.{◌≡◌, ℕ, ◌+◌, ◌*◌, ◌<◌, ◌≤◌, inl, inr, arith}
+use Rattle.std.proofs.lemmas.Bool.{cases_lt}
+use Rattle.layout.specs.Superblock.{Plan, IsPlan, IsWithin, half_extent}
+use Rattle.layout.specs.Image.{half_sector}
+use Rattle.layout.proofs.Halves.{half_within, half_apart}
+use Rattle.ckpt_log.specs.Places.{SlotsAreInside, DirectoriesAreInside, HalvesAreWithin, HalvesAreApart, SlotsAreApart, SlotsSpareDirectories}
+
+pub slots_inside : SlotsAreInside
+slots_inside p generation slot lt = record { starts = omega arith; ends = omega arith }
+
+pub directories_inside : DirectoriesAreInside
+directories_inside p generation n le = record { starts = omega arith; ends = omega arith }
+
+pub slots_apart : SlotsAreApart
+slots_apart p generation a b differ = elim (cases_lt a b) [
+  | inl lt ↦ inl (omega arith)
+  | inr le ↦ inr (omega (arith, differ))
+]
+
+pub slots_spare_directories : SlotsSpareDirectories
+slots_spare_directories p generation slot n lt = inl (omega arith)
+
+pub halves_within : HalvesAreWithin
+halves_within p generation fits = half_within p generation fits
+
+pub halves_apart : HalvesAreApart
+halves_apart p a b fits differ = half_apart p a b fits differ

@@ -1,0 +1,35 @@
+-- The slots and the directories of the log lie behind the headers, before the end, and apart.
+use Rattle.std.specs.Prelude.{◌≡◌, ℕ, ◌%◌, ◌<◌, ◌≤◌}
+use Rattle.layout.specs.declared.extent.Extent.{Extent}
+use Rattle.layout.specs.Superblock.{Plan, IsPlan, IsWithin, IsApart, IsInside, half_extent}
+use Rattle.layout.specs.Image.{half_sector, slot_sector, directory_sector, directory_length}
+
+-- the sectors of a slot in the half of a generation
+abbrev pub slot_extent : Plan → ℕ → ℕ → Extent
+slot_extent p generation slot = record { sector = slot_sector p generation slot; length = 9 }
+
+-- the sectors of a directory of n entries
+abbrev pub directory_extent : Plan → ℕ → ℕ → Extent
+directory_extent p generation n = record { sector = directory_sector p generation; length = directory_length n }
+
+-- they are among those of the half
+abbrev pub SlotsAreInside : Type 0
+SlotsAreInside = (p : Plan) (generation slot : ℕ) → slot < p.geometry.log → IsInside (slot_extent p generation slot) (half_extent p.geometry (half_sector p generation))
+
+abbrev pub DirectoriesAreInside : Type 0
+DirectoriesAreInside = (p : Plan) (generation n : ℕ) → n ≤ p.geometry.log → IsInside (directory_extent p generation n) (half_extent p.geometry (half_sector p generation))
+
+-- each half lies behind the headers and before the end
+abbrev pub HalvesAreWithin : Type 0
+HalvesAreWithin = (p : Plan) (generation : ℕ) → IsPlan p → IsWithin p.total (half_extent p.geometry (half_sector p generation))
+
+-- no sector is in both halves
+abbrev pub HalvesAreApart : Type 0
+HalvesAreApart = (p : Plan) (a b : ℕ) → IsPlan p → (a % 2 ≡ b % 2 → ⊥) → IsApart (half_extent p.geometry (half_sector p a)) (half_extent p.geometry (half_sector p b))
+
+-- nor in two slots of a half, nor in a slot and the directory
+abbrev pub SlotsAreApart : Type 0
+SlotsAreApart = (p : Plan) (generation a b : ℕ) → (a ≡ b → ⊥) → IsApart (slot_extent p generation a) (slot_extent p generation b)
+
+abbrev pub SlotsSpareDirectories : Type 0
+SlotsSpareDirectories = (p : Plan) (generation slot n : ℕ) → slot < p.geometry.log → IsApart (slot_extent p generation slot) (directory_extent p generation n)

@@ -1,0 +1,60 @@
+-- The halves of the log among the extents of a plan.
+use Rattle.std.proofs.Common.{◌≡◌, ℕ, ◌+◌, ◌-◌, ◌%◌, ◌<◌, ◌≤◌, List, [], ◌∷◌, length, get_or, map, Bool, true, false, refl, subst, ap, ◌∙◌, inl, inr, arith, length-append, ⊎_elim}
+use Rattle.std.specs.Prelude.{◌==◌, if◌then◌else◌}
+use Rattle.std.proofs.lemmas.Bool.Decides.{nat_tests}
+use Rattle.std.proofs.lemmas.List.{length-map, get_or-append_right}
+use Rattle.layout.specs.declared.extent.Extent.{Extent}
+use Rattle.layout.specs.Superblock.{Plan, IsPlan, IsWithin, IsApart, IsInside, extent_at, extents, range_extent, half_extent}
+use Rattle.layout.specs.Image.{half_sector}
+
+pub itself : (e : Extent) → IsInside e e
+itself e = record { starts = omega arith; ends = omega arith }
+
+pub apart_inside : (d e outer_d outer_e : Extent) → IsInside d outer_d → IsInside e outer_e → IsApart outer_d outer_e → IsApart d e
+apart_inside d e outer_d outer_e in_d in_e apart = ⊎_elim (λ le. inl (omega (arith, in_d.ends, in_e.starts, le))) (λ le. inr (omega (arith, in_d.starts, in_e.ends, le))) apart
+
+pub apart_turned : (d e : Extent) → IsApart d e → IsApart e d
+apart_turned d e apart = ⊎_elim (λ le. inr le) (λ le. inl le) apart
+
+pub within_inside : (total : ℕ) (d outer : Extent) → IsInside d outer → IsWithin total outer → IsWithin total d
+within_inside total d outer inside within = (omega (arith, inside.starts, within.0), omega (arith, inside.ends, within.1))
+
+-- the extents are those of the ranges and of the two halves
+pub many : (p : Plan) → length (extents p) ≡ length p.ranges + 2
+many p = omega (arith, length-append (map (range_extent p.geometry) p.ranges) (half_extent p.geometry p.half_0 ∷ half_extent p.geometry p.half_1 ∷ []), length-map p.ranges (range_extent p.geometry))
+
+pub half_at : (p : Plan) (k : ℕ) → extent_at (extents p) (length p.ranges + k) ≡ extent_at (half_extent p.geometry p.half_0 ∷ half_extent p.geometry p.half_1 ∷ []) k
+half_at p k =
+    let size : length (map (range_extent p.geometry) p.ranges) ≡ length p.ranges = length-map p.ranges (range_extent p.geometry) in
+    let place : length p.ranges + k - length p.ranges ≡ k = omega arith in
+    get_or-append_right (map (range_extent p.geometry) p.ranges) (half_extent p.geometry p.half_0 ∷ half_extent p.geometry p.half_1 ∷ []) (length p.ranges) (length p.ranges + k) (record { sector = 0; length = 0 }) size (omega arith)
+    ∙ ap (extent_at (half_extent p.geometry p.half_0 ∷ half_extent p.geometry p.half_1 ∷ [])) place
+
+within_at : (p : Plan) (k : ℕ) → IsPlan p → k < 2 → IsWithin p.total (extent_at (half_extent p.geometry p.half_0 ∷ half_extent p.geometry p.half_1 ∷ []) k)
+within_at p k fits few = subst (IsWithin p.total) (half_at p k) (fits.within (length p.ranges + k) (record { sector = 0; length = 0 }) (omega (arith, many p)))
+
+within_by : (p : Plan) (even : Bool) → IsPlan p → IsWithin p.total (half_extent p.geometry (if even then p.half_0 else p.half_1))
+within_by p true fits = within_at p 0 fits (omega arith)
+within_by p false fits = within_at p 1 fits (omega arith)
+
+halves_apart : (p : Plan) → IsPlan p → IsApart (half_extent p.geometry p.half_0) (half_extent p.geometry p.half_1)
+halves_apart p fits =
+    let apart = fits.apart (length p.ranges + 0) (length p.ranges + 1) (omega arith) (omega (arith, many p)) in
+    subst (λ (e : Extent). IsApart e (half_extent p.geometry p.half_1)) (half_at p 0) (subst (IsApart (extent_at (extents p) (length p.ranges + 0))) (half_at p 1) apart)
+
+apart_by : (p : Plan) (even other : Bool) → IsPlan p → (even ≡ other → ⊥) → IsApart (half_extent p.geometry (if even then p.half_0 else p.half_1)) (half_extent p.geometry (if other then p.half_0 else p.half_1))
+apart_by p true true fits differ = absurd (differ refl)
+apart_by p true false fits differ = halves_apart p fits
+apart_by p false true fits differ = apart_turned (half_extent p.geometry p.half_0) (half_extent p.geometry p.half_1) (halves_apart p fits)
+apart_by p false false fits differ = absurd (differ refl)
+
+same_parity : (a b : ℕ) → (a % 2 == 0) ≡ (b % 2 == 0) → a % 2 ≡ b % 2
+same_parity a b same = grind (arith, nat_tests)
+
+-- the half of a generation lies behind the headers and before the end
+pub half_within : (p : Plan) (generation : ℕ) → IsPlan p → IsWithin p.total (half_extent p.geometry (half_sector p generation))
+half_within p generation fits = within_by p (generation % 2 == 0) fits
+
+-- and apart from that of the next generation
+pub half_apart : (p : Plan) (a b : ℕ) → IsPlan p → (a % 2 ≡ b % 2 → ⊥) → IsApart (half_extent p.geometry (half_sector p a)) (half_extent p.geometry (half_sector p b))
+half_apart p a b fits differ = apart_by p (a % 2 == 0) (b % 2 == 0) fits (λ same. differ (same_parity a b same))
