@@ -9,6 +9,7 @@ use layout::{
 };
 use model::{Content, Frame, Geometry, Header, Slots, Words};
 use std::alloc::Global;
+use std::process::Abort;
 use std::test::Fail;
 
 // A log of 16 slots in each half, half 0 from sector 109 on and half 1 from 254 on.
@@ -46,24 +47,24 @@ fn header(sequence: u64) -> CheckpointHeader {
 }
 
 // Writes a header and then a gate, each of them synced, the header with this byte at its end.
-fn put_slot(
-    memory: &mut Memory,
+fn put_slot<D: Device>(
+    device: &mut D,
     at: u64,
     header: CheckpointHeader,
     last: u8,
     gate: Gate,
 ) -> Result<(), Failed>
-    requires { at + 2 ≤ (memory_disk memory.old).sectors }
-    ensures { (memory_disk memory.new).sectors ≡ (memory_disk memory.old).sectors }
+    requires { at + 2 ≤ (D.disk device.old).sectors }
+    ensures { (D.disk device.new).sectors ≡ (D.disk device.old).sectors }
 {
     let mut sector = [0; SECTOR_SIZE];
     encode_header(header, &mut sector);
     sector[511] = last;
-    memory.write(at, &sector)?;
-    memory.sync()?;
+    device.write(at, &sector)?;
+    device.sync()?;
     encode_gate(gate, &mut sector);
-    memory.write(at + 1, &sector)?;
-    memory.sync()
+    device.write(at + 1, &sector)?;
+    device.sync()
 }
 
 // A device whose slot 0 has an open header with sequence number 0, and whose slot 1 is closed.
@@ -109,12 +110,12 @@ fn publish_next<D: Device>(device: &mut D, log: &Log) -> Result<bool, Fail>
 const CALLS_BEFORE: u64 = 6;
 
 // Whether a publish that stops after so many calls succeeds, and the sequence number that a power cut then leaves.
-fn left_by_stop(memory: Memory, log: &Log, calls: u64) -> Result<(bool, u64), Fail>
+fn left_by_stop<D: Device>(device: D, log: &Log, calls: u64) -> Result<(bool, u64), Fail>
     requires slots { log.now.geometry.log ≡ 16 }
-    requires inside { log.now.total ≤ (memory_disk memory).sectors }
-    requires headers { 5 ≤ (memory_disk memory).sectors }
+    requires inside { log.now.total ≤ (D.disk device).sectors }
+    requires headers { 5 ≤ (D.disk device).sectors }
 {
-    let mut fuse = Fuse::new(memory, calls);
+    let mut fuse = Fuse::new(device, calls);
     let published = publish_next(&mut fuse, log)?;
     fuse.power_cut();
     let committed = committed(&mut fuse, log)?;
@@ -159,28 +160,40 @@ fn a_stop_leaves_the_second_header_or_the_next(rt: HostRuntime) -> Result<(), Fa
     Ok(())
 }
 
+fn none_on<D: Device>(rt: &impl Abort, device: &mut D) -> Result<(), Fail>
+    requires { (D.disk device.old).sectors ≡ 399 }
+{
+    let log = log()?;
+    let none = LogFault::Bad(BadImage::NoHeader);
+    assert_eq!(rt; committed(device, &log), Err(none));
+    put_slot(device, 1, header(4), 0, Gate::Closed)?;
+    put_slot(device, 3, header(4), 0, Gate::Open)?;
+    assert_eq!(rt; committed(device, &log), Err(none));
+    Ok(())
+}
+
 #[test]
 fn a_device_without_an_open_header_has_none(rt: HostRuntime) -> Result<(), Fail> {
-    let log = log()?;
     let mut memory = Memory::new(rt.alloc(), 399, 64, Outcome::Drop)?;
-    let none = LogFault::Bad(BadImage::NoHeader);
-    assert_eq!(rt; committed(&mut memory, &log), Err(none));
-    put_slot(&mut memory, 1, header(4), 0, Gate::Closed)?;
-    put_slot(&mut memory, 3, header(4), 0, Gate::Open)?;
-    assert_eq!(rt; committed(&mut memory, &log), Err(none));
+    none_on(&rt, &mut memory)
+}
+
+fn malformed_on<D: Device>(rt: &impl Abort, device: &mut D) -> Result<(), Fail>
+    requires { (D.disk device.old).sectors ≡ 399 }
+{
+    let log = log()?;
+    put_slot(device, 3, header(1), 1, Gate::Open)?;
+    let bad = LogFault::Bad(BadImage::BadHeader);
+    assert_eq!(rt; committed(device, &log), Err(bad));
+    put_slot(device, 1, header(2), 0, Gate::Open)?;
+    assert_eq!(rt; committed(device, &log), Ok(header(2)));
     Ok(())
 }
 
 #[test]
 fn a_greater_malformed_header_is_not_passed_over(rt: HostRuntime) -> Result<(), Fail> {
-    let log = log()?;
     let mut memory = built(rt.alloc(), Outcome::Drop)?;
-    put_slot(&mut memory, 3, header(1), 1, Gate::Open)?;
-    let bad = LogFault::Bad(BadImage::BadHeader);
-    assert_eq!(rt; committed(&mut memory, &log), Err(bad));
-    put_slot(&mut memory, 1, header(2), 0, Gate::Open)?;
-    assert_eq!(rt; committed(&mut memory, &log), Ok(header(2)));
-    Ok(())
+    malformed_on(&rt, &mut memory)
 }
 
 // Such a gate is closed at the next publish.
@@ -220,66 +233,78 @@ const FRONT: Header = Header {
 };
 
 // Slot 2 of half 1 begins at sector 272.
-#[test]
-fn a_node_is_read_back_from_its_slot(rt: HostRuntime) -> Result<(), Fail> {
+fn node_on<D: Device>(rt: &impl Abort, alloc: Global, device: &mut D) -> Result<(), Fail>
+    requires { (D.disk device.old).sectors ≡ 399 }
+{
     let log = log()?;
-    let mut memory = Memory::new(rt.alloc(), 399, 64, Outcome::Drop)?;
     let frame = Frame {
         header: FRONT,
         content: Content::Bank { limit: 8 },
     };
-    log.write_slot(&mut memory, 3, 2, 5, &frame)?;
-    let mut slots = Slots::new(rt.alloc(), VOID)?;
+    log.write_slot(device, 3, 2, 5, &frame)?;
+    let mut slots = Slots::new(alloc, VOID)?;
     let (header, body) = log
-        .read_node_slot(&mut memory, 3, 2, 5, 9, &mut slots)
+        .read_node_slot(device, 3, 2, 5, 9, &mut slots)
         .ok()
         .ok_or(Failed)?;
     assert_eq!(rt; header, FRONT);
     assert!(rt; matches!(body, NodeBody::Bank { limit: 8 }));
     let mut sector = [9; SECTOR_SIZE];
-    memory.read(272, &mut sector)?;
+    device.read(272, &mut sector)?;
     assert_eq!(rt; sector[0], 5, "the role of a bank");
-    memory.read(274, &mut sector)?;
+    device.read(274, &mut sector)?;
     assert_eq!(rt; sector, [0; SECTOR_SIZE]);
     sector[0] = 6;
-    memory.write(272, &sector)?;
-    let refused = log.read_node_slot(&mut memory, 3, 2, 5, 9, &mut slots);
+    device.write(272, &sector)?;
+    let refused = log.read_node_slot(device, 3, 2, 5, 9, &mut slots);
     assert_eq!(rt; refused.err(), Some(LogFault::Bad(BadImage::BadFrame)));
     Ok(())
 }
 
-// Slot 1 of half 0 begins at sector 118.
 #[test]
-fn a_page_is_read_back_from_its_slot(rt: HostRuntime) -> Result<(), Fail> {
-    let log = log()?;
+fn a_node_is_read_back_from_its_slot(rt: HostRuntime) -> Result<(), Fail> {
     let mut memory = Memory::new(rt.alloc(), 399, 64, Outcome::Drop)?;
-    let mut words = Words::new(rt.alloc())?;
+    node_on(&rt, rt.alloc(), &mut memory)
+}
+
+// Slot 1 of half 0 begins at sector 118.
+fn page_on<D: Device>(rt: &impl Abort, alloc: Global, device: &mut D) -> Result<(), Fail>
+    requires { (D.disk device.old).sectors ≡ 399 }
+{
+    let log = log()?;
+    let mut words = Words::new(alloc)?;
     words.set(511, 600);
     let frame = Frame {
         header: FRONT,
         content: Content::Page(words),
     };
-    log.write_slot(&mut memory, 0, 1, 16, &frame)?;
-    let mut found = Words::new(rt.alloc())?;
-    let read = log.read_page_slot(&mut memory, 0, 1, 16, 9, &mut found);
+    log.write_slot(device, 0, 1, 16, &frame)?;
+    let mut found = Words::new(alloc)?;
+    let read = log.read_page_slot(device, 0, 1, 16, 9, &mut found);
     assert_eq!(rt; read, Ok((FRONT, PageBody::Page)));
     assert_eq!(rt; found.get(511), 600);
     let mut sector = [9; SECTOR_SIZE];
-    memory.read(126, &mut sector)?;
+    device.read(126, &mut sector)?;
     assert_eq!(rt; sector[504], 88, "the lowest byte of the last word");
-    memory.read(127, &mut sector)?;
+    device.read(127, &mut sector)?;
     assert_eq!(rt; sector, [0; SECTOR_SIZE]);
-    memory.write(118, &[9; SECTOR_SIZE])?;
-    let refused = log.read_page_slot(&mut memory, 0, 1, 16, 9, &mut found);
+    device.write(118, &[9; SECTOR_SIZE])?;
+    let refused = log.read_page_slot(device, 0, 1, 16, 9, &mut found);
     assert_eq!(rt; refused, Err(LogFault::Bad(BadImage::BadFrame)));
     Ok(())
 }
 
-// The directory of half 1 is sector 398.
 #[test]
-fn a_directory_is_read_back(rt: HostRuntime) -> Result<(), Fail> {
-    let log = log()?;
+fn a_page_is_read_back_from_its_slot(rt: HostRuntime) -> Result<(), Fail> {
     let mut memory = Memory::new(rt.alloc(), 399, 64, Outcome::Drop)?;
+    page_on(&rt, rt.alloc(), &mut memory)
+}
+
+// The directory of half 1 is sector 398.
+fn directory_on<D: Device>(rt: &impl Abort, device: &mut D) -> Result<(), Fail>
+    requires { (D.disk device.old).sectors ≡ 399 }
+{
+    let log = log()?;
     let entries = [
         Entry { object: 3, slot: 1 },
         Entry {
@@ -287,42 +312,54 @@ fn a_directory_is_read_back(rt: HostRuntime) -> Result<(), Fail> {
             slot: 0,
         },
     ];
-    log.write_directory(&mut memory, 1, &entries)?;
+    log.write_directory(device, 1, &entries)?;
     let mut found = [Entry { object: 0, slot: 0 }; 2];
-    log.read_directory(&mut memory, 1, &mut found)?;
+    log.read_directory(device, 1, &mut found)?;
     assert_eq!(rt; found, entries);
     let mut sector = [9; SECTOR_SIZE];
-    memory.read(398, &mut sector)?;
+    device.read(398, &mut sector)?;
     assert_eq!(rt; sector[16], 20, "the object of the second entry");
     sector[0] = 20;
-    memory.write(398, &sector)?;
-    let refused = log.read_directory(&mut memory, 1, &mut found);
+    device.write(398, &sector)?;
+    let refused = log.read_directory(device, 1, &mut found);
     assert_eq!(rt; refused, Err(LogFault::Bad(BadImage::BadDirectory)));
     Ok(())
 }
 
-// The directory of half 1 belongs to the committed header.
 #[test]
-fn a_committed_header_comes_with_its_directory(rt: HostRuntime) -> Result<(), Fail> {
+fn a_directory_is_read_back(rt: HostRuntime) -> Result<(), Fail> {
+    let mut memory = Memory::new(rt.alloc(), 399, 64, Outcome::Drop)?;
+    directory_on(&rt, &mut memory)
+}
+
+// The directory of half 1 belongs to the committed header.
+fn committed_on<D: Device>(rt: &impl Abort, device: &mut D) -> Result<(), Fail>
+    requires { (D.disk device.old).sectors ≡ 399 }
+{
     let log = log()?;
-    let mut memory = built(rt.alloc(), Outcome::Drop)?;
     let entry = Entry {
         object: 20,
         slot: 3,
     };
-    log.write_directory(&mut memory, 1, &[entry])?;
+    log.write_directory(device, 1, &[entry])?;
     let next = CheckpointHeader {
         sequence: 1,
         generation: 1,
         entries: 1,
         age: 9,
     };
-    put_slot(&mut memory, 3, next, 0, Gate::Open)?;
+    put_slot(device, 3, next, 0, Gate::Open)?;
     let mut found = [NOTHING; 16];
-    assert_eq!(rt; log.find_committed(&mut memory, &mut found), Ok(next));
+    assert_eq!(rt; log.find_committed(device, &mut found), Ok(next));
     assert_eq!(rt; found[0], entry);
-    memory.write(398, &[1; SECTOR_SIZE])?;
-    let refused = log.find_committed(&mut memory, &mut found);
+    device.write(398, &[1; SECTOR_SIZE])?;
+    let refused = log.find_committed(device, &mut found);
     assert_eq!(rt; refused, Err(LogFault::Bad(BadImage::BadDirectory)));
     Ok(())
+}
+
+#[test]
+fn a_committed_header_comes_with_its_directory(rt: HostRuntime) -> Result<(), Fail> {
+    let mut memory = built(rt.alloc(), Outcome::Drop)?;
+    committed_on(&rt, &mut memory)
 }

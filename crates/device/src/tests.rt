@@ -142,50 +142,16 @@ fn stopped(alloc: Global, calls: u64, outcome: Outcome) -> Result<(Fuse<Memory>,
 #[test]
 fn a_fuse_stops_at_each_call(rt: HostRuntime) -> Result<(), Fail> {
     let stops = [
-        (
-            0,
-            [false, false, false, false, false],
-            [0, 0, 0, 0],
-            [0, 0, 0, 0],
-        ),
-        (
-            1,
-            [true, false, false, false, false],
-            [1, 2, 0, 0],
-            [0, 0, 0, 0],
-        ),
-        (
-            2,
-            [true, true, false, false, false],
-            [1, 2, 0, 0],
-            [1, 2, 0, 0],
-        ),
-        (
-            3,
-            [true, true, true, false, false],
-            [1, 3, 4, 0],
-            [1, 2, 0, 0],
-        ),
-        (
-            4,
-            [true, true, true, true, false],
-            [1, 3, 4, 0],
-            [1, 3, 4, 0],
-        ),
-        (
-            5,
-            [true, true, true, true, true],
-            [1, 3, 4, 0],
-            [1, 3, 4, 0],
-        ),
-        (
-            6,
-            [true, true, true, true, true],
-            [1, 3, 4, 0],
-            [1, 3, 4, 0],
-        ),
+        (0, [0, 0, 0, 0], [0, 0, 0, 0]),
+        (1, [1, 2, 0, 0], [0, 0, 0, 0]),
+        (2, [1, 2, 0, 0], [1, 2, 0, 0]),
+        (3, [1, 3, 4, 0], [1, 2, 0, 0]),
+        (4, [1, 3, 4, 0], [1, 3, 4, 0]),
+        (5, [1, 3, 4, 0], [1, 3, 4, 0]),
+        (6, [1, 3, 4, 0], [1, 3, 4, 0]),
     ];
-    for (calls, passed, kept, dropped) in stops {
+    for (calls, kept, dropped) in stops {
+        let passed = [calls > 0, calls > 1, calls > 2, calls > 3, calls > 4];
         for (outcome, left) in [(Outcome::Keep, kept), (Outcome::Drop, dropped)] {
             let (mut fuse, succeeded) = stopped(rt.alloc(), calls, outcome)?;
             assert_eq!(rt; succeeded, passed);

@@ -222,7 +222,7 @@ search_goes_on p number i lt same hold =
     ∙ sym (step p number i lt) ∙ same
 
 -- the sector of a range lies on a device
-pub sector_fits : (p : Plan) (i : ℕ) → IsPlan p → i < length p.ranges → (range_at p.ranges i).sector ≤ 131072
+sector_fits : (p : Plan) (i : ℕ) → IsPlan p → i < length p.ranges → (range_at p.ranges i).sector ≤ 131072
 sector_fits p i fits lt = let within = range_within p i fits lt in omega (arith, within.1, fits.total)
 
 -- a place of a number, behind the headers and before the end
@@ -236,13 +236,23 @@ place_is p number place fits is same =
     let within = places_within p number fits is in
     record { value = same; behind = omega (arith, within.0, same); inside = omega (arith, within.1, same) }
 
--- the plan is written in two ways, `p` and `q`
-pub place_found : (p q : Plan) (number i place : ℕ) → p ≡ q → IsPlan p → IsObject q number → i < length p.ranges → home_sector q.geometry (drop i q.ranges) number ≡ home_place q number
+-- the plan is written in two ways, `p` and `q`, and its ranges and geometry in a third
+pub range_fits : (p : Plan) (rs : List HomeRange) (i : ℕ) → rs ≡ p.ranges → IsPlan p → i < length rs → (range_at rs i).sector ≤ 131072
+range_fits p rs i same fits lt = subst (λ (xs : List HomeRange). (range_at xs i).sector ≤ 131072) (sym same) (sector_fits p i fits (subst (λ (xs : List HomeRange). i < length xs) same lt))
+
+found_here : (p q : Plan) (number i place : ℕ) → p ≡ q → IsPlan p → IsObject q number → i < length p.ranges → home_sector q.geometry (drop i q.ranges) number ≡ home_place q number
     → (range_at p.ranges i).first ≤ number → number - (range_at p.ranges i).first < (range_at p.ranges i).count → place ≡ place_in p.geometry (range_at p.ranges i) number → IsPlace q number place
-place_found p q number i place e fits is lt same low high made =
+found_here p q number i place e fits is lt same low high made =
     subst (λ (x : Plan). IsObject x number → home_sector x.geometry (drop i x.ranges) number ≡ home_place x number → IsPlace x number place) e
     (λ is_p same_p. place_is p number place fits is_p (made ∙ search_found p number i lt same_p low (omega arith))) is same
 
-pub place_missed : (p q : Plan) (number i : ℕ) → p ≡ q → IsPlan p → IsObject q number → length p.ranges ≤ i → home_sector q.geometry (drop i q.ranges) number ≡ home_place q number → ⊥
-place_missed p q number i e fits is done same =
-    subst (λ (x : Plan). IsObject x number → home_sector x.geometry (drop i x.ranges) number ≡ home_place x number → ⊥) e (λ is_p same_p. search_ends p number i fits is_p done same_p) is same
+pub place_found : (p q : Plan) (rs : List HomeRange) (g : Geometry) (number i place : ℕ) → rs ≡ p.ranges → g ≡ p.geometry → p ≡ q → IsPlan p → IsObject q number → i < length rs → home_sector q.geometry (drop i q.ranges) number ≡ home_place q number
+    → (range_at rs i).first ≤ number → number - (range_at rs i).first < (range_at rs i).count → place ≡ place_in g (range_at rs i) number → IsPlace q number place
+place_found p q rs g number i place ranges geometry e fits is lt same low high made =
+    subst (λ (xs : List HomeRange). i < length xs → (range_at xs i).first ≤ number → number - (range_at xs i).first < (range_at xs i).count → place ≡ place_in g (range_at xs i) number → IsPlace q number place) (sym ranges)
+    (λ lt low high made. found_here p q number i place e fits is lt same low high (made ∙ ap (λ (h : Geometry). place_in h (range_at p.ranges i) number) geometry)) lt low high made
+
+pub place_missed : (p q : Plan) (rs : List HomeRange) (number i : ℕ) → rs ≡ p.ranges → p ≡ q → IsPlan p → IsObject q number → length rs ≤ i → home_sector q.geometry (drop i q.ranges) number ≡ home_place q number → ⊥
+place_missed p q rs number i ranges e fits is done same =
+    subst (λ (x : Plan). IsObject x number → home_sector x.geometry (drop i x.ranges) number ≡ home_place x number → ⊥) e
+    (λ is_p same_p. search_ends p number i fits is_p (subst (λ (xs : List HomeRange). length xs ≤ i) ranges done) same_p) is same

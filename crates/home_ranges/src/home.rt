@@ -3,36 +3,22 @@ ghost use Rattle.layout.specs.Superblock.{IsPlan};
 ghost use Rattle.layout.specs.Image.{frame_length};
 ghost use Rattle.home_ranges.specs.Home.{IsObject, home_place, place_in};
 
-use layout::{HomeRange, MAX_RANGES, Superblock};
+use layout::{HomeRange, Superblock};
 use model::Geometry;
 use std::marker::Model;
-
-const UNUSED: HomeRange = HomeRange {
-    first: 0,
-    count: 0,
-    sector: 0,
-};
 
 /// Where the frames of objects lie at home, as a superblock tells.
 #[derive(Drop)]
 pub struct Home {
-    geometry: Geometry,
-    ranges: [HomeRange; MAX_RANGES],
-    used: usize,
-    half_0: u64,
-    half_1: u64,
-    total: u64,
+    superblock: Superblock,
 }
 
 impl Model for Home {
-    ghost use Rattle.std.specs.Prelude.{◌≡◌, ◌≤◌, take};
-    ghost use Rattle.layout.specs.Superblock.{Plan, plan_of, IsPlan};
+    ghost use Rattle.layout.specs.Superblock.{Plan};
 
     ghost Value = { Plan };
 
-    ghost view = { λ s. plan_of s.geometry (take s.used s.ranges) s.half_0 s.half_1 s.total };
-
-    ghost invariant = { λ s. (s.used ≤ 8) × IsPlan (plan_of s.geometry (take s.used s.ranges) s.half_0 s.half_1 s.total) };
+    ghost view = { λ home. home.superblock };
 }
 
 // The first sector of the frame of a number in a range that has it.
@@ -51,17 +37,8 @@ impl Home {
     pub fn new(superblock: &Superblock) -> Self
         ensures { result ≡ superblock.now }
     {
-        let ranges = superblock.ranges();
-        let used = ranges.len();
-        let mut held = [UNUSED; MAX_RANGES];
-        held[..used].copy_from_slice(ranges);
         Home {
-            geometry: superblock.geometry(),
-            ranges: held,
-            used,
-            half_0: superblock.half(false),
-            half_1: superblock.half(true),
-            total: superblock.total(),
+            superblock: superblock.copy(),
         }
     }
 
@@ -72,9 +49,9 @@ impl Home {
         ensures behind { 5 ≤ result }
         ensures inside { result + frame_length self.now number ≤ self.now.total }
     {
-        for range in &self.ranges[..self.used] {
+        for range in self.superblock.ranges() {
             if range.first <= number && number - range.first < range.count {
-                return place_in(self.geometry, *range, number);
+                return place_in(self.superblock.geometry(), *range, number);
             }
         }
         0
@@ -85,6 +62,6 @@ impl Home {
         ensures value { result ≡ self.now.geometry }
         ensures fits { IsPlan self.now }
     {
-        self.geometry
+        self.superblock.geometry()
     }
 }

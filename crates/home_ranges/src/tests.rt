@@ -7,6 +7,7 @@ use device::{Device, Failed, Fuse, Memory, Outcome};
 use layout::{BadImage, HomeRange, NodeBody, PageBody, Superblock, VOID};
 use model::{Cap, Capability, Content, Frame, Geometry, Header, Slots, Words};
 use std::alloc::Global;
+use std::process::Abort;
 use std::test::Fail;
 
 const AGE: u64 = 10;
@@ -101,21 +102,31 @@ fn places_in_scattered_ranges(rt: HostRuntime) -> Result<(), Fail> {
     Ok(())
 }
 
-#[test]
-fn a_node_is_read_back(rt: HostRuntime) -> Result<(), Fail> {
+// The first byte of a sector.
+fn first_byte<D: Device>(device: &mut D, at: u64) -> Result<u8, Failed>
+    requires { at < (D.disk device.old).sectors }
+    ensures { (D.disk device.new).sectors ≡ (D.disk device.old).sectors }
+{
+    let mut sector = [9; 512];
+    device.read(at, &mut sector)?;
+    Ok(sector[0])
+}
+
+fn node_on<D: Device>(rt: &impl Abort, alloc: Global, device: &mut D) -> Result<(), Fail>
+    requires { (D.disk device.old).sectors ≡ 399 }
+{
     let home = in_order()?;
-    let mut memory = device(rt.alloc())?;
-    let mut slots = Slots::new(rt.alloc(), VOID)?;
+    let mut slots = Slots::new(alloc, VOID)?;
     slots.set(31, NUMBER);
     let frame = Frame {
         header: HEADER,
         content: Content::Node(slots),
     };
-    home.write_frame(&mut memory, 3, &frame)?;
+    home.write_frame(device, 3, &frame)?;
 
-    let mut found = Slots::new(rt.alloc(), VOID)?;
+    let mut found = Slots::new(alloc, VOID)?;
     let (header, body) = home
-        .read_node_frame(&mut memory, 3, AGE, &mut found)
+        .read_node_frame(device, 3, AGE, &mut found)
         .ok()
         .ok_or("a frame")?;
     assert_eq!(rt; header, HEADER);
@@ -123,71 +134,91 @@ fn a_node_is_read_back(rt: HostRuntime) -> Result<(), Fail> {
     assert_eq!(rt; found.get(31), NUMBER);
     assert_eq!(rt; found.get(30), VOID);
 
-    let mut sector = [9; 512];
-    memory.read(11, &mut sector)?;
-    assert_eq!(rt; sector[0], 2, "the role of a node");
-    memory.read(10, &mut sector)?;
-    assert_eq!(rt; sector[0], 0);
-    memory.read(13, &mut sector)?;
-    assert_eq!(rt; sector[0], 0);
+    assert_eq!(rt; first_byte(device, 11)?, 2, "the role of a node");
+    assert_eq!(rt; first_byte(device, 10)?, 0);
+    assert_eq!(rt; first_byte(device, 13)?, 0);
 
-    sector[0] = 9;
-    memory.write(13, &sector)?;
-    let refused = home.read_node_frame(&mut memory, 4, AGE, &mut found);
+    device.write(13, &[9; 512])?;
+    let refused = home.read_node_frame(device, 4, AGE, &mut found);
     assert_eq!(rt; refused.err(), Some(HomeFault::Bad(BadImage::BadFrame)));
     Ok(())
 }
 
 #[test]
-fn a_page_is_read_back(rt: HostRuntime) -> Result<(), Fail> {
-    let home = in_order()?;
+fn a_node_is_read_back(rt: HostRuntime) -> Result<(), Fail> {
     let mut memory = device(rt.alloc())?;
-    let mut words = Words::new(rt.alloc())?;
+    node_on(&rt, rt.alloc(), &mut memory)
+}
+
+fn page_on<D: Device>(rt: &impl Abort, alloc: Global, device: &mut D) -> Result<(), Fail>
+    requires { (D.disk device.old).sectors ≡ 399 }
+{
+    let home = in_order()?;
+    let mut words = Words::new(alloc)?;
     words.set(511, 600);
     let frame = Frame {
         header: HEADER,
         content: Content::Page(words),
     };
-    home.write_frame(&mut memory, 17, &frame)?;
+    home.write_frame(device, 17, &frame)?;
 
-    let mut found = Words::new(rt.alloc())?;
-    let read = home.read_page_frame(&mut memory, 17, AGE, &mut found);
+    let mut found = Words::new(alloc)?;
+    let read = home.read_page_frame(device, 17, AGE, &mut found);
     assert_eq!(rt; read, Ok((HEADER, PageBody::Page)));
     assert_eq!(rt; found.get(511), 600);
     assert_eq!(rt; found.get(510), 0);
 
     let mut sector = [9; 512];
-    memory.read(54, &mut sector)?;
+    device.read(54, &mut sector)?;
     assert_eq!(rt; sector[504], 88, "the lowest byte of the last word");
-    memory.read(55, &mut sector)?;
+    device.read(55, &mut sector)?;
     assert_eq!(rt; sector, [0; 512]);
 
     sector[1] = 1;
-    memory.write(55, &sector)?;
-    let refused = home.read_page_frame(&mut memory, 18, AGE, &mut found);
+    device.write(55, &sector)?;
+    let refused = home.read_page_frame(device, 18, AGE, &mut found);
     assert_eq!(rt; refused, Err(HomeFault::Bad(BadImage::BadFrame)));
     Ok(())
 }
 
 #[test]
-fn a_fuse_stops_each_call(rt: HostRuntime) -> Result<(), Fail> {
+fn a_page_is_read_back(rt: HostRuntime) -> Result<(), Fail> {
+    let mut memory = device(rt.alloc())?;
+    page_on(&rt, rt.alloc(), &mut memory)
+}
+
+// A write, two reads and a write on a device that stops after so many calls.
+fn stopping_after<D: Device>(
+    rt: &impl Abort,
+    alloc: Global,
+    device: &mut D,
+    calls: u64,
+) -> Result<(), Fail>
+    requires { (D.disk device.old).sectors ≡ 399 }
+{
     let home = in_order()?;
     let frame = Frame {
         header: HEADER,
         content: Content::Bank { limit: 8 },
     };
+    let mut slots = Slots::new(alloc, VOID)?;
+    let mut words = Words::new(alloc)?;
+    let written = home.write_frame(device, 15, &frame);
+    assert_eq!(rt; written.is_ok(), calls > 0);
+    let node = home.read_node_frame(device, 15, AGE, &mut slots);
+    assert_eq!(rt; node.err() == Some(HomeFault::Failed), calls < 2);
+    let page = home.read_page_frame(device, 16, AGE, &mut words);
+    assert_eq!(rt; page.err() == Some(HomeFault::Failed), calls < 3);
+    let last = home.write_frame(device, 16, &frame);
+    assert_eq!(rt; last, Err(Failed));
+    Ok(())
+}
+
+#[test]
+fn a_fuse_stops_each_call(rt: HostRuntime) -> Result<(), Fail> {
     for calls in 0..4 {
         let mut fuse = Fuse::new(device(rt.alloc())?, calls);
-        let mut slots = Slots::new(rt.alloc(), VOID)?;
-        let mut words = Words::new(rt.alloc())?;
-        let written = home.write_frame(&mut fuse, 15, &frame);
-        assert_eq!(rt; written.is_ok(), calls > 0);
-        let node = home.read_node_frame(&mut fuse, 15, AGE, &mut slots);
-        assert_eq!(rt; node.err() == Some(HomeFault::Failed), calls < 2);
-        let page = home.read_page_frame(&mut fuse, 16, AGE, &mut words);
-        assert_eq!(rt; page.err() == Some(HomeFault::Failed), calls < 3);
-        let last = home.write_frame(&mut fuse, 16, &frame);
-        assert_eq!(rt; last, Err(Failed));
+        stopping_after(&rt, rt.alloc(), &mut fuse, calls)?;
     }
     Ok(())
 }

@@ -166,6 +166,13 @@ fn root_frames(rt: HostRuntime) -> Result<(), Fail> {
         }
         _ => assert!(rt; false, "another role"),
     }
+    Ok(())
+}
+
+#[test]
+fn other_root_frames(rt: HostRuntime) -> Result<(), Fail> {
+    let mut bytes = [0; 1024];
+    put_root(&mut bytes);
     put_slot(&mut bytes, 1, 1, 3);
     assert!(rt; !is_node_frame(rt.alloc(), &bytes)?, "there is no state 3");
     put_slot(&mut bytes, 1, 1, 2);
@@ -342,6 +349,14 @@ fn directories(rt: HostRuntime) {
             slot: 0
         }
     );
+}
+
+#[test]
+fn other_directories(rt: HostRuntime) {
+    let mut bytes = [0; 32];
+    bytes[8] = 15;
+    bytes[16] = 23;
+    let mut entries = [Entry { object: 9, slot: 9 }; 2];
     bytes[24] = 15;
     assert!(rt;
         decode_directory(&bytes, GEOMETRY, &mut entries).is_err(),

@@ -11,8 +11,8 @@ use std::test::Fail;
 // ---- lines
 
 #[test]
-fn each_form_is_read(rt: HostRuntime) {
-    let invocation = Invocation {
+fn each_invocation_is_read(rt: HostRuntime) {
+    let called = Invocation {
         operation: Operation::Call,
         process: 1,
         register: 2,
@@ -21,38 +21,44 @@ fn each_form_is_read(rt: HostRuntime) {
     };
     let returned = Invocation {
         operation: Operation::Return,
-        ..invocation
+        ..called
     };
     let sent = Invocation {
         operation: Operation::Send,
-        ..invocation
+        ..called
     };
-    let forms: [(&[u8], Command); 13] = [
-        (b"call 1 2 3 4 5 6 7 8 9 31", Command::Invoke(invocation)),
-        (b"return 1 2 3 4 5 6 7 8 9 31", Command::Invoke(returned)),
-        (b"send 1 2 3 4 5 6 7 8 9 31", Command::Invoke(sent)),
-        (
-            b"load 1 2",
-            Command::Load {
-                process: 1,
-                address: 2,
-            },
-        ),
-        (
-            b"store 1 2 3",
-            Command::Store {
-                process: 1,
-                address: 2,
-                value: 3,
-            },
-        ),
+    let forms: [(&[u8], Invocation); 3] = [
+        (b"call 1 2 3 4 5 6 7 8 9 31", called),
+        (b"return 1 2 3 4 5 6 7 8 9 31", returned),
+        (b"send 1 2 3 4 5 6 7 8 9 31", sent),
+    ];
+    for (line, invocation) in forms {
+        assert_eq!(rt;
+            parse_line(line),
+            Line::Command(Command::Invoke(invocation))
+        );
+    }
+}
+
+#[test]
+fn each_other_form_is_read(rt: HostRuntime) {
+    let load = Command::Load {
+        process: 1,
+        address: 2,
+    };
+    let store = Command::Store {
+        process: 1,
+        address: 2,
+        value: 3,
+    };
+    let most = Command::Stabilize { count: u64::MAX };
+    let forms: [(&[u8], Command); 10] = [
+        (b"load 1 2", load),
+        (b"store 1 2 3", store),
         (b"show 0", Command::Show { number: 0 }),
         (b"evict 10", Command::Evict { number: 10 }),
         (b"checkpoint", Command::Checkpoint),
-        (
-            b"stabilize 18446744073709551615",
-            Command::Stabilize { count: u64::MAX },
-        ),
+        (b"stabilize 18446744073709551615", most),
         (b"commit", Command::Commit),
         (b"migrate 7", Command::Migrate { count: 7 }),
         (b"restart", Command::Restart),
@@ -279,54 +285,55 @@ fn shown(number: u64, owner: u64, content: Content<Capability>) -> Answer {
 
 #[test]
 fn short_answers(rt: HostRuntime) -> Result<(), Fail> {
-    let answers: [(Answer, &[u8]); 14] = [
+    let at = Answer::At {
+        generation: 0,
+        age: 4611686018427387904,
+    };
+    let answers: [(Answer, &[u8]); 8] = [
         (Answer::Done, b"done\n"),
         (Answer::Value(0), b"value 0\n"),
         (Answer::Value(u64::MAX), b"value 18446744073709551615\n"),
-        (
-            Answer::MemoryFault(MemoryFault::NoSpace),
-            b"memory fault 1\n",
-        ),
-        (
-            Answer::MemoryFault(MemoryFault::Beyond),
-            b"memory fault 2\n",
-        ),
-        (Answer::MemoryFault(MemoryFault::Hole), b"memory fault 3\n"),
-        (
-            Answer::MemoryFault(MemoryFault::Malformed),
-            b"memory fault 4\n",
-        ),
-        (
-            Answer::MemoryFault(MemoryFault::ReadOnly),
-            b"memory fault 5\n",
-        ),
         (Answer::Frozen(16), b"frozen 16\n"),
         (Answer::Left(2), b"left 2\n"),
         (Answer::Committed(1), b"committed 1\n"),
-        (
-            Answer::At {
-                generation: 0,
-                age: 4611686018427387904,
-            },
-            b"at 0 4611686018427387904\n",
-        ),
+        (at, b"at 0 4611686018427387904\n"),
         (shown(5, 0, Content::Free), b"free 5\nend\n"),
-        (
-            Answer::Shown {
-                number: 5,
-                object: Object {
-                    owner: 0,
-                    content: Content::Bank { limit: 2 },
-                },
-                registers: None,
-                used: 2,
-            },
-            b"bank 5 owner 0 limit 2 used 2\nend\n",
-        ),
     ];
     for (answer, text) in answers {
         assert_eq!(rt; text_of(rt.alloc(), answer)?.as_slice(), text);
     }
+    Ok(())
+}
+
+#[test]
+fn memory_faults(rt: HostRuntime) -> Result<(), Fail> {
+    let faults: [(MemoryFault, &[u8]); 5] = [
+        (MemoryFault::NoSpace, b"memory fault 1\n"),
+        (MemoryFault::Beyond, b"memory fault 2\n"),
+        (MemoryFault::Hole, b"memory fault 3\n"),
+        (MemoryFault::Malformed, b"memory fault 4\n"),
+        (MemoryFault::ReadOnly, b"memory fault 5\n"),
+    ];
+    for (fault, text) in faults {
+        let answer = Answer::MemoryFault(fault);
+        assert_eq!(rt; text_of(rt.alloc(), answer)?.as_slice(), text);
+    }
+    Ok(())
+}
+
+#[test]
+fn a_bank_is_shown_with_its_usage(rt: HostRuntime) -> Result<(), Fail> {
+    let bank = Answer::Shown {
+        number: 5,
+        object: Object {
+            owner: 0,
+            content: Content::Bank { limit: 2 },
+        },
+        registers: None,
+        used: 2,
+    };
+    let text: &[u8] = b"bank 5 owner 0 limit 2 used 2\nend\n";
+    assert_eq!(rt; text_of(rt.alloc(), bank)?.as_slice(), text);
     Ok(())
 }
 
