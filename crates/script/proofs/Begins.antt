@@ -1,21 +1,15 @@
 -- The world F0 is one that scripts of calls can run over.
-use Rattle.std.proofs.Common.{◌≡◌, ℕ, Result, Ok, Err, sym, subst, ⊎_elim}
+use Rattle.std.proofs.Common.{◌≡◌, Result, Ok, Err, sym, subst}
 use Rattle.std.specs.Prelude.{IfOk}
 use Rattle.capability.specs.Plain.{PlainState, world_of}
-use Rattle.gate.specs.Plan.{IsStorage, HoldOnlyStorage}
+use Rattle.gate.specs.Plan.{HoldOnlyStorage}
+use Rattle.gate.proofs.FirstWorld.{f0_storage}
 use Rattle.model.specs.declared.geometry.Geometry.{Geometry}
 use Rattle.model.specs.Sound.{IsSound}
 use Rattle.model.specs.World.{World}
 use Rattle.model.specs.Worlds.{small, f0}
-use Rattle.model.proofs.SoundWorlds.{f0_sound, f0_slots}
+use Rattle.model.proofs.SoundWorlds.{f0_sound}
 use Rattle.script.specs.First.{IsStorageWorld}
-
--- F0 holds nothing but a node and a page
-f0_storage : HoldOnlyStorage f0.objects
-f0_storage n i = ⊎_elim
-    (λ is. subst IsStorage (sym is) tt)
-    (λ other. ⊎_elim (λ is. subst IsStorage (sym is) tt) (λ is. subst IsStorage (sym is) tt) other)
-    (f0_slots n i)
 
 pub begins : (plain : PlainState) → world_of plain ≡ f0 → plain.geometry ≡ small → IsStorageWorld plain
 begins plain world geometry = record {
