@@ -1,1 +1,2 @@
 pub mod FirstRuns
+pub mod OneByte

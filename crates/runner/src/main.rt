@@ -3,10 +3,12 @@
 
 mod fault;
 mod first_world;
+mod single_bytes;
 mod words;
 
 use crate::fault::Fault;
 use crate::first_world::run_first;
+use crate::single_bytes::SingleBytes;
 use clap::ArgMatches;
 use std::fs::File;
 use std::io::{BufReader, BufWriter, Write};
@@ -16,7 +18,8 @@ use std::process::ExitCode;
 fn first(rt: &HostRuntime, path: &str) -> Result<(), Fault> {
     let alloc = rt.alloc();
     let file = File::open(rt, path).map_err(|_| Fault::CannotReadScript)?;
-    let mut reader = BufReader::new(alloc, file).map_err(|_| Fault::NoMemory)?;
+    let buffered = BufReader::new(alloc, file).map_err(|_| Fault::NoMemory)?;
+    let mut reader = SingleBytes::new(buffered);
     let mut writer = BufWriter::new(alloc, rt.stdout()).map_err(|_| Fault::NoMemory)?;
     let outcome = run_first(alloc, &mut reader, &mut writer);
     writer.flush().map_err(|_| Fault::CannotWriteOutput)?;
