@@ -65,16 +65,56 @@ fn received(rt: &impl Abort, plain: &Plain) -> ([u64; 4], Capability) {
     (words, objects::slot(plain, 2, 28))
 }
 
+/// What process 1 asks: of the capability in a register, by an order and its arguments, with the
+/// capability in another register sent first.
+#[derive(Clone, Copy)]
+struct Asked {
+    register: u8,
+    order: u64,
+    first: u64,
+    second: u64,
+    sent: u8,
+}
+
+const fn ask(register: u8, order: u64, first: u64, second: u64) -> Asked {
+    Asked {
+        register,
+        order,
+        first,
+        second,
+        sent: 0,
+    }
+}
+
+/// One call, and the words and the capability that are to be delivered.
+type Exchange = (Asked, [u64; 4], Capability);
+
+/// The first world after these calls.
+fn exchanged(rt: &impl Abort, alloc: Global, exchanges: &[Exchange]) -> Result<Plain, Fail> {
+    let mut plain = first_world(alloc)?;
+    for (asked, words, capability) in exchanges {
+        let Asked {
+            register,
+            order,
+            first,
+            second,
+            sent,
+        } = *asked;
+        assert!(rt; register < 32 && sent < 32);
+        calls(alloc, &mut plain, register, order, first, second, sent)?;
+        assert_eq!(rt; received(rt, &plain), (*words, *capability));
+    }
+    Ok(plain)
+}
+
 #[test]
 fn page(rt: HostRuntime) -> Result<(), Fail> {
-    let alloc = rt.alloc();
-    let mut plain = first_world(alloc)?;
-    calls(alloc, &mut plain, 6, 2, 3, 99, 0)?;
-    assert_eq!(rt; received(&rt, &plain), ([0, 0, 0, 0], Capability::Void));
-    calls(alloc, &mut plain, 6, 1, 3, 0, 0)?;
-    assert_eq!(rt; received(&rt, &plain), ([0, 99, 0, 0], Capability::Void));
-    calls(alloc, &mut plain, 6, 1, 512, 0, 0)?;
-    assert_eq!(rt; received(&rt, &plain), ([3, 0, 0, 0], Capability::Void));
+    let exchanges = [
+        (ask(6, 2, 3, 99), [0, 0, 0, 0], Capability::Void),
+        (ask(6, 1, 3, 0), [0, 99, 0, 0], Capability::Void),
+        (ask(6, 1, 512, 0), [3, 0, 0, 0], Capability::Void),
+    ];
+    let plain = exchanged(&rt, rt.alloc(), &exchanges)?;
     assert!(rt; plain.count() > 16);
     assert_eq!(rt; objects::word(&plain, 16, 3), 99);
     Ok(())
@@ -82,55 +122,50 @@ fn page(rt: HostRuntime) -> Result<(), Fail> {
 
 #[test]
 fn node(rt: HostRuntime) -> Result<(), Fail> {
-    let alloc = rt.alloc();
-    let mut plain = first_world(alloc)?;
-    let done = [0, 0, 0, 0];
-    calls(alloc, &mut plain, 5, 2, 0, 0, 6)?;
-    assert_eq!(rt; received(&rt, &plain), (done, Capability::Void));
-    calls(alloc, &mut plain, 5, 3, 3, 0, 0)?;
     let node = Capability::Node {
         object: 5,
         access: weak_access(),
     };
-    assert_eq!(rt; received(&rt, &plain), (done, node));
-    calls(alloc, &mut plain, 28, 1, 0, 0, 0)?;
     let page = Capability::Page {
         object: 16,
         access: weak_access(),
     };
-    assert_eq!(rt; received(&rt, &plain), (done, page));
-    calls(alloc, &mut plain, 28, 2, 0, 9, 0)?;
-    assert_eq!(rt; received(&rt, &plain), ([2, 0, 0, 0], Capability::Void));
-    calls(alloc, &mut plain, 0, 1, 0, 0, 0)?;
-    assert_eq!(rt; received(&rt, &plain), ([8, 0, 0, 0], Capability::Void));
+    let page_sent = Asked {
+        sent: 6,
+        ..ask(5, 2, 0, 0)
+    };
+    let exchanges = [
+        (page_sent, [0, 0, 0, 0], Capability::Void),
+        (ask(5, 3, 3, 0), [0, 0, 0, 0], node),
+        (ask(28, 1, 0, 0), [0, 0, 0, 0], page),
+        (ask(28, 2, 0, 9), [2, 0, 0, 0], Capability::Void),
+        (ask(0, 1, 0, 0), [8, 0, 0, 0], Capability::Void),
+    ];
+    exchanged(&rt, rt.alloc(), &exchanges)?;
     Ok(())
 }
 
 #[test]
 fn number_and_space(rt: HostRuntime) -> Result<(), Fail> {
-    let alloc = rt.alloc();
-    let mut plain = first_world(alloc)?;
-    let done = [0, 0, 0, 0];
-    calls(alloc, &mut plain, 5, 5, 2, 77, 0)?;
-    calls(alloc, &mut plain, 5, 1, 2, 0, 0)?;
-    assert_eq!(rt; received(&rt, &plain), (done, Capability::Number(77)));
-    calls(alloc, &mut plain, 28, 1, 0, 0, 0)?;
-    assert_eq!(rt; received(&rt, &plain), ([0, 77, 0, 0], Capability::Void));
-    calls(alloc, &mut plain, 5, 4, 4, 0, 0)?;
+    let number = Capability::Number(77);
     let whole = Capability::Space {
         object: 5,
         height: 4,
         access: full_access(),
     };
-    assert_eq!(rt; received(&rt, &plain), (done, whole));
-    calls(alloc, &mut plain, 28, 3, 1, 0, 0)?;
     let read_only = Capability::Space {
         object: 5,
         height: 4,
         access: Access::READ_ONLY,
     };
-    assert_eq!(rt; received(&rt, &plain), (done, read_only));
-    calls(alloc, &mut plain, 28, 1, 0, 0, 0)?;
-    assert_eq!(rt; received(&rt, &plain), ([1, 0, 0, 0], Capability::Void));
+    let exchanges = [
+        (ask(5, 5, 2, 77), [0, 0, 0, 0], Capability::Void),
+        (ask(5, 1, 2, 0), [0, 0, 0, 0], number),
+        (ask(28, 1, 0, 0), [0, 77, 0, 0], Capability::Void),
+        (ask(5, 4, 4, 0), [0, 0, 0, 0], whole),
+        (ask(28, 3, 1, 0), [0, 0, 0, 0], read_only),
+        (ask(28, 1, 0, 0), [1, 0, 0, 0], Capability::Void),
+    ];
+    exchanged(&rt, rt.alloc(), &exchanges)?;
     Ok(())
 }
