@@ -1,11 +1,11 @@
 -- What was taken from a reader, put together, and the lines that it is.
-use Rattle.std.proofs.Common.{◌≡◌, ◌≢◌, ◌<◌, suc, ◌==◌, false, ℕ, List, [], ◌∷◌, ◌++◌, Option, Some, inl, inr, length, refl, sym, ap, ◌∙◌, subst, append-nil, arith}
+use Rattle.std.proofs.Common.{◌≡◌, ◌≢◌, ◌<◌, suc, ◌==◌, false, ℕ, List, [], ◌∷◌, ◌++◌, Option, Some, inl, inr, length, refl, sym, ap, ◌∙◌, subst, append-nil, arith, ⊎_elim}
 use Rattle.std.proofs.KnownBytes.{Consumes-trans}
 use Rattle.std.proofs.lemmas.Bool.Decides.{nat_tests}
 use Rattle.model.specs.Run.{lines_of}
 use Rattle.std.specs.Io.KnownBytes.{Consumes, IsAtEnd}
 use Rattle.model.specs.Text.{line_of}
-use Rattle.script.specs.Lines.{IsOneLine, TakesText}
+use Rattle.script.specs.Lines.{IsOneLine, TakesText, Holds}
 
 pub takes_nothing_more : (a b c : Option (List ℕ)) (text : List ℕ) → Consumes a b text → Consumes b c [] → Consumes a c text
 takes_nothing_more a b c text h k = subst (Consumes a c) (append-nil text) (Consumes-trans a b c text [] h k)
@@ -39,3 +39,9 @@ line_taken old new text one (inr last) =
 -- where no line was taken there is none
 pub no_line_taken : (old new : List ℕ) → Consumes (Some old) (Some new) [] → IsAtEnd (Some new) → lines_of old ≡ []
 no_line_taken old new same end = ap lines_of (same ∙ end)
+
+-- where bytes were counted, the line has some
+pub holds_some : (kept : List ℕ) (count : ℕ) (line : List ℕ) → Holds kept count line → (count ≡ 0 → ⊥) → line ≡ [] → ⊥
+holds_some kept count line holds some none = ⊎_elim
+    (λ keeps. some (keeps.1 ∙ ap length none))
+    (λ long. omega (arith, long.1, ap length none)) holds

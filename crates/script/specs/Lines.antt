@@ -1,10 +1,9 @@
 -- What is taken from a reader for a line of a script.
-use Rattle.std.specs.Prelude.{◌≡◌, ◌≢◌, ◌⊎◌, ℕ, ◌<◌, List, [], ◌∷◌, length, Bool, true, false, Option, None, Some}
+use Rattle.std.specs.Prelude.{◌≡◌, ◌≢◌, ◌⊎◌, ℕ, ◌<◌, ◌≤◌, List, [], ◌∷◌, length, take, Option, None, Some}
 use Rattle.std.specs.List.{All}
 use Rattle.std.specs.Io.KnownBytes.{Consumes, IsAtEnd}
 use Rattle.model.specs.Text.{Says, line_of}
 use Rattle.model.specs.declared.line.Line.{Line}
-use Rattle.script.specs.declared.lines.LineBuffer.{LineBuffer}
 use Rattle.script.specs.declared.lines.Next.{Next}
 use Rattle.script.specs.declared.lines.Next.TheVariants.{Byte, End, Again, Failed}
 
@@ -25,13 +24,13 @@ TakesLine old new (Some says) = (text : List ℕ) × IsOneLine text × TakesText
 abbrev pub TakesNoLine : Option (List ℕ) → Option (List ℕ) → Type 0
 TakesNoLine old new = (text : List ℕ) × IsOneLine text × Consumes old new text
 
--- the bytes kept are the text, or it is too long
-abbrev pub KeptOf : Bool → List ℕ → List ℕ → Type 0
-KeptOf false kept text = kept ≡ text
-KeptOf true kept text = 256 < length text
+-- the bytes of a line that are kept, and how many there are
+abbrev pub Keeps : List ℕ → ℕ → List ℕ → Type 0
+Keeps kept count line = (length line ≤ 256) × (count ≡ length line) × (take count kept ≡ line)
 
-abbrev pub Holds : LineBuffer → List ℕ → Type 0
-Holds buffer text = KeptOf buffer.too_long buffer.text.items text
+-- they are the line, or it is too long, and so is their number
+abbrev pub Holds : List ℕ → ℕ → List ℕ → Type 0
+Holds kept count line = Keeps kept count line ⊎ ((count ≡ 257) × (256 < length line))
 
 -- a byte was taken, or none
 abbrev pub TakesByte : Option (List ℕ) → Option (List ℕ) → Next → Type 0

@@ -1,52 +1,34 @@
-ghost use Rattle.std.specs.Prelude.{◌≡◌, ℕ, List, [], ◌∷◌, ◌++◌, IfOk, OnErr, IfErr, IsTrue, ◌↔◌};
+ghost use Rattle.std.specs.Prelude.{◌≡◌, ℕ, List, [], ◌∷◌, ◌++◌, length, IfOk, OnErr, IfErr};
 ghost use Rattle.script.specs.Lines.{TakesLine, TakesNoLine, Holds, TakesByte};
 ghost use Rattle.model.specs.Text.{Says};
 
 use crate::fault::RunFault;
-use crate::parse::parse_line;
-use arrayvec::ArrayVec;
+use crate::parse::{LONGEST_LINE, parse_line};
 use model::Line;
 use std::io::{ErrorKind, Read};
 
-/// A line as far as it was read.
-#[derive(Drop)]
-struct LineBuffer {
-    text: ArrayVec<u8, 256>,
-    too_long: bool,
+/// Adds a byte to a line of which so many bytes were read, and tells how many there are then. Those
+/// that have no room aren't kept, and count as one too many.
+fn push(text: &mut [u8], count: usize, byte: u8) -> usize
+    requires room { length text.old ≡ 256 }
+    ensures holds { (line : List ℕ) → Holds text.old count line → Holds text.new result (line ++ byte ∷ []) }
+    ensures room { length text.new ≡ 256 }
+{
+    if count >= LONGEST_LINE {
+        return LONGEST_LINE + 1;
+    }
+    text[count] = byte;
+    count + 1
 }
 
-impl LineBuffer {
-    fn new() -> Self
-        ensures { Holds result [] }
-    {
-        LineBuffer {
-            text: ArrayVec::new(),
-            too_long: false,
-        }
-    }
-
-    fn push(&mut self, byte: u8)
-        ensures { (text : List ℕ) → Holds self.old text → Holds self.new (text ++ byte ∷ []) }
-    {
-        if self.text.try_push(byte).is_err() {
-            self.too_long = true;
-        }
-    }
-
-    fn is_empty(&self) -> bool
-        ensures { (text : List ℕ) → Holds self.now text → (IsTrue result ↔ (text ≡ [])) }
-    {
-        !self.too_long && self.text.is_empty()
-    }
-
-    fn line(&self) -> Line
-        ensures { (text : List ℕ) → Holds self.now text → Says text result }
-    {
-        if self.too_long {
-            Line::Bad
-        } else {
-            parse_line(self.text.as_slice())
-        }
+/// What a line says of which so many bytes were read.
+fn said(text: &[u8], count: usize) -> Line
+    requires room { length text.now ≡ 256 }
+    ensures { (line : List ℕ) → Holds text.now count line → Says line result }
+{
+    match text.get(..count) {
+        Some(line) => parse_line(line),
+        None => Line::Bad,
     }
 }
 
@@ -87,13 +69,14 @@ pub fn next_line<R: Read>(reader: &mut R) -> Result<Option<Line>, RunFault>
     ensures err { OnErr result (TakesNoLine (R.remaining reader.old) (R.remaining reader.new)) }
     ensures fault { IfErr result (λ e. e ≡ RunFault.Read) }
 {
-    let mut buffer = LineBuffer::new();
+    let mut text = [0; LONGEST_LINE];
+    let mut count = 0;
     for _ in 0..u64::MAX {
         match next_byte(reader) {
-            Next::Byte(b'\n') => return Ok(Some(buffer.line())),
-            Next::Byte(byte) => buffer.push(byte),
-            Next::End if buffer.is_empty() => return Ok(None),
-            Next::End => return Ok(Some(buffer.line())),
+            Next::Byte(b'\n') => return Ok(Some(said(&text, count))),
+            Next::Byte(byte) => count = push(&mut text, count, byte),
+            Next::End if count == 0 => return Ok(None),
+            Next::End => return Ok(Some(said(&text, count))),
             Next::Again => {}
             Next::Failed => return Err(RunFault::Read),
         }
