@@ -1,5 +1,6 @@
 pub mod Commits
 pub mod Places
+pub mod ReadBack
 pub mod Refusals
 pub mod Runs
 pub mod SavedStates

@@ -6,7 +6,7 @@ use Rattle.layout.specs.declared.bad_image.BadImage.TheVariants.{BadFrame, BadDi
 use Rattle.layout.specs.declared.directory.Entry.{Entry}
 use Rattle.layout.specs.Directory.{directory_bytes, IsDirectory}
 use Rattle.layout.specs.Superblock.{Plan}
-use Rattle.layout.specs.Image.{sectors_from, slot_sector, frame_length, IsFrameOf}
+use Rattle.layout.specs.Image.{sectors_from, slot_sector, frame_length, frame_bytes, IsFrameOf}
 use Rattle.ckpt_log.specs.declared.fault.LogFault.{LogFault}
 use Rattle.ckpt_log.specs.declared.fault.LogFault.TheVariants.{Failed, Bad}
 
@@ -28,3 +28,15 @@ IsBadDirectory p bytes (Bad reason) = (reason ≡ BadDirectory) × ((es : List E
 pub record CountsFailed {T : Type 0} (old new : Disk) (result : Result T LogFault) : Type 0 where
   pub never_falls : old.failures ≤ new.failures
   pub cause : IsErrOf result Failed ↔ (old.failures < new.failures)
+
+-- a frame that was written is read, and nothing else, and it isn't refused
+abbrev pub SlotsAreReadBack : Type 0
+SlotsAreReadBack = (p : Plan) (age object : ℕ) (f : Frame) → IsFrameOf p.geometry age object (frame_bytes p object f) f →
+    ((read : Frame) → IsFrameOf p.geometry age object (frame_bytes p object f) read → read ≡ f)
+    × ((e : LogFault) → IsBadSlot p age object (frame_bytes p object f) e → e ≡ Failed)
+
+-- and so is a directory
+abbrev pub DirectoriesAreReadBack : Type 0
+DirectoriesAreReadBack = (p : Plan) (es : List Entry) → IsDirectory p.geometry es →
+    ((read : List Entry) → IsDirectory p.geometry read → directory_bytes es ≡ directory_bytes read → read ≡ es)
+    × ((e : LogFault) → IsBadDirectory p (directory_bytes es) e → e ≡ Failed)

@@ -1,5 +1,6 @@
 ghost use Rattle.ckpt_log.specs.Places.{SlotsAreInside, DirectoriesAreInside, HalvesAreWithin, HalvesAreApart, SlotsAreApart, SlotsSpareDirectories};
 ghost use Rattle.ckpt_log.specs.Saved.{SameHeader, SameDirectory, SameFrames, SameSaved};
+ghost use Rattle.ckpt_log.specs.Slot.{SlotsAreReadBack, DirectoriesAreReadBack};
 
 /// Images that agree in the header slots and their gates, in the directory of the committed header and in the
 /// frames that it names have the same committed header, directory and frames. So a write elsewhere leaves what is
@@ -21,4 +22,11 @@ pub fn keep_halves_apart()
     ensures apart { HalvesAreApart }
     ensures slots_apart { SlotsAreApart }
     ensures slots_spare_directories { SlotsSpareDirectories }
+{}
+
+/// A frame that meets the rules of the image, once it is written into a slot, is the one that is read there, and
+/// is refused only where the device fails; and so is a directory. It does nothing: its contract is the law.
+pub fn what_is_written_is_read()
+    ensures slots { SlotsAreReadBack }
+    ensures directories { DirectoriesAreReadBack }
 {}

@@ -12,7 +12,7 @@ mod sector;
 mod slots;
 
 pub use fault::LogFault;
-pub use laws::{keep_halves_apart, saved_is_read_from_its_sectors};
+pub use laws::{keep_halves_apart, saved_is_read_from_its_sectors, what_is_written_is_read};
 pub use log::Log;
 
 #[cfg(test)]

@@ -16,7 +16,7 @@ use Rattle.layout.proofs.Frames.{one_node_frame}
 use Rattle.layout.proofs.Pages.{one_page_frame}
 use Rattle.layout.proofs.Superblocks.{one_plan}
 
-one_frame : (b : Bool) (g : Geometry) (age : ℕ) (bytes : List ℕ) (e f : Frame) → IsFrameIf b g age bytes e → IsFrameIf b g age bytes f → e ≡ f
+pub one_frame : (b : Bool) (g : Geometry) (age : ℕ) (bytes : List ℕ) (e f : Frame) → IsFrameIf b g age bytes e → IsFrameIf b g age bytes f → e ≡ f
 one_frame true g age bytes e f ie if = one_node_frame g age e f ie.0 if.0 (sym ie.1 ∙ if.1)
 one_frame false g age bytes e f ie if = one_page_frame age e f ie.0 if.0 (sym ie.1 ∙ if.1)
 
