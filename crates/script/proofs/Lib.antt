@@ -1,6 +1,7 @@
 pub mod Begins
 pub mod Commands
 pub mod Fronts
+pub mod Keywords
 pub mod Numbers
 pub mod Spellings
 pub mod Split

@@ -1,5 +1,5 @@
 -- Steps of the machine that a store in memory stands for.
-use Rattle.std.proofs.Common.{◌≡◌, ℕ, ◌+◌, ◌^◌, ◌<◌, ◌≤◌, Bool, true, false, not, ◌&&◌, List, length, Option, None, Some, refl, sym, ap, ◌∙◌, subst, inl, inr, ⊎_elim, arith}
+use Rattle.std.proofs.Common.{◌≡◌, ℕ, ◌+◌, ◌^◌, ◌<◌, ◌≤◌, Bool, true, false, not, List, length, Option, None, Some, refl, sym, ap, ◌∙◌, subst, inl, inr, arith}
 use Rattle.std.specs.Prelude.{nat_lt, IsTrue}
 use Rattle.std.proofs.lemmas.Bool.Decides.{nat_tests}
 use Rattle.capability.specs.Plain.{PlainState, GoesOn, world_of}
@@ -19,7 +19,7 @@ use Rattle.model.specs.declared.object.Object.{Object}
 use Rattle.model.specs.Invoke.{Effect, invoke}
 use Rattle.model.specs.Machine.{Saved, Running, Machine, Up, touching, touched_count}
 use Rattle.model.specs.Sound.{IsSound, object_count}
-use Rattle.model.specs.Step.{Step, Answers, Outcome, MayWantMemory, refusal_of, carried_out, of_running, unless, overfills, writing, gives_way, takes_memory, shown}
+use Rattle.model.specs.Step.{Step, Outcome, refusal_of, carried_out, unless, overfills, writing, gives_way, shown}
 use Rattle.model.specs.Text.{Fits}
 use Rattle.model.specs.World.{World, content_at, is_process, is_running_process}
 use Rattle.model.specs.declared.capability.Capability.{Capability}

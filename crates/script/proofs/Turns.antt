@@ -1,8 +1,8 @@
 -- Turns of a run, one after another.
-use Rattle.std.proofs.Common.{◌≡◌, ℕ, ◌<◌, Bool, true, false, List, [], ◌∷◌, ◌++◌, map, length, Option, None, Some, Ok, Err, refl, sym, ap, ◌∙◌, subst, inl, inr, append_assoc, append-nil, ◌≢◌, ◌⊎◌, arith, length-append}
-use Rattle.std.specs.Prelude.{if◌then◌else◌, IsTrue}
-use Rattle.std.specs.List.{All, flat_map}
-use Rattle.std.specs.Io.KnownBytes.{Appends, Consumes, IsAtEnd}
+use Rattle.std.proofs.Common.{◌≡◌, ℕ, ◌<◌, Bool, true, List, [], ◌∷◌, ◌++◌, length, Option, None, Some, Ok, Err, refl, sym, ap, ◌∙◌, subst, inl, inr, append_assoc, append-nil, ◌≢◌, ◌⊎◌, arith, length-append}
+use Rattle.std.specs.Prelude.{if◌then◌else◌}
+use Rattle.std.specs.List.{flat_map}
+use Rattle.std.specs.Io.KnownBytes.{Appends, Consumes}
 use Rattle.std.proofs.lemmas.List.Concat.{flat_map-append}
 use Rattle.std.proofs.lemmas.List.Elements.{All-append, All-cons, All-nil}
 use Rattle.model.specs.declared.answer.Answer.{Answer}
@@ -13,7 +13,7 @@ use Rattle.model.specs.declared.line.Line.TheVariants as line
 use Rattle.model.specs.Machine.{Machine}
 use Rattle.model.specs.Run.{Reply, Told, Turn, IsTurn, IsRun, Replies, reply_text, output_of, understood}
 use Rattle.model.specs.Step.{Step}
-use Rattle.model.specs.Text.{Says, line_of}
+use Rattle.model.specs.Text.{line_of}
 use Rattle.script.specs.Lines.{IsOneLine, TakesText, TakesLine, TakesNoLine}
 use Rattle.script.specs.Writing.{AppendsFront}
 use Rattle.script.specs.declared.fault.RunFault.{RunFault}

@@ -1,11 +1,11 @@
 -- Scripts of calls over a store in memory.
-use Rattle.std.specs.Prelude.{◌≡◌, ℕ, ◌^◌, nat_lt, Bool, true, false, Option, None, List}
+use Rattle.std.specs.Prelude.{ℕ, ◌^◌, nat_lt, Bool, true, false, Option, None}
 use Rattle.capability.specs.Plain.{PlainState, world_of}
 use Rattle.gate.specs.Plan.{HoldOnlyStorage}
 use Rattle.model.specs.declared.command.Command.{Command}
 use Rattle.model.specs.declared.command.Command.TheVariants as command
 use Rattle.model.specs.declared.command.Operation.{Operation}
-use Rattle.model.specs.declared.command.Operation.TheVariants.{Call, Return, Send}
+use Rattle.model.specs.declared.command.Operation.TheVariants.{Call}
 use Rattle.model.specs.declared.answer.Refusal.{Refusal}
 use Rattle.model.specs.declared.answer.Refusal.TheVariants as refusal
 use Rattle.model.specs.Machine.{Saved, Machine, Up}

@@ -1,6 +1,6 @@
-use Rattle.std.proofs.Common.{◌≡◌, sym, ◌∙◌, refl}
+use Rattle.std.proofs.Common.{◌∙◌, refl}
 use Rattle.std.proofs.lemmas.Result.{err_from_is_err_and}
-use Rattle.script.specs.First.{machine_of, knows_first}
+use Rattle.script.specs.First.{knows_first}
 use Rattle.script.proofs.Turns.{begun, goes_on, fails_writing, fails_reading, ends, stops_reading}
 use Rattle.script.proofs.first.first_run.Goals as goal
 

@@ -1,9 +1,8 @@
-use Rattle.std.proofs.Common.{refl, sym, ap, subst}
+use Rattle.std.proofs.Common.{sym, ap, subst}
 use Rattle.std.proofs.Common.{Err}
 use Rattle.model.specs.declared.answer.Answer.TheVariants as answer
 use Rattle.model.specs.declared.answer.Refusal.TheVariants as refusal
 use Rattle.model.specs.declared.command.Command.TheVariants as command
-use Rattle.model.specs.Machine.{Machine}
 use Rattle.model.specs.Step.{Step}
 use Rattle.script.specs.First.{machine_of}
 use Rattle.script.proofs.Steps.{early_step, raised_done, raised_world, plain_full, plain_no_memory, unchanged_machine}
