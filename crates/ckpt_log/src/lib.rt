@@ -14,6 +14,3 @@ mod slots;
 pub use fault::LogFault;
 pub use laws::{keep_halves_apart, saved_is_read_from_its_sectors, what_is_written_is_read};
 pub use log::Log;
-
-#[cfg(test)]
-mod tests;

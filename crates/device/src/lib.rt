@@ -16,6 +16,3 @@ pub use fuse::Fuse;
 pub use memory::Memory;
 pub use ordered::{write_durably, write_in_order};
 pub use record::Outcome;
-
-#[cfg(test)]
-mod tests;

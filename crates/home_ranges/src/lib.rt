@@ -10,6 +10,3 @@ mod sectors;
 pub use fault::HomeFault;
 pub use home::Home;
 pub use laws::keep_places_apart;
-
-#[cfg(test)]
-mod tests;

@@ -30,6 +30,3 @@ pub use slots::VOID;
 pub use superblock::{
     MAX_RANGES, MAX_SECTORS, SECTOR_BYTES, Superblock, decode_superblock, encode_superblock,
 };
-
-#[cfg(test)]
-mod tests;

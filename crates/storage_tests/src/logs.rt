@@ -1,7 +1,7 @@
 ghost use Rattle.std.specs.Prelude.{◌≡◌, ◌≤◌, ◌+◌, IfOk};
 ghost use Rattle.device.specs.Memory.{memory_disk};
 
-use crate::{Log, LogFault};
+use ckpt_log::{Log, LogFault};
 use device::{Device, Failed, Fuse, Memory, Outcome, SECTOR_SIZE};
 use layout::{
     BadImage, CheckpointHeader, Entry, Gate, HomeRange, NodeBody, PageBody, Superblock, VOID,

@@ -1,6 +1,11 @@
 ghost use Rattle.std.specs.Prelude.{◌≡◌, ℕ, ◌<◌, length};
 
-use super::*;
+use layout::{
+    BadImage, CheckpointHeader, Entry, Gate, HomeRange, NodeBody, Superblock, VOID,
+    decode_capability, decode_directory, decode_gate, decode_header, decode_node_frame,
+    decode_page_frame, decode_superblock, encode_capability, encode_gate, encode_header,
+    encode_node_frame, encode_superblock, total_in,
+};
 use model::{Cap, Capability, Content, Frame, Geometry, Header, Slots, State, Words};
 use std::alloc::{AllocError, Global};
 use std::test::Fail;

@@ -2,8 +2,8 @@ ghost use Rattle.std.specs.Prelude.{◌≡◌, ℕ, ◌<◌, ◌≤◌, IfOk};
 ghost use Rattle.device.specs.Fuse.{fused};
 ghost use Rattle.device.specs.Memory.{memory_disk};
 
-use crate::{Home, HomeFault};
 use device::{Device, Failed, Fuse, Memory, Outcome};
+use home_ranges::{Home, HomeFault};
 use layout::{BadImage, HomeRange, NodeBody, PageBody, Superblock, VOID};
 use model::{Cap, Capability, Content, Frame, Geometry, Header, Slots, Words};
 use std::alloc::Global;

@@ -2,7 +2,7 @@ ghost use Rattle.std.specs.Prelude.{◌≡◌, ◌≤◌, IfOk};
 ghost use Rattle.device.specs.Memory.{memory_disk};
 ghost use Rattle.device.specs.Fuse.{fused};
 
-use crate::{Device, Failed, Fuse, Memory, Outcome, write_in_order};
+use device::{Device, Failed, Fuse, Memory, Outcome, write_in_order};
 use std::alloc::Global;
 use std::test::Fail;
 
