@@ -4,8 +4,6 @@
 pub mod diminish;
 pub mod objects;
 pub mod plain;
-#[cfg(test)]
-mod tests;
 pub mod view;
 
 pub use model::{Access, Cap, Capability};

@@ -8,5 +8,3 @@ pub mod node;
 pub mod page;
 pub mod plan;
 pub mod storage;
-#[cfg(test)]
-mod tests;

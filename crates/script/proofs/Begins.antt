@@ -1,6 +1,5 @@
 -- The world F0 is one that scripts of calls can run over.
-use Rattle.std.proofs.Common.{◌≡◌, Result, Ok, Err, sym, subst}
-use Rattle.std.specs.Prelude.{IfOk}
+use Rattle.std.proofs.Common.{◌≡◌, sym, subst}
 use Rattle.capability.specs.Plain.{PlainState, world_of}
 use Rattle.gate.specs.Plan.{HoldOnlyStorage}
 use Rattle.gate.proofs.FirstWorld.{f0_storage}
@@ -16,8 +15,3 @@ begins plain world geometry = record {
   sound = subst (λ (g : Geometry). IsSound g (world_of plain)) (sym geometry) (subst (IsSound small) (sym world) f0_sound);
   storage = subst (λ (w : World). HoldOnlyStorage w.objects) (sym world) f0_storage;
 }
-
--- a store that was made for it, if one was
-pub begins_where_made : {E : Type 0} (made : Result PlainState E) → IfOk made (λ p. world_of p ≡ f0) → IfOk made (λ p. p.geometry ≡ small) → IfOk made IsStorageWorld
-begins_where_made (Ok plain) world geometry = begins plain world geometry
-begins_where_made (Err e) world geometry = tt

@@ -19,8 +19,3 @@ pub use first::first_run;
 pub use lines::next_line;
 pub use parse::parse_line;
 pub use print::{print_answer, print_bad_line};
-
-#[cfg(test)]
-mod first_tests;
-#[cfg(test)]
-mod tests;

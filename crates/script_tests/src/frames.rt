@@ -1,7 +1,6 @@
-use crate::diminish::diminish;
-use crate::plain::Plain;
-use crate::plain::usage::usage;
 use bitflags::Flags;
+use capability::diminish::diminish;
+use capability::{Plain, usage};
 use model::{Access, Capability, Content, PrepareFault, PresentFrames, Role, State};
 use std::alloc::Global;
 use std::process::Abort;

@@ -1,5 +1,5 @@
-use Rattle.gate.proofs.FirstWorld.{made_sound, made_storage}
-use Rattle.gate.proofs.tests.first_world.Goals as goal
+use Rattle.script_tests.proofs.StorageWorlds.{made_sound, made_storage}
+use Rattle.script_tests.proofs.orders.first_world.Goals as goal
 
 pub returns-clause-sound : goal.returns-clause-sound
 returns-clause-sound c = made_sound c.f0.result c.f0.ensures.world c.f0.ensures.geometry

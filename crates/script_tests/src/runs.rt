@@ -1,9 +1,8 @@
 ghost use Rattle.std.specs.Prelude.{IfOk};
 ghost use Rattle.script.specs.First.{IsStorageWorld};
 
-use crate::fault::RunFault;
-use crate::first::first_run;
 use capability::Plain;
+use script::{RunFault, first_run};
 use std::alloc::{AllocError, Global};
 use std::io;
 use std::io::{ErrorKind, Read, Write};

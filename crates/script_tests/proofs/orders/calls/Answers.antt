@@ -10,8 +10,8 @@ use Rattle.model.specs.Frame.{objects_of}
 use Rattle.model.specs.Sound.{IsSound}
 use Rattle.model.specs.Text.{Fits}
 use Rattle.model.specs.World.{is_running_process}
-use Rattle.gate.proofs.FirstWorld.{all_below, invoked_sound, invoked_storage}
-use Rattle.gate.proofs.tests.calls.Goals as goal
+use Rattle.script_tests.proofs.StorageWorlds.{all_below, invoked_sound, invoked_storage}
+use Rattle.script_tests.proofs.orders.calls.Goals as goal
 
 abbrev invocation : ℕ → ℕ → ℕ → ℕ → ℕ → Invocation
 invocation register order first second sent =

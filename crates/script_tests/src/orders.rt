@@ -3,9 +3,9 @@ ghost use Rattle.gate.specs.Plan.{HoldOnlyStorage};
 ghost use Rattle.model.specs.Frame.{objects_of};
 ghost use Rattle.model.specs.Sound.{IsSound};
 
-use crate::call::call;
 use capability::diminish::{full_access, weak_access};
 use capability::{Plain, objects};
+use gate::call::call;
 use model::{
     Access, Capability, Content, Invocation, Operation, PrepareFault, PresentFrames, State,
 };

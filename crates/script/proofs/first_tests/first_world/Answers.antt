@@ -1,5 +1,0 @@
-use Rattle.script.proofs.Begins.{begins_where_made}
-use Rattle.script.proofs.first_tests.first_world.Goals as goal
-
-pub returns : goal.returns
-returns c = begins_where_made c.f0.result c.f0.ensures.world c.f0.ensures.geometry
