@@ -2,9 +2,10 @@ use model::{
     Access, Answer, Capability, Content, MemoryFault, Object, Refusal, Root, Slots, State, Words,
 };
 use script::{RunFault, print_answer, print_bad_line};
-use std::alloc::Global;
+use std::alloc::{AllocError, Global};
 use std::io;
 use std::io::{ErrorKind, Write};
+use std::process::Abort;
 use std::test::Fail;
 
 /// Takes so many bytes at a time, as long as it has room, and then fails or takes nothing.
@@ -49,10 +50,30 @@ impl Write for Narrow {
     }
 }
 
-fn text_of(alloc: Global, answer: Answer) -> Result<Vec<u8>, RunFault> {
+fn text_of(alloc: Global, answer: &Answer) -> Result<Vec<u8>, RunFault> {
     let mut text = Vec::new(alloc);
-    print_answer(&answer, &mut text)?;
+    print_answer(answer, &mut text)?;
     Ok(text)
+}
+
+/// An answer is written as that text.
+fn print(rt: &impl Abort, alloc: Global, answer: &Answer, text: &[u8]) -> Result<(), RunFault> {
+    assert_eq!(rt; text_of(alloc, answer)?.as_slice(), text);
+    Ok(())
+}
+
+/// Void slots but for these.
+fn slots(
+    rt: &impl Abort,
+    alloc: Global,
+    held: &[(usize, Capability)],
+) -> Result<Slots<Capability>, AllocError> {
+    let mut slots = Slots::new(alloc, Capability::Void)?;
+    for (index, capability) in held {
+        assert!(rt; *index < 32);
+        slots.set(*index, *capability);
+    }
+    Ok(slots)
 }
 
 fn shown(number: u64, owner: u64, content: Content<Capability>) -> Answer {
@@ -81,7 +102,7 @@ fn short_answers(rt: HostRuntime) -> Result<(), Fail> {
         (shown(5, 0, Content::Free), b"free 5\nend\n"),
     ];
     for (answer, text) in answers {
-        assert_eq!(rt; text_of(rt.alloc(), answer)?.as_slice(), text);
+        print(&rt, rt.alloc(), &answer, text)?;
     }
     Ok(())
 }
@@ -96,8 +117,7 @@ fn memory_faults(rt: HostRuntime) -> Result<(), Fail> {
         (MemoryFault::ReadOnly, b"memory fault 5\n"),
     ];
     for (fault, text) in faults {
-        let answer = Answer::MemoryFault(fault);
-        assert_eq!(rt; text_of(rt.alloc(), answer)?.as_slice(), text);
+        print(&rt, rt.alloc(), &Answer::MemoryFault(fault), text)?;
     }
     Ok(())
 }
@@ -114,7 +134,19 @@ fn a_bank_is_shown_with_its_usage(rt: HostRuntime) -> Result<(), Fail> {
         used: 2,
     };
     let text: &[u8] = b"bank 5 owner 0 limit 2 used 2\nend\n";
-    assert_eq!(rt; text_of(rt.alloc(), bank)?.as_slice(), text);
+    print(&rt, rt.alloc(), &bank, text)?;
+    Ok(())
+}
+
+/// The refusals are written as these texts.
+fn print_refusals(
+    rt: &impl Abort,
+    alloc: Global,
+    refusals: &[(Refusal, &[u8])],
+) -> Result<(), RunFault> {
+    for (refusal, text) in refusals {
+        print(rt, alloc, &Answer::Refused(*refusal), text)?;
+    }
     Ok(())
 }
 
@@ -135,12 +167,12 @@ fn refusals(rt: HostRuntime) -> Result<(), Fail> {
         (Refusal::Fault, b"fault\n"),
         (Refusal::BadNumber, b"bad number\n"),
     ];
-    for (refusal, text) in refusals {
-        assert_eq!(rt;
-            text_of(rt.alloc(), Answer::Refused(refusal))?.as_slice(),
-            text
-        );
-    }
+    print_refusals(&rt, rt.alloc(), &refusals)?;
+    Ok(())
+}
+
+#[test]
+fn a_bad_line(rt: HostRuntime) -> Result<(), Fail> {
     let mut text = Vec::new(rt.alloc());
     print_bad_line(&mut text)?;
     assert_eq!(rt; text.as_slice(), b"bad line\n".as_slice());
@@ -149,18 +181,18 @@ fn refusals(rt: HostRuntime) -> Result<(), Fail> {
 
 #[test]
 fn a_process(rt: HostRuntime) -> Result<(), Fail> {
-    let mut registers = Slots::new(rt.alloc(), Capability::Void)?;
-    registers.set(1, Capability::Process(1));
-    registers.set(2, Capability::Bank(0));
-    registers.set(3, Capability::Start { process: 3, key: 7 });
-    registers.set(
-        28,
-        Capability::Page {
-            object: 16,
-            access: Access::READ_ONLY,
-        },
-    );
-    registers.set(31, Capability::Resume(1));
+    let page = Capability::Page {
+        object: 16,
+        access: Access::READ_ONLY,
+    };
+    let held = [
+        (1, Capability::Process(1)),
+        (2, Capability::Bank(0)),
+        (3, Capability::Start { process: 3, key: 7 }),
+        (28, page),
+        (31, Capability::Resume(1)),
+    ];
+    let registers = slots(&rt, rt.alloc(), &held)?;
     let answer = Answer::Shown {
         number: 1,
         object: Object {
@@ -176,10 +208,9 @@ fn a_process(rt: HostRuntime) -> Result<(), Fail> {
         registers: Some(registers),
         used: 0,
     };
-    assert_eq!(rt;
-        text_of(rt.alloc(), answer)?.as_slice(),
-        b"process 1 owner 0 annex 2 running key 8 words 6 0 0 9 space void\nregister 1 process 1\nregister 2 bank 0\nregister 3 start 3 7\nregister 28 page 16 ro\nregister 31 resume 1\nend\n".as_slice()
-    );
+    let text =
+        b"process 1 owner 0 annex 2 running key 8 words 6 0 0 9 space void\nregister 1 process 1\nregister 2 bank 0\nregister 3 start 3 7\nregister 28 page 16 ro\nregister 31 resume 1\nend\n";
+    print(&rt, rt.alloc(), &answer, text)?;
     Ok(())
 }
 
@@ -200,52 +231,66 @@ fn the_longest_line(rt: HostRuntime) -> Result<(), Fail> {
             },
         }),
     );
-    assert_eq!(rt;
-        text_of(rt.alloc(), answer)?.as_slice(),
-        b"process 18446744073709551615 owner 18446744073709551615 annex 18446744073709551615 available key 65535 words 18446744073709551615 18446744073709551615 18446744073709551615 18446744073709551615 space space 18446744073709551615 4 weak\nend\n".as_slice()
-    );
+    let text =
+        b"process 18446744073709551615 owner 18446744073709551615 annex 18446744073709551615 available key 65535 words 18446744073709551615 18446744073709551615 18446744073709551615 18446744073709551615 space space 18446744073709551615 4 weak\nend\n";
+    print(&rt, rt.alloc(), &answer, text)?;
     Ok(())
 }
 
 #[test]
-fn pages_and_slots(rt: HostRuntime) -> Result<(), Fail> {
+fn a_page(rt: HostRuntime) -> Result<(), Fail> {
     let mut words = Words::new(rt.alloc())?;
     words.set(3, 99);
     words.set(511, 1);
-    let page = text_of(rt.alloc(), shown(16, 0, Content::Page(words)))?;
-    assert_eq!(rt;
-        page.as_slice(),
-        b"page 16 owner 0\nword 3 99\nword 511 1\nend\n".as_slice()
-    );
-
-    let weak = Access::READ_ONLY | Access::WEAK;
-    let mut slots = Slots::new(rt.alloc(), Capability::Void)?;
-    slots.set(
-        0,
-        Capability::Page {
-            object: 16,
-            access: weak,
-        },
-    );
-    slots.set(2, Capability::Number(77));
-    slots.set(
-        3,
-        Capability::Node {
-            object: 5,
-            access: Access::READ_ONLY,
-        },
-    );
-    slots.set(31, Capability::Discrim);
-    let node = text_of(rt.alloc(), shown(5, 7, Content::Node(slots)))?;
-    assert_eq!(rt;
-        node.as_slice(),
-        b"node 5 owner 7\nslot 0 page 16 weak\nslot 2 number 77\nslot 3 node 5 ro\nslot 31 discrim\nend\n".as_slice()
-    );
-
-    let registers = Slots::new(rt.alloc(), Capability::Void)?;
-    let annex = text_of(rt.alloc(), shown(2, 0, Content::Annex(registers)))?;
-    assert_eq!(rt; annex.as_slice(), b"annex 2 owner 0\nend\n".as_slice());
+    let page = shown(16, 0, Content::Page(words));
+    let text = b"page 16 owner 0\nword 3 99\nword 511 1\nend\n";
+    print(&rt, rt.alloc(), &page, text)?;
     Ok(())
+}
+
+#[test]
+fn a_node(rt: HostRuntime) -> Result<(), Fail> {
+    let page = Capability::Page {
+        object: 16,
+        access: Access::READ_ONLY | Access::WEAK,
+    };
+    let read_only = Capability::Node {
+        object: 5,
+        access: Access::READ_ONLY,
+    };
+    let held = [
+        (0, page),
+        (2, Capability::Number(77)),
+        (3, read_only),
+        (31, Capability::Discrim),
+    ];
+    let slots = slots(&rt, rt.alloc(), &held)?;
+    let text =
+        b"node 5 owner 7\nslot 0 page 16 weak\nslot 2 number 77\nslot 3 node 5 ro\nslot 31 discrim\nend\n";
+    let node = shown(5, 7, Content::Node(slots));
+    print(&rt, rt.alloc(), &node, text)?;
+    Ok(())
+}
+
+#[test]
+fn an_annex(rt: HostRuntime) -> Result<(), Fail> {
+    let registers = Slots::new(rt.alloc(), Capability::Void)?;
+    let annex = shown(2, 0, Content::Annex(registers));
+    print(&rt, rt.alloc(), &annex, b"annex 2 owner 0\nend\n")?;
+    Ok(())
+}
+
+/// Writes an answer to a writer: all its text where there is room, and else a fault and what fits.
+fn write_narrowly(rt: &impl Abort, answer: &Answer, text: &[u8], mut writer: Narrow) {
+    let room = writer.room;
+    let outcome = print_answer(answer, &mut writer);
+    let expected = if room < text.len() {
+        Err(RunFault::Write)
+    } else {
+        Ok(())
+    };
+    assert_eq!(rt; outcome, expected);
+    assert_eq!(rt; writer.taken.as_slice(), &text[..room.min(text.len())]);
 }
 
 #[test]
@@ -257,15 +302,8 @@ fn narrow_writers(rt: HostRuntime) -> Result<(), Fail> {
     };
     for fails in [false, true] {
         for room in 0..12 {
-            let mut writer = Narrow::new(rt.alloc(), 1, room, fails);
-            let result = print_answer(&answer, &mut writer);
-            if room < text.len() {
-                assert_eq!(rt; result, Err(RunFault::Write));
-                assert_eq!(rt; writer.taken.as_slice(), &text[..room]);
-            } else {
-                assert_eq!(rt; result, Ok(()));
-                assert_eq!(rt; writer.taken.as_slice(), text.as_slice());
-            }
+            let writer = Narrow::new(rt.alloc(), 1, room, fails);
+            write_narrowly(&rt, &answer, text, writer);
         }
     }
     Ok(())
@@ -278,9 +316,8 @@ fn a_write_that_fails_in_the_middle_of_an_object(rt: HostRuntime) -> Result<(), 
     let answer = shown(16, 0, Content::Page(words));
     let text = b"page 16 owner 0\nword 0 42\nend\n";
     for room in 0..text.len() {
-        let mut writer = Narrow::new(rt.alloc(), 7, room, true);
-        assert_eq!(rt; print_answer(&answer, &mut writer), Err(RunFault::Write));
-        assert_eq!(rt; writer.taken.as_slice(), &text[..room]);
+        let writer = Narrow::new(rt.alloc(), 7, room, true);
+        write_narrowly(&rt, &answer, text, writer);
     }
     Ok(())
 }

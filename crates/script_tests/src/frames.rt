@@ -1,7 +1,7 @@
 use bitflags::Flags;
 use capability::diminish::diminish;
 use capability::{Plain, usage};
-use model::{Access, Capability, Content, PrepareFault, PresentFrames, Role, State};
+use model::{Access, Cap, Capability, Content, PrepareFault, PresentFrames, Role, State};
 use std::alloc::Global;
 use std::process::Abort;
 use std::test::Fail;
@@ -17,31 +17,55 @@ fn register(plain: &Plain, annex: u64, index: usize) -> Option<Capability> {
     }
 }
 
-/// The annex and the state of a process.
-fn process(plain: &Plain, number: u64) -> Option<(u64, State)> {
-    if number >= plain.count() {
-        return None;
-    }
-    match &plain.frame(number).content {
+/// The annex and the state of a process, where it is one.
+fn process_in(content: &Content<Cap>) -> Option<(u64, State)> {
+    match content {
         Content::Root(root) => Some((root.annex, root.state)),
         _ => None,
     }
 }
 
-fn role(rt: &impl Abort, plain: &Plain, number: u64) -> Role {
-    assert!(rt; number < plain.count());
-    plain.role(number)
+fn process(plain: &Plain, number: u64) -> Option<(u64, State)> {
+    if number >= plain.count() {
+        return None;
+    }
+    process_in(&plain.frame(number).content)
+}
+
+fn role<F: PresentFrames>(rt: &impl Abort, store: &F, number: u64) -> Role {
+    assert!(rt; number < store.count());
+    store.role(number)
 }
 
 /// Announces a write of a number, and of the same number again.
-fn touch(
+fn touch<F: PresentFrames>(
     rt: &impl Abort,
-    plain: &mut Plain,
+    store: &mut F,
     alloc: Global,
     number: u64,
 ) -> Result<(), PrepareFault> {
-    assert!(rt; number < plain.count());
-    plain.prepare(alloc, &[], &[number, number])
+    assert!(rt; number < store.count());
+    store.prepare(alloc, &[], &[number, number])
+}
+
+/// The number is a process with that annex, in that state.
+fn is_process(rt: &impl Abort, plain: &Plain, number: u64, annex: u64, state: State) {
+    assert_eq!(rt;
+        process(plain, number),
+        Some((annex, state)),
+        "process {number}"
+    );
+}
+
+/// The registers of an annex hold these capabilities.
+fn hold(rt: &impl Abort, plain: &Plain, annex: u64, registers: &[(usize, Capability)]) {
+    for (index, held) in registers {
+        assert_eq!(rt;
+            register(plain, annex, *index),
+            Some(*held),
+            "register {index} of {annex}"
+        );
+    }
 }
 
 #[test]
@@ -49,16 +73,15 @@ fn first_world(rt: HostRuntime) -> Result<(), Fail> {
     let plain = Plain::f0(rt.alloc())?;
     assert_eq!(rt; plain.count(), 24);
     assert_eq!(rt; plain.age(), 0);
-    assert_eq!(rt; process(&plain, 1), Some((2, State::Running)));
+    is_process(&rt, &plain, 1, 2, State::Running);
     let access = Access::empty();
-    for (index, held) in [
+    let registers = [
         (0, Capability::Void),
         (5, Capability::Node { object: 5, access }),
         (6, Capability::Page { object: 16, access }),
         (31, Capability::Void),
-    ] {
-        assert_eq!(rt; register(&plain, 2, index), Some(held), "register {index}");
-    }
+    ];
+    hold(&rt, &plain, 2, &registers);
     for (number, is) in [
         (0, Role::Bank),
         (3, Role::Free),
@@ -74,22 +97,19 @@ fn first_world(rt: HostRuntime) -> Result<(), Fail> {
 #[test]
 fn second_world(rt: HostRuntime) -> Result<(), Fail> {
     let plain = Plain::i0(rt.alloc())?;
-    assert_eq!(rt; process(&plain, 1), Some((2, State::Running)));
-    assert_eq!(rt; process(&plain, 3), Some((4, State::Available)));
-    for (index, held) in [
+    is_process(&rt, &plain, 1, 2, State::Running);
+    is_process(&rt, &plain, 3, 4, State::Available);
+    let registers = [
         (1, Capability::Process(1)),
         (2, Capability::Bank(0)),
         (3, Capability::Start { process: 3, key: 7 }),
         (4, Capability::Process(3)),
         (5, Capability::Void),
-    ] {
-        assert_eq!(rt; register(&plain, 2, index), Some(held), "register {index}");
-        assert_eq!(rt;
-            register(&plain, 4, index),
-            Some(Capability::Void),
-            "register {index}"
-        );
-    }
+    ];
+    hold(&rt, &plain, 2, &registers);
+    let void = Capability::Void;
+    let registers = [(1, void), (2, void), (3, void), (4, void), (5, void)];
+    hold(&rt, &plain, 4, &registers);
     Ok(())
 }
 
@@ -116,21 +136,42 @@ fn log_is_full(rt: HostRuntime) -> Result<(), Fail> {
     Ok(())
 }
 
+fn make_bank(rt: &impl Abort, plain: &mut Plain, number: u64) {
+    assert!(rt; number < plain.count());
+    plain.frame_mut(number).content = Content::Bank { limit: 9 };
+}
+
+fn give(rt: &impl Abort, plain: &mut Plain, number: u64, bank: u64) {
+    assert!(rt; number < plain.count());
+    plain.set_owner(number, bank);
+}
+
+fn used<F: PresentFrames>(rt: &impl Abort, store: &F, bank: u64) -> u64 {
+    assert!(rt; bank < store.count());
+    usage(store, bank)
+}
+
+/// The banks account for so many objects.
+fn account<F: PresentFrames>(rt: &impl Abort, store: &F, banks: &[(u64, u64)]) {
+    for (bank, count) in banks {
+        assert_eq!(rt; used(rt, store, *bank), *count, "bank {bank}");
+    }
+}
+
 #[test]
 fn usage_goes_up_the_chain(rt: HostRuntime) -> Result<(), Fail> {
     let mut plain = Plain::f0(rt.alloc())?;
     assert_eq!(rt; plain.count(), 24);
-    assert_eq!(rt; usage(&plain, 0), 4);
-    plain.frame_mut(6).content = Content::Bank { limit: 9 };
-    plain.frame_mut(7).content = Content::Bank { limit: 9 };
-    plain.set_owner(7, 6);
-    plain.set_owner(5, 7);
-    plain.set_owner(16, 7);
-    for (bank, used) in [(0, 6), (6, 3), (7, 2), (5, 0)] {
-        assert_eq!(rt; usage(&plain, bank), used, "bank {bank}");
+    account(&rt, &plain, &[(0, 4)]);
+    for bank in [6, 7] {
+        make_bank(&rt, &mut plain, bank);
     }
-    plain.set_owner(5, 99);
-    assert_eq!(rt; usage(&plain, 7), 1);
+    for (number, bank) in [(7, 6), (5, 7), (16, 7)] {
+        give(&rt, &mut plain, number, bank);
+    }
+    account(&rt, &plain, &[(0, 6), (6, 3), (7, 2), (5, 0)]);
+    give(&rt, &mut plain, 5, 99);
+    account(&rt, &plain, &[(7, 1)]);
     Ok(())
 }
 

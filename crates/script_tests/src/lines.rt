@@ -1,7 +1,9 @@
 use model::{Command, Invocation, Line, Operation};
 use script::{RunFault, next_line, parse_line};
+use std::alloc::{AllocError, Global};
 use std::io;
 use std::io::{ErrorKind, Read};
+use std::process::Abort;
 use std::test::Fail;
 
 // ---- lines
@@ -102,12 +104,17 @@ fn other_lines_are_bad(rt: HostRuntime) {
 
 #[test]
 fn skipped_and_long_lines(rt: HostRuntime) {
-    assert_eq!(rt; parse_line(b""), Line::Skip);
-    assert_eq!(rt; parse_line(b"#"), Line::Skip);
-    assert_eq!(rt; parse_line(b"# show 5"), Line::Skip);
-    assert_eq!(rt; parse_line(&[b'#'; 256]), Line::Skip);
-    assert_eq!(rt; parse_line(&[b'#'; 257]), Line::Bad);
-    assert_eq!(rt; parse_line(&[b'a'; 257]), Line::Bad);
+    let lines: [(&[u8], Line); 6] = [
+        (b"", Line::Skip),
+        (b"#", Line::Skip),
+        (b"# show 5", Line::Skip),
+        (&[b'#'; 256], Line::Skip),
+        (&[b'#'; 257], Line::Bad),
+        (&[b'a'; 257], Line::Bad),
+    ];
+    for (line, said) in lines {
+        assert_eq!(rt; parse_line(line), said);
+    }
 }
 
 // ---- reading
@@ -155,6 +162,14 @@ impl Read for Unsteady<'_> {
     }
 }
 
+/// These lines are taken from the reader one after the other.
+fn takes<R: Read>(rt: &impl Abort, reader: &mut R, lines: &[Option<Line>]) -> Result<(), RunFault> {
+    for line in lines {
+        assert_eq!(rt; next_line(reader)?, *line);
+    }
+    Ok(())
+}
+
 const SHOW: Line = Line::Command(Command::Show { number: 5 });
 
 #[test]
@@ -172,9 +187,7 @@ fn lines_are_taken_in_turn(rt: HostRuntime) -> Result<(), Fail> {
             None,
             None,
         ];
-        for line in lines {
-            assert_eq!(rt; next_line(&mut reader)?, line);
-        }
+        takes(&rt, &mut reader, &lines)?;
     }
     Ok(())
 }
@@ -187,15 +200,26 @@ fn no_byte_is_taken_past_the_newline(rt: HostRuntime) -> Result<(), Fail> {
     Ok(())
 }
 
+fn long_script(alloc: Global) -> Result<Vec<u8>, AllocError> {
+    let parts: [&[u8]; 7] = [
+        &[b'#'; 256],
+        b"\n",
+        &[b'#'; 257],
+        b"\n",
+        &[b'a'; 600],
+        b"\nshow 5\n",
+        &[b'a'; 257],
+    ];
+    let mut script = Vec::new(alloc);
+    for part in parts {
+        script.extend_from_slice(part)?;
+    }
+    Ok(script)
+}
+
 #[test]
 fn long_lines_are_taken_whole(rt: HostRuntime) -> Result<(), Fail> {
-    let mut script = Vec::from_slice(rt.alloc(), &[b'#'; 256])?;
-    script.extend_from_slice(b"\n")?;
-    script.extend_from_slice(&[b'#'; 257])?;
-    script.extend_from_slice(b"\n")?;
-    script.extend_from_slice(&[b'a'; 600])?;
-    script.extend_from_slice(b"\nshow 5\n")?;
-    script.extend_from_slice(&[b'a'; 257])?;
+    let script = long_script(rt.alloc())?;
     let mut reader = script.as_slice();
     let lines = [
         Some(Line::Skip),
@@ -205,9 +229,7 @@ fn long_lines_are_taken_whole(rt: HostRuntime) -> Result<(), Fail> {
         Some(Line::Bad),
         None,
     ];
-    for line in lines {
-        assert_eq!(rt; next_line(&mut reader)?, line);
-    }
+    takes(&rt, &mut reader, &lines)?;
     Ok(())
 }
 
