@@ -2,6 +2,7 @@ ghost use Rattle.std.specs.Prelude.{◌≡◌, ℕ, ◌<◌, ◌≤◌, IfOk};
 ghost use Rattle.device.specs.Fuse.{fused};
 ghost use Rattle.device.specs.Memory.{memory_disk};
 
+use crate::sectors::sector_at;
 use device::{Device, Failed, Fuse, Memory, Outcome};
 use home_ranges::{Home, HomeFault};
 use layout::{BadImage, HomeRange, NodeBody, PageBody, Superblock, VOID};
@@ -107,25 +108,61 @@ fn first_byte<D: Device>(device: &mut D, at: u64) -> Result<u8, Failed>
     requires { at < (D.disk device.old).sectors }
     ensures { (D.disk device.new).sectors ≡ (D.disk device.old).sectors }
 {
-    let mut sector = [9; 512];
-    device.read(at, &mut sector)?;
+    let sector = sector_at(device, at)?;
     Ok(sector[0])
 }
 
-fn node_on<D: Device>(rt: &impl Abort, alloc: Global, device: &mut D) -> Result<(), Fail>
-    requires { (D.disk device.old).sectors ≡ 399 }
+// Whether such an object was written.
+fn is_written<D: Device>(device: &mut D, number: u64, content: Content<Cap>) -> Result<bool, Fail>
+    requires number { number < 24 }
+    requires inside { (D.disk device.old).sectors ≡ 399 }
+    ensures { (D.disk device.new).sectors ≡ 399 }
 {
-    let home = in_order()?;
-    let mut slots = Slots::new(alloc, VOID)?;
-    slots.set(31, NUMBER);
     let frame = Frame {
         header: HEADER,
-        content: Content::Node(slots),
+        content,
     };
-    home.write_frame(device, 3, &frame)?;
+    Ok(in_order()?.write_frame(device, number, &frame).is_ok())
+}
 
+// Why a node isn't read.
+fn node_fault<D: Device>(
+    alloc: Global,
+    device: &mut D,
+    number: u64,
+) -> Result<Option<HomeFault>, Fail>
+    requires number { number < 16 }
+    requires inside { (D.disk device.old).sectors ≡ 399 }
+    ensures { (D.disk device.new).sectors ≡ 399 }
+{
+    let mut slots = Slots::new(alloc, VOID)?;
+    let read = in_order()?.read_node_frame(device, number, AGE, &mut slots);
+    Ok(read.err())
+}
+
+// Why a page isn't read.
+fn page_fault<D: Device>(
+    alloc: Global,
+    device: &mut D,
+    number: u64,
+) -> Result<Option<HomeFault>, Fail>
+    requires first { 16 ≤ number }
+    requires number { number < 24 }
+    requires inside { (D.disk device.old).sectors ≡ 399 }
+    ensures { (D.disk device.new).sectors ≡ 399 }
+{
+    let mut words = Words::new(alloc)?;
+    let read = in_order()?.read_page_frame(device, number, AGE, &mut words);
+    Ok(read.err())
+}
+
+// Object 3 is a node whose slot 31 has a number.
+fn read_node_3<D: Device>(rt: &impl Abort, alloc: Global, device: &mut D) -> Result<(), Fail>
+    requires { (D.disk device.old).sectors ≡ 399 }
+    ensures { (D.disk device.new).sectors ≡ 399 }
+{
     let mut found = Slots::new(alloc, VOID)?;
-    let (header, body) = home
+    let (header, body) = in_order()?
         .read_node_frame(device, 3, AGE, &mut found)
         .ok()
         .ok_or("a frame")?;
@@ -133,14 +170,24 @@ fn node_on<D: Device>(rt: &impl Abort, alloc: Global, device: &mut D) -> Result<
     assert!(rt; matches!(body, NodeBody::Node));
     assert_eq!(rt; found.get(31), NUMBER);
     assert_eq!(rt; found.get(30), VOID);
+    Ok(())
+}
+
+fn node_on<D: Device>(rt: &impl Abort, alloc: Global, device: &mut D) -> Result<(), Fail>
+    requires { (D.disk device.old).sectors ≡ 399 }
+{
+    let mut slots = Slots::new(alloc, VOID)?;
+    slots.set(31, NUMBER);
+    assert!(rt; is_written(device, 3, Content::Node(slots))?);
+    read_node_3(rt, alloc, device)?;
 
     assert_eq!(rt; first_byte(device, 11)?, 2, "the role of a node");
     assert_eq!(rt; first_byte(device, 10)?, 0);
     assert_eq!(rt; first_byte(device, 13)?, 0);
 
     device.write(13, &[9; 512])?;
-    let refused = home.read_node_frame(device, 4, AGE, &mut found);
-    assert_eq!(rt; refused.err(), Some(HomeFault::Bad(BadImage::BadFrame)));
+    let refused = node_fault(alloc, device, 4)?;
+    assert_eq!(rt; refused, Some(HomeFault::Bad(BadImage::BadFrame)));
     Ok(())
 }
 
@@ -150,34 +197,36 @@ fn a_node_is_read_back(rt: HostRuntime) -> Result<(), Fail> {
     node_on(&rt, rt.alloc(), &mut memory)
 }
 
-fn page_on<D: Device>(rt: &impl Abort, alloc: Global, device: &mut D) -> Result<(), Fail>
+// Object 17 is a page whose last word is 600.
+fn read_page_17<D: Device>(rt: &impl Abort, alloc: Global, device: &mut D) -> Result<(), Fail>
     requires { (D.disk device.old).sectors ≡ 399 }
+    ensures { (D.disk device.new).sectors ≡ 399 }
 {
-    let home = in_order()?;
-    let mut words = Words::new(alloc)?;
-    words.set(511, 600);
-    let frame = Frame {
-        header: HEADER,
-        content: Content::Page(words),
-    };
-    home.write_frame(device, 17, &frame)?;
-
     let mut found = Words::new(alloc)?;
-    let read = home.read_page_frame(device, 17, AGE, &mut found);
+    let read = in_order()?.read_page_frame(device, 17, AGE, &mut found);
     assert_eq!(rt; read, Ok((HEADER, PageBody::Page)));
     assert_eq!(rt; found.get(511), 600);
     assert_eq!(rt; found.get(510), 0);
+    Ok(())
+}
 
-    let mut sector = [9; 512];
-    device.read(54, &mut sector)?;
-    assert_eq!(rt; sector[504], 88, "the lowest byte of the last word");
-    device.read(55, &mut sector)?;
-    assert_eq!(rt; sector, [0; 512]);
+fn page_on<D: Device>(rt: &impl Abort, alloc: Global, device: &mut D) -> Result<(), Fail>
+    requires { (D.disk device.old).sectors ≡ 399 }
+{
+    let mut words = Words::new(alloc)?;
+    words.set(511, 600);
+    assert!(rt; is_written(device, 17, Content::Page(words))?);
+    read_page_17(rt, alloc, device)?;
 
-    sector[1] = 1;
-    device.write(55, &sector)?;
-    let refused = home.read_page_frame(device, 18, AGE, &mut found);
-    assert_eq!(rt; refused, Err(HomeFault::Bad(BadImage::BadFrame)));
+    let last = sector_at(device, 54)?;
+    assert_eq!(rt; last[504], 88, "the lowest byte of the last word");
+    let mut next = sector_at(device, 55)?;
+    assert_eq!(rt; next, [0; 512]);
+
+    next[1] = 1;
+    device.write(55, &next)?;
+    let refused = page_fault(alloc, device, 18)?;
+    assert_eq!(rt; refused, Some(HomeFault::Bad(BadImage::BadFrame)));
     Ok(())
 }
 
@@ -196,21 +245,14 @@ fn stopping_after<D: Device>(
 ) -> Result<(), Fail>
     requires { (D.disk device.old).sectors ≡ 399 }
 {
-    let home = in_order()?;
-    let frame = Frame {
-        header: HEADER,
-        content: Content::Bank { limit: 8 },
-    };
-    let mut slots = Slots::new(alloc, VOID)?;
-    let mut words = Words::new(alloc)?;
-    let written = home.write_frame(device, 15, &frame);
-    assert_eq!(rt; written.is_ok(), calls > 0);
-    let node = home.read_node_frame(device, 15, AGE, &mut slots);
-    assert_eq!(rt; node.err() == Some(HomeFault::Failed), calls < 2);
-    let page = home.read_page_frame(device, 16, AGE, &mut words);
-    assert_eq!(rt; page.err() == Some(HomeFault::Failed), calls < 3);
-    let last = home.write_frame(device, 16, &frame);
-    assert_eq!(rt; last, Err(Failed));
+    let bank = Content::Bank { limit: 8 };
+    assert_eq!(rt; is_written(device, 15, bank)?, calls > 0);
+    let node = node_fault(alloc, device, 15)?;
+    assert_eq!(rt; node == Some(HomeFault::Failed), calls < 2);
+    let page = page_fault(alloc, device, 16)?;
+    assert_eq!(rt; page == Some(HomeFault::Failed), calls < 3);
+    let bank = Content::Bank { limit: 8 };
+    assert_eq!(rt; is_written(device, 16, bank)?, false);
     Ok(())
 }
 

@@ -6,8 +6,9 @@ use layout::{
     decode_page_frame, decode_superblock, encode_capability, encode_gate, encode_header,
     encode_node_frame, encode_superblock, total_in,
 };
-use model::{Cap, Capability, Content, Frame, Geometry, Header, Slots, State, Words};
+use model::{Cap, Capability, Content, Frame, Geometry, Header, Root, Slots, State, Words};
 use std::alloc::{AllocError, Global};
+use std::process::Abort;
 use std::test::Fail;
 
 const GEOMETRY: Geometry = Geometry {
@@ -30,6 +31,34 @@ fn is_page_frame(alloc: Global, bytes: &[u8]) -> Result<bool, AllocError>
 {
     let mut words = Words::new(alloc)?;
     Ok(decode_page_frame(bytes, AGE, &mut words).is_ok())
+}
+
+// A frame with a node's number is taken, or is refused: a word for why.
+fn judge_node(
+    rt: &impl Abort,
+    alloc: Global,
+    bytes: &[u8],
+    is_taken: bool,
+    why: &str,
+) -> Result<(), Fail>
+    requires { length bytes.now ≡ 1024 }
+{
+    assert_eq!(rt; is_node_frame(alloc, bytes)?, is_taken, "{why}");
+    Ok(())
+}
+
+// The same of a frame with a page's number.
+fn judge_page(
+    rt: &impl Abort,
+    alloc: Global,
+    bytes: &[u8],
+    is_taken: bool,
+    why: &str,
+) -> Result<(), Fail>
+    requires { length bytes.now ≡ 4608 }
+{
+    assert_eq!(rt; is_page_frame(alloc, bytes)?, is_taken, "{why}");
+    Ok(())
 }
 
 // The slots of a root: annex 4, running, words 1 to 4, the greatest key, no address space.
@@ -94,29 +123,23 @@ fn capabilities_with_a_field_too_many(rt: HostRuntime) {
 #[test]
 fn free_node_frames(rt: HostRuntime) -> Result<(), Fail> {
     let mut bytes = [0; 1024];
-    assert!(rt; is_node_frame(rt.alloc(), &bytes)?);
+    judge_node(&rt, rt.alloc(), &bytes, true, "a free frame")?;
     bytes[8] = 10;
-    assert!(rt;
-        is_node_frame(rt.alloc(), &bytes)?,
-        "a free frame may have counts"
-    );
+    judge_node(
+        &rt,
+        rt.alloc(),
+        &bytes,
+        true,
+        "a free frame may have counts",
+    )?;
     bytes[8] = 11;
-    assert!(rt;
-        !is_node_frame(rt.alloc(), &bytes)?,
-        "a count is above the age"
-    );
+    judge_node(&rt, rt.alloc(), &bytes, false, "a count is above the age")?;
     bytes[8] = 0;
     bytes[24] = 1;
-    assert!(rt;
-        !is_node_frame(rt.alloc(), &bytes)?,
-        "a free frame has an owner"
-    );
+    judge_node(&rt, rt.alloc(), &bytes, false, "a free frame has an owner")?;
     bytes[24] = 0;
     put_slot(&mut bytes, 31, 9, 0);
-    assert!(rt;
-        !is_node_frame(rt.alloc(), &bytes)?,
-        "a free frame has a slot"
-    );
+    judge_node(&rt, rt.alloc(), &bytes, false, "a free frame has a slot")?;
     Ok(())
 }
 
@@ -126,51 +149,48 @@ fn node_frames(rt: HostRuntime) -> Result<(), Fail> {
     bytes[0] = 2;
     put_slot(&mut bytes, 0, 9, 0);
     put_slot(&mut bytes, 31, 3, 2);
-    assert!(rt; is_node_frame(rt.alloc(), &bytes)?);
+    judge_node(&rt, rt.alloc(), &bytes, true, "a node")?;
     bytes[777] = 2;
-    assert!(rt; !is_node_frame(rt.alloc(), &bytes)?, "no access is 2");
+    judge_node(&rt, rt.alloc(), &bytes, false, "no access is 2")?;
     bytes[777] = 3;
-    assert!(rt; is_node_frame(rt.alloc(), &bytes)?);
+    judge_node(&rt, rt.alloc(), &bytes, true, "access 3")?;
     bytes[1023] = 1;
-    assert!(rt;
-        !is_node_frame(rt.alloc(), &bytes)?,
-        "zeros follow the slots"
-    );
+    judge_node(&rt, rt.alloc(), &bytes, false, "zeros follow the slots")?;
     bytes[1023] = 0;
     bytes[1] = 1;
-    assert!(rt;
-        !is_node_frame(rt.alloc(), &bytes)?,
-        "zeros follow the role"
-    );
+    judge_node(&rt, rt.alloc(), &bytes, false, "zeros follow the role")?;
     bytes[1] = 0;
     bytes[0] = 1;
-    assert!(rt;
-        !is_node_frame(rt.alloc(), &bytes)?,
-        "a page has another number"
-    );
+    judge_node(&rt, rt.alloc(), &bytes, false, "a page has another number")?;
     bytes[0] = 6;
-    assert!(rt; !is_node_frame(rt.alloc(), &bytes)?, "there is no role 6");
+    judge_node(&rt, rt.alloc(), &bytes, false, "there is no role 6")?;
     Ok(())
+}
+
+// The root that a frame is.
+fn root_of(alloc: Global, bytes: &[u8]) -> Result<Root<Cap>, Fail>
+    requires { length bytes.now ≡ 1024 }
+{
+    let mut slots = Slots::new(alloc, VOID)?;
+    let (_, body) = decode_node_frame(bytes, GEOMETRY, AGE, &mut slots)
+        .ok()
+        .ok_or("a root")?;
+    match body {
+        NodeBody::Root(root) => Ok(root),
+        _ => Err("another role".into()),
+    }
 }
 
 #[test]
 fn root_frames(rt: HostRuntime) -> Result<(), Fail> {
     let mut bytes = [0; 1024];
     put_root(&mut bytes);
-    let mut slots = Slots::new(rt.alloc(), VOID)?;
-    let (_, body) = decode_node_frame(&bytes, GEOMETRY, AGE, &mut slots)
-        .ok()
-        .ok_or("a root")?;
-    match body {
-        NodeBody::Root(root) => {
-            assert_eq!(rt; root.annex, 4);
-            assert_eq!(rt; root.state, State::Running);
-            assert!(rt; root.words == [1, 2, 3, 4]);
-            assert_eq!(rt; root.key, 65535);
-            assert_eq!(rt; root.space, VOID);
-        }
-        _ => assert!(rt; false, "another role"),
-    }
+    let root = root_of(rt.alloc(), &bytes)?;
+    assert_eq!(rt; root.annex, 4);
+    assert_eq!(rt; root.state, State::Running);
+    assert!(rt; root.words == [1, 2, 3, 4]);
+    assert_eq!(rt; root.key, 65535);
+    assert_eq!(rt; root.space, VOID);
     Ok(())
 }
 
@@ -179,33 +199,27 @@ fn other_root_frames(rt: HostRuntime) -> Result<(), Fail> {
     let mut bytes = [0; 1024];
     put_root(&mut bytes);
     put_slot(&mut bytes, 1, 1, 3);
-    assert!(rt; !is_node_frame(rt.alloc(), &bytes)?, "there is no state 3");
+    judge_node(&rt, rt.alloc(), &bytes, false, "there is no state 3")?;
     put_slot(&mut bytes, 1, 1, 2);
-    assert!(rt; is_node_frame(rt.alloc(), &bytes)?);
+    judge_node(&rt, rt.alloc(), &bytes, true, "state 2")?;
     bytes[186] = 1;
-    assert!(rt;
-        !is_node_frame(rt.alloc(), &bytes)?,
-        "the key is above 65535"
-    );
+    judge_node(&rt, rt.alloc(), &bytes, false, "the key is above 65535")?;
     bytes[186] = 0;
     put_slot(&mut bytes, 7, 3, 2);
-    assert!(rt;
-        !is_node_frame(rt.alloc(), &bytes)?,
-        "a node is no address space"
-    );
+    judge_node(&rt, rt.alloc(), &bytes, false, "a node is no address space")?;
     put_slot(&mut bytes, 7, 2, 17);
-    assert!(rt; is_node_frame(rt.alloc(), &bytes)?);
+    judge_node(&rt, rt.alloc(), &bytes, true, "an address space")?;
     put_slot(&mut bytes, 8, 9, 0);
-    assert!(rt;
-        !is_node_frame(rt.alloc(), &bytes)?,
-        "slot 8 of a root is void"
-    );
+    judge_node(&rt, rt.alloc(), &bytes, false, "slot 8 of a root is void")?;
     put_slot(&mut bytes, 8, 0, 0);
     put_slot(&mut bytes, 5, 0, 0);
-    assert!(rt;
-        !is_node_frame(rt.alloc(), &bytes)?,
-        "slot 5 of a root is a number"
-    );
+    judge_node(
+        &rt,
+        rt.alloc(),
+        &bytes,
+        false,
+        "slot 5 of a root is a number",
+    )?;
     Ok(())
 }
 
@@ -214,9 +228,9 @@ fn annex_frames(rt: HostRuntime) -> Result<(), Fail> {
     let mut bytes = [0; 1024];
     bytes[0] = 4;
     put_slot(&mut bytes, 1, 8, 0);
-    assert!(rt; is_node_frame(rt.alloc(), &bytes)?);
+    judge_node(&rt, rt.alloc(), &bytes, true, "an annex")?;
     put_slot(&mut bytes, 0, 9, 0);
-    assert!(rt; !is_node_frame(rt.alloc(), &bytes)?, "register 0 is void");
+    judge_node(&rt, rt.alloc(), &bytes, false, "register 0 is void")?;
     Ok(())
 }
 
@@ -224,39 +238,27 @@ fn annex_frames(rt: HostRuntime) -> Result<(), Fail> {
 fn bank_frames(rt: HostRuntime) -> Result<(), Fail> {
     let mut bytes = [0; 1024];
     bytes[0] = 5;
-    assert!(rt; !is_node_frame(rt.alloc(), &bytes)?, "a bank has a limit");
+    judge_node(&rt, rt.alloc(), &bytes, false, "a bank has a limit")?;
     put_slot(&mut bytes, 0, 1, 200);
-    assert!(rt; is_node_frame(rt.alloc(), &bytes)?);
+    judge_node(&rt, rt.alloc(), &bytes, true, "a limit")?;
     put_slot(&mut bytes, 1, 9, 0);
-    assert!(rt;
-        !is_node_frame(rt.alloc(), &bytes)?,
-        "slot 1 of a bank is void"
-    );
+    judge_node(&rt, rt.alloc(), &bytes, false, "slot 1 of a bank is void")?;
     Ok(())
 }
 
 #[test]
 fn page_frames(rt: HostRuntime) -> Result<(), Fail> {
     let mut bytes = [0; 4608];
-    assert!(rt; is_page_frame(rt.alloc(), &bytes)?);
+    judge_page(&rt, rt.alloc(), &bytes, true, "a free frame")?;
     bytes[4607] = 255;
-    assert!(rt;
-        !is_page_frame(rt.alloc(), &bytes)?,
-        "a free frame has a word"
-    );
+    judge_page(&rt, rt.alloc(), &bytes, false, "a free frame has a word")?;
     bytes[0] = 1;
-    assert!(rt; is_page_frame(rt.alloc(), &bytes)?);
+    judge_page(&rt, rt.alloc(), &bytes, true, "a page")?;
     bytes[511] = 1;
-    assert!(rt;
-        !is_page_frame(rt.alloc(), &bytes)?,
-        "zeros go before the words"
-    );
+    judge_page(&rt, rt.alloc(), &bytes, false, "zeros go before the words")?;
     bytes[511] = 0;
     bytes[0] = 2;
-    assert!(rt;
-        !is_page_frame(rt.alloc(), &bytes)?,
-        "a node has another number"
-    );
+    judge_page(&rt, rt.alloc(), &bytes, false, "a node has another number")?;
     Ok(())
 }
 
@@ -297,14 +299,22 @@ fn gates(rt: HostRuntime) {
     assert_eq!(rt; bytes[511], 0);
 }
 
+// The header 20 of generation 19, with 16 entries, at age 10.
+fn put_header(bytes: &mut [u8])
+    requires { length bytes.old ≡ 512 }
+    ensures { length bytes.new ≡ 512 }
+{
+    bytes[..8].copy_from_slice(b"EROSHEAD");
+    bytes[8] = 20;
+    bytes[16] = 19;
+    bytes[24] = 16;
+    bytes[32] = 10;
+}
+
 #[test]
 fn headers(rt: HostRuntime) {
     let mut spelt = [0; 512];
-    spelt[..8].copy_from_slice(b"EROSHEAD");
-    spelt[8] = 20;
-    spelt[16] = 19;
-    spelt[24] = 16;
-    spelt[32] = 10;
+    put_header(&mut spelt);
     let header = CheckpointHeader {
         sequence: 20,
         generation: 19,
@@ -319,6 +329,12 @@ fn headers(rt: HostRuntime) {
         decode_header(&spelt, 15).is_err(),
         "there are more entries than slots"
     );
+}
+
+#[test]
+fn other_headers(rt: HostRuntime) {
+    let mut spelt = [0; 512];
+    put_header(&mut spelt);
     spelt[8] = 21;
     assert!(rt;
         decode_header(&spelt, 16).is_err(),
@@ -406,33 +422,41 @@ fn put_superblock(bytes: &mut [u8])
     bytes[104] = 37;
 }
 
+const RANGES: [HomeRange; 2] = [
+    HomeRange {
+        first: 0,
+        count: 16,
+        sector: 5,
+    },
+    HomeRange {
+        first: 16,
+        count: 8,
+        sector: 37,
+    },
+];
+
 #[test]
 fn superblocks(rt: HostRuntime) -> Result<(), Fail> {
     let mut spelt = [0; 512];
     put_superblock(&mut spelt);
-    let ranges = [
-        HomeRange {
-            first: 0,
-            count: 16,
-            sector: 5,
-        },
-        HomeRange {
-            first: 16,
-            count: 8,
-            sector: 37,
-        },
-    ];
-    let made = Superblock::new(GEOMETRY, &ranges, 109, 254, 399).ok_or("within the limits")?;
+    let made = Superblock::new(GEOMETRY, &RANGES, 109, 254, 399).ok_or("within the limits")?;
     let mut bytes = [255; 512];
     encode_superblock(&made, &mut bytes);
     assert!(rt; bytes[..] == spelt[..]);
-    let read = decode_superblock(&spelt).ok().ok_or("a superblock")?;
+    read_superblock(&rt, &spelt)
+}
+
+// What such bytes are read as.
+fn read_superblock(rt: &impl Abort, spelt: &[u8]) -> Result<(), Fail>
+    requires { length spelt.now ≡ 512 }
+{
+    let read = decode_superblock(spelt).ok().ok_or("a superblock")?;
     assert_eq!(rt; read.geometry(), GEOMETRY);
-    assert!(rt; read.ranges() == ranges.as_slice());
+    assert!(rt; read.ranges() == RANGES.as_slice());
     assert_eq!(rt; read.half(false), 109);
     assert_eq!(rt; read.half(true), 254);
     assert_eq!(rt; read.total(), 399);
-    assert_eq!(rt; total_in(&spelt), 399);
+    assert_eq!(rt; total_in(spelt), 399);
     Ok(())
 }
 
@@ -473,14 +497,18 @@ fn refused_superblocks(rt: HostRuntime) {
 
 #[test]
 fn numbers_of_reasons(rt: HostRuntime) {
-    assert_eq!(rt; BadImage::Small as u8, 1);
-    assert_eq!(rt; BadImage::NotASuperblock as u8, 2);
-    assert_eq!(rt; BadImage::BadGeometry as u8, 3);
-    assert_eq!(rt; BadImage::NoHeader as u8, 4);
-    assert_eq!(rt; BadImage::BadHeader as u8, 5);
-    assert_eq!(rt; BadImage::BadDirectory as u8, 6);
-    assert_eq!(rt; BadImage::BadFrame as u8, 7);
-    assert_eq!(rt; BadImage::BadCapability as u8, 8);
-    assert_eq!(rt; BadImage::BadProcess as u8, 9);
-    assert_eq!(rt; BadImage::BadBank as u8, 10);
+    for (reason, number) in [
+        (BadImage::Small, 1),
+        (BadImage::NotASuperblock, 2),
+        (BadImage::BadGeometry, 3),
+        (BadImage::NoHeader, 4),
+        (BadImage::BadHeader, 5),
+        (BadImage::BadDirectory, 6),
+        (BadImage::BadFrame, 7),
+        (BadImage::BadCapability, 8),
+        (BadImage::BadProcess, 9),
+        (BadImage::BadBank, 10),
+    ] {
+        assert_eq!(rt; reason as u8, number);
+    }
 }

@@ -10,3 +10,5 @@ mod homes;
 mod images;
 #[cfg(test)]
 mod logs;
+#[cfg(test)]
+mod sectors;

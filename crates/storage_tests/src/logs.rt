@@ -1,13 +1,14 @@
-ghost use Rattle.std.specs.Prelude.{◌≡◌, ◌≤◌, ◌+◌, IfOk};
+ghost use Rattle.std.specs.Prelude.{◌≡◌, ◌≤◌, ◌<◌, ◌+◌, IfOk, length};
 ghost use Rattle.device.specs.Memory.{memory_disk};
 
+use crate::sectors::sector_at;
 use ckpt_log::{Log, LogFault};
 use device::{Device, Failed, Fuse, Memory, Outcome, SECTOR_SIZE};
 use layout::{
     BadImage, CheckpointHeader, Entry, Gate, HomeRange, NodeBody, PageBody, Superblock, VOID,
     encode_gate, encode_header,
 };
-use model::{Content, Frame, Geometry, Header, Slots, Words};
+use model::{Cap, Content, Frame, Geometry, Header, Slots, Words};
 use std::alloc::Global;
 use std::process::Abort;
 use std::test::Fail;
@@ -144,15 +145,30 @@ fn a_stop_leaves_the_first_header_or_the_next(rt: HostRuntime) -> Result<(), Fai
     Ok(())
 }
 
+// Publishes once, and then as `left_by_stop`.
+fn left_by_next_stop<D: Device>(
+    rt: &impl Abort,
+    device: D,
+    log: &Log,
+    calls: u64,
+) -> Result<(bool, u64), Fail>
+    requires slots { log.now.geometry.log ≡ 16 }
+    requires inside { log.now.total ≤ (D.disk device).sectors }
+    requires headers { 5 ≤ (D.disk device).sectors }
+{
+    let mut device = device;
+    assert_eq!(rt; publish_next(&mut device, log)?, true);
+    left_by_stop(device, log, calls)
+}
+
 // A publish from 1 to 2 makes eight: the gate of slot 0 is open.
 #[test]
 fn a_stop_leaves_the_second_header_or_the_next(rt: HostRuntime) -> Result<(), Fail> {
     let log = log()?;
     for (outcome, opened) in OUTCOMES {
         for calls in 0..10 {
-            let mut memory = built(rt.alloc(), outcome)?;
-            assert_eq!(rt; publish_next(&mut memory, &log)?, true);
-            let left = left_by_stop(memory, &log, CALLS_BEFORE + calls)?;
+            let memory = built(rt.alloc(), outcome)?;
+            let left = left_by_next_stop(&rt, memory, &log, CALLS_BEFORE + calls)?;
             let is_new = calls > 7 || calls == 7 && opened;
             assert_eq!(rt; left, (calls > 7, if is_new { 2 } else { 1 }));
         }
@@ -196,22 +212,26 @@ fn a_greater_malformed_header_is_not_passed_over(rt: HostRuntime) -> Result<(), 
     malformed_on(&rt, &mut memory)
 }
 
-// Such a gate is closed at the next publish.
-#[test]
-fn a_header_in_the_other_slot_counts_as_closed(rt: HostRuntime) -> Result<(), Fail> {
+// A header in the other slot counts as closed, and its gate is closed at the next publish.
+fn closed_on<D: Device>(rt: &impl Abort, device: D) -> Result<(), Fail>
+    requires { (D.disk device).sectors ≡ 399 }
+{
     let log = log()?;
-    let mut memory = built(rt.alloc(), Outcome::Drop)?;
-    put_slot(&mut memory, 3, header(6), 0, Gate::Open)?;
-    assert_eq!(rt; committed(&mut memory, &log), Ok(header(0)));
-    let mut fuse = Fuse::new(memory, CALLS_BEFORE + 4);
+    let mut device = device;
+    put_slot(&mut device, 3, header(6), 0, Gate::Open)?;
+    assert_eq!(rt; committed(&mut device, &log), Ok(header(0)));
+    let mut fuse = Fuse::new(device, CALLS_BEFORE + 4);
     assert_eq!(rt; publish_next(&mut fuse, &log)?, false);
     fuse.power_cut();
-    let mut gate = [7; SECTOR_SIZE];
-    fuse.read(4, &mut gate)?;
-    assert_eq!(rt; gate, [0; SECTOR_SIZE]);
+    assert_eq!(rt; sector_at(&mut fuse, 4)?, [0; SECTOR_SIZE]);
     let left = left_by_stop(fuse.into_inner(), &log, CALLS_BEFORE + 6)?;
     assert_eq!(rt; left, (true, 1));
     Ok(())
+}
+
+#[test]
+fn a_header_in_the_other_slot_counts_as_closed(rt: HostRuntime) -> Result<(), Fail> {
+    closed_on(&rt, built(rt.alloc(), Outcome::Drop)?)
 }
 
 #[test]
@@ -232,31 +252,52 @@ const FRONT: Header = Header {
     owner: 3,
 };
 
+// Writes such a frame of an object to a slot.
+fn put_frame<D: Device>(
+    device: &mut D,
+    generation: u64,
+    slot: u64,
+    object: u64,
+    content: Content<Cap>,
+) -> Result<(), Failed>
+    requires slot { slot < 16 }
+    requires inside { (D.disk device.old).sectors ≡ 399 }
+    ensures { (D.disk device.new).sectors ≡ 399 }
+{
+    let frame = Frame {
+        header: FRONT,
+        content,
+    };
+    log()?.write_slot(device, generation, slot, object, &frame)
+}
+
+// What is read of object 5 in slot 2 of half 1.
+fn node_5<D: Device>(
+    alloc: Global,
+    device: &mut D,
+) -> Result<Result<(Header, NodeBody), LogFault>, Fail>
+    requires { (D.disk device.old).sectors ≡ 399 }
+    ensures { (D.disk device.new).sectors ≡ 399 }
+{
+    let mut slots = Slots::new(alloc, VOID)?;
+    Ok(log()?.read_node_slot(device, 3, 2, 5, 9, &mut slots))
+}
+
 // Slot 2 of half 1 begins at sector 272.
 fn node_on<D: Device>(rt: &impl Abort, alloc: Global, device: &mut D) -> Result<(), Fail>
     requires { (D.disk device.old).sectors ≡ 399 }
 {
-    let log = log()?;
-    let frame = Frame {
-        header: FRONT,
-        content: Content::Bank { limit: 8 },
-    };
-    log.write_slot(device, 3, 2, 5, &frame)?;
-    let mut slots = Slots::new(alloc, VOID)?;
-    let (header, body) = log
-        .read_node_slot(device, 3, 2, 5, 9, &mut slots)
-        .ok()
-        .ok_or(Failed)?;
+    put_frame(device, 3, 2, 5, Content::Bank { limit: 8 })?;
+    let (header, body) = node_5(alloc, device)?.ok().ok_or(Failed)?;
     assert_eq!(rt; header, FRONT);
     assert!(rt; matches!(body, NodeBody::Bank { limit: 8 }));
-    let mut sector = [9; SECTOR_SIZE];
-    device.read(272, &mut sector)?;
-    assert_eq!(rt; sector[0], 5, "the role of a bank");
-    device.read(274, &mut sector)?;
+    let role = sector_at(device, 272)?[0];
+    assert_eq!(rt; role, 5, "the role of a bank");
+    let mut sector = sector_at(device, 274)?;
     assert_eq!(rt; sector, [0; SECTOR_SIZE]);
     sector[0] = 6;
     device.write(272, &sector)?;
-    let refused = log.read_node_slot(device, 3, 2, 5, 9, &mut slots);
+    let refused = node_5(alloc, device)?;
     assert_eq!(rt; refused.err(), Some(LogFault::Bad(BadImage::BadFrame)));
     Ok(())
 }
@@ -267,29 +308,34 @@ fn a_node_is_read_back_from_its_slot(rt: HostRuntime) -> Result<(), Fail> {
     node_on(&rt, rt.alloc(), &mut memory)
 }
 
+// What is read of object 16 in slot 1 of half 0, and its last word.
+fn page_16<D: Device>(
+    alloc: Global,
+    device: &mut D,
+) -> Result<(Result<(Header, PageBody), LogFault>, u64), Fail>
+    requires { (D.disk device.old).sectors ≡ 399 }
+    ensures { (D.disk device.new).sectors ≡ 399 }
+{
+    let mut words = Words::new(alloc)?;
+    let read = log()?.read_page_slot(device, 0, 1, 16, 9, &mut words);
+    Ok((read, words.get(511)))
+}
+
 // Slot 1 of half 0 begins at sector 118.
 fn page_on<D: Device>(rt: &impl Abort, alloc: Global, device: &mut D) -> Result<(), Fail>
     requires { (D.disk device.old).sectors ≡ 399 }
 {
-    let log = log()?;
     let mut words = Words::new(alloc)?;
     words.set(511, 600);
-    let frame = Frame {
-        header: FRONT,
-        content: Content::Page(words),
-    };
-    log.write_slot(device, 0, 1, 16, &frame)?;
-    let mut found = Words::new(alloc)?;
-    let read = log.read_page_slot(device, 0, 1, 16, 9, &mut found);
+    put_frame(device, 0, 1, 16, Content::Page(words))?;
+    let (read, last) = page_16(alloc, device)?;
     assert_eq!(rt; read, Ok((FRONT, PageBody::Page)));
-    assert_eq!(rt; found.get(511), 600);
-    let mut sector = [9; SECTOR_SIZE];
-    device.read(126, &mut sector)?;
-    assert_eq!(rt; sector[504], 88, "the lowest byte of the last word");
-    device.read(127, &mut sector)?;
-    assert_eq!(rt; sector, [0; SECTOR_SIZE]);
+    assert_eq!(rt; last, 600);
+    let end = sector_at(device, 126)?;
+    assert_eq!(rt; end[504], 88, "the lowest byte of the last word");
+    assert_eq!(rt; sector_at(device, 127)?, [0; SECTOR_SIZE]);
     device.write(118, &[9; SECTOR_SIZE])?;
-    let refused = log.read_page_slot(device, 0, 1, 16, 9, &mut found);
+    let (refused, _) = page_16(alloc, device)?;
     assert_eq!(rt; refused, Err(LogFault::Bad(BadImage::BadFrame)));
     Ok(())
 }
@@ -298,6 +344,27 @@ fn page_on<D: Device>(rt: &impl Abort, alloc: Global, device: &mut D) -> Result<
 fn a_page_is_read_back_from_its_slot(rt: HostRuntime) -> Result<(), Fail> {
     let mut memory = Memory::new(rt.alloc(), 399, 64, Outcome::Drop)?;
     page_on(&rt, rt.alloc(), &mut memory)
+}
+
+// Writes the directory of half 1.
+fn put_entries<D: Device>(device: &mut D, log: &Log, entries: &[Entry]) -> Result<(), Failed>
+    requires slots { log.now.geometry.log ≡ 16 }
+    requires few { length entries.now ≤ 16 }
+    requires inside { log.now.total ≤ (D.disk device.old).sectors }
+    ensures { (D.disk device.new).sectors ≡ (D.disk device.old).sectors }
+{
+    log.write_directory(device, 1, entries)
+}
+
+// What is read of a directory of half 1 with two entries.
+fn two_entries<D: Device>(device: &mut D, log: &Log) -> Result<[Entry; 2], LogFault>
+    requires slots { log.now.geometry.log ≡ 16 }
+    requires inside { log.now.total ≤ (D.disk device.old).sectors }
+    ensures { (D.disk device.new).sectors ≡ (D.disk device.old).sectors }
+{
+    let mut found = [NOTHING; 2];
+    log.read_directory(device, 1, &mut found)?;
+    Ok(found)
 }
 
 // The directory of half 1 is sector 398.
@@ -312,16 +379,13 @@ fn directory_on<D: Device>(rt: &impl Abort, device: &mut D) -> Result<(), Fail>
             slot: 0,
         },
     ];
-    log.write_directory(device, 1, &entries)?;
-    let mut found = [Entry { object: 0, slot: 0 }; 2];
-    log.read_directory(device, 1, &mut found)?;
-    assert_eq!(rt; found, entries);
-    let mut sector = [9; SECTOR_SIZE];
-    device.read(398, &mut sector)?;
+    put_entries(device, &log, &entries)?;
+    assert_eq!(rt; two_entries(device, &log), Ok(entries));
+    let mut sector = sector_at(device, 398)?;
     assert_eq!(rt; sector[16], 20, "the object of the second entry");
     sector[0] = 20;
     device.write(398, &sector)?;
-    let refused = log.read_directory(device, 1, &mut found);
+    let refused = two_entries(device, &log);
     assert_eq!(rt; refused, Err(LogFault::Bad(BadImage::BadDirectory)));
     Ok(())
 }
@@ -330,6 +394,20 @@ fn directory_on<D: Device>(rt: &impl Abort, device: &mut D) -> Result<(), Fail>
 fn a_directory_is_read_back(rt: HostRuntime) -> Result<(), Fail> {
     let mut memory = Memory::new(rt.alloc(), 399, 64, Outcome::Drop)?;
     directory_on(&rt, &mut memory)
+}
+
+// The committed header, and the first entry of its directory.
+fn committed_entry<D: Device>(
+    device: &mut D,
+    log: &Log,
+) -> Result<(CheckpointHeader, Entry), LogFault>
+    requires slots { log.now.geometry.log ≡ 16 }
+    requires inside { log.now.total ≤ (D.disk device.old).sectors }
+    ensures { (D.disk device.new).sectors ≡ (D.disk device.old).sectors }
+{
+    let mut found = [NOTHING; 16];
+    let header = log.find_committed(device, &mut found)?;
+    Ok((header, found[0]))
 }
 
 // The directory of half 1 belongs to the committed header.
@@ -341,7 +419,7 @@ fn committed_on<D: Device>(rt: &impl Abort, device: &mut D) -> Result<(), Fail>
         object: 20,
         slot: 3,
     };
-    log.write_directory(device, 1, &[entry])?;
+    put_entries(device, &log, &[entry])?;
     let next = CheckpointHeader {
         sequence: 1,
         generation: 1,
@@ -349,11 +427,9 @@ fn committed_on<D: Device>(rt: &impl Abort, device: &mut D) -> Result<(), Fail>
         age: 9,
     };
     put_slot(device, 3, next, 0, Gate::Open)?;
-    let mut found = [NOTHING; 16];
-    assert_eq!(rt; log.find_committed(device, &mut found), Ok(next));
-    assert_eq!(rt; found[0], entry);
+    assert_eq!(rt; committed_entry(device, &log), Ok((next, entry)));
     device.write(398, &[1; SECTOR_SIZE])?;
-    let refused = log.find_committed(device, &mut found);
+    let refused = committed_entry(device, &log);
     assert_eq!(rt; refused, Err(LogFault::Bad(BadImage::BadDirectory)));
     Ok(())
 }
