@@ -1,13 +1,8 @@
-//! The tests of the crates that keep state on a device, through their public functions. They stand apart from those
-//! crates, so that each of those is proved once, and not a second time with its tests.
+//! The tests of `home_ranges` and `ckpt_log`, through their public functions.
 #![tactic(auto)]
 
 #[cfg(test)]
-mod devices;
-#[cfg(test)]
 mod homes;
-#[cfg(test)]
-mod images;
 #[cfg(test)]
 mod logs;
 #[cfg(test)]
