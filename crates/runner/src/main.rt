@@ -1,15 +1,10 @@
 //! `eros`: runs scripts over the core of a persistent capability system.
 #![tactic(auto)]
 
-mod fault;
-mod first_world;
-mod single_bytes;
 mod words;
 
-use crate::fault::Fault;
-use crate::first_world::run_first;
-use crate::single_bytes::SingleBytes;
 use clap::ArgMatches;
+use jobs::{Fault, SingleBytes, run_first};
 use std::fs::File;
 use std::io::{BufReader, BufWriter, Write};
 use std::process::ExitCode;

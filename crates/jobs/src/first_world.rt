@@ -1,6 +1,6 @@
 ghost use Rattle.std.specs.Prelude.{ℕ};
 ghost use Rattle.model.specs.Machine.{Saved};
-ghost use Rattle.runner.specs.FirstWorld.{RunsFirst};
+ghost use Rattle.jobs.specs.FirstWorld.{RunsFirst};
 
 use crate::fault::Fault;
 use capability::Plain;

@@ -9,9 +9,9 @@ use Rattle.script.specs.First.{machine_of, knows_first}
 use Rattle.script.specs.Runs.{Runs}
 use Rattle.script.specs.declared.fault.RunFault.{RunFault}
 use Rattle.script.specs.declared.fault.RunFault.TheVariants as run_fault
-use Rattle.runner.specs.declared.fault.Fault.{Fault}
-use Rattle.runner.specs.declared.fault.Fault.TheVariants as fault
-use Rattle.runner.specs.FirstWorld.{first_machine, RunsFirst}
+use Rattle.jobs.specs.declared.fault.Fault.{Fault}
+use Rattle.jobs.specs.declared.fault.Fault.TheVariants as fault
+use Rattle.jobs.specs.FirstWorld.{first_machine, RunsFirst}
 
 abbrev up_at : World → List Bool → Saved → ℕ → Machine
 up_at w touched saved to_move = Up (record { now = w; touched = touched; frozen = None; saved = saved; to_move = to_move })

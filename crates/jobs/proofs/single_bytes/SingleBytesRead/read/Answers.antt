@@ -1,7 +1,7 @@
 use Rattle.std.proofs.Common.{ℕ, List, subst, arith}
 use Rattle.std.specs.Io.KnownBytes.{Consumes}
-use Rattle.runner.proofs.OneByte.{one_byte}
-use Rattle.runner.proofs.single_bytes.SingleBytesRead.read.Goals as goal
+use Rattle.jobs.proofs.OneByte.{one_byte}
+use Rattle.jobs.proofs.single_bytes.SingleBytesRead.read.Goals as goal
 
 pub returns-in-Some-clause-bytes : goal.returns-in-Some-clause-bytes
 returns-in-Some-clause-bytes g c =

@@ -5,8 +5,8 @@ use Rattle.model.specs.Worlds.{small, f0}
 use Rattle.script.specs.First.{knows_first}
 use Rattle.script.specs.Runs.{Runs}
 use Rattle.script.specs.declared.fault.RunFault.TheVariants as run_fault
-use Rattle.runner.specs.declared.fault.Fault.{Fault}
-use Rattle.runner.specs.declared.fault.Fault.TheVariants as fault
+use Rattle.jobs.specs.declared.fault.Fault.{Fault}
+use Rattle.jobs.specs.declared.fault.Fault.TheVariants as fault
 
 -- the machine that every run begins with: the world F0, nothing written and nothing frozen
 abbrev pub first_machine : Saved → ℕ → Machine

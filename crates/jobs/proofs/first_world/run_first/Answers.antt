@@ -1,8 +1,8 @@
 use Rattle.std.proofs.Common.{Ok}
 use Rattle.script.specs.First.{machine_of}
 use Rattle.script.proofs.Begins.{begins}
-use Rattle.runner.proofs.FirstRuns.{runs_first, fails_first}
-use Rattle.runner.proofs.first_world.run_first.Goals as goal
+use Rattle.jobs.proofs.FirstRuns.{runs_first, fails_first}
+use Rattle.jobs.proofs.first_world.run_first.Goals as goal
 
 pub first_run-requires : goal.first_run-requires
 first_run-requires g c = begins c.in-Ok.plain c.in-Ok.ensures.world c.in-Ok.ensures.geometry
