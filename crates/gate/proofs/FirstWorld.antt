@@ -1,7 +1,7 @@
 -- The first world holds only storage.
 use Rattle.std.proofs.Common.{subst, sym, ⊎_elim}
 use Rattle.gate.specs.Plan.{IsStorage, HoldOnlyStorage}
-use Rattle.model.proofs.SoundWorlds.{f0_slots}
+use Rattle.model_laws.proofs.SoundWorlds.{f0_slots}
 use Rattle.model.specs.Worlds.{f0}
 
 -- nothing else stands in its slots

@@ -22,7 +22,7 @@ use Rattle.model.specs.Invoke.{Effect, invoke, ordered, reply_of, deliver, sent_
 use Rattle.model.specs.Object.{slots_in, with_word_in, with_slot_in}
 use Rattle.model.specs.Order.{Arguments, Outcome, refused, order, on_page, on_node, page_order, node_order, fetched, stored, reduces, code_number}
 use Rattle.model.specs.World.{content_at, slot_at, register_at, is_running_process, with_content, with_word, with_slot, with_root, with_state}
-use Rattle.model.proofs.SoundEdits.{at_set, at_content}
+use Rattle.model_laws.proofs.SoundEdits.{at_set, at_content}
 use Rattle.gate.specs.Plan.{IsStorage, HoldOnlyStorage}
 use Rattle.gate.proofs.Calls.{storage_invoked}
 

@@ -10,8 +10,7 @@ use crate::plan::{Arguments, Change, Plan};
 use bitflags::Flags;
 use capability::diminish::diminish;
 use capability::objects;
-use model::slots::SLOTS;
-use model::{Access, Capability, NodeOrder, PresentFrames, ResultCode};
+use model::{Access, Capability, NodeOrder, PresentFrames, ResultCode, SLOTS};
 
 /// The height of the highest address space.
 const MAX_HEIGHT: u64 = 4;

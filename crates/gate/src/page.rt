@@ -7,8 +7,7 @@ ghost use Rattle.gate.specs.Plan.{outcome_of, IsFor};
 use crate::plan::{Arguments, Change, Plan};
 use bitflags::Flags;
 use capability::objects;
-use model::words::WORDS;
-use model::{Access, Capability, PageOrder, PresentFrames, ResultCode};
+use model::{Access, Capability, PageOrder, PresentFrames, ResultCode, WORDS};
 
 /// The order that a word asks of a page.
 pub fn page_order(word: u64) -> Option<PageOrder>

@@ -14,9 +14,3 @@ pub mod Text
 pub mod Run
 pub mod Closed
 pub mod Worlds
-pub mod Laws
-pub mod Worked
-pub mod WorkedMemory
-pub mod WorkedSaves
-pub mod WorkedSteps
-pub mod WorkedTexts

@@ -1,6 +1,6 @@
 use crate::capability::Capability;
 use crate::object::Object;
-use crate::slots::Slots;
+use contents::Slots;
 
 /// Why a memory reference reached no word.
 #[derive(Clone, Copy, PartialEq, Eq, Debug)]

@@ -1,5 +1,4 @@
-use crate::slots::Slots;
-use crate::words::Words;
+use contents::{Slots, Words};
 
 /// What an object is.
 #[derive(Clone, Copy, PartialEq, Eq, Debug)]

@@ -7,7 +7,7 @@ use Rattle.model.specs.declared.geometry.Geometry.{Geometry}
 use Rattle.model.specs.Sound.{IsSound}
 use Rattle.model.specs.World.{World}
 use Rattle.model.specs.Worlds.{small, f0}
-use Rattle.model.proofs.SoundWorlds.{f0_sound}
+use Rattle.model_laws.proofs.SoundWorlds.{f0_sound}
 use Rattle.script.specs.First.{IsStorageWorld}
 
 pub begins : (plain : PlainState) → world_of plain ≡ f0 → plain.geometry ≡ small → IsStorageWorld plain

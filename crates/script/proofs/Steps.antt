@@ -29,7 +29,7 @@ use Rattle.model.specs.declared.object.Content.TheVariants as content
 use Rattle.model.specs.Frame.{objects_of}
 use Rattle.model.specs.Object.{is_free, is_root}
 use Rattle.capability.proofs.Frames.{free_past}
-use Rattle.model.proofs.SoundGates.{invocation_keeps}
+use Rattle.model_laws.proofs.SoundGates.{invocation_keeps}
 use Rattle.script.specs.First.{machine_of, IsStorageWorld, early_refusal}
 
 -- the answer by the refusal that applies

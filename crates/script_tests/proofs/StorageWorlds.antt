@@ -7,9 +7,9 @@ use Rattle.gate.proofs.FirstWorld.{f0_storage}
 use Rattle.gate.proofs.OnlyStorage.{invocation_leaves}
 use Rattle.gate.specs.Call.{Invokes}
 use Rattle.gate.specs.Plan.{HoldOnlyStorage}
-use Rattle.model.proofs.SoundGates.{invocation_keeps}
-use Rattle.model.proofs.SoundParts.{nearly_from, nearly_to}
-use Rattle.model.proofs.SoundWorlds.{f0_sound}
+use Rattle.model_laws.proofs.SoundGates.{invocation_keeps}
+use Rattle.model_laws.proofs.SoundParts.{nearly_from, nearly_to}
+use Rattle.model_laws.proofs.SoundWorlds.{f0_sound}
 use Rattle.model.specs.declared.command.Command.TheVariants as command
 use Rattle.model.specs.declared.command.Invocation.{Invocation}
 use Rattle.model.specs.declared.geometry.Geometry.{Geometry}

@@ -1,0 +1,8 @@
+//! What objects hold: the 512 words of a page and the 32 slots of a node.
+#![tactic(auto)]
+
+mod slots;
+mod words;
+
+pub use slots::{SLOTS, Slots};
+pub use words::{WORDS, Words};

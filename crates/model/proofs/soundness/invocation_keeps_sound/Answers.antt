@@ -1,5 +1,0 @@
-use Rattle.model.proofs.SoundGates.{invocation_keeps}
-use Rattle.model.proofs.soundness.invocation_keeps_sound.Goals as goal
-
-pub returns : goal.returns
-returns c = invocation_keeps

@@ -1,5 +1,0 @@
-use Rattle.model.proofs.WorkedRows.{fills_log}
-use Rattle.model.proofs.worked.fills_log.Goals as goal
-
-pub returns : goal.returns
-returns c = fills_log

@@ -1,5 +1,0 @@
-use Rattle.model.proofs.WorkedRows.{runs_script}
-use Rattle.model.proofs.worked.runs_script.Goals as goal
-
-pub returns : goal.returns
-returns c = runs_script

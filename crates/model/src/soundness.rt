@@ -1,6 +1,0 @@
-ghost use Rattle.model.specs.Laws.{InvocationKeepsSound};
-
-/// An invocation by a running process keeps a sound world sound.
-pub fn invocation_keeps_sound()
-    ensures { InvocationKeepsSound }
-{}

@@ -1,0 +1,110 @@
+-- What is rescinded or consumed is named nowhere any more.
+use Rattle.std.proofs.Common.{◌≡◌, ℕ, zero, suc, ◌+◌, Bool, true, false, if◌then◌else◌, List, [], ◌∷◌, map, slice_index_or, refl, sym, ap, ◌∙◌, subst, arith, add-zero, zero-add}
+use Rattle.std.specs.List.{enumerate_from}
+use Rattle.model.specs.declared.capability.Capability.{Capability}
+use Rattle.model.specs.declared.capability.Capability.TheVariants.{Void}
+use Rattle.model.specs.declared.object.Content.{Content}
+use Rattle.model.specs.declared.object.Content.TheVariants as content
+use Rattle.model.specs.declared.object.Object.{Object}
+use Rattle.model.specs.Object.{free, is_free, slots_in, root_in, map_content}
+use Rattle.model.specs.World.{object_at}
+use Rattle.model.specs.Revoke.{void_where, without, is_member, names_member, resumes, rescind, consume}
+use Rattle.model_laws.specs.Laws.{RescindsAll, ConsumesAll}
+
+module _ (goes : Capability → Bool) (void_stays : goes Void ≡ false) where
+  -- a capability that goes is put void
+  gone : (c : Capability) → goes (void_where goes c) ≡ false
+  gone c = cases (goes c) refl
+    where
+      cases : (b : Bool) → goes c ≡ b → goes (if b then Void else c) ≡ false
+      cases true e = void_stays
+      cases false e = e
+
+  gone_at : (cs : List Capability) (i : ℕ) → goes (slice_index_or (map (void_where goes) cs) i Void) ≡ false
+  gone_at [] i = void_stays
+  gone_at (c ∷ cs) zero = gone c
+  gone_at (c ∷ cs) (suc i) = gone_at cs i
+
+  -- no slot and no address space of an object without them holds one that goes
+  pub gone_from_slot : (o : Object) (i : ℕ) → goes (slice_index_or (slots_in (without goes o).content) i Void) ≡ false
+  gone_from_slot o i = cases o.content
+    where
+      cases : (c : Content Capability) → goes (slice_index_or (slots_in (map_content (void_where goes) c)) i Void) ≡ false
+      cases content.Free = void_stays
+      cases (content.Page words) = void_stays
+      cases (content.Node slots) = gone_at slots i
+      cases (content.Root root) = void_stays
+      cases (content.Annex registers) = gone_at registers i
+      cases (content.Bank limit) = void_stays
+
+  pub gone_from_space : (o : Object) → goes (root_in (without goes o).content).space ≡ false
+  gone_from_space o = cases o.content
+    where
+      cases : (c : Content Capability) → goes (root_in (map_content (void_where goes) c)).space ≡ false
+      cases content.Free = void_stays
+      cases (content.Page words) = void_stays
+      cases (content.Node slots) = void_stays
+      cases (content.Root root) = gone root.space
+      cases (content.Annex registers) = void_stays
+      cases (content.Bank limit) = void_stays
+
+-- what stands at a number after a consume
+pub at_consume : (p : ℕ) (os : List Object) (n : ℕ) → object_at (consume p os) n ≡ without (resumes p) (object_at os n)
+unfolding consume
+at_consume p [] n = refl
+at_consume p (o ∷ os) zero = refl
+at_consume p (o ∷ os) (suc n) = at_consume p os n
+
+pub consumes_all : ConsumesAll
+consumes_all p os = (
+  λ n i. subst (λ o. resumes p (slice_index_or (slots_in o.content) i Void) ≡ false) (sym (at_consume p os n)) (gone_from_slot (resumes p) refl (object_at os n) i),
+  λ q. subst (λ o. resumes p (root_in o.content).space ≡ false) (sym (at_consume p os q)) (gone_from_space (resumes p) refl (object_at os q)),
+)
+
+-- an object with its number, after a rescind
+abbrev after_rescind : List ℕ → ℕ × Object → Object
+after_rescind set p = if is_member set p.0 then free else without (names_member set) p.1
+
+-- what is free stays so
+free_stays : (set : List ℕ) (n : ℕ) → free ≡ after_rescind set (n, free)
+free_stays set n = cases (is_member set n)
+  where
+    cases : (b : Bool) → free ≡ (if b then free else without (names_member set) free)
+    cases true = refl
+    cases false = refl
+
+at_rescind_from : (set : List ℕ) (os : List Object) (k n : ℕ) →
+    object_at (map (after_rescind set) (enumerate_from k os)) n ≡ after_rescind set (k + n, object_at os n)
+at_rescind_from set [] k n = free_stays set (k + n)
+at_rescind_from set (o ∷ os) k zero = ap (λ j. after_rescind set (j, o)) (sym (add-zero k))
+at_rescind_from set (o ∷ os) k (suc n) =
+    let same : k + 1 + n ≡ k + suc n = omega arith in
+    at_rescind_from set os (k + 1) n ∙ ap (λ j. after_rescind set (j, object_at os n)) same
+
+-- what stands at a number after a rescind
+pub at_rescind : (set : List ℕ) (os : List Object) (n : ℕ) →
+    object_at (rescind set os) n ≡ (if is_member set n then free else without (names_member set) (object_at os n))
+unfolding rescind
+at_rescind set os n = at_rescind_from set os 0 n ∙ ap (λ j. after_rescind set (j, object_at os n)) (zero-add n)
+
+pub rescinds_all : RescindsAll
+rescinds_all set os = (frees, λ n i. clears_slot n i, λ p. clears_space p)
+  where
+    frees : (n : ℕ) → is_member set n ≡ true → is_free (object_at (rescind set os) n).content ≡ true
+    frees n member =
+        subst (λ o. is_free o.content ≡ true)
+        (sym (at_rescind set os n ∙ ap (λ b. if b then free else without (names_member set) (object_at os n)) member)) refl
+
+    clears_slot : (n i : ℕ) → names_member set (slice_index_or (slots_in (object_at (rescind set os) n).content) i Void) ≡ false
+    clears_slot n i = subst (λ o. names_member set (slice_index_or (slots_in o.content) i Void) ≡ false) (sym (at_rescind set os n)) (cases (is_member set n))
+      where
+        cases : (b : Bool) → names_member set (slice_index_or (slots_in (if b then free else without (names_member set) (object_at os n)).content) i Void) ≡ false
+        cases true = refl
+        cases false = gone_from_slot (names_member set) refl (object_at os n) i
+
+    clears_space : (p : ℕ) → names_member set (root_in (object_at (rescind set os) p).content).space ≡ false
+    clears_space p = subst (λ o. names_member set (root_in o.content).space ≡ false) (sym (at_rescind set os p)) (cases (is_member set p))
+      where
+        cases : (b : Bool) → names_member set (root_in (if b then free else without (names_member set) (object_at os p)).content).space ≡ false
+        cases true = refl
+        cases false = gone_from_space (names_member set) refl (object_at os p)

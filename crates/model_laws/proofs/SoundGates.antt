@@ -1,0 +1,326 @@
+use Rattle.std.proofs.Common.{◌≡◌, ◌≢◌, inl, inr, ℕ, zero, suc, ◌+◌, ◌^◌, ◌==◌, ◌<◌, ◌≤◌, Bool, true, false, ◌&&◌, ◌||◌, None, Some, List, [], ◌∷◌, map, length, get_or, refl, sym, ap, subst, arith, ◌∙◌}
+use Rattle.std.specs.Prelude.{if◌then◌else◌, IsTrue, slice_index, slice_index_or, slice_set}
+use Rattle.std.specs.List.{All}
+use Rattle.std.proofs.lemmas.Bool.{cases_eq, cases_lt, eqb-true, and_parts, or_cases}
+use Rattle.std.proofs.lemmas.List.{get_or_past}
+use Rattle.model.specs.declared.capability.Capability.{Capability}
+use Rattle.model.specs.declared.capability.Capability.TheVariants.{Void, Start, Resume}
+use Rattle.model.specs.declared.command.Command.TheVariants as command
+use Rattle.model.specs.declared.command.Invocation.{Invocation}
+use Rattle.model.specs.declared.command.Operation.{Operation}
+use Rattle.model.specs.declared.command.Operation.TheVariants.{Call, Return, Send}
+use Rattle.model.specs.declared.geometry.Geometry.{Geometry}
+use Rattle.model.specs.declared.object.Object.{Object}
+use Rattle.model.specs.declared.object.Root.{Root}
+use Rattle.model.specs.declared.object.State.{State}
+use Rattle.model.specs.declared.object.State.TheVariants.{Available, Running, Waiting}
+use Rattle.model.specs.declared.order.ResultCode.{ResultCode}
+use Rattle.model.specs.declared.order.ResultCode.TheVariants as code
+use Rattle.model.specs.Object.{is_available, is_running, is_waiting}
+use Rattle.model.specs.World.{root_at, annex_at, register_at, is_process, is_running_process, with_slot, with_root, with_state, with_slots_from}
+use Rattle.model.specs.Revoke.{consume}
+use Rattle.model.specs.Order.{Outcome, code_number}
+use Rattle.model.specs.Invoke.{Message, Effect, deliver, sent_by, is_return, sent_to_gate, after_gate, after_order, through_gate, reply_of, replied, ordered, on_kernel_object, can_start, invoke}
+use Rattle.model.specs.Text.{Fits}
+use Rattle.model_laws.specs.Laws.{InvocationKeepsSound}
+use Rattle.model_laws.proofs.Usage.{SameFrame, frame_refl, tests_at}
+use Rattle.model_laws.proofs.SoundParts.{IsHeld, IsNearlySound, Waits, state_at, held_on, held_void, nearly_weaken, nearly_from, nearly_to}
+use Rattle.model_laws.proofs.SoundEdits.{IsEdited, IsRootOf, But, at_set, edited_slot, edited_trans, frame_root, nearly_root, nearly_consume, root_same, root_other, state_consume}
+use Rattle.model_laws.proofs.SoundOrders.{IsNow, IsOutcome, root_now, nearly_state, state_other, order_keeps}
+
+-- states
+
+running_is_not_waiting : (s : State) → is_running s ≡ true → is_waiting s ≡ true → ⊥
+running_is_not_waiting Running p q = cc
+running_is_not_waiting s p q = cc
+
+available_is_not_waiting : (s : State) → is_available s ≡ true → is_waiting s ≡ true → ⊥
+available_is_not_waiting Available p q = cc
+available_is_not_waiting s p q = cc
+
+running_is_not_available : (s : State) → is_running s ≡ true → is_available s ≡ true → ⊥
+running_is_not_available Running p q = cc
+running_is_not_available s p q = cc
+
+-- one that waits is not one that runs
+other_than_running : (os : List Object) (p x : ℕ) → IsTrue (is_running (state_at os p)) → Waits os x → x ≢ p
+other_than_running os p x runs waits e = running_is_not_waiting (state_at os p) runs (subst (λ k. Waits os k) e waits)
+
+-- objects where a running process goes into another state
+pub record IsAfter (g : Geometry) (os us : List Object) : Type 0 where
+  pub frame : SameFrame os us
+  pub now : IsNow g us
+  pub waits : (x : ℕ) → Waits os x → Waits us x
+
+frame_state : (g : Geometry) (os : List Object) (p : ℕ) (s : State) → IsNow g os → IsTrue (is_process os p) → SameFrame os (with_state os p s)
+unfolding with_state
+frame_state g os p s h is =
+    let r = root_now g (Waits os) os p h is in
+    frame_root os (Waits os) p _ (record { is_process = is; annex = refl; count = r.count; words = r.words; key = r.key; space = r.space; is_space = r.is_space })
+
+state_same : (os : List Object) (p : ℕ) (s : State) → IsTrue (is_process os p) → state_at (with_state os p s) p ≡ s
+unfolding with_state
+state_same os p s is = ap (λ (r : Root Capability). r.state) (root_same os p _ is)
+
+after_state : (g : Geometry) (os : List Object) (p : ℕ) (s : State) → IsNow g os → IsTrue (is_running_process os p) → IsAfter g os (with_state os p s)
+after_state g os p s h runs =
+    let parts = and_parts (is_process os p) (is_running (state_at os p)) runs in
+    let kept = λ (x : ℕ) (w : Waits os x). ap is_waiting (state_other os p x s (other_than_running os p x parts.1 w)) ∙ w in
+    record {
+      frame = frame_state g os p s h parts.0;
+      now = nearly_weaken g (Waits os) (Waits (with_state os p s)) (with_state os p s) kept (nearly_state g (Waits os) os p s h parts.0);
+      waits = kept;
+    }
+
+after_none : (g : Geometry) (os : List Object) → IsNow g os → IsAfter g os os
+after_none g os h = record { frame = frame_refl os; now = h; waits = λ x w. w }
+
+after_gate_keeps : (g : Geometry) (os : List Object) (i : Invocation) → IsNow g os → IsTrue (is_running_process os i.process) → IsAfter g os (after_gate os i)
+after_gate_keeps g os i h runs = go i.operation
+  where
+    go : (o : Operation) → IsAfter g os (elim o [ Call ↦ with_state os i.process Waiting | Return ↦ with_state os i.process Available | Send ↦ os ])
+    go Call = after_state g os i.process Waiting h runs
+    go Return = after_state g os i.process Available h runs
+    go Send = after_none g os h
+
+after_order_keeps : (g : Geometry) (os : List Object) (i : Invocation) → IsNow g os → IsTrue (is_running_process os i.process) → IsAfter g os (after_order os i)
+after_order_keeps g os i h runs = go i.operation
+  where
+    go : (o : Operation) → IsAfter g os (elim o [ Return ↦ with_state os i.process Available | _ ↦ os ])
+    go Return = after_state g os i.process Available h runs
+    go Call = after_none g os h
+    go Send = after_none g os h
+
+held_after : (g : Geometry) (os us : List Object) (c : Capability) → IsAfter g os us → IsHeld os (Waits os) c → IsHeld us (Waits us) c
+held_after g os us c a h = held_on os us (Waits os) (Waits us) c a.frame a.waits h
+
+-- delivery
+
+edited_none : (g : Geometry) (W : ℕ → Type 0) (os : List Object) → IsNearlySound g W os → IsEdited g W os os
+edited_none g W os h = record { frame = frame_refl os; sound = h; states = λ q. refl }
+
+slots_from : (g : Geometry) (W : ℕ → Type 0) (os : List Object) (n i : ℕ) (cs : List Capability) → IsNearlySound g W os → 1 ≤ i
+    → ((j : ℕ) → IsHeld os W (get_or cs j Void)) → IsEdited g W os (with_slots_from os n i cs)
+slots_from g W os n i [] h positive held = edited_none g W os h
+slots_from g W os n i (c ∷ cs) h positive held =
+    let e = edited_slot g W os n i c h (held 0) (λ _. λ z. omega arith) in
+    edited_trans g W os (with_slot os n i c) (with_slots_from (with_slot os n i c) n (i + 1) cs) e
+    (slots_from g W (with_slot os n i c) n (i + 1) cs e.sound (omega arith) (λ j. held_on os (with_slot os n i c) W W (get_or cs j Void) e.frame (λ p w. w) (held (suc j))))
+
+-- a message that may be delivered
+pub record IsMessage (os : List Object) (W : ℕ → Type 0) (m : Message) : Type 0 where
+  pub count : length m.words ≡ 4
+  pub words : (i : ℕ) → slice_index m.words i < 2 ^ 64
+  pub key : m.key < 2 ^ 16
+  pub held : (j : ℕ) → IsHeld os W (get_or m.capabilities j Void)
+
+-- objects where a process is running
+pub record IsStarted (g : Geometry) (W : ℕ → Type 0) (os : List Object) (p : ℕ) (us : List Object) : Type 0 where
+  pub sound : IsNearlySound g W us
+  pub others : (q : ℕ) → q ≢ p → state_at us q ≡ state_at os q
+
+deliver_keeps : (g : Geometry) (W : ℕ → Type 0) (os : List Object) (p : ℕ) (m : Message) → IsNearlySound g W os → IsTrue (is_process os p)
+    → IsMessage os W m → IsStarted g W os p (deliver os p m)
+unfolding deliver
+deliver_keeps g W os p m h is fits =
+    let old = root_at os p in
+    let r = root_now g W os p h is in
+    let new : Root Capability = record { state = Running; words = m.words; key = m.key; annex = old.annex; space = old.space } in
+    let root : IsRootOf os W p new = record { is_process = is; annex = refl; count = fits.count; words = fits.words; key = fits.key; space = r.space; is_space = r.is_space } in
+    let us = with_root os p new in
+    let frame = frame_root os W p new root in
+    let e = slots_from g W us old.annex 28 m.capabilities (nearly_root g W os p new h root) (omega arith)
+    (λ j. held_on os us W W (get_or m.capabilities j Void) frame (λ p w. w) (fits.held j)) in
+    record {
+      sound = e.sound;
+      others = λ q differ. e.states q ∙ ap (λ (r : Root Capability). r.state) (root_other os p q new differ);
+    }
+
+-- with none that waits started, all is sound
+started_now : (g : Geometry) (os : List Object) (p : ℕ) (us : List Object) → IsStarted g (Waits os) os p us → (Waits os p → ⊥) → IsNow g us
+started_now g os p us s idle =
+    nearly_weaken g (Waits os) (Waits us) us (λ x w. ap is_waiting (s.others x (λ e. idle (subst (λ k. Waits os k) e w))) ∙ w) s.sound
+
+-- with a resumed process's resume capabilities consumed, all is sound
+resumed_now : (g : Geometry) (os : List Object) (p : ℕ) (us : List Object) → IsStarted g (Waits os) os p us → IsNow g (consume p us)
+resumed_now g os p us s =
+    nearly_weaken g (But (Waits os) p) (Waits (consume p us)) (consume p us)
+    (λ x w. ap is_waiting (state_consume p us x ∙ s.others x w.1) ∙ w.0) (nearly_consume g (Waits os) p us s.sound)
+
+-- what an invocation sends
+
+all_words : (xs : List ℕ) → All (λ w. w < 2 ^ 64) xs → (i : ℕ) → slice_index xs i < 2 ^ 64
+all_words xs all i = elim (cases_lt i (length xs)) [
+  | inl lt ↦ all i 0 lt
+  | inr past ↦ rw (get_or_past xs i 0 past) (omega arith)
+]
+
+held_map : (os : List Object) (W : ℕ → Type 0) (f : ℕ → Capability) (rs : List ℕ) (j : ℕ) → ((r : ℕ) → IsHeld os W (f r)) → IsHeld os W (get_or (map f rs) j Void)
+held_map os W f [] j h = held_void os W
+held_map os W f (r ∷ rs) zero h = h r
+held_map os W f (r ∷ rs) (suc j) h = held_map os W f rs j h
+
+held_sent : (g : Geometry) (os : List Object) (i : Invocation) (j : ℕ) → IsNow g os → IsHeld os (Waits os) (get_or (sent_by os i) j Void)
+held_sent g os i j h = held_map os (Waits os) (register_at os i.process) i.sent j (λ r. (h.filled (annex_at os i.process)).slots r)
+
+-- the invoker after the operation through a gate, and what the gate receives, by the operation
+abbrev gate_state : List Object → ℕ → Operation → List Object
+gate_state os p Call = with_state os p Waiting
+gate_state os p Return = with_state os p Available
+gate_state os p Send = os
+
+abbrev gate_sent : List Capability → ℕ → Operation → List Capability
+gate_sent cs p Call = slice_set cs 3 (Resume p)
+gate_sent cs p Return = cs
+gate_sent cs p Send = cs
+
+held_by : (g : Geometry) (os : List Object) (p j : ℕ) (cs : List Capability) (o : Operation) → IsTrue (is_process os p)
+    → IsAfter g os (gate_state os p o) → IsHeld os (Waits os) (get_or cs j Void)
+    → IsHeld (gate_state os p o) (Waits (gate_state os p o)) (get_or (gate_sent cs p o) j Void)
+held_by g os p j cs Call is a h =
+    let us = with_state os p Waiting in
+    at_set (λ m c. IsHeld us (Waits us) c) cs 3 j (Resume p) Void
+    (record { well_formed = tt; names = ((tests_at os us a.frame p).root ∙ is, ap is_waiting (state_same os p Waiting is)) })
+    (held_after g os us (get_or cs j Void) a h)
+held_by g os p j cs Return is a h = held_after g os (with_state os p Available) (get_or cs j Void) a h
+held_by g os p j cs Send is a h = h
+
+-- what an invocation through a gate sends is a message
+gate_message : (g : Geometry) (os : List Object) (i : Invocation) (key : ℕ) → IsNow g os → Fits (command.Invoke i) → IsTrue (is_running_process os i.process)
+    → key < 2 ^ 16 → IsMessage (after_gate os i) (Waits (after_gate os i)) (record { words = i.words; key = key; capabilities = sent_to_gate os i })
+gate_message g os i key h fits runs small = record {
+  count = fits.2;
+  words = all_words i.words fits.3;
+  key = small;
+  held = λ j. held_by g os i.process j (sent_by os i) i.operation (and_parts (is_process os i.process) (is_running (state_at os i.process)) runs).0
+      (after_gate_keeps g os i h runs) (held_sent g os i j h);
+}
+
+gate_keeps : (g : Geometry) (os : List Object) (i : Invocation) (q key : ℕ) → IsNow g os → Fits (command.Invoke i) → IsTrue (is_running_process os i.process)
+    → IsTrue (is_process os q) → key < 2 ^ 16 → IsStarted g (Waits (after_gate os i)) (after_gate os i) q (through_gate os i q key).objects
+unfolding through_gate
+gate_keeps g os i q key h fits runs is small =
+    let a = after_gate_keeps g os i h runs in
+    deliver_keeps g (Waits (after_gate os i)) (after_gate os i) q (record { words = i.words; key = key; capabilities = sent_to_gate os i }) a.now
+    ((tests_at os (after_gate os i) a.frame q).root ∙ is) (gate_message g os i key h fits runs small)
+
+-- an available process doesn't wait when another one goes into some state
+available_idle : (os : List Object) (p q : ℕ) (s : State) → IsTrue (is_running (state_at os p)) → is_available (state_at os q) ≡ true → Waits (with_state os p s) q → ⊥
+available_idle os p q s runs free waits = elim (cases_eq q p) [
+  | inl same ↦ running_is_not_available (state_at os p) runs (subst (λ k. is_available (state_at os k) ≡ true) same free)
+  | inr differ ↦ available_is_not_waiting (state_at os q) free (sym (ap is_waiting (state_other os p q s differ)) ∙ waits)
+]
+
+-- a process that can be started doesn't wait
+startable_idle : (os : List Object) (p q : ℕ) (o : Operation) → IsTrue (is_running_process os p)
+    → (is_available (state_at os q) || (is_return o && (p == q))) ≡ true → Waits (gate_state os p o) q → ⊥
+startable_idle os p q Call runs can waits =
+    elim (or_cases (is_available (state_at os q)) false can) [
+      | inl free ↦ available_idle os p q Waiting (and_parts (is_process os p) (is_running (state_at os p)) runs).1 free waits
+      | inr never ↦ cc
+    ]
+startable_idle os p q Send runs can waits =
+    elim (or_cases (is_available (state_at os q)) false can) [
+      | inl free ↦ available_is_not_waiting (state_at os q) free waits
+      | inr never ↦ cc
+    ]
+startable_idle os p q Return runs can waits =
+    let parts = and_parts (is_process os p) (is_running (state_at os p)) runs in
+    elim (or_cases (is_available (state_at os q)) (p == q) can) [
+      | inl free ↦ available_idle os p q Available parts.1 free waits
+      | inr same ↦
+          let stands : false ≡ true = sym (ap is_waiting (state_same os p Available parts.0)) ∙ subst (λ k. Waits (with_state os p Available) k) (sym (eqb-true p q same)) waits in
+          cc
+    ]
+
+start_keeps : (g : Geometry) (os : List Object) (i : Invocation) (q key : ℕ) → IsNow g os → Fits (command.Invoke i) → IsTrue (is_running_process os i.process)
+    → IsTrue (is_process os q) → key < 2 ^ 16 → can_start os i q ≡ true → IsNow g (through_gate os i q key).objects
+start_keeps g os i q key h fits runs is small can =
+    started_now g (after_gate os i) q (through_gate os i q key).objects (gate_keeps g os i q key h fits runs is small) (startable_idle os i.process q i.operation runs can)
+
+resume_keeps : (g : Geometry) (os : List Object) (i : Invocation) (q : ℕ) → IsNow g os → Fits (command.Invoke i) → IsTrue (is_running_process os i.process)
+    → IsTrue (is_process os q) → IsNow g (consume q (through_gate os i q 0).objects)
+resume_keeps g os i q h fits runs is =
+    resumed_now g (after_gate os i) q (through_gate os i q 0).objects (gate_keeps g os i q 0 h fits runs is (omega arith))
+
+-- kernel objects
+
+code_fits : (c : ResultCode) → code_number c < 2 ^ 64
+code_fits code.Done = omega arith
+code_fits c = omega arith
+
+reply_message : (g : Geometry) (o : Outcome) → IsOutcome g o → IsMessage o.objects (Waits o.objects) (reply_of o)
+reply_message g o h = record {
+  count = ap suc h.count;
+  words = elim [ zero ↦ code_fits o.code | suc i ↦ h.words i ];
+  key = omega arith;
+  held = elim [
+    | zero ↦ h.held
+    | suc zero ↦ held_void o.objects (Waits o.objects)
+    | suc (suc zero) ↦ held_void o.objects (Waits o.objects)
+    | suc (suc (suc zero)) ↦ held_void o.objects (Waits o.objects)
+    | suc (suc (suc (suc j))) ↦ held_void o.objects (Waits o.objects)
+  ];
+}
+
+replied_keeps : (g : Geometry) (i : Invocation) (o : Outcome) → IsOutcome g o → IsNow g (replied o.objects i o)
+replied_keeps g i o h = go i.operation
+  where
+    branch : (b : Bool) → is_running_process o.objects i.process ≡ b → IsNow g (if b then deliver o.objects i.process (reply_of o) else o.objects)
+    branch false e = h.now
+    branch true e =
+        let parts = and_parts (is_process o.objects i.process) (is_running (state_at o.objects i.process)) e in
+        started_now g o.objects i.process (deliver o.objects i.process (reply_of o))
+        (deliver_keeps g (Waits o.objects) o.objects i.process (reply_of o) h.now parts.0 (reply_message g o h))
+        (running_is_not_waiting (state_at o.objects i.process) parts.1)
+
+    go : (p : Operation) → IsNow g (elim p [ Call ↦ if is_running_process o.objects i.process then deliver o.objects i.process (reply_of o) else o.objects | _ ↦ o.objects ])
+    go Call = branch (is_running_process o.objects i.process) refl
+    go Return = h.now
+    go Send = h.now
+
+ordered_keeps : (g : Geometry) (os : List Object) (i : Invocation) → IsNow g os → Fits (command.Invoke i) → IsTrue (is_running_process os i.process)
+    → IsOutcome g (ordered os i)
+ordered_keeps g os i h fits runs =
+    let a = after_order_keeps g os i h runs in
+    order_keeps g (after_order os i) (register_at os i.process i.register) (slice_index i.words 0)
+    (record { first = slice_index i.words 1; second = slice_index i.words 2; capability = slice_index_or (sent_by os i) 0 Void }) a.now
+    (held_after g os (after_order os i) (register_at os i.process i.register) a ((h.filled (annex_at os i.process)).slots i.register))
+    (record {
+      first = all_words i.words fits.3 1;
+      second = all_words i.words fits.3 2;
+      held = held_after g os (after_order os i) (get_or (sent_by os i) 0 Void) a (held_sent g os i 0 h);
+    })
+
+kernel_keeps : (g : Geometry) (os : List Object) (i : Invocation) → IsNow g os → Fits (command.Invoke i) → IsTrue (is_running_process os i.process)
+    → IsNow g (on_kernel_object os i).objects
+unfolding on_kernel_object
+kernel_keeps g os i h fits runs = replied_keeps g i (ordered os i) (ordered_keeps g os i h fits runs)
+
+-- invocations
+
+invoked_now : (g : Geometry) (os : List Object) (i : Invocation) (e : Effect) → IsNow g os → Fits (command.Invoke i) → IsTrue (is_running_process os i.process)
+    → invoke os i ≡ Some e → IsNow g e.objects
+unfolding invoke
+invoked_now g os i e h fits runs done = go (register_at os i.process i.register) ((h.filled (annex_at os i.process)).slots i.register) done
+  where
+    from : (f : Effect) → IsNow g f.objects → Some f ≡ Some e → IsNow g e.objects
+    from f now same = let equal : f ≡ e = cc in subst (λ (x : Effect). IsNow g x.objects) equal now
+
+    start : (q key : ℕ) (b : Bool) → can_start os i q ≡ b → IsHeld os (Waits os) (Start q key) → (if b then Some (through_gate os i q key) else None) ≡ Some e → IsNow g e.objects
+    start q key true can held same = from (through_gate os i q key) (start_keeps g os i q key h fits runs held.names held.well_formed can) same
+    start q key false can held same = cc
+
+    go : (c : Capability) → IsHeld os (Waits os) c
+        → (elim c [
+          | Start q key ↦ if can_start os i q then Some (through_gate os i q key) else None
+          | Resume q ↦ let effect = through_gate os i q 0 in Some (record { objects = consume q effect.objects; written = effect.written })
+          | _ ↦ Some (on_kernel_object os i)
+        ]) ≡ Some e → IsNow g e.objects
+    go (Start q key) held same = start q key (can_start os i q) refl held same
+    go (Resume q) held same = from _ (resume_keeps g os i q h fits runs held.names.0) same
+    go c held same = from (on_kernel_object os i) (kernel_keeps g os i h fits runs) same
+
+pub invocation_keeps : InvocationKeepsSound
+invocation_keeps g w i e sound fits runs young done =
+    nearly_to g e.objects (w.age + 1) (invoked_now g w.objects i e (nearly_from g w sound) fits runs done) (omega arith)

@@ -1,0 +1,307 @@
+use Rattle.std.proofs.Common.{◌≡◌, ◌≢◌, ◌⊎◌, inl, inr, ℕ, zero, suc, ◌^◌, ◌==◌, ◌<◌, ◌≤◌, Bool, true, false, not, ◌||◌, Option, None, Some, List, [], ◌∷◌, length, refl, ap, arith, ◌∙◌}
+use Rattle.std.specs.Prelude.{if◌then◌else◌, IsTrue, nat_lt, slice_index, bit_or}
+use Rattle.std.proofs.lemmas.Bool.{eqb-true, eqb-false, ltb-true, or_parts, or_cases, not-false}
+use Rattle.std.proofs.lemmas.List.{length-set}
+use Rattle.model.specs.declared.access.Access.{Access}
+use Rattle.model.specs.declared.capability.Capability.{Capability}
+use Rattle.model.specs.declared.capability.Capability.TheVariants.{Void, Number, Page, Node, Space, Process, Start, Resume, Bank, Discrim}
+use Rattle.model.specs.declared.geometry.Geometry.{Geometry}
+use Rattle.model.specs.declared.object.Content.{Content}
+use Rattle.model.specs.declared.object.Content.TheVariants as content
+use Rattle.model.specs.declared.object.Object.{Object}
+use Rattle.model.specs.declared.object.Root.{Root}
+use Rattle.model.specs.declared.object.State.{State}
+use Rattle.model.specs.declared.object.State.TheVariants.{Available, Running, Waiting}
+use Rattle.model.specs.declared.order.ResultCode.{ResultCode}
+use Rattle.model.specs.declared.order.PageOrder.{PageOrder}
+use Rattle.model.specs.declared.order.PageOrder.TheVariants as page
+use Rattle.model.specs.declared.order.NodeOrder.{NodeOrder}
+use Rattle.model.specs.declared.order.NodeOrder.TheVariants as node
+use Rattle.model.specs.declared.order.ProcessOrder.{ProcessOrder}
+use Rattle.model.specs.declared.order.ProcessOrder.TheVariants as process
+use Rattle.model.specs.Capability.{IsAccess, IsWellFormed, union, diminished, access_bits, tag_of, weak}
+use Rattle.model.specs.Object.{is_root, is_node, is_annex, is_waiting, root_in, state_number}
+use Rattle.model.specs.World.{content_at, word_at, slot_at, root_at, annex_at, register_at, is_process, with_state}
+use Rattle.model.specs.Revoke.{consume}
+use Rattle.model.specs.Sound.{HasShape, IsSpace}
+use Rattle.model.specs.Order.{Arguments, Outcome, refused, told, given, wrote, page_order, node_order, process_order, reduces, fetched, stored, is_space, with_root_word, with_space, on_page, on_node, on_process, order}
+use Rattle.model_laws.proofs.SoundParts.{IsHeld, IsNearlySound, Waits, state_at, held_void, nearly_weaken}
+use Rattle.model_laws.proofs.SoundEdits.{IsEdited, IsRootOf, But, at_set, edited_slot, edited_word, edited_root, nearly_root, nearly_consume, root_other, state_consume}
+
+-- sound objects, apart from the age
+abbrev pub IsNow : Geometry → List Object → Type 0
+IsNow g os = IsNearlySound g (Waits os) os
+
+-- an outcome that may be told to a process
+pub record IsOutcome (g : Geometry) (o : Outcome) : Type 0 where
+  pub now : IsNow g o.objects
+  pub count : length o.words ≡ 3
+  pub words : (i : ℕ) → slice_index o.words i < 2 ^ 64
+  pub held : IsHeld o.objects (Waits o.objects) o.capability
+
+-- arguments as a process sends them
+pub record AreArguments (os : List Object) (args : Arguments) : Type 0 where
+  pub first : args.first < 2 ^ 64
+  pub second : args.second < 2 ^ 64
+  pub held : IsHeld os (Waits os) args.capability
+
+three_words : (a b c : ℕ) → a < 2 ^ 64 → b < 2 ^ 64 → c < 2 ^ 64 → (i : ℕ) → slice_index (a ∷ b ∷ c ∷ []) i < 2 ^ 64
+three_words a b c p q r zero = p
+three_words a b c p q r (suc zero) = q
+three_words a b c p q r (suc (suc zero)) = r
+three_words a b c p q r (suc (suc (suc i))) = omega arith
+
+refused_keeps : (g : Geometry) (os : List Object) (why : ResultCode) → IsNow g os → IsOutcome g (refused os why)
+refused_keeps g os why h = record { now = h; count = refl; words = three_words 0 0 0 (omega arith) (omega arith) (omega arith); held = held_void os (Waits os) }
+
+told_keeps : (g : Geometry) (os : List Object) (a b : ℕ) → IsNow g os → a < 2 ^ 64 → b < 2 ^ 64 → IsOutcome g (told os a b)
+told_keeps g os a b h p q = record { now = h; count = refl; words = three_words a b 0 p q (omega arith); held = held_void os (Waits os) }
+
+given_keeps : (g : Geometry) (os : List Object) (c : Capability) → IsNow g os → IsHeld os (Waits os) c → IsOutcome g (given os c)
+given_keeps g os c h held = record { now = h; count = refl; words = three_words 0 0 0 (omega arith) (omega arith) (omega arith); held = held }
+
+wrote_keeps : (g : Geometry) (os : List Object) (n : ℕ) → IsNow g os → IsOutcome g (wrote os n)
+wrote_keeps g os n h = record { now = h; count = refl; words = three_words 0 0 0 (omega arith) (omega arith) (omega arith); held = held_void os (Waits os) }
+
+pub edited_now : (g : Geometry) (os us : List Object) → IsEdited g (Waits os) os us → IsNow g us
+edited_now g os us e = nearly_weaken g (Waits os) (Waits us) us (λ p w. ap is_waiting (e.states p) ∙ w) e.sound
+
+either : (g : Geometry) (b : Bool) (x y : Outcome) → (b ≡ true → IsOutcome g x) → (b ≡ false → IsOutcome g y) → IsOutcome g (if b then x else y)
+either g true x y p q = p refl
+either g false x y p q = q refl
+
+-- accesses
+
+one_of_two : (w : ℕ) → reduces w ≡ true → (w ≡ 1) ⊎ (w ≡ 3)
+one_of_two w e = elim (or_cases (w == 1) (w == 3) e) [ inl f ↦ inl (eqb-true w 1 f) | inr f ↦ inr (eqb-true w 3 f) ]
+
+access_union : (a : Access) (w : ℕ) → IsAccess a → reduces w ≡ true → IsAccess (union a w)
+access_union a w is e = go a.0 w is (one_of_two w e)
+  where
+    go : (x y : ℕ) → (x ≡ 0) ⊎ (x ≡ 1) ⊎ (x ≡ 3) → (y ≡ 1) ⊎ (y ≡ 3) → (bit_or x y ≡ 0) ⊎ (bit_or x y ≡ 1) ⊎ (bit_or x y ≡ 3)
+    go x y (inl p) (inl q) = rw (p, q) (inr (inl refl))
+    go x y (inl p) (inr q) = rw (p, q) (inr (inr refl))
+    go x y (inr (inl p)) (inl q) = rw (p, q) (inr (inl refl))
+    go x y (inr (inl p)) (inr q) = rw (p, q) (inr (inr refl))
+    go x y (inr (inr p)) (inl q) = rw (p, q) (inr (inr refl))
+    go x y (inr (inr p)) (inr q) = rw (p, q) (inr (inr refl))
+
+access_fits : (a : Access) → IsAccess a → a.0 < 2 ^ 64
+access_fits a is = grind arith
+
+weak_is_access : IsAccess weak
+weak_is_access = inr (inr refl)
+
+held_diminished : (os : List Object) (W : ℕ → Type 0) (c : Capability) → IsHeld os W c → IsHeld os W (diminished c)
+held_diminished os W Void h = h
+held_diminished os W (Number n) h = h
+held_diminished os W (Page o a) h = record { well_formed = weak_is_access; names = h.names }
+held_diminished os W (Node o a) h = record { well_formed = weak_is_access; names = h.names }
+held_diminished os W (Space o k a) h = record { well_formed = (h.well_formed.0, h.well_formed.1, weak_is_access); names = h.names }
+held_diminished os W c h = held_void os W
+
+held_fetched : (os : List Object) (W : ℕ → Type 0) (a : Access) (c : Capability) → IsHeld os W c → IsHeld os W (fetched a c)
+held_fetched os W a c h = go (a.0 == 3)
+  where
+    go : (b : Bool) → IsHeld os W (if b then diminished c else c)
+    go true = held_diminished os W c h
+    go false = h
+
+-- pages
+
+on_page_keeps : (g : Geometry) (os : List Object) (o : ℕ) (a : Access) (asked : PageOrder) (args : Arguments) → IsNow g os
+    → IsHeld os (Waits os) (Page o a) → AreArguments os args → IsOutcome g (on_page os o a asked args)
+unfolding on_page
+on_page_keeps g os o a page.Read args h held fits =
+    either g (nat_lt args.first 512) _ _ (λ _. told_keeps g os (word_at os o args.first) 0 h ((h.filled o).words args.first) (omega arith)) (λ _. refused_keeps g os _ h)
+on_page_keeps g os o a page.Write args h held fits =
+    either g (not (a.0 == 0)) _ _ (λ _. refused_keeps g os _ h) (λ _.
+    either g (nat_lt args.first 512) _ _
+    (λ _. wrote_keeps g _ o (edited_now g os _ (edited_word g (Waits os) os o args.first args.second h fits.second)))
+    (λ _. refused_keeps g os _ h))
+on_page_keeps g os o a page.Reduce args h held fits =
+    either g (reduces args.first) _ _
+    (λ e. given_keeps g os (Page o (union a args.first)) h (record { well_formed = access_union a args.first held.well_formed e; names = held.names }))
+    (λ _. refused_keeps g os _ h)
+
+-- nodes
+
+node_is_no_annex : (c : Content Capability) → IsTrue (is_node c) → IsTrue (is_annex c) → ⊥
+node_is_no_annex (content.Node s) p q = cc
+node_is_no_annex c p q = cc
+
+stored_keeps : (g : Geometry) (os : List Object) (o : ℕ) (a : Access) (slot : ℕ) (c : Capability) → IsNow g os
+    → IsTrue (is_node (content_at os o)) → IsHeld os (Waits os) c → IsOutcome g (stored os o a slot c)
+stored_keeps g os o a slot c h is held =
+    either g (not (a.0 == 0)) _ _ (λ _. refused_keeps g os _ h) (λ _.
+    either g (nat_lt slot 32) _ _
+    (λ _. wrote_keeps g _ o (edited_now g os _ (edited_slot g (Waits os) os o slot c h held (λ annex. absurd (node_is_no_annex (content_at os o) is annex)))))
+    (λ _. refused_keeps g os _ h))
+
+height_fits : (k : ℕ) → ((k == 0) || not (nat_lt k 5)) ≡ false → (1 ≤ k) × (k ≤ 4)
+height_fits k e =
+    let parts = or_parts (k == 0) (not (nat_lt k 5)) e in
+    let positive = eqb-false k 0 parts.0 in
+    let below = ltb-true k 5 (not-false (nat_lt k 5) parts.1) in
+    (grind arith, omega arith)
+
+on_node_keeps : (g : Geometry) (os : List Object) (o : ℕ) (a : Access) (asked : NodeOrder) (args : Arguments) → IsNow g os
+    → IsHeld os (Waits os) (Node o a) → AreArguments os args → IsOutcome g (on_node os o a asked args)
+unfolding on_node
+on_node_keeps g os o a node.Fetch args h held fits =
+    either g (nat_lt args.first 32) _ _
+    (λ _. given_keeps g os _ h (held_fetched os (Waits os) a (slot_at os o args.first) ((h.filled o).slots args.first)))
+    (λ _. refused_keeps g os _ h)
+on_node_keeps g os o a node.Store args h held fits = stored_keeps g os o a args.first args.capability h held.names fits.held
+on_node_keeps g os o a node.Reduce args h held fits =
+    either g (reduces args.first) _ _
+    (λ e. given_keeps g os (Node o (union a args.first)) h (record { well_formed = access_union a args.first held.well_formed e; names = held.names }))
+    (λ _. refused_keeps g os _ h)
+on_node_keeps g os o a node.MakeSpace args h held fits =
+    either g ((args.first == 0) || not (nat_lt args.first 5)) _ _ (λ _. refused_keeps g os _ h)
+    (λ e. given_keeps g os (Space o args.first a) h (record {
+      well_formed = ((height_fits args.first e).0, (height_fits args.first e).1, held.well_formed);
+      names = held.names;
+    }))
+on_node_keeps g os o a node.PutNumber args h held fits =
+    stored_keeps g os o a args.first (Number args.second) h held.names (record { well_formed = fits.second; names = tt })
+
+-- processes
+
+root_shape : (c : Content Capability) → IsTrue (is_root c) → HasShape c
+    → (length (root_in c).words ≡ 4) × ((i : ℕ) → slice_index (root_in c).words i < 2 ^ 64) × ((root_in c).key < 2 ^ 16)
+root_shape (content.Root r) is h = h
+root_shape c is h = cc
+
+-- the root of a process fits it
+pub root_now : (g : Geometry) (W : ℕ → Type 0) (os : List Object) (p : ℕ) → IsNearlySound g W os → IsTrue (is_process os p) → IsRootOf os W p (root_at os p)
+root_now g W os p h is =
+    let shape = root_shape (content_at os p) is (h.filled p).shape in
+    record { is_process = is; annex = refl; count = shape.0; words = shape.1; key = shape.2; space = (h.filled p).space; is_space = (h.filled p).is_space }
+
+-- with another state, where none but waiting processes may be resumed
+pub nearly_state : (g : Geometry) (W : ℕ → Type 0) (os : List Object) (p : ℕ) (s : State) → IsNearlySound g W os → IsTrue (is_process os p) → IsNearlySound g W (with_state os p s)
+unfolding with_state
+nearly_state g W os p s h is =
+    let r = root_now g W os p h is in
+    nearly_root g W os p _ h (record { is_process = is; annex = refl; count = r.count; words = r.words; key = r.key; space = r.space; is_space = r.is_space })
+
+pub state_other : (os : List Object) (p q : ℕ) (s : State) → q ≢ p → state_at (with_state os p s) q ≡ state_at os q
+unfolding with_state
+state_other os p q s differ = ap (λ (r : Root Capability). r.state) (root_other os p q _ differ)
+
+-- a process that is resumed no more may do anything
+consumed_now : (g : Geometry) (os : List Object) (p : ℕ) (s : State) → IsNow g os → IsTrue (is_process os p) → IsNow g (consume p (with_state os p s))
+consumed_now g os p s h is =
+    nearly_weaken g (But (Waits os) p) (Waits (consume p (with_state os p s))) (consume p (with_state os p s))
+    (λ q w. ap is_waiting (state_consume p (with_state os p s) q ∙ state_other os p q s w.1) ∙ w.0)
+    (nearly_consume g (Waits os) p (with_state os p s) (nearly_state g (Waits os) os p s h is))
+
+state_fits : (s : State) → state_number s < 2 ^ 64
+state_fits Available = omega arith
+state_fits Running = omega arith
+state_fits Waiting = omega arith
+
+space_fits : (c : Capability) → is_space c ≡ true → IsSpace c
+space_fits Void e = tt
+space_fits (Page o a) e = tt
+space_fits (Space o k a) e = tt
+space_fits c e = cc
+
+on_process_keeps : (g : Geometry) (os : List Object) (p : ℕ) (asked : ProcessOrder) (args : Arguments) → IsNow g os
+    → IsTrue (is_process os p) → AreArguments os args → IsOutcome g (on_process os p asked args)
+unfolding on_process
+on_process_keeps g os p process.GetRegister args h is fits =
+    either g (nat_lt args.first 32) _ _ (λ _. given_keeps g os (register_at os p args.first) h ((h.filled (annex_at os p)).slots args.first)) (λ _. refused_keeps g os _ h)
+on_process_keeps g os p process.PutRegister args h is fits =
+    either g ((args.first == 0) || not (nat_lt args.first 32)) _ _ (λ _. refused_keeps g os _ h)
+    (λ e. wrote_keeps g _ (annex_at os p) (edited_now g os _
+    (edited_slot g (Waits os) os (annex_at os p) args.first args.capability h fits.held
+    (λ _. eqb-false args.first 0 (or_parts (args.first == 0) (not (nat_lt args.first 32)) e).0))))
+on_process_keeps g os p process.GetWord args h is fits =
+    either g (nat_lt args.first 4) _ _
+    (λ _. told_keeps g os (slice_index (root_at os p).words args.first) 0 h ((root_now g (Waits os) os p h is).words args.first) (omega arith))
+    (λ _. refused_keeps g os _ h)
+on_process_keeps g os p process.PutWord args h is fits =
+    let r = root_now g (Waits os) os p h is in
+    either g (nat_lt args.first 4) _ _
+    (λ _. wrote_keeps g _ p (edited_now g os _ (edited_root g (Waits os) os p (with_root_word (root_at os p) args.first args.second) h
+    (record {
+      is_process = is;
+      annex = refl;
+      count = length-set (root_at os p).words args.first args.second ∙ r.count;
+      words = λ i. at_set (λ m w. w < 2 ^ 64) (root_at os p).words args.first i args.second 0 fits.second (r.words i);
+      key = r.key;
+      space = r.space;
+      is_space = r.is_space;
+    }) refl)))
+    (λ _. refused_keeps g os _ h)
+on_process_keeps g os p process.MakeStart args h is fits =
+    either g (nat_lt args.first 65536) _ _
+    (λ e. given_keeps g os (Start p args.first) h (record { well_formed = ltb-true args.first 65536 e; names = is }))
+    (λ _. refused_keeps g os _ h)
+on_process_keeps g os p process.GetState args h is fits =
+    let r = root_now g (Waits os) os p h is in
+    told_keeps g os (state_number (root_at os p).state) (root_at os p).key h (state_fits (root_at os p).state) (omega (arith, r.key))
+on_process_keeps g os p process.SetState args h is fits =
+    either g (args.first == 0) _ _ (λ _. wrote_keeps g _ p (consumed_now g os p Available h is)) (λ _.
+    either g (args.first == 1) _ _ (λ _. wrote_keeps g _ p (consumed_now g os p Running h is)) (λ _. refused_keeps g os _ h))
+on_process_keeps g os p process.GetSpace args h is fits = given_keeps g os (root_at os p).space h (h.filled p).space
+on_process_keeps g os p process.SetSpace args h is fits =
+    let r = root_now g (Waits os) os p h is in
+    either g (is_space args.capability) _ _
+    (λ e. wrote_keeps g _ p (edited_now g os _ (edited_root g (Waits os) os p (with_space (root_at os p) args.capability) h
+    (record {
+      is_process = is;
+      annex = refl;
+      count = r.count;
+      words = r.words;
+      key = r.key;
+      space = fits.held;
+      is_space = space_fits args.capability e;
+    }) refl)))
+    (λ _. refused_keeps g os _ h)
+
+-- any capability
+
+asked_keeps : {A : Type 0} (g : Geometry) (found : Option A) (x : Outcome) (f : A → Outcome) → IsOutcome g x → ((a : A) → IsOutcome g (f a))
+    → IsOutcome g (elim found [ None ↦ x | Some a ↦ f a ])
+asked_keeps g None x f p q = p
+asked_keeps g (Some a) x f p q = q a
+
+tag_fits : (c : Capability) → tag_of c < 2 ^ 64
+tag_fits Void = omega arith
+tag_fits c = omega arith
+
+bits_fit : (c : Capability) → IsWellFormed c → access_bits c < 2 ^ 64
+bits_fit (Page o a) h = access_fits a h
+bits_fit (Node o a) h = access_fits a h
+bits_fit (Space o k a) h = access_fits a h.2
+bits_fit c h = omega arith
+
+-- an order of a held capability keeps sound objects sound
+pub order_keeps : (g : Geometry) (os : List Object) (c : Capability) (w : ℕ) (args : Arguments) → IsNow g os → IsHeld os (Waits os) c
+    → AreArguments os args → IsOutcome g (order os c w args)
+unfolding order
+order_keeps g os Void w args h held fits = refused_keeps g os _ h
+order_keeps g os (Number n) w args h held fits = either g (w == 1) _ _ (λ _. told_keeps g os n 0 h held.well_formed (omega arith)) (λ _. refused_keeps g os _ h)
+order_keeps g os (Page o a) w args h held fits =
+    asked_keeps g (page_order w) _ (λ asked. on_page os o a asked args) (refused_keeps g os _ h) (λ asked. on_page_keeps g os o a asked args h held fits)
+order_keeps g os (Node o a) w args h held fits =
+    asked_keeps g (node_order w) _ (λ asked. on_node os o a asked args) (refused_keeps g os _ h) (λ asked. on_node_keeps g os o a asked args h held fits)
+order_keeps g os (Space o k a) w args h held fits =
+    either g (w == 3) _ _
+    (λ _. either g (reduces args.first) _ _
+    (λ e. given_keeps g os (Space o k (union a args.first)) h (record {
+      well_formed = (held.well_formed.0, held.well_formed.1, access_union a args.first held.well_formed.2 e);
+      names = held.names;
+    }))
+    (λ _. refused_keeps g os _ h))
+    (λ _. refused_keeps g os _ h)
+order_keeps g os (Process p) w args h held fits =
+    asked_keeps g (process_order w) _ (λ asked. on_process os p asked args) (refused_keeps g os _ h) (λ asked. on_process_keeps g os p asked args h held.names fits)
+order_keeps g os Discrim w args h held fits =
+    either g (w == 1) _ _
+    (λ _. told_keeps g os (tag_of args.capability) (access_bits args.capability) h (tag_fits args.capability) (bits_fit args.capability fits.held.well_formed))
+    (λ _. refused_keeps g os _ h)
+order_keeps g os c w args h held fits = refused_keeps g os _ h

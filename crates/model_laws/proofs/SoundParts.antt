@@ -1,0 +1,173 @@
+use Rattle.std.proofs.Common.{◌≡◌, ◌≢◌, ℕ, ◌^◌, ◌<◌, ◌≤◌, true, List, length, sym, ◌∙◌}
+use Rattle.std.specs.Prelude.{IsTrue, slice_index, slice_index_or}
+use Rattle.std.specs.List.{Contains}
+use Rattle.model.specs.declared.capability.Capability.{Capability}
+use Rattle.model.specs.declared.capability.Capability.TheVariants.{Void, Number, Page, Node, Space, Process, Start, Resume, Bank, Discrim}
+use Rattle.model.specs.declared.geometry.Geometry.{Geometry}
+use Rattle.model.specs.declared.object.Content.{Content}
+use Rattle.model.specs.declared.object.Object.{Object}
+use Rattle.model.specs.declared.object.State.{State}
+use Rattle.model.specs.Capability.{IsWellFormed}
+use Rattle.model.specs.Object.{is_free, is_annex, is_bank, is_waiting, words_in, slots_in, limit_in, root_in}
+use Rattle.model.specs.World.{World, content_at, owner_at, root_at, annex_at, is_process}
+use Rattle.model.specs.Bank.{chain, usage}
+use Rattle.model.specs.Sound.{IsOfKind, HasShape, IsSpace, NamesItsKind, MayBeHeld, IsSound, object_count}
+use Rattle.model_laws.proofs.Usage.{SameFrame, tests_at, frame_refl, chain_same, usage_same}
+
+-- what a process does
+abbrev pub state_at : List Object → ℕ → State
+state_at os p = (root_at os p).state
+
+-- whether it waits
+abbrev pub Waits : List Object → ℕ → Type 0
+Waits os p = IsTrue (is_waiting (state_at os p))
+
+-- what a capability names is of its kind, and a process that it resumes is one of some processes
+abbrev pub NamesAmong : List Object → (ℕ → Type 0) → Capability → Type 0
+NamesAmong os W (Resume p) = IsTrue (is_process os p) × W p
+NamesAmong os W c = NamesItsKind os c
+
+-- a capability that may be held, where those processes may be resumed
+pub record IsHeld (os : List Object) (W : ℕ → Type 0) (c : Capability) : Type 0 where
+  pub well_formed : IsWellFormed c
+  pub names : NamesAmong os W c
+
+-- a content with such capabilities
+pub record IsFilled (os : List Object) (W : ℕ → Type 0) (c : Content Capability) : Type 0 where
+  pub shape : HasShape c
+  pub words : (i : ℕ) → slice_index (words_in c) i < 2 ^ 64
+  pub slots : (i : ℕ) → IsHeld os W (slice_index_or (slots_in c) i Void)
+  pub register_0 : IsTrue (is_annex c) → slice_index_or (slots_in c) 0 Void ≡ Void
+  pub space : IsHeld os W (root_in c).space
+  pub is_space : IsSpace (root_in c).space
+
+-- the part of soundness that the frame decides
+pub record IsFramed (g : Geometry) (os : List Object) : Type 0 where
+  pub size : length os ≡ object_count g
+  pub kinds : (n : ℕ) → IsOfKind g n (content_at os n)
+  pub annexes : (p : ℕ) → IsTrue (is_process os p) → IsTrue (is_annex (content_at os (annex_at os p))) × (owner_at os (annex_at os p) ≡ owner_at os p)
+  pub one_root : (p q : ℕ) → IsTrue (is_process os p) → IsTrue (is_process os q) → annex_at os p ≡ annex_at os q → p ≡ q
+  pub some_root : (a : ℕ) → IsTrue (is_annex (content_at os a)) → (p : ℕ) × IsTrue (is_process os p) × (annex_at os p ≡ a)
+  pub unowned : (n : ℕ) → IsTrue (is_free (content_at os n)) → owner_at os n ≡ 0
+  pub owners : (n : ℕ) → is_free (content_at os n) ≢ true → IsTrue (is_bank (content_at os (owner_at os n)))
+  pub prime : IsTrue (is_bank (content_at os 0)) × (owner_at os 0 ≡ 0)
+  pub chains : (b : ℕ) → IsTrue (is_bank (content_at os b)) → Contains (chain os b) 0
+  pub limits : (b : ℕ) → IsTrue (is_bank (content_at os b)) → usage os b ≤ limit_in (content_at os b)
+
+-- objects that are sound but for which processes may be resumed
+pub record IsNearlySound (g : Geometry) (W : ℕ → Type 0) (os : List Object) : Type 0 where
+  pub frame : IsFramed g os
+  pub filled : (n : ℕ) → IsFilled os W (content_at os n)
+
+pub held_from : (os : List Object) (c : Capability) → MayBeHeld os c → IsHeld os (Waits os) c
+held_from os (Resume p) h = record { well_formed = h.0; names = h.1 }
+held_from os c h = record { well_formed = h.0; names = h.1 }
+
+pub held_to : (os : List Object) (c : Capability) → IsHeld os (Waits os) c → MayBeHeld os c
+held_to os (Resume p) h = (h.well_formed, h.names)
+held_to os c h = (h.well_formed, h.names)
+
+pub held_on : (os us : List Object) (W V : ℕ → Type 0) (c : Capability) → SameFrame os us → ((p : ℕ) → W p → V p) → IsHeld os W c → IsHeld us V c
+held_on os us W V Void s f h = record { well_formed = h.well_formed; names = h.names }
+held_on os us W V (Number n) s f h = record { well_formed = h.well_formed; names = h.names }
+held_on os us W V (Page o a) s f h = record { well_formed = h.well_formed; names = rw (tests_at os us s o).page h.names }
+held_on os us W V (Node o a) s f h = record { well_formed = h.well_formed; names = rw (tests_at os us s o).node h.names }
+held_on os us W V (Space o k a) s f h = record { well_formed = h.well_formed; names = rw (tests_at os us s o).node h.names }
+held_on os us W V (Process p) s f h = record { well_formed = h.well_formed; names = rw (tests_at os us s p).root h.names }
+held_on os us W V (Start p key) s f h = record { well_formed = h.well_formed; names = rw (tests_at os us s p).root h.names }
+held_on os us W V (Resume p) s f h = record { well_formed = h.well_formed; names = (rw (tests_at os us s p).root h.names.0, f p h.names.1) }
+held_on os us W V (Bank b) s f h = record { well_formed = h.well_formed; names = rw (tests_at os us s b).bank h.names }
+held_on os us W V Discrim s f h = record { well_formed = h.well_formed; names = h.names }
+
+pub held_void : (os : List Object) (W : ℕ → Type 0) → IsHeld os W Void
+held_void os W = record { well_formed = tt; names = tt }
+
+pub filled_on : (os us : List Object) (W V : ℕ → Type 0) (c : Content Capability) → SameFrame os us → ((p : ℕ) → W p → V p) → IsFilled os W c → IsFilled us V c
+filled_on os us W V c s f h = record {
+  shape = h.shape;
+  words = h.words;
+  slots = λ i. held_on os us W V (slice_index_or (slots_in c) i Void) s f (h.slots i);
+  register_0 = h.register_0;
+  space = held_on os us W V (root_in c).space s f h.space;
+  is_space = h.is_space;
+}
+
+pub framed_on : (g : Geometry) (os us : List Object) → SameFrame os us → IsFramed g os → IsFramed g us
+framed_on g os us s h =
+    let t = tests_at os us s in
+    record {
+      size = s.size ∙ h.size;
+      kinds = λ n. (t n).kind g n (h.kinds n);
+      annexes = λ p is.
+          let known = h.annexes p (sym (t p).root ∙ is) in
+          rw (s.alike p).annex ((t (annex_at os p)).annex ∙ known.0, (s.alike (annex_at os p)).owner ∙ (known.1 ∙ sym (s.alike p).owner));
+      one_root = λ p q is iq same.
+          h.one_root p q (sym (t p).root ∙ is) (sym (t q).root ∙ iq) (sym (s.alike p).annex ∙ (same ∙ (s.alike q).annex));
+      some_root = λ a is.
+          let found = h.some_root a (sym (t a).annex ∙ is) in
+          (found.0, (t found.0).root ∙ found.1, (s.alike found.0).annex ∙ found.2);
+      unowned = λ n is. (s.alike n).owner ∙ h.unowned n (sym (t n).free ∙ is);
+      owners = λ n is. rw (s.alike n).owner ((t (owner_at os n)).bank ∙ h.owners n (λ e. is ((t n).free ∙ e)));
+      prime = ((t 0).bank ∙ h.prime.0, (s.alike 0).owner ∙ h.prime.1);
+      chains = λ b is. rw (chain_same os us s b) (h.chains b (sym (t b).bank ∙ is));
+      limits = λ b is. rw (usage_same os us s b, (s.alike b).limit) (h.limits b (sym (t b).bank ∙ is));
+    }
+
+-- objects of the same frame are as sound as what they hold
+pub nearly_on : (g : Geometry) (W : ℕ → Type 0) (os us : List Object) → SameFrame os us → IsFramed g os
+    → ((n : ℕ) → IsFilled os W (content_at us n)) → IsNearlySound g W us
+nearly_on g W os us s h filled = record {
+  frame = framed_on g os us s h;
+  filled = λ n. filled_on os us W W (content_at us n) s (λ p w. w) (filled n);
+}
+
+pub nearly_weaken : (g : Geometry) (W V : ℕ → Type 0) (os : List Object) → ((p : ℕ) → W p → V p) → IsNearlySound g W os → IsNearlySound g V os
+nearly_weaken g W V os f h = record {
+  frame = h.frame;
+  filled = λ n. filled_on os os W V (content_at os n) (frame_refl os) f (h.filled n);
+}
+
+-- sound is nearly sound where those that wait may be resumed
+pub nearly_from : (g : Geometry) (w : World) → IsSound g w → IsNearlySound g (Waits w.objects) w.objects
+nearly_from g w h = record {
+  frame = record {
+    size = h.size;
+    kinds = h.kinds;
+    annexes = h.annexes;
+    one_root = h.one_root;
+    some_root = h.some_root;
+    unowned = h.unowned;
+    owners = h.owners;
+    prime = h.prime;
+    chains = h.chains;
+    limits = h.limits;
+  };
+  filled = λ n. record {
+    shape = h.shapes n;
+    words = h.words n;
+    slots = λ i. held_from w.objects (slice_index_or (slots_in (content_at w.objects n)) i Void) (h.slots n i);
+    register_0 = h.register_0 n;
+    space = held_from w.objects (root_at w.objects n).space (h.spaces n).0;
+    is_space = (h.spaces n).1;
+  };
+}
+
+pub nearly_to : (g : Geometry) (os : List Object) (age : ℕ) → IsNearlySound g (Waits os) os → age ≤ 2 ^ 62 → IsSound g (record { objects = os; age = age })
+nearly_to g os age h fits = record {
+  size = h.frame.size;
+  kinds = h.frame.kinds;
+  annexes = h.frame.annexes;
+  one_root = h.frame.one_root;
+  some_root = h.frame.some_root;
+  unowned = h.frame.unowned;
+  owners = h.frame.owners;
+  prime = h.frame.prime;
+  chains = h.frame.chains;
+  limits = h.frame.limits;
+  shapes = λ n. (h.filled n).shape;
+  words = λ n. (h.filled n).words;
+  slots = λ n i. held_to os (slice_index_or (slots_in (content_at os n)) i Void) ((h.filled n).slots i);
+  register_0 = λ n. (h.filled n).register_0;
+  spaces = λ n. (held_to os (root_at os n).space (h.filled n).space, (h.filled n).is_space);
+  age = fits;
+}

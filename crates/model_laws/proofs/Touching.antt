@@ -1,0 +1,87 @@
+-- The numbers touched, and when an invocation is refused since the log is full.
+use Rattle.std.proofs.Common.{◌≡◌, ◌⊎◌, ◌↔◌, ℕ, zero, suc, ◌<◌, ◌^◌, Bool, true, false, not, ◌&&◌, List, [], ◌∷◌, length, slice_get, slice_set, slice_index_or, Some, None, Option, IsTrue, inl, inr, refl, sym, ap, ◌∙◌, subst, arith, length-set, ltb-true, lt-ltb, zero-lt-suc}
+use Rattle.std.specs.List.{Contains}
+use Rattle.std.proofs.lemmas.List.Elements.{Contains-append_right}
+use Rattle.model.specs.declared.answer.Refusal.{Refusal}
+use Rattle.model.specs.declared.answer.Refusal.TheVariants as refusal
+use Rattle.model.specs.declared.command.Command.TheVariants as command
+use Rattle.model.specs.declared.command.Invocation.{Invocation}
+use Rattle.model.specs.declared.geometry.Geometry.{Geometry}
+use Rattle.model.specs.World.{is_running_process}
+use Rattle.model.specs.Invoke.{Effect, invoke}
+use Rattle.model.specs.Machine.{Running, touching}
+use Rattle.model.specs.Step.{refusal_of, unless, overfills}
+use Rattle.model_laws.specs.Laws.{TouchesWritten, LogFullIsExact}
+
+-- a mark is read where it was made, and what was marked stays so
+marked : (xs : List Bool) (m n : ℕ) → slice_get (slice_set xs m true) n ≡ Some true → (slice_get xs n ≡ Some true) ⊎ (m ≡ n)
+marked [] m n e = inl e
+marked (x ∷ xs) zero zero e = inr refl
+marked (x ∷ xs) zero (suc n) e = inl e
+marked (x ∷ xs) (suc m) zero e = inl e
+marked (x ∷ xs) (suc m) (suc n) e = elim (marked xs m n e) [ inl before ↦ inl before | inr same ↦ inr (ap suc same) ]
+
+stays_marked : (xs : List Bool) (m n : ℕ) → slice_get xs n ≡ Some true → slice_get (slice_set xs m true) n ≡ Some true
+stays_marked [] m n e = e
+stays_marked (x ∷ xs) zero zero e = refl
+stays_marked (x ∷ xs) zero (suc n) e = e
+stays_marked (x ∷ xs) (suc m) zero e = e
+stays_marked (x ∷ xs) (suc m) (suc n) e = stays_marked xs m n e
+
+is_marked : (xs : List Bool) (n : ℕ) → n < length xs → slice_get (slice_set xs n true) n ≡ Some true
+is_marked [] n h = absurd (omega arith)
+is_marked (x ∷ xs) zero h = refl
+is_marked (x ∷ xs) (suc n) h = is_marked xs n (omega arith)
+
+pub touched_from : (xs : List Bool) (ns : List ℕ) (n : ℕ) → slice_get (touching xs ns) n ≡ Some true → (slice_get xs n ≡ Some true) ⊎ Contains ns n
+touched_from xs [] n e = inl e
+touched_from xs (m ∷ ns) n e = elim (touched_from (slice_set xs m true) ns n e) [
+  | inl now ↦ elim (marked xs m n now) [ inl before ↦ inl before | inr same ↦ inr (0, zero-lt-suc _, same) ]
+  | inr later ↦ inr (Contains-append_right (m ∷ []) ns n later)
+]
+
+pub stays_touched : (xs : List Bool) (ns : List ℕ) (n : ℕ) → slice_get xs n ≡ Some true → slice_get (touching xs ns) n ≡ Some true
+stays_touched xs [] n e = e
+stays_touched xs (m ∷ ns) n e = stays_touched (slice_set xs m true) ns n (stays_marked xs m n e)
+
+-- the k-th of the numbers written is touched
+is_touched : (xs : List Bool) (ns : List ℕ) (n k : ℕ) → n < length xs → k < length ns → slice_index_or ns k n ≡ n → slice_get (touching xs ns) n ≡ Some true
+is_touched xs [] n k h l e = absurd (omega arith)
+is_touched xs (m ∷ ns) n zero h l e =
+    stays_touched (slice_set xs m true) ns n (subst (λ j. slice_get (slice_set xs j true) n ≡ Some true) (sym e) (is_marked xs n h))
+is_touched xs (m ∷ ns) n (suc k) h l e = is_touched (slice_set xs m true) ns n k (rw length-set h) (omega arith) e
+
+pub touches_written : TouchesWritten
+touches_written xs ns n h =
+    (touched_from xs ns n, λ e. elim e [ inl before ↦ stays_touched xs ns n before | inr at ↦ is_touched xs ns n at.0 h at.1 at.2 ])
+
+-- where no refusal before it applies, the next check decides
+earlier : (process running young : Bool) (next : Option Refusal) → (process && running) ≡ true → young ≡ true →
+    unless process refusal.NoProcess (unless (process && running) refusal.NotRunning (unless young refusal.Worn next)) ≡ next
+earlier true true true next p y = refl
+earlier true true false next p y = cc
+earlier true false young next p y = cc
+earlier false running young next p y = cc
+
+-- the check of the log refuses exactly where it does not pass
+refuses : (full : Bool) → (unless (not full) refusal.LogFull None ≡ Some refusal.LogFull) ↔ (full ≡ true)
+refuses true = (λ e. refl, λ e. refl)
+refuses false = (λ e. cc, λ e. cc)
+
+-- what is left to check once an invocation comes to something
+abbrev last_checks : Geometry → Running → Option Effect → Option Refusal
+last_checks g s None = Some refusal.Stalled
+last_checks g s (Some effect) = unless (not (overfills g s.touched effect.written)) refusal.LogFull None
+
+refusal_is : (g : Geometry) (s : Running) (i : Invocation) (e : Effect) →
+    IsTrue (is_running_process s.now.objects i.process) → s.now.age < 2 ^ 62 → invoke s.now.objects i ≡ Some e →
+    refusal_of g s (command.Invoke i) ≡ unless (not (overfills g s.touched e.written)) refusal.LogFull None
+unfolding refusal_of
+refusal_is g s i e p young effect =
+    earlier _ _ _ _ p (lt-ltb _ _ young) ∙ ap (last_checks g s) effect
+
+pub log_full_is_exact : LogFullIsExact
+log_full_is_exact g s i e p young effect =
+    let is = refusal_is g s i e p young effect in
+    let decides = refuses (overfills g s.touched e.written) in
+    (λ full. ltb-true _ _ (decides.0 (sym is ∙ full)), λ full. is ∙ decides.1 (lt-ltb _ _ full))

@@ -1,0 +1,291 @@
+use Rattle.std.proofs.Common.{◌≡◌, ◌≢◌, ℕ, ◌<◌, ◌^◌, true, false, Option, None, Some, List, [], ◌∷◌, ◌++◌, codes, All, bytes_eq, inl, inr, refl, sym, ap, ◌∙◌, subst, arith}
+use Rattle.std.specs.Fmt.{digits}
+use Rattle.model.specs.Object.{all_slots, zero_words}
+use Rattle.model.specs.World.{with_content, with_word, with_slot, with_root, with_state}
+use Rattle.model.specs.Bank.{chain, usage}
+use Rattle.model.specs.Revoke.{rescind, consume}
+use Rattle.model.specs.Walk.{walk}
+use Rattle.model.specs.Order.{on_page, on_node, on_process, order}
+use Rattle.model.specs.Invoke.{deliver, through_gate, on_kernel_object, invoke}
+use Rattle.model.specs.Machine.{Running as Machine, Machine as UpOrDown, Up, untouched}
+use Rattle.std.proofs.lemmas.List.Elements.{All-from_recursion}
+use Rattle.model.specs.declared.answer.Answer.{Answer}
+use Rattle.model.specs.declared.answer.Answer.TheVariants as answer
+use Rattle.model.specs.Step.{Outcome, outcome, refusal_of, carried_out, shown}
+use Rattle.model.specs.Worlds.{small, f0, i0}
+use Rattle.std.proofs.lemmas.Slice.Eq.{bytes_eq-Decides}
+use Rattle.model.specs.declared.answer.Refusal.{Refusal}
+use Rattle.model.specs.declared.command.Command.{Command}
+use Rattle.model.specs.declared.command.Command.TheVariants as command
+use Rattle.model.specs.declared.line.Line.TheVariants as line
+use Rattle.model_laws.proofs.Spelling.{split, command_of, reads_spelling}
+use Rattle.model.specs.Text.{Fits, command_words, spelling, capability_text, word_lines, capability_lines, object_text, printed, bad_line}
+use Rattle.model_laws.specs.Worked.{s0, b0, WritesPage, DiminishesPage, StartsProcess, AnswersOnce, Stalls, SetsState, StartsItself, AsksProcesses, AsksNodes, Classifies, DiminishesAll, SetsStateOnce, ResetsKey, ClearsRegisters, ReducesFurther, DiminishesKinds}
+use Rattle.model_laws.specs.WorkedMemory.{RefusesReferences, FindsHoles, FindsPages, ReachesDeep, DescendsByOne, FillsLogByStore, RestrictsWays}
+use Rattle.model_laws.specs.WorkedSaves.{RefusesNumbers, Wears, AgesOnceMore, FillsLog, Saves, SavesStores, Forgets, ShowsBanks, RefusesInOrder, CountsWritten}
+use Rattle.model_laws.specs.WorkedSteps.{AnswersBySteps, FailsBetween, OpensAgain, WantsMemory, RescindsProcess, ChainsBanks, RevokesOnly}
+use Rattle.model_laws.specs.WorkedTexts.{SaysCommands, SaysNothing, SaysBad, CutsLines, RunsScript, PrintsRefusals}
+
+-- `unfolding machine` lets `refl` compute what a command comes to
+unfoldable machine : Unit {0}
+unfolding digits all_slots zero_words with_content with_word with_slot with_root with_state chain usage rescind consume walk on_page on_node on_process order deliver through_gate on_kernel_object invoke untouched refusal_of carried_out command_words spelling capability_text word_lines capability_lines object_text printed bad_line f0 i0 s0 b0
+machine = tt
+
+pub writes_page : WritesPage
+unfolding machine
+writes_page = (refl, refl)
+
+pub diminishes_page : DiminishesPage
+unfolding machine
+diminishes_page = (refl, refl)
+
+pub starts_process : StartsProcess
+unfolding machine
+starts_process = (refl, refl)
+
+pub answers_once : AnswersOnce
+unfolding machine
+answers_once = (refl, refl)
+
+pub stalls : Stalls
+unfolding machine
+stalls = (refl, refl)
+
+pub sets_state : SetsState
+unfolding machine
+sets_state = (refl, refl)
+
+pub starts_itself : StartsItself
+unfolding machine
+starts_itself = (refl, refl)
+
+pub asks_processes : AsksProcesses
+unfolding machine
+asks_processes = (refl, refl)
+
+pub asks_nodes : AsksNodes
+unfolding machine
+asks_nodes = (refl, refl)
+
+pub classifies : Classifies
+unfolding machine
+classifies = (refl, refl)
+
+pub diminishes_all : DiminishesAll
+unfolding machine
+diminishes_all = (refl, refl)
+
+pub refuses_references : RefusesReferences
+unfolding machine
+refuses_references = (refl, refl)
+
+pub finds_holes : FindsHoles
+unfolding machine
+finds_holes = (refl, refl)
+
+pub finds_pages : FindsPages
+unfolding machine
+finds_pages = (refl, refl)
+
+pub reaches_deep : ReachesDeep
+unfolding machine
+reaches_deep = (refl, refl)
+
+pub descends_by_one : DescendsByOne
+unfolding machine
+descends_by_one = (refl, refl)
+
+pub refuses_numbers : RefusesNumbers
+unfolding machine
+refuses_numbers = (refl, refl)
+
+pub wears : Wears
+unfolding machine
+wears = (refl, refl)
+
+pub ages_once_more : AgesOnceMore
+unfolding machine
+ages_once_more = (refl, refl)
+
+pub fills_log : FillsLog
+unfolding machine
+fills_log = (refl, refl)
+
+pub fills_log_by_store : FillsLogByStore
+unfolding machine
+fills_log_by_store = (refl, refl)
+
+pub saves : Saves
+unfolding machine
+saves = (refl, refl)
+
+pub saves_stores : SavesStores
+unfolding machine
+saves_stores = (refl, refl)
+
+pub forgets : Forgets
+unfolding machine
+forgets = (refl, refl)
+
+pub shows_banks : ShowsBanks
+unfolding machine
+shows_banks = (refl, refl)
+
+pub sets_state_once : SetsStateOnce
+unfolding machine
+sets_state_once = (refl, refl)
+
+pub resets_key : ResetsKey
+unfolding machine
+resets_key = (refl, refl)
+
+pub clears_registers : ClearsRegisters
+unfolding machine
+clears_registers = (refl, refl)
+
+pub reduces_further : ReducesFurther
+unfolding machine
+reduces_further = (refl, refl)
+
+pub diminishes_kinds : DiminishesKinds
+unfolding machine
+diminishes_kinds = (refl, refl)
+
+pub restricts_ways : RestrictsWays
+unfolding machine
+restricts_ways = (refl, refl)
+
+pub refuses_in_order : RefusesInOrder
+unfolding machine
+refuses_in_order = (refl, refl)
+
+pub counts_written : CountsWritten
+unfolding machine
+counts_written = (refl, refl)
+
+-- the answer that a refusal or an outcome gives is that of a step
+abbrev comes_to : Machine → Outcome → Option Refusal → Outcome
+comes_to s o r = elim r [ Some why ↦ outcome (answer.Refused why) s | None ↦ o ]
+
+abbrev IsTold : Machine → Outcome → Option Refusal → Answer → UpOrDown → Type 0
+IsTold s o r a after = elim r [
+  | Some why ↦ (a ≡ answer.Refused why) × (after ≡ Up s)
+  | None ↦ (a ≡ o.answer) × (after ≡ Up o.after)
+]
+
+answers_of : (s : Machine) (o : Outcome) (r : Option Refusal) → IsTold s o r (comes_to s o r).answer (Up (comes_to s o r).after)
+answers_of s o None = (refl, refl)
+answers_of s o (Some why) = (refl, refl)
+
+pub answers_by_steps : AnswersBySteps
+answers_by_steps s c = inl (answers_of s (carried_out small s c) (refusal_of small s c))
+
+pub fails_between : FailsBetween
+unfolding machine
+fails_between = (refl, refl, refl, refl, refl, refl)
+
+pub opens_again : OpensAgain
+opens_again a b = ((refl, refl), (b, (1, omega arith, refl), refl, refl), (a, (0, omega arith, refl), refl, refl))
+
+pub rescinds_process : RescindsProcess
+unfolding machine
+rescinds_process = (refl, refl)
+
+pub chains_banks : ChainsBanks
+unfolding machine
+chains_banks = (refl, refl)
+
+-- the numbers of four and the registers are within their bounds
+fit : (a b c d limit : ℕ) → a < limit → b < limit → c < limit → d < limit → All (λ n. n < limit) (a ∷ b ∷ c ∷ d ∷ [])
+fit a b c d limit p q r s = All-from_recursion (λ n. n < limit) (a ∷ b ∷ c ∷ d ∷ []) (p, (q, (r, (s, tt))))
+
+pub says_commands : SaysCommands
+unfolding machine
+says_commands = (
+  (omega arith, refl),
+  (omega arith, refl),
+  (omega arith, refl),
+  (
+    (
+      omega arith,
+      omega arith,
+      refl,
+      fit 9 0 0 0 (2 ^ 64) (omega arith) (omega arith) (omega arith) (omega arith),
+      refl,
+      fit 5 0 0 31 32 (omega arith) (omega arith) (omega arith) (omega arith),
+    ),
+    refl,
+  ),
+)
+
+pub says_nothing : SaysNothing
+says_nothing = ((omega arith, tt), (omega arith, refl), (omega arith, refl))
+
+-- where a text spells a command, its words tell which
+told_by_words : (text : List ℕ) (c : Command) → Fits c → text ≡ spelling c → command_of (split text) ≡ c
+told_by_words text c fits e = ap (λ t. command_of (split t)) e ∙ reads_spelling c fits
+
+-- a text that isn't the spelling of the command that its words tell spells none
+spells_another : (text : List ℕ) → bytes_eq text (spelling (command_of (split text))) ≡ false → (c : Command) → Fits c → text ≢ spelling c
+spells_another text differs c fits e =
+    let spelled : text ≡ spelling (command_of (split text)) = e ∙ ap spelling (sym (told_by_words text c fits e)) in
+    let same : bytes_eq text (spelling (command_of (split text))) ≡ true = (bytes_eq-Decides text (spelling (command_of (split text)))).1 spelled in
+    cc
+
+-- nor does one where that command has no spelling
+does_not_fit : (text : List ℕ) → (Fits (command_of (split text)) → ⊥) → (c : Command) → Fits c → text ≢ spelling c
+does_not_fit text unfit c fits e = unfit (subst Fits (sym (told_by_words text c fits e)) fits)
+
+pub says_bad : SaysBad
+unfolding machine command_of
+says_bad = (
+  inl (omega arith),
+  inl (omega arith),
+  inr (λ e. omega arith, spells_another (codes "show 01") refl),
+  inr (λ e. omega arith, spells_another (codes "show  5") refl),
+  inr (λ e. omega arith, spells_another (codes " show 5") refl),
+  inr (λ e. omega arith, spells_another (codes "show 5 ") refl),
+  inr (λ e. omega arith, spells_another (codes "show 5" ++ 13 ∷ []) refl),
+  inr (λ e. omega arith, spells_another (codes "show") refl),
+  inr (λ e. omega arith, does_not_fit (codes "call 1 32 0 0 0 0 0 0 0 0") (λ f. omega (arith, f.1))),
+  inr (λ e. omega arith, does_not_fit (codes "show 18446744073709551616") (λ f. omega (arith, f))),
+)
+
+pub cuts_lines : CutsLines
+cuts_lines = (refl, refl, refl, refl)
+
+-- what is said of a bad line and of the line that shows an object, in a run
+pub runs_script : RunsScript
+unfolding machine command_of
+runs_script = (
+  refl,
+  (
+    refl,
+    (line.Bad, says_bad.0, (refl, refl)),
+    (
+      refl,
+      (line.Bad, says_bad.2, (refl, refl)),
+      (refl, (line.Command (command.Show 5), says_commands.0, (shown i0.objects 5, refl, inl (refl, refl))), refl),
+    ),
+  ),
+  refl,
+)
+
+pub wants_memory : WantsMemory
+unfolding machine
+wants_memory = (
+  inr (inl (refl, refl, refl)),
+  inr (inl (refl, refl, refl)),
+  λ m step. elim step [ inl told ↦ cc | inr other ↦ elim other [ inl want ↦ cc | inr fault ↦ cc ] ],
+  λ m step. elim step [ inl told ↦ cc | inr other ↦ elim other [ inl want ↦ cc | inr fault ↦ cc ] ],
+  λ m step. elim step [ inl told ↦ cc | inr other ↦ elim other [ inl want ↦ cc | inr fault ↦ cc ] ],
+  λ m step. elim step [ inl told ↦ cc | inr other ↦ elim other [ inl want ↦ cc | inr fault ↦ cc ] ],
+)
+
+pub prints_refusals : PrintsRefusals
+unfolding machine
+prints_refusals = refl
+
+pub revokes_only : RevokesOnly
+unfolding machine
+revokes_only = (refl, refl)

@@ -1,0 +1,95 @@
+use Rattle.model.specs.declared.object.Object.{Object}
+use Rattle.std.specs.Prelude.{◌≡◌, ℕ, List, [], ◌∷◌, ◌++◌, map, replicate, slice_set}
+use Rattle.model.specs.declared.answer.Answer.{Answer}
+use Rattle.model.specs.declared.answer.Answer.TheVariants as answer
+use Rattle.model.specs.declared.capability.Capability.{Capability}
+use Rattle.model.specs.declared.capability.Capability.TheVariants.{Void, Number, Page, Node, Space, Process, Start, Resume, Bank, Discrim}
+use Rattle.model.specs.declared.command.Command.{Command}
+use Rattle.model.specs.declared.command.Command.TheVariants as command
+use Rattle.model.specs.declared.command.Operation.TheVariants.{Call, Send}
+use Rattle.model.specs.declared.answer.Refusal.TheVariants as refusal
+use Rattle.model.specs.declared.object.Content.TheVariants as content
+use Rattle.model.specs.declared.object.State.TheVariants.{Running}
+use Rattle.model.specs.Capability.{full, weak}
+use Rattle.model.specs.Object.{free, all_slots}
+use Rattle.model.specs.World.{owner_at}
+use Rattle.model.specs.Bank.{chain}
+use Rattle.model.specs.Machine.{Saved, Running as Machine, Machine as UpOrDown, Up, Down, candidates, opened}
+use Rattle.model.specs.Revoke.{rescind, consume}
+use Rattle.model.specs.Step.{Proceeds, Step, second}
+use Rattle.model.specs.Worlds.{small, of_prime_bank, fresh_root, prime_bank, f0, i0}
+use Rattle.model_laws.specs.Worked.{does, at_world, answered, b0}
+
+-- the machine after commands in a row
+abbrev pub after : Machine → List Command → Machine
+after s [] = s
+after s (c ∷ cs) = after (answered s c).after cs
+
+-- generation, age and entries of each saved part
+abbrev pub told_saved : List Saved → List (ℕ × ℕ × ℕ)
+told_saved saved = map (λ at. (at.generation, at.world.age, at.entries)) saved
+
+-- what a command comes to is a step of the machine
+abbrev pub AnswersBySteps : Type 0
+AnswersBySteps = (s : Machine) (c : Command) → Step small (Up s) c (answered s c).answer (Up (answered s c).after)
+
+-- a page is frozen, written again, and all that is frozen is in the log
+abbrev pub stable : Machine
+stable = after (at_world f0)
+    (does Call 1 6 (2 ∷ 0 ∷ 42 ∷ 0 ∷ []) 0 ∷ command.Checkpoint ∷ does Send 1 6 (2 ∷ 0 ∷ 43 ∷ 0 ∷ []) 0 ∷ command.Stabilize 5 ∷ [])
+
+-- where the device fails in a commit, the saved part is the old or the new one; where it fails in the
+-- migration of the last object, its entries are counted or not; elsewhere nothing is in doubt
+abbrev pub FailsBetween : Type 0
+FailsBetween =
+    (told_saved (candidates (Up stable) ++ second (Up stable) command.Commit) ≡ (0, 0, 0) ∷ (1, 2, 3) ∷ [])
+    × (told_saved (second (Up stable) (command.Stabilize 1)) ≡ [])
+    × (told_saved (second (Up (after (at_world f0) (does Call 1 6 (2 ∷ 0 ∷ 42 ∷ 0 ∷ []) 0 ∷ command.Checkpoint ∷ []))) command.Commit) ≡ [])
+    × (told_saved (second (Up (after stable (command.Commit ∷ []))) (command.Migrate 2)) ≡ [])
+    × (told_saved (second (Up (after stable (command.Commit ∷ []))) (command.Migrate 9)) ≡ (1, 2, 0) ∷ [])
+    × (told_saved (second (Up (at_world f0)) (command.Migrate 9)) ≡ [])
+
+-- a machine that is down says so, and is opened at one of its saved parts
+abbrev pub OpensAgain : Type 0
+OpensAgain = (a b : Saved) →
+    Proceeds small (Down (a ∷ b ∷ [])) (command.Show 5) (answer.Refused refusal.Down) (Down (a ∷ b ∷ []))
+    × Proceeds small (Down (a ∷ b ∷ [])) command.Cut (answer.At b.generation b.world.age) (Up (opened small b))
+    × Proceeds small (Down (a ∷ b ∷ [])) command.Restart (answer.At a.generation a.world.age) (Up (opened small a))
+
+-- want of memory may stand in place of the text of an object, and leaves a machine down that was to be
+-- opened; it never stands in place of `bad number`, `no process` or `down`, nor of an answer to `evict`
+abbrev pub WantsMemory : Type 0
+WantsMemory =
+    let none : Answer = answer.Refused refusal.NoMemory in
+    let s : Machine = at_world i0 in
+    Step small (Up s) (command.Show 5) none (Up s)
+    × Step small (Up s) command.Cut none (Down (s.saved ∷ []))
+    × ((m : UpOrDown) → Step small (Up s) (command.Show 24) none m → ⊥)
+    × ((m : UpOrDown) → Step small (Up s) (command.Load 5 0) none m → ⊥)
+    × ((m : UpOrDown) → Step small (Up s) (command.Evict 5) none m → ⊥)
+    × ((m : UpOrDown) → Step small (Down (s.saved ∷ [])) (command.Show 5) none m → ⊥)
+
+-- World I0 without process 3: registers 3 and 4 of process 1 are void
+abbrev pub RescindsProcess : Type 0
+RescindsProcess =
+    (owner_at (rescind (3 ∷ 4 ∷ []) i0.objects) 3 ≡ 0)
+    × (rescind (3 ∷ 4 ∷ []) i0.objects ≡
+    prime_bank ∷ fresh_root Running 2
+    ∷ of_prime_bank (content.Annex (slice_set (slice_set (all_slots Void) 1 (Process 1)) 2 (Bank 0)))
+    ∷ replicate 21 free)
+
+-- the chain of a bank ends with the prime bank
+abbrev pub ChainsBanks : Type 0
+ChainsBanks = (chain b0.objects 6 ≡ 6 ∷ 5 ∷ 0 ∷ []) × (chain b0.objects 0 ≡ 0 ∷ [])
+
+-- an object of bank 5 that is a node with these slots
+abbrev pub slots_of_bank_5 : List Capability → List Object
+slots_of_bank_5 slots = record { owner = 5; content = content.Node slots } ∷ []
+
+-- what is not consumed or rescinded stays, and each object has its owner
+abbrev pub RevokesOnly : Type 0
+RevokesOnly =
+    (consume 1 (slots_of_bank_5 (Resume 1 ∷ Resume 3 ∷ Start 1 7 ∷ Process 1 ∷ []))
+    ≡ slots_of_bank_5 (Void ∷ Resume 3 ∷ Start 1 7 ∷ Process 1 ∷ []))
+    × (rescind (3 ∷ []) (slots_of_bank_5 (Resume 1 ∷ Resume 3 ∷ Start 3 7 ∷ Number 3 ∷ Page 3 full ∷ Node 16 weak ∷ Space 3 2 full ∷ Bank 3 ∷ Process 3 ∷ Discrim ∷ []))
+    ≡ slots_of_bank_5 (Resume 1 ∷ Void ∷ Void ∷ Number 3 ∷ Void ∷ Node 16 weak ∷ Void ∷ Void ∷ Void ∷ Discrim ∷ []))

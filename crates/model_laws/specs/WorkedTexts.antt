@@ -1,0 +1,73 @@
+use Rattle.std.specs.Prelude.{◌≡◌, ℕ, true, ◌^◌, ◌-◌, List, [], ◌∷◌, ◌++◌, map, replicate, codes}
+use Rattle.std.specs.List.{flat_map}
+use Rattle.model.specs.declared.answer.Answer.TheVariants as answer
+use Rattle.model.specs.declared.command.Command.TheVariants as command
+use Rattle.model.specs.declared.command.Operation.TheVariants.{Return}
+use Rattle.model.specs.declared.answer.Refusal.TheVariants as refusal
+use Rattle.model.specs.declared.line.Line.TheVariants as line
+use Rattle.model.specs.Machine.{Up}
+use Rattle.model.specs.Run.{Turn, Reply, BadLine, Told, IsRun, output_of, lines_of}
+use Rattle.model.specs.Step.{shown}
+use Rattle.model.specs.Text.{Says, printed, line_of}
+use Rattle.model.specs.Worlds.{small, i0}
+use Rattle.model_laws.specs.Worked.{sends, at_world}
+
+-- lines that are commands, at the ends of what numbers may be
+abbrev pub SaysCommands : Type 0
+SaysCommands =
+    Says (codes "show 5") (line.Command (command.Show 5))
+    × Says (codes "show 0") (line.Command (command.Show 0))
+    × Says (codes "show 18446744073709551615") (line.Command (command.Show (2 ^ 64 - 1)))
+    × Says (codes "return 3 31 9 0 0 0 5 0 0 31") (line.Command (sends Return 3 31 (9 ∷ 0 ∷ 0 ∷ 0 ∷ []) (5 ∷ 0 ∷ 0 ∷ 31 ∷ [])))
+
+-- lines that are skipped
+abbrev pub SaysNothing : Type 0
+SaysNothing = Says [] line.Skip × Says (codes "# show 5") line.Skip × Says (35 ∷ replicate 255 97) line.Skip
+
+-- lines that are bad: too long, a leading zero, two spaces, a space at either end, a carriage
+-- return, a word too few, a register or a number too great
+abbrev pub SaysBad : Type 0
+SaysBad =
+    Says (replicate 257 97) line.Bad
+    × Says (35 ∷ replicate 256 97) line.Bad
+    × Says (codes "show 01") line.Bad
+    × Says (codes "show  5") line.Bad
+    × Says (codes " show 5") line.Bad
+    × Says (codes "show 5 ") line.Bad
+    × Says (codes "show 5" ++ 13 ∷ []) line.Bad
+    × Says (codes "show") line.Bad
+    × Says (codes "call 1 32 0 0 0 0 0 0 0 0") line.Bad
+    × Says (codes "show 18446744073709551616") line.Bad
+
+-- the lines of a text: an empty rest at the end is none
+abbrev pub CutsLines : Type 0
+CutsLines =
+    (lines_of [] ≡ [])
+    × (lines_of (codes "show 5") ≡ codes "show 5" ∷ [])
+    × (lines_of (codes "show 5" ++ 10 ∷ []) ≡ codes "show 5" ∷ [])
+    × (lines_of (10 ∷ codes "cut" ++ 10 ∷ 10 ∷ codes "#" ++ 10 ∷ []) ≡ [] ∷ codes "cut" ∷ [] ∷ codes "#" ∷ [])
+
+-- a turn that leaves the machine of World I0 as it is
+abbrev pub i0_turn : List ℕ → Reply → Turn
+i0_turn line reply = record { line = line; before = Up (at_world i0); reply = reply; after = Up (at_world i0) }
+
+-- a run over two bad lines and one without its newline
+abbrev pub RunsScript : Type 0
+RunsScript =
+    let turns : List Turn = i0_turn (replicate 257 97) BadLine ∷ i0_turn (codes "show 01") BadLine
+    ∷ i0_turn (codes "show 5") (Told (shown i0.objects 5)) ∷ [] in
+    (lines_of (replicate 257 97 ++ 10 ∷ codes "show 01" ++ 10 ∷ codes "show 5") ≡ map (λ t. t.line) turns)
+    × IsRun small (λ c. true) (Up (at_world i0)) turns (Up (at_world i0))
+    × (output_of turns ≡ flat_map line_of (codes "bad line" ∷ codes "bad line" ∷ codes "free 5" ∷ codes "end" ∷ []))
+
+-- what is written for each refusal
+abbrev pub PrintsRefusals : Type 0
+PrintsRefusals =
+    map (λ why. printed (answer.Refused why))
+    (refusal.Down ∷ refusal.NoProcess ∷ refusal.NotRunning ∷ refusal.Worn ∷ refusal.Stalled ∷ refusal.LogFull
+    ∷ refusal.CheckpointRunning ∷ refusal.MigrationPending ∷ refusal.NotStable 3 ∷ refusal.NoCheckpoint
+    ∷ refusal.NoMemory ∷ refusal.Fault ∷ refusal.BadNumber ∷ [])
+    ≡ map line_of
+    (codes "down" ∷ codes "no process" ∷ codes "not running" ∷ codes "worn" ∷ codes "stalled" ∷ codes "log full"
+    ∷ codes "checkpoint running" ∷ codes "migration pending" ∷ codes "not stable 3" ∷ codes "no checkpoint"
+    ∷ codes "no memory" ∷ codes "fault" ∷ codes "bad number" ∷ [])

@@ -1,0 +1,49 @@
+//! Laws of the definitions, each the contract of a function that does nothing.
+
+ghost use Rattle.model_laws.specs.Laws.{DiminishesOnce, FetchesWeak, RescindsAll, ConsumesAll, TouchesWritten, LogFullIsExact, SpellsOne, SaysOne, BeginsSound};
+
+/// To diminish a capability twice is to diminish it once.
+pub fn diminishes_once()
+    ensures { DiminishesOnce }
+{}
+
+/// What is fetched through a weak capability is weak, or names nothing.
+pub fn fetches_weak()
+    ensures { FetchesWeak }
+{}
+
+/// After a rescind the members are free, and nothing names one.
+pub fn rescinds_all()
+    ensures { RescindsAll }
+{}
+
+/// After a consume nothing resumes the process.
+pub fn consumes_all()
+    ensures { ConsumesAll }
+{}
+
+/// The numbers touched are those touched before and those written.
+pub fn touches_written()
+    ensures { TouchesWritten }
+{}
+
+/// An invocation that nothing else refuses is refused as log full exactly where the numbers that it
+/// writes would be too many.
+pub fn log_full_is_exact()
+    ensures { LogFullIsExact }
+{}
+
+/// No two commands share a spelling.
+pub fn spells_one()
+    ensures { SpellsOne }
+{}
+
+/// A line says one thing.
+pub fn says_one()
+    ensures { SaysOne }
+{}
+
+/// The worlds that scripts begin with are sound.
+pub fn worlds_are_sound()
+    ensures { BeginsSound }
+{}

@@ -1,0 +1,7 @@
+//! Theorems about the abstract machine: laws that any right definitions must have, that an invocation keeps a sound
+//! world sound, and what the machine answers to some thirty scripts.
+#![tactic(auto)]
+
+pub mod laws;
+pub mod soundness;
+pub mod worked;

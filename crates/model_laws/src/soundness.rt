@@ -1,0 +1,6 @@
+ghost use Rattle.model_laws.specs.Laws.{InvocationKeepsSound};
+
+/// An invocation by a running process keeps a sound world sound.
+pub fn invocation_keeps_sound()
+    ensures { InvocationKeepsSound }
+{}
