@@ -1,5 +1,5 @@
 // The directories of the log.
-ghost use Rattle.std.specs.Prelude.{◌≡◌, ◌+◌, ◌*◌, ◌^◌, ◌<◌, ◌≤◌, length, take, IfErr, OnOk};
+ghost use Rattle.std.specs.Prelude.{◌≡◌, ◌+◌, ◌*◌, ◌^◌, ◌<◌, ◌≤◌, List, length, take, IfErr, OnOk};
 ghost use Rattle.layout.specs.Directory.{directory_bytes, IsDirectory};
 ghost use Rattle.layout.specs.Image.{sectors_from, directory_sector, directory_length, directory_in};
 ghost use Rattle.device.specs.Calls.{Agrees, Elsewhere, Tears, IsTorn, Counts};
@@ -10,7 +10,8 @@ use crate::fault::LogFault;
 use crate::log::Log;
 use crate::sector::{read_sectors, write_sectors};
 use device::{Device, Failed, SECTOR_SIZE};
-use layout::{ENTRY_BYTES, Entry, decode_directory, encode_directory};
+use layout::{BadImage, ENTRY_BYTES, Entry, decode_directory, encode_directory};
+use model::Geometry;
 
 // The bytes of the greatest directory.
 const MAX_BYTES: usize = 65536;
@@ -39,6 +40,34 @@ fn write_run<D: Device>(device: &mut D, at: u64, sectors: usize, from: &[u8]) ->
     ensures cause { Counts (D.disk device.old) (D.disk device.new) result }
 {
     write_sectors(device, at, from)
+}
+
+// Reads a directory of as many entries as `into` takes from the first of the bytes.
+fn decode_front(bytes: &[u8], geometry: Geometry, into: &mut [Entry]) -> Result<(), BadImage>
+    requires room { 16 * length into.old ≤ length bytes.now }
+    requires log { geometry.log ≤ 4096 }
+    ensures found { OnOk result (IsDirectory geometry into.new × (take (16 * length into.old) bytes.now ≡ directory_bytes into.new)) }
+    ensures refused { IfErr result (λ e. (e ≡ BadImage.BadDirectory) × ((es : List Entry) → IsDirectory geometry es → take (16 * length into.old) bytes.now ≡ directory_bytes es → ⊥)) }
+{
+    decode_directory(&bytes[..ENTRY_BYTES * into.len()], geometry, into)
+}
+
+// Reads so many sectors.
+fn read_run<D: Device>(
+    device: &mut D,
+    at: u64,
+    sectors: usize,
+    into: &mut [u8],
+) -> Result<(), Failed>
+    requires size { length into.old ≡ 512 * sectors }
+    requires inside { at + sectors ≤ (D.disk device.old).sectors }
+    ensures bytes { OnOk result (sectors_from (D.disk device.new).seen at sectors ≡ into.new) }
+    ensures size { (D.disk device.new).sectors ≡ (D.disk device.old).sectors }
+    ensures seen { Agrees (D.disk device.new).seen (D.disk device.old).seen }
+    ensures any_moment { Peeks (D.disk device.old) (D.disk device.new) }
+    ensures cause { Counts (D.disk device.old) (D.disk device.new) result }
+{
+    read_sectors(device, at, into)
 }
 
 impl Log {
@@ -90,9 +119,10 @@ impl Log {
     {
         let at = self.directory_sector(generation);
         let mut bytes = [0; MAX_BYTES];
-        let length = SECTOR_SIZE * into.len().div_ceil(ENTRIES_IN_SECTOR);
-        read_sectors(device, at, &mut bytes[..length])?;
-        decode_directory(&bytes[..ENTRY_BYTES * into.len()], self.geometry(), into)?;
+        let sectors = (into.len() + ENTRIES_IN_SECTOR - 1) / ENTRIES_IN_SECTOR;
+        let run = &mut bytes[..SECTOR_SIZE * sectors];
+        read_run(device, at, sectors, run)?;
+        decode_front(run, self.geometry(), into)?;
         Ok(())
     }
 }
