@@ -2,8 +2,10 @@
 #![tactic(auto)]
 
 #[cfg(test)]
+mod commits;
+#[cfg(test)]
 mod homes;
 #[cfg(test)]
 mod logs;
 #[cfg(test)]
-mod sectors;
+mod rig;
