@@ -10,7 +10,7 @@ use Rattle.model.specs.declared.capability.Cap.{Cap}
 use Rattle.model.specs.declared.capability.Capability.{Capability}
 use Rattle.model.specs.declared.capability.Capability.TheVariants.{Void}
 use Rattle.model.specs.declared.frame.Frame.{Frame}
-use Rattle.model.specs.declared.frame.Header.{Header}
+use Rattle.model.specs.declared.frame.ObjectHeader.{ObjectHeader}
 use Rattle.model.specs.declared.object.Content.{Content}
 use Rattle.model.specs.declared.object.Content.TheVariants as content
 use Rattle.model.specs.declared.object.Object.{Object}
@@ -103,10 +103,10 @@ pub objects_of_edit : (fs : List Frame) (n : ℕ) (f : Frame) → f.header ≡ (
     objects_of (slice_set fs n f) ≡ with_content (objects_of fs) n (map_content (conveyed (headers fs)) f.content)
 unfolding objects_of with_content
 objects_of_edit fs n f same =
-    ap (λ (hs : List Header). map (object_of hs) (slice_set fs n f)) (headers_same fs n f same)
+    ap (λ (hs : List ObjectHeader). map (object_of hs) (slice_set fs n f)) (headers_same fs n f same)
     ∙ map-set (object_of (headers fs)) fs n f
     ∙ ap (λ (owner : ℕ). slice_set (map (object_of (headers fs)) fs) n (record { owner = owner; content = map_content (conveyed (headers fs)) f.content }))
-    (ap (λ (h : Header). h.owner) same ∙ sym (ap (λ (o : Object). o.owner) (get_or-map (object_of (headers fs)) fs n blank_frame)))
+    (ap (λ (h : ObjectHeader). h.owner) same ∙ sym (ap (λ (o : Object). o.owner) (get_or-map (object_of (headers fs)) fs n blank_frame)))
 
 -- a content that is neither a node nor an annex has no slots, and one that is no page no words
 pub no_slots : {C : Type 0} (c : Content C) → ((x : List C) → c ≡ content.Node x → ⊥) → ((x : List C) → c ≡ content.Annex x → ⊥) → slots_in c ≡ []
@@ -212,10 +212,10 @@ module _ (fs : List Frame) (n : ℕ) (frame : Frame) (is_there : frame ≡ frame
       (sym (ap root_in (content_there fs n frame (content.Root r) is_there is)))
 
 -- a capability that is given its object's count conveys itself
-pub live : (hs : List Header) (c : Capability) → conveyed hs (record { what = c; count = current_count hs c }) ≡ c
+pub live : (hs : List ObjectHeader) (c : Capability) → conveyed hs (record { what = c; count = current_count hs c }) ≡ c
 live hs c = let P : ℕ → Type 0 = λ n. (if nat_lt n n then Void else c) ≡ c in let all : (n : ℕ) → P n = λ n. grind (arith, nat_tests) in all (current_count hs c)
 
-pub made_live : (hs : List Header) (c : Capability) (count : ℕ) → count ≡ current_count hs c → conveyed hs (record { what = c; count = count }) ≡ c
+pub made_live : (hs : List ObjectHeader) (c : Capability) (count : ℕ) → count ≡ current_count hs c → conveyed hs (record { what = c; count = count }) ≡ c
 made_live hs c count is = ap (λ (n : ℕ). conveyed hs (record { what = c; count = n })) is ∙ live hs c
 
 -- where the content is no root there is no process

@@ -4,7 +4,7 @@ use Rattle.std.proofs.Math.ListN.{get_or-map}
 use Rattle.model.specs.declared.capability.Capability.{Capability}
 use Rattle.model.specs.declared.capability.Capability.TheVariants.{Void, Number, Page, Node, Space, Process, Start, Resume, Bank, Discrim}
 use Rattle.model.specs.declared.frame.Frame.{Frame}
-use Rattle.model.specs.declared.frame.Header.{Header}
+use Rattle.model.specs.declared.frame.ObjectHeader.{ObjectHeader}
 use Rattle.model.specs.declared.object.Content.{Content}
 use Rattle.model.specs.declared.object.Content.TheVariants as content
 use Rattle.model.specs.declared.object.Object.{Object}
@@ -20,7 +20,7 @@ map_back f back undone [] = refl
 map_back f back undone (x ∷ xs) = cc (undone x, map_back f back undone xs)
 
 -- no count is above 0
-pub record IsFresh (hs : List Header) : Type 0 where
+pub record IsFresh (hs : List ObjectHeader) : Type 0 where
   pub allocations : (n : ℕ) → (header_at hs n).allocations ≡ 0
   pub calls : (n : ℕ) → (header_at hs n).calls ≡ 0
 
@@ -31,12 +31,12 @@ fresh_header os n =
 
 fresh_headers : (os : List Object) → IsFresh (headers (map fresh_frame os))
 fresh_headers os = record {
-  allocations = λ n. ap (λ (h : Header). h.allocations) (fresh_header os n);
-  calls = λ n. ap (λ (h : Header). h.calls) (fresh_header os n);
+  allocations = λ n. ap (λ (h : ObjectHeader). h.allocations) (fresh_header os n);
+  calls = λ n. ap (λ (h : ObjectHeader). h.calls) (fresh_header os n);
 }
 
 -- a capability that counts nothing conveys what it says
-fresh_current : (hs : List Header) → IsFresh hs → (c : Capability) → current_count hs c ≡ 0
+fresh_current : (hs : List ObjectHeader) → IsFresh hs → (c : Capability) → current_count hs c ≡ 0
 fresh_current hs fresh Void = refl
 fresh_current hs fresh (Number n) = refl
 fresh_current hs fresh (Page o a) = fresh.allocations o
@@ -48,10 +48,10 @@ fresh_current hs fresh (Resume p) = fresh.calls p
 fresh_current hs fresh (Bank b) = fresh.allocations b
 fresh_current hs fresh Discrim = refl
 
-fresh_conveyed : (hs : List Header) → IsFresh hs → (c : Capability) → conveyed hs (fresh_cap c) ≡ c
+fresh_conveyed : (hs : List ObjectHeader) → IsFresh hs → (c : Capability) → conveyed hs (fresh_cap c) ≡ c
 fresh_conveyed hs fresh c = rw (fresh_current hs fresh c) refl
 
-fresh_content : (hs : List Header) → IsFresh hs → (c : Content Capability) → map_content (conveyed hs) (map_content fresh_cap c) ≡ c
+fresh_content : (hs : List ObjectHeader) → IsFresh hs → (c : Content Capability) → map_content (conveyed hs) (map_content fresh_cap c) ≡ c
 fresh_content hs fresh content.Free = refl
 fresh_content hs fresh (content.Page words) = refl
 fresh_content hs fresh (content.Node slots) = ap content.Node (map_back fresh_cap (conveyed hs) (fresh_conveyed hs fresh) slots)
@@ -60,7 +60,7 @@ fresh_content hs fresh (content.Root r) =
 fresh_content hs fresh (content.Annex registers) = ap content.Annex (map_back fresh_cap (conveyed hs) (fresh_conveyed hs fresh) registers)
 fresh_content hs fresh (content.Bank limit) = refl
 
-fresh_object : (hs : List Header) → IsFresh hs → (o : Object) → object_of hs (fresh_frame o) ≡ o
+fresh_object : (hs : List ObjectHeader) → IsFresh hs → (o : Object) → object_of hs (fresh_frame o) ≡ o
 fresh_object hs fresh o = ap (λ (c : Content Capability). let r : Object = record { owner = o.owner; content = c } in r) (fresh_content hs fresh o.content)
 
 pub objects_of_fresh : (os : List Object) → objects_of (map fresh_frame os) ≡ os

@@ -7,7 +7,7 @@ use Rattle.std.proofs.lemmas.Bool.{eq-eqb, ne_eqb}
 use Rattle.std.proofs.Common.{◌≡◌, ℕ, suc, nat_eq, not, ◌&&◌, ◌==◌, zero-add, take, ◌-◌, arith, ◌+◌, ◌<◌, ◌≤◌, Bool, true, false, List, length, get_or, refl, ap, sym, ◌∙◌}
 use Rattle.std.proofs.Math.ListN.{get_or-map, get_or-eq_default}
 use Rattle.model.specs.declared.frame.Frame.{Frame}
-use Rattle.model.specs.declared.frame.Header.{Header}
+use Rattle.model.specs.declared.frame.ObjectHeader.{ObjectHeader}
 use Rattle.model.specs.declared.object.Content.{Content}
 use Rattle.model.specs.declared.object.Content.TheVariants as content
 use Rattle.model.specs.declared.object.Object.{Object}
@@ -92,14 +92,14 @@ under_free fs n b is =
     ap (is_under (objects_of fs) b) (object_at_frame fs n)
     ∙ ap (λ (gone : Bool). not gone && list_any (nat_eq b) (chain (objects_of fs) f.header.owner)) (role_free (map_content k f.content) free_role)
 
-pub under_owner : (fs : List Frame) (n b : ℕ) (kind : Role) (h : Header) → kind ≡ role_of (frame_at fs n).content →
+pub under_owner : (fs : List Frame) (n b : ℕ) (kind : Role) (h : ObjectHeader) → kind ≡ role_of (frame_at fs n).content →
     (kind ≡ role.Free → ⊥) → h ≡ (frame_at fs n).header →
     list_any (nat_eq b) (chain (objects_of fs) h.owner) ≡ is_under (objects_of fs) b (object_at (objects_of fs) n)
 under_owner fs n b kind h kind_is other is =
     let f = frame_at fs n in
     let k = conveyed (headers fs) in
     let other_role : role_of (map_content k f.content) ≡ role.Free → ⊥ = λ e. other (kind_is ∙ sym (role_of_map k f.content) ∙ e) in
-    ap (λ (h : Header). list_any (nat_eq b) (chain (objects_of fs) h.owner)) is
+    ap (λ (h : ObjectHeader). list_any (nat_eq b) (chain (objects_of fs) h.owner)) is
     ∙ sym
     (ap (is_under (objects_of fs) b) (object_at_frame fs n)
     ∙ ap (λ (gone : Bool). not gone && list_any (nat_eq b) (chain (objects_of fs) f.header.owner)) (role_other (map_content k f.content) other_role))

@@ -22,7 +22,7 @@ abbrev pub world_of : PlainState → World
 world_of plain = record { objects = objects_of plain.frames; age = plain.age }
 
 -- what its fields keep: a frame and a mark for each number, and how many are marked
-pub record IsWhole (geometry : Geometry) (frames : List Frame) (touched : List Bool) (count : ℕ) : Type 0 where
+pub record IsWholeStore (geometry : Geometry) (frames : List Frame) (touched : List Bool) (count : ℕ) : Type 0 where
   pub frame_each : length frames ≡ geometry.nodes + geometry.pages
   pub mark_each : length touched ≡ geometry.nodes + geometry.pages
   pub marked : count ≡ touched_count touched

@@ -1,11 +1,14 @@
 //! Capabilities and the objects that they name, as frames with counts.
 #![tactic(auto)]
 
-pub mod diminish;
 pub mod objects;
 pub mod plain;
+pub mod present;
+pub mod table;
 pub mod view;
 
 pub use model::{Access, Cap, Capability};
 pub use plain::Plain;
 pub use plain::usage::usage;
+pub use present::{Fresh, MAX_FETCHED, PrepareFault, PresentFrames};
+pub use table::ObjectTable;

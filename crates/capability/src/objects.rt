@@ -5,16 +5,16 @@ ghost use Rattle.model.specs.Object.{root_in, is_root};
 ghost use Rattle.model.specs.World.{word_at, slot_at, root_at, annex_at, is_process, is_running_process, with_word, with_slot, content_at};
 ghost use Rattle.capability.specs.Objects.{KeepsAside, with_message};
 
-use model::{Cap, Capability, Content, Header, PresentFrames, State};
+use model::{Cap, Capability, Content, ObjectHeader, PresentFrames, State};
 
 /// The header of an object, or a blank one where there is no such object.
-fn header<F: PresentFrames>(store: &F, number: u64) -> Header
+fn header<F: PresentFrames>(store: &F, number: u64) -> ObjectHeader
     ensures { result ≡ header_at (headers (F.frames store.now)) number }
 {
     if number < store.count() {
         store.header(number)
     } else {
-        Header {
+        ObjectHeader {
             allocations: 0,
             calls: 0,
             owner: 0,

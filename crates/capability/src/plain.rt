@@ -5,7 +5,7 @@ ghost use Rattle.capability.specs.Plain.{with_frame_at, GoesOn};
 
 use crate::plain::touched::{fresh_count, mark};
 use model::present::MAX_FETCHED;
-use model::{Content, Frame, Geometry, Header, PrepareFault, PresentFrames, Role};
+use model::{Content, Frame, Geometry, ObjectHeader, PrepareFault, PresentFrames, Role};
 use std::alloc::Global;
 use std::marker::Model;
 
@@ -28,7 +28,7 @@ pub struct Plain {
 }
 
 impl Model for Plain {
-    ghost use Rattle.capability.specs.Plain.{PlainState, IsWhole};
+    ghost use Rattle.capability.specs.Plain.{PlainState, IsWholeStore};
 
     ghost Value = { PlainState };
 
@@ -39,7 +39,7 @@ impl Model for Plain {
       age = p.age;
     } };
 
-    ghost invariant = { λ p. IsWhole p.geometry p.frames.items p.touched.items p.count };
+    ghost invariant = { λ p. IsWholeStore p.geometry p.frames.items p.touched.items p.count };
 }
 
 impl Plain {
@@ -87,7 +87,7 @@ impl PresentFrames for Plain {
         self.frames.len() as u64
     }
 
-    fn header(&self, number: u64) -> Header {
+    fn header(&self, number: u64) -> ObjectHeader {
         self.frames[number as usize].header
     }
 
@@ -146,7 +146,7 @@ impl PresentFrames for Plain {
 
     fn reset(&mut self, number: u64) {
         let frame = &mut self.frames[number as usize];
-        frame.header = Header {
+        frame.header = ObjectHeader {
             allocations: frame.header.allocations + 1,
             calls: frame.header.calls + 1,
             owner: 0,

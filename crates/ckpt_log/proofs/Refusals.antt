@@ -5,7 +5,8 @@ use Rattle.layout.specs.declared.bad_image.BadImage.{BadImage}
 use Rattle.layout.specs.declared.directory.Entry.{Entry}
 use Rattle.layout.specs.declared.header.CheckpointHeader.{CheckpointHeader}
 use Rattle.layout.specs.Directory.{directory_bytes, IsDirectory}
-use Rattle.layout.specs.Image.{Image, HasHeader, HasDirectory, directory_in}
+use Rattle.device.specs.Disk.{Image}
+use Rattle.layout.specs.Image.{HasHeader, HasDirectory, directory_in}
 use Rattle.layout.specs.Superblock.{Plan}
 use Rattle.ckpt_log.specs.declared.fault.LogFault.{LogFault}
 use Rattle.ckpt_log.specs.declared.fault.LogFault.TheVariants as fault

@@ -1,5 +1,5 @@
 pub mod Commit
 pub mod Log
 pub mod Places
-pub mod Saved
+pub mod SavedSectors
 pub mod Slot

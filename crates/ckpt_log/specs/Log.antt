@@ -5,7 +5,8 @@ use Rattle.layout.specs.declared.bad_image.BadImage.TheVariants as bad
 use Rattle.layout.specs.declared.directory.Entry.{Entry}
 use Rattle.layout.specs.declared.header.CheckpointHeader.{CheckpointHeader}
 use Rattle.layout.specs.Header.{header_bytes, IsHeader}
-use Rattle.layout.specs.Image.{Image, HasHeader, HasDirectory, HasNoHeader, HasBadHeader, HasBadDirectory}
+use Rattle.device.specs.Disk.{Image}
+use Rattle.layout.specs.Image.{HasHeader, HasDirectory, HasNoHeader, HasBadHeader, HasBadDirectory}
 use Rattle.layout.specs.Superblock.{Plan}
 use Rattle.ckpt_log.specs.declared.fault.LogFault.{LogFault}
 use Rattle.ckpt_log.specs.declared.fault.LogFault.TheVariants as fault

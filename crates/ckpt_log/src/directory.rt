@@ -19,7 +19,7 @@ const MAX_BYTES: usize = 65536;
 const ENTRIES_IN_SECTOR: usize = 32;
 
 // Writes the bytes of a directory before those that are there.
-fn encode_front(entries: &[Entry], into: &mut [u8])
+fn put_entries(entries: &[Entry], into: &mut [u8])
     requires room { 16 * length entries.now ≤ length into.old }
     ensures front { take (16 * length entries.now) into.new ≡ directory_bytes entries.now }
     ensures size { length into.new ≡ length into.old }
@@ -43,7 +43,7 @@ fn write_run<D: Device>(device: &mut D, at: u64, sectors: usize, from: &[u8]) ->
 }
 
 // Reads a directory of as many entries as `into` takes from the first of the bytes.
-fn decode_front(bytes: &[u8], geometry: Geometry, into: &mut [Entry]) -> Result<(), BadImage>
+fn entries_in(bytes: &[u8], geometry: Geometry, into: &mut [Entry]) -> Result<(), BadImage>
     requires room { 16 * length into.old ≤ length bytes.now }
     requires log { geometry.log ≤ 4096 }
     ensures found { OnOk result (IsDirectory geometry into.new × (take (16 * length into.old) bytes.now ≡ directory_bytes into.new)) }
@@ -94,7 +94,7 @@ impl Log {
         let mut bytes = [0; MAX_BYTES];
         let sectors = (entries.len() + ENTRIES_IN_SECTOR - 1) / ENTRIES_IN_SECTOR;
         let run = &mut bytes[..SECTOR_SIZE * sectors];
-        encode_front(entries, run);
+        put_entries(entries, run);
         write_run(device, at, sectors, run)
     }
 
@@ -122,7 +122,7 @@ impl Log {
         let sectors = (into.len() + ENTRIES_IN_SECTOR - 1) / ENTRIES_IN_SECTOR;
         let run = &mut bytes[..SECTOR_SIZE * sectors];
         read_run(device, at, sectors, run)?;
-        decode_front(run, self.geometry(), into)?;
+        entries_in(run, self.geometry(), into)?;
         Ok(())
     }
 }

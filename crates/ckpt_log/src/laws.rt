@@ -1,5 +1,5 @@
 ghost use Rattle.ckpt_log.specs.Places.{SlotsAreInside, DirectoriesAreInside, HalvesAreWithin, HalvesAreApart, SlotsAreApart, SlotsSpareDirectories};
-ghost use Rattle.ckpt_log.specs.Saved.{SameHeader, SameDirectory, SameFrames, SameSaved};
+ghost use Rattle.ckpt_log.specs.SavedSectors.{SameHeader, SameDirectory, SameFrames, SameSaved};
 ghost use Rattle.ckpt_log.specs.Slot.{SlotsAreReadBack, DirectoriesAreReadBack};
 
 /// Images that agree in the header slots and their gates, in the directory of the committed header and in the

@@ -14,7 +14,7 @@ use layout::{
     NODE_FRAME_BYTES, NodeBody, PAGE_FRAME_BYTES, PageBody, decode_node_frame, decode_page_frame,
     encode_node_frame, encode_page_frame,
 };
-use model::{Cap, Frame, Header, Slots, Words};
+use model::{Cap, Frame, ObjectHeader, Slots, Words};
 
 impl Log {
     /// Reads the frame of a node in a slot of the half of a generation. The slots of a node or an annex are left in
@@ -30,7 +30,7 @@ impl Log {
         object: u64,
         age: u64,
         slots: &mut Slots<Cap>,
-    ) -> Result<(Header, NodeBody), LogFault>
+    ) -> Result<(ObjectHeader, NodeBody), LogFault>
         requires node { object < self.now.geometry.nodes }
         requires slot { slot < self.now.geometry.log }
         requires inside { self.now.total ≤ (D.disk device.old).sectors }
@@ -58,7 +58,7 @@ impl Log {
         object: u64,
         age: u64,
         words: &mut Words,
-    ) -> Result<(Header, PageBody), LogFault>
+    ) -> Result<(ObjectHeader, PageBody), LogFault>
         requires page { self.now.geometry.nodes ≤ object }
         requires slot { slot < self.now.geometry.log }
         requires inside { self.now.total ≤ (D.disk device.old).sectors }

@@ -6,13 +6,13 @@ use Rattle.std.proofs.Math.Bool.{or_assoc}
 use Rattle.device.specs.declared.record.Outcome.{Outcome}
 use Rattle.device.specs.declared.record.Outcome.TheVariants.{Keep, Drop, Fill}
 use Rattle.device.specs.declared.record.Action.TheVariants.{Synced}
-use Rattle.device.specs.declared.record.Entry.{Entry}
+use Rattle.device.specs.declared.record.RecordEntry.{RecordEntry}
 use Rattle.std.proofs.Common.{None}
 use Rattle.device.specs.Disk.{Image}
 use Rattle.device.specs.Calls.{Agrees, Elsewhere, Patches, AreSectors, sectors_of, image_of}
 use Rattle.device.specs.Past.{Event, wrote, synced, cut, State, at_first, after, replay, left_by, writes_of}
 use Rattle.device.specs.Record.{names, events_of, entries_of, marked}
-use Rattle.device.specs.Sound.{IsSound, now_of, state_with}
+use Rattle.device.specs.Sound.{IsSoundMirror, now_of, state_with}
 use Rattle.device.proofs.Past.{replay-append, replay-one, written-durable, written-present_before, written-present_after, written-present_inside, quiet-unsynced}
 use Rattle.device.proofs.Patches.{or_false, or_right, names-append}
 use Rattle.device.proofs.Entries.{past_written, length_written, past_synced, events_of-marked}
@@ -55,17 +55,17 @@ left_same Drop s t present durable unsynced i = durable i
 left_same (Fill byte) s t present durable unsynced i =
     ap (λ (b : Bool). if b then replicate 512 byte else s.durable i) (unsynced i) ∙ ap (λ (l : List ℕ). if t.unsynced i then replicate 512 byte else l) (durable i)
 
-module _ (sectors : ℕ) (first present durable : List ℕ) (entries : List Entry) (settled : ℕ) (sound : IsSound sectors first present durable entries settled) where
+module _ (sectors : ℕ) (first present durable : List ℕ) (entries : List RecordEntry) (settled : ℕ) (sound : IsSoundMirror sectors first present durable entries settled) where
   -- after a write
-  module _ (put from : List ℕ) (more : List Entry) (at : ℕ) (size : length put ≡ length present) (fits : All (λ b. b < 256) put) (inside : at + sectors_of from ≤ sectors)
+  module _ (put from : List ℕ) (more : List RecordEntry) (at : ℕ) (size : length put ≡ length present) (fits : All (λ b. b < 256) put) (inside : at + sectors_of from ≤ sectors)
       (has : AreSectors (image_of put) at from) (elsewhere : Elsewhere at (sectors_of from) (image_of present) (image_of put)) (is : more ≡ entries ++ entries_of at (sectors_of from) from) where
     now_written : now_of first more ≡ replay (now_of first entries) (writes_of at (sectors_of from) from)
     now_written = ap (λ (l : List Event). replay (at_first (image_of first)) l) (past_written entries more at (sectors_of from) from is) ∙ replay-append (at_first (image_of first)) (events_of entries) _
 
     names_written : (i : ℕ) → names (drop settled more) i ≡ (names (drop settled entries) i || names (entries_of at (sectors_of from) from) i)
     names_written i =
-        ap (λ (l : List Entry). names (drop settled l) i) is
-        ∙ ap (λ (l : List Entry). names l i) (drop-append-le settled entries _ sound.settled_within)
+        ap (λ (l : List RecordEntry). names (drop settled l) i) is
+        ∙ ap (λ (l : List RecordEntry). names l i) (drop-append-le settled entries _ sound.settled_within)
         ∙ names-append (drop settled entries) _ i
 
     present_written : (i : ℕ) → image_of put i ≡ (now_of first more).present i
@@ -85,7 +85,7 @@ module _ (sectors : ℕ) (first present durable : List ℕ) (entries : List Entr
         (cases_lt i at)
         ∙ sym (ap (λ (t : State). t.present i) now_written)
 
-    pub sound_written : IsSound sectors first put durable more settled
+    pub sound_written : IsSoundMirror sectors first put durable more settled
     sound_written = record {
       few = sound.few;
       present_size = size ∙ sound.present_size;
@@ -109,7 +109,7 @@ module _ (sectors : ℕ) (first present durable : List ℕ) (entries : List Entr
     }
 
   -- after a sync
-  module _ (copied : List ℕ) (more : List Entry) (size : length copied ≡ length durable) (fits : All (λ b. b < 256) copied)
+  module _ (copied : List ℕ) (more : List RecordEntry) (size : length copied ≡ length durable) (fits : All (λ b. b < 256) copied)
       (has : Patches (names (drop settled entries)) (image_of present) (image_of durable) (image_of copied)) (is : more ≡ entries ++ record { action = Synced; cut = None } ∷ []) where
     now_synced : now_of first more ≡ after (now_of first entries) synced
     now_synced = ap (λ (l : List Event). replay (at_first (image_of first)) l) (past_synced entries more is) ∙ replay-one (at_first (image_of first)) (events_of entries) synced
@@ -118,9 +118,9 @@ module _ (sectors : ℕ) (first present durable : List ℕ) (entries : List Entr
     copied_is i = ⊎_elim (has.named i) (λ miss. has.others i miss ∙ sym (sound.same_elsewhere i miss)) (cases_Bool (names (drop settled entries) i))
 
     nothing_left : (i : ℕ) → names (drop (length more) more) i ≡ false
-    nothing_left i = ap (λ (l : List Entry). names l i) (drop_all (length more) more (omega arith))
+    nothing_left i = ap (λ (l : List RecordEntry). names l i) (drop_all (length more) more (omega arith))
 
-    pub sound_synced : IsSound sectors first present copied more (length more)
+    pub sound_synced : IsSoundMirror sectors first present copied more (length more)
     sound_synced = record {
       few = sound.few;
       present_size = sound.present_size;
@@ -136,7 +136,7 @@ module _ (sectors : ℕ) (first present durable : List ℕ) (entries : List Entr
     }
 
   -- after a power cut
-  module _ (kept copied : List ℕ) (more : List Entry) (outcome : Outcome) (kept_size : length kept ≡ length present) (copied_size : length copied ≡ length durable)
+  module _ (kept copied : List ℕ) (more : List RecordEntry) (outcome : Outcome) (kept_size : length kept ≡ length present) (copied_size : length copied ≡ length durable)
       (kept_fits : All (λ b. b < 256) kept) (copied_fits : All (λ b. b < 256) copied) (same : Agrees (image_of copied) (image_of kept))
       (left : Agrees (image_of kept) (left_by outcome (now_of first entries))) (is : more ≡ marked outcome entries) where
     -- where nothing is unsynced a power cut changes nothing
@@ -181,9 +181,9 @@ module _ (sectors : ℕ) (first present durable : List ℕ) (entries : List Entr
         (events_of-marked outcome entries)
 
     nothing_left_cut : (i : ℕ) → names (drop (length more) more) i ≡ false
-    nothing_left_cut i = ap (λ (l : List Entry). names l i) (drop_all (length more) more (omega arith))
+    nothing_left_cut i = ap (λ (l : List RecordEntry). names l i) (drop_all (length more) more (omega arith))
 
-    pub sound_cut : IsSound sectors first kept copied more (length more)
+    pub sound_cut : IsSoundMirror sectors first kept copied more (length more)
     sound_cut = record {
       few = sound.few;
       present_size = kept_size ∙ sound.present_size;

@@ -11,7 +11,7 @@ use Rattle.device.specs.declared.record.Outcome.TheVariants.{Fill}
 use Rattle.device.specs.Record.{writes, names}
 use Rattle.device.specs.declared.record.Action.{Action}
 use Rattle.device.specs.declared.record.Action.TheVariants.{Wrote}
-use Rattle.device.specs.declared.record.Entry.{Entry}
+use Rattle.device.specs.declared.record.RecordEntry.{RecordEntry}
 
 pub or_false : (a b : Bool) → (a || b) ≡ false → (a ≡ false) × (b ≡ false)
 or_false false b none = (refl, none)
@@ -36,19 +36,19 @@ patches_on p q r from old mid new first second either = record {
 pub patches_none : (from image : Image) → Patches (λ _. false) from image image
 patches_none from image = record { named = λ i never. cc; others = λ i _. refl }
 
-pub names-append : (xs ys : List Entry) (i : ℕ) → names (xs ++ ys) i ≡ (names xs i || names ys i)
+pub names-append : (xs ys : List RecordEntry) (i : ℕ) → names (xs ++ ys) i ≡ (names xs i || names ys i)
 names-append [] ys i = refl
 names-append (x ∷ xs) ys i = ap (λ (b : Bool). writes x.action i || b) (names-append xs ys i) ∙ sym (or_assoc (writes x.action i) (names xs i) (names ys i))
 
 -- the sectors of one entry more
-pub names_more : (es : List Entry) (j : ℕ) (d : Entry) → j < length es → (i : ℕ) → names (take (j + 1) es) i ≡ (names (take j es) i || writes (get_or es j d).action i)
+pub names_more : (es : List RecordEntry) (j : ℕ) (d : RecordEntry) → j < length es → (i : ℕ) → names (take (j + 1) es) i ≡ (names (take j es) i || writes (get_or es j d).action i)
 names_more es j d lt i =
-    ap (λ (xs : List Entry). names xs i) (take_more es j d lt)
+    ap (λ (xs : List RecordEntry). names xs i) (take_more es j d lt)
     ∙ names-append (take j es) (get_or es j d ∷ []) i
     ∙ ap (λ (b : Bool). names (take j es) i || b) (or_right (writes (get_or es j d).action i))
 
 -- the sector of an entry is one of those of all
-pub names_at : (es : List Entry) (j : ℕ) (d : Entry) → j < length es → (i : ℕ) → writes (get_or es j d).action i ≡ true → names es i ≡ true
+pub names_at : (es : List RecordEntry) (j : ℕ) (d : RecordEntry) → j < length es → (i : ℕ) → writes (get_or es j d).action i ≡ true → names es i ≡ true
 names_at [] j d lt i hit = absurd (omega arith)
 names_at (e ∷ es) zero d lt i hit = ap (λ (b : Bool). b || names es i) hit
 names_at (e ∷ es) (suc j) d lt i hit =

@@ -4,7 +4,7 @@ use Rattle.device.specs.Disk.{Image}
 use Rattle.device.specs.Calls.{sectors_of, AreSectors, Elsewhere}
 
 -- these sectors have these bytes, and all others those of the old image
-pub record Holds (at : ℕ) (bytes : List ℕ) (old new : Image) : Type 0 where
+pub record IsWrittenAt (at : ℕ) (bytes : List ℕ) (old new : Image) : Type 0 where
   pub whole : AreSectors new at bytes
   pub elsewhere : Elsewhere at (sectors_of bytes) old new
 
@@ -12,4 +12,4 @@ pub record Holds (at : ℕ) (bytes : List ℕ) (old new : Image) : Type 0 where
 abbrev pub IsInOrder : ℕ → List ℕ → ℕ → List ℕ → Image → Image → Type 0
 IsInOrder at first next second old c =
     Elsewhere at (sectors_of first) old c
-    ⊎ (AreSectors c at first × (mid : Image) × Holds at first old mid × Elsewhere next (sectors_of second) mid c)
+    ⊎ (AreSectors c at first × (mid : Image) × IsWrittenAt at first old mid × Elsewhere next (sectors_of second) mid c)

@@ -3,7 +3,7 @@ use Rattle.std.specs.Prelude.{ℕ, zero, suc, ◌+◌, Bool, false, ◌||◌, �
 use Rattle.device.specs.declared.record.Outcome.{Outcome}
 use Rattle.device.specs.declared.record.Action.{Action}
 use Rattle.device.specs.declared.record.Action.TheVariants.{Wrote, Synced}
-use Rattle.device.specs.declared.record.Entry.{Entry}
+use Rattle.device.specs.declared.record.RecordEntry.{RecordEntry}
 use Rattle.device.specs.Calls.{image_of}
 use Rattle.device.specs.Past.{Event, wrote, synced, cut}
 
@@ -18,10 +18,10 @@ mark_of None = []
 mark_of (Some outcome) = cut outcome ∷ []
 
 -- the events of an entry, and of entries in order
-abbrev pub entry_events : Entry → List Event
+abbrev pub entry_events : RecordEntry → List Event
 entry_events e = event_of e.action ∷ mark_of e.cut
 
-abbrev pub events_of : List Entry → List Event
+abbrev pub events_of : List RecordEntry → List Event
 events_of [] = []
 events_of (e ∷ es) = entry_events e ++ events_of es
 
@@ -31,21 +31,21 @@ writes (Wrote sector bytes) i = i == sector
 writes Synced i = false
 
 -- one of these entries wrote sector i
-abbrev pub names : List Entry → ℕ → Bool
+abbrev pub names : List RecordEntry → ℕ → Bool
 names [] i = false
 names (e ∷ es) i = writes e.action i || names es i
 
 -- the entries of a write of the first n of these sectors, in order
-abbrev pub entries_of : ℕ → ℕ → List ℕ → List Entry
+abbrev pub entries_of : ℕ → ℕ → List ℕ → List RecordEntry
 entries_of at zero bytes = []
 entries_of at (suc n) bytes = entries_of at n bytes ++ record { action = Wrote (at + n) (image_of bytes n); cut = None } ∷ []
 
 -- the entry with a mark, unless it has one
-abbrev pub mark_after : Outcome → Entry → Entry
+abbrev pub mark_after : Outcome → RecordEntry → RecordEntry
 mark_after outcome e = record { action = e.action; cut = Some (unwrap_or e.cut outcome) }
 
 -- the entries with a mark on the last of them, unless there is none or it has one
-abbrev pub marked : Outcome → List Entry → List Entry
+abbrev pub marked : Outcome → List RecordEntry → List RecordEntry
 marked outcome [] = []
 marked outcome (e ∷ []) = mark_after outcome e ∷ []
 marked outcome (e ∷ (f ∷ es)) = e ∷ marked outcome (f ∷ es)

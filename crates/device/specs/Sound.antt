@@ -1,20 +1,20 @@
 -- What holds of the bytes and the record of a device in memory, whatever was done to it.
 use Rattle.std.specs.Prelude.{◌≡◌, ◌<◌, ◌≤◌, ℕ, ◌*◌, true, false, List, length, drop, All}
-use Rattle.device.specs.declared.record.Entry.{Entry}
+use Rattle.device.specs.declared.record.RecordEntry.{RecordEntry}
 use Rattle.device.specs.Calls.{Agrees, image_of}
 use Rattle.device.specs.Past.{State, at_first, replay}
 use Rattle.device.specs.Record.{events_of, names}
 
 -- the sectors after all that the record has
-abbrev pub now_of : List ℕ → List Entry → State
+abbrev pub now_of : List ℕ → List RecordEntry → State
 now_of first entries = replay (at_first (image_of first)) (events_of entries)
 
 -- sectors of which these entries are not synced
-abbrev pub state_with : List ℕ → List ℕ → List Entry → State
+abbrev pub state_with : List ℕ → List ℕ → List RecordEntry → State
 state_with present synced unsynced = record { present = image_of present; durable = image_of synced; unsynced = names unsynced }
 
 -- The bytes are those that the record leads to, and the entries from `settled` on are what is not durable yet.
-pub record IsSound (sectors : ℕ) (first present synced : List ℕ) (entries : List Entry) (settled : ℕ) : Type 0 where
+pub record IsSoundMirror (sectors : ℕ) (first present synced : List ℕ) (entries : List RecordEntry) (settled : ℕ) : Type 0 where
   pub few : sectors ≤ 131072
   pub present_size : length present ≡ 512 * sectors
   pub synced_size : length synced ≡ 512 * sectors

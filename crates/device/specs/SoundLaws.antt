@@ -2,13 +2,13 @@
 use Rattle.std.specs.Prelude.{◌≡◌, ℕ, false, List}
 use Rattle.std.proofs.Common.{sym, ◌∙◌, subst}
 use Rattle.std.proofs.Math.Path.{fun_ext}
-use Rattle.device.specs.declared.record.Entry.{Entry}
+use Rattle.device.specs.declared.record.RecordEntry.{RecordEntry}
 use Rattle.device.specs.Disk.{IsWhole}
 use Rattle.device.specs.Past.{MayLeave}
 use Rattle.device.specs.PastLaws.{image_whole}
-use Rattle.device.specs.Sound.{IsSound, now_of}
+use Rattle.device.specs.Sound.{IsSoundMirror, now_of}
 
-module _ (sectors : ℕ) (first present synced : List ℕ) (entries : List Entry) (settled : ℕ) (sound : IsSound sectors first present synced entries settled) where
+module _ (sectors : ℕ) (first present synced : List ℕ) (entries : List RecordEntry) (settled : ℕ) (sound : IsSoundMirror sectors first present synced entries settled) where
   pub present_whole : IsWhole sectors (now_of first entries).present
   present_whole = subst (IsWhole sectors) (fun_ext sound.present_is) (image_whole sectors present sound.present_size sound.present_fits)
 

@@ -1,9 +1,9 @@
 // The bytes of a device in memory, with a record of all that was done to them.
 ghost use Rattle.std.specs.Prelude.{◌≡◌, ◌≤◌, ◌+◌, ◌*◌, ◌%◌, ◌++◌, ◌∷◌, [], vec_len, vec_capacity, length, IfOk};
-ghost use Rattle.device.specs.Sound.{IsSound};
+ghost use Rattle.device.specs.Sound.{IsSoundMirror};
 
 use crate::device::SECTOR_SIZE;
-use crate::record::{Action, Entry, Outcome, mark, note, note_writes};
+use crate::record::{Action, RecordEntry, Outcome, mark, note, note_writes};
 use crate::sectors::{copy_written, put, settle};
 use std::alloc::{AllocError, Global};
 
@@ -16,10 +16,10 @@ pub(crate) struct Mirror {
     present: Vec<u8>,
     // What the last sync or power cut left.
     synced: Vec<u8>,
-    pub(crate) entries: Vec<Entry>,
+    pub(crate) entries: Vec<RecordEntry>,
     // The entries from this one on are not synced.
     settled: usize,
-    ghost sound: { IsSound sectors first.items present.items synced.items entries.items settled },
+    ghost sound: { IsSoundMirror sectors first.items present.items synced.items entries.items settled },
 }
 
 impl Mirror {
@@ -32,7 +32,7 @@ impl Mirror {
         alloc: Global,
         sectors: u64,
         first: Vec<u8>,
-        entries: Vec<Entry>,
+        entries: Vec<RecordEntry>,
     ) -> Result<Mirror, AllocError>
         requires few { sectors ≤ 131072 }
         requires size { length first.items ≡ 512 * sectors }

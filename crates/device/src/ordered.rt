@@ -3,7 +3,7 @@ ghost use Rattle.std.specs.Prelude.{◌≡◌, ◌≤◌, ◌+◌, ◌%◌, leng
 ghost use Rattle.device.specs.Disk.{Image};
 ghost use Rattle.device.specs.Calls.{Elsewhere, sectors_of, AreSectors, Only, Counts};
 ghost use Rattle.device.specs.Moments.{LeavesOnly};
-ghost use Rattle.device.specs.Ordered.{Holds, IsInOrder};
+ghost use Rattle.device.specs.Ordered.{IsWrittenAt, IsInOrder};
 
 use crate::device::{Device, Failed};
 
@@ -14,7 +14,7 @@ pub fn write_durably<D: Device>(device: &mut D, at: u64, bytes: &[u8]) -> Result
     requires inside { at + sectors_of bytes.now ≤ (D.disk device.old).sectors }
     requires durable { Only (D.disk device.old).seen (D.disk device.old) }
 
-    ensures written { OnOk result (Holds at bytes.now (D.disk device.old).seen (D.disk device.new).seen) }
+    ensures written { OnOk result (IsWrittenAt at bytes.now (D.disk device.old).seen (D.disk device.new).seen) }
     ensures durable { OnOk result (Only (D.disk device.new).seen (D.disk device.new)) }
     ensures size { (D.disk device.new).sectors ≡ (D.disk device.old).sectors }
 

@@ -26,23 +26,23 @@ pub(crate) enum Action {
 }
 
 #[derive(Drop)]
-pub(crate) struct Entry {
+pub(crate) struct RecordEntry {
     pub(crate) action: Action,
     // The power cut that came after it and before the next one.
     pub(crate) cut: Option<Outcome>,
 }
 
 /// Notes what was done. There has to be room.
-pub(crate) fn note(entries: &mut Vec<Entry>, action: Action)
+pub(crate) fn note(entries: &mut Vec<RecordEntry>, action: Action)
     requires { vec_len entries.old < vec_capacity entries.old }
     ensures items { entries.new.items ≡ entries.old.items ++ record { action = action; cut = None } ∷ [] }
     ensures capacity { vec_capacity entries.old ≤ vec_capacity entries.new }
 {
-    let _ = entries.push(Entry { action, cut: None });
+    let _ = entries.push(RecordEntry { action, cut: None });
 }
 
 /// Notes that these sectors were written from `at` on. There has to be room for an entry each.
-pub(crate) fn note_writes(entries: &mut Vec<Entry>, at: u64, from: &[u8])
+pub(crate) fn note_writes(entries: &mut Vec<RecordEntry>, at: u64, from: &[u8])
     requires room { vec_len entries.old + sectors_of from.now ≤ vec_capacity entries.old }
     requires few { at + sectors_of from.now < 2 ^ 64 }
     ensures items { entries.new.items ≡ entries.old.items ++ entries_of at (sectors_of from.now) from.now }
@@ -58,7 +58,7 @@ pub(crate) fn note_writes(entries: &mut Vec<Entry>, at: u64, from: &[u8])
 }
 
 /// Marks the last entry with a power cut, where there is one and it has no mark yet.
-pub(crate) fn mark(entries: &mut Vec<Entry>, outcome: Outcome)
+pub(crate) fn mark(entries: &mut Vec<RecordEntry>, outcome: Outcome)
     ensures items { entries.new.items ≡ marked outcome entries.old.items }
     ensures capacity { vec_capacity entries.new ≡ vec_capacity entries.old }
 {

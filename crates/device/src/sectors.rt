@@ -6,7 +6,7 @@ ghost use Rattle.device.specs.Record.{writes, names};
 ghost use Rattle.device.specs.Sound.{state_with};
 
 use crate::device::SECTOR_SIZE;
-use crate::record::{Action, Entry, Outcome};
+use crate::record::{Action, RecordEntry, Outcome};
 
 /// Puts these sectors in the place of those from `at` on.
 pub(crate) fn put(sectors: &mut [u8], at: usize, from: &[u8])
@@ -35,7 +35,7 @@ fn copy_sector(into: &mut [u8], from: &[u8], action: &Action)
 }
 
 /// Copies each sector that one of these entries wrote.
-pub(crate) fn copy_written(into: &mut [u8], from: &[u8], entries: &[Entry])
+pub(crate) fn copy_written(into: &mut [u8], from: &[u8], entries: &[RecordEntry])
     requires same_size { length from.now ≡ length into.old }
     requires inside { (i : ℕ) → names entries.now i ≡ true → 512 * (i + 1) ≤ length into.old }
     ensures patched { Patches (names entries.now) (image_of from.now) (image_of into.old) (image_of into.new) }
@@ -58,7 +58,7 @@ fn fill_sector(into: &mut [u8], byte: u8, action: &Action)
 }
 
 /// Fills each sector that one of these entries wrote with this byte.
-pub(crate) fn fill_written(into: &mut [u8], byte: u8, entries: &[Entry])
+pub(crate) fn fill_written(into: &mut [u8], byte: u8, entries: &[RecordEntry])
     requires inside { (i : ℕ) → names entries.now i ≡ true → 512 * (i + 1) ≤ length into.old }
     ensures patched { Patches (names entries.now) (λ _. replicate 512 byte) (image_of into.old) (image_of into.new) }
     ensures fits { All (λ b. b < 256) into.old → All (λ b. b < 256) into.new }
@@ -69,7 +69,7 @@ pub(crate) fn fill_written(into: &mut [u8], byte: u8, entries: &[Entry])
 }
 
 /// Makes both the present and the synced sectors those that a power cut leaves, where these entries are not synced.
-pub(crate) fn settle(present: &mut [u8], synced: &mut [u8], unsynced: &[Entry], outcome: Outcome)
+pub(crate) fn settle(present: &mut [u8], synced: &mut [u8], unsynced: &[RecordEntry], outcome: Outcome)
     requires same_size { length synced.old ≡ length present.old }
     requires inside { (i : ℕ) → names unsynced.now i ≡ true → 512 * (i + 1) ≤ length present.old }
     requires same_elsewhere { (i : ℕ) → names unsynced.now i ≡ false → image_of present.old i ≡ image_of synced.old i }

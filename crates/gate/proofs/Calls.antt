@@ -22,13 +22,13 @@ use Rattle.model.specs.Invoke.{Effect, invoke, ordered, replied, on_kernel_objec
 use Rattle.model.specs.Revoke.{consume}
 use Rattle.model.specs.Machine.{touching, touched_count}
 use Rattle.model.specs.Object.{free, root_in, with_word_in, with_slot_in}
-use Rattle.model.specs.Order.{Outcome}
+use Rattle.model.specs.Order.{OrderOutcome}
 use Rattle.model.specs.Sound.{NamesItsKind}
 use Rattle.model.specs.World.{is_process, is_running_process, content_at, root_at, annex_at, register_at, with_content, with_word, with_slot}
 use Rattle.capability.proofs.Frames.{known_used, page_used, node_used}
 use Rattle.gate.specs.declared.plan.Change.{Change}
 use Rattle.gate.specs.declared.plan.Change.TheVariants as change
-use Rattle.gate.specs.declared.plan.Plan.{Plan}
+use Rattle.gate.specs.declared.plan.Plan.{OrderPlan}
 use Rattle.gate.specs.Call.{Invokes, Overfills, written_by_call}
 use Rattle.gate.specs.Plan.{changed, outcome_of, IsStorage}
 
@@ -93,13 +93,13 @@ unfolding invoke
 storage_invoked os i storage = invoked_by os i (register_at os i.process i.register) storage
 
 -- a call that goes as planned
-abbrev effect_by : Invocation → ℕ → Operation → Outcome → Effect
+abbrev effect_by : Invocation → ℕ → Operation → OrderOutcome → Effect
 effect_by i annex operation outcome = record {
   objects = replied outcome.objects i outcome;
   written = (elim operation [ Call ↦ i.process ∷ annex ∷ [] | Return ↦ i.process ∷ [] | Send ↦ [] ]) ++ outcome.written;
 }
 
-pub planned_effect : (os : List Object) (i : Invocation) (plan : Plan) → i.operation ≡ Call → outcome_of os plan ≡ ordered os i →
+pub planned_effect : (os : List Object) (i : Invocation) (plan : OrderPlan) → i.operation ≡ Call → outcome_of os plan ≡ ordered os i →
     on_kernel_object os i ≡ record {
       objects = replied (changed os plan.change) i (outcome_of os plan);
       written = written_by_call i.process (annex_at os i.process) plan.change;
@@ -130,7 +130,7 @@ annex_kept before now c p a after is =
     ap (λ (os : List Object). annex_at os p) after ∙ ap (λ (r : Root Capability). r.annex) (root_kept before c p) ∙ sym is
 
 -- a call that was carried out, from what each part of it told
-pub call_invokes : (before there : List Frame) (i : Invocation) (plan : Plan) (annex : ℕ) (after : List Object) (touched touched_there touched_after : List Bool) (log : ℕ) →
+pub call_invokes : (before there : List Frame) (i : Invocation) (plan : OrderPlan) (annex : ℕ) (after : List Object) (touched touched_there touched_after : List Bool) (log : ℕ) →
     IsStorage (register_at (objects_of before) i.process i.register) → i.operation ≡ Call → there ≡ before → touched_there ≡ touched →
     annex ≡ annex_at (objects_of before) i.process → outcome_of (objects_of before) plan ≡ ordered (objects_of before) i →
     after ≡ replied (changed (objects_of there) plan.change) i (outcome_of (objects_of there) plan) →
@@ -150,7 +150,7 @@ call_invokes before there i plan annex after touched touched_there touched_after
     )
 
 -- one that wasn't, since it would write too many numbers; and one before which there were too many already
-pub call_overfills : (before : List Frame) (i : Invocation) (plan : Plan) (annex : ℕ) (touched touched_there : List Bool) (log : ℕ) →
+pub call_overfills : (before : List Frame) (i : Invocation) (plan : OrderPlan) (annex : ℕ) (touched touched_there : List Bool) (log : ℕ) →
     IsStorage (register_at (objects_of before) i.process i.register) → i.operation ≡ Call → touched_there ≡ touched →
     annex ≡ annex_at (objects_of before) i.process → outcome_of (objects_of before) plan ≡ ordered (objects_of before) i →
     log < touched_count (touching touched_there (written_by_call i.process annex plan.change)) → Overfills i log (objects_of before) touched

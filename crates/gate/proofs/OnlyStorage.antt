@@ -20,7 +20,8 @@ use Rattle.model.specs.declared.order.ResultCode.TheVariants as code
 use Rattle.model.specs.Capability.{diminished}
 use Rattle.model.specs.Invoke.{Effect, invoke, ordered, reply_of, deliver, sent_by, after_order, on_kernel_object}
 use Rattle.model.specs.Object.{slots_in, with_word_in, with_slot_in}
-use Rattle.model.specs.Order.{Arguments, Outcome, refused, order, on_page, on_node, page_order, node_order, fetched, stored, reduces, code_number}
+use Rattle.model.specs.declared.order.Arguments.{Arguments}
+use Rattle.model.specs.Order.{OrderOutcome, refused, order, on_page, on_node, page_order, node_order, fetched, stored, reduces, code_number}
 use Rattle.model.specs.World.{content_at, slot_at, register_at, is_running_process, with_content, with_word, with_slot, with_root, with_state}
 use Rattle.model_laws.proofs.SoundEdits.{at_set, at_content}
 use Rattle.gate.specs.Plan.{IsStorage, HoldOnlyStorage}
@@ -55,12 +56,12 @@ unfolding with_root
 only_root os p r only = only_content os p (content.Root r) only (λ i. tt)
 
 -- an outcome that gives and leaves only storage
-record IsStorageOutcome (outcome : Outcome) : Type 0 where
+record IsStorageOutcome (outcome : OrderOutcome) : Type 0 where
   given : IsStorage outcome.capability
   left : HoldOnlyStorage outcome.objects
 
 -- one of two outcomes
-either : (b : Bool) (x y : Outcome) → IsStorageOutcome x → IsStorageOutcome y → IsStorageOutcome (cond b x y)
+either : (b : Bool) (x y : OrderOutcome) → IsStorageOutcome x → IsStorageOutcome y → IsStorageOutcome (cond b x y)
 either true x y a b = a
 either false x y a b = b
 
@@ -144,7 +145,7 @@ sent_storage : (os : List Object) (p : ℕ) (sent : List ℕ) → HoldOnlyStorag
 sent_storage os p [] only = tt
 sent_storage os p (r ∷ rs) only = only _ r
 
-reply_leaves : (p : ℕ) (operation : Operation) (running : Bool) (outcome : Outcome) → IsStorageOutcome outcome →
+reply_leaves : (p : ℕ) (operation : Operation) (running : Bool) (outcome : OrderOutcome) → IsStorageOutcome outcome →
     HoldOnlyStorage (elim operation [ Call ↦ if running then deliver outcome.objects p (reply_of outcome) else outcome.objects | _ ↦ outcome.objects ])
 reply_leaves p Call true outcome storage = only_delivered outcome.objects p (code_number outcome.code ∷ outcome.words) 0 outcome.capability storage.left storage.given
 reply_leaves p Call false outcome storage = storage.left

@@ -11,12 +11,12 @@ ghost use Rattle.model.specs.World.{annex_at, content_at, is_process, is_running
 ghost use Rattle.model.specs.Machine.{touching, touched_count};
 ghost use Rattle.model.specs.Order.{code_number};
 ghost use Rattle.gate.specs.Call.{LooksUp, Invokes, Overfills, written_by_call};
-ghost use Rattle.gate.specs.Plan.{changed, outcome_of, target_of, IsFor, IsStorage, IsWithin};
+ghost use Rattle.gate.specs.Plan.{changed, outcome_of, target_of, IsFor, IsStorage, IsWithinObject};
 ghost use Rattle.capability.specs.Objects.{KeepsAside};
 
 use crate::change::make;
 use crate::delivery::deliver;
-use crate::plan::{Arguments, Change, Plan};
+use crate::plan::{Arguments, Change, OrderPlan};
 use crate::storage::{object_named, plan};
 use capability::objects;
 use model::{Capability, Invocation, PrepareFault, PresentFrames, ResultCode, State};
@@ -26,7 +26,7 @@ use std::alloc::Global;
 #[derive(Clone, Copy, Debug)]
 pub struct Asked {
     pub annex: u64,
-    pub plan: Plan,
+    pub plan: OrderPlan,
 }
 
 /// Fetches one frame.
@@ -129,7 +129,7 @@ fn announce<F: PresentFrames>(
 fn finish<F: PresentFrames>(store: &mut F, invocation: &Invocation, asked: Asked)
     requires call { invocation.now.operation ≡ Call }
     requires annex { asked.annex ≡ annex_at (objects_of (F.frames store.old)) invocation.now.process }
-    requires within { IsWithin asked.plan.change }
+    requires within { IsWithinObject asked.plan.change }
     requires fetched { F.IsFetched store.old invocation.now.process × F.IsFetched store.old asked.annex × ((n : ℕ) → target_of asked.plan.change ≡ Some n → F.IsFetched store.old n) }
     requires announced { F.IsAnnounced store.old invocation.now.process × F.IsAnnounced store.old asked.annex × ((n : ℕ) → target_of asked.plan.change ≡ Some n → F.IsAnnounced store.old n) }
     ensures objects { objects_of (F.frames store.new)

@@ -1,7 +1,7 @@
 ghost use Rattle.std.specs.Prelude.{◌≡◌, ◌<◌, ℕ, Some};
 ghost use Rattle.model.specs.Frame.{objects_of};
 ghost use Rattle.capability.specs.Objects.{KeepsAside};
-ghost use Rattle.gate.specs.Plan.{changed, target_of, IsWithin};
+ghost use Rattle.gate.specs.Plan.{changed, target_of, IsWithinObject};
 
 use crate::plan::Change;
 use capability::objects;
@@ -9,7 +9,7 @@ use model::PresentFrames;
 
 /// Makes a change in an object that is fetched and announced.
 pub fn make<F: PresentFrames>(store: &mut F, change: Change)
-    requires within { IsWithin change }
+    requires within { IsWithinObject change }
     requires fetched { (n : ℕ) → target_of change ≡ Some n → F.IsFetched store.old n }
     requires announced { (n : ℕ) → target_of change ≡ Some n → F.IsAnnounced store.old n }
     ensures objects { objects_of (F.frames store.new) ≡ changed (objects_of (F.frames store.old)) change }

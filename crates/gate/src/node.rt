@@ -6,7 +6,7 @@ ghost use Rattle.model.specs.Order.{fetched, node_order, on_node, stored};
 ghost use Rattle.gate.specs.Plan.{outcome_of, IsFor};
 
 use crate::page::reduction;
-use crate::plan::{Arguments, Change, Plan};
+use crate::plan::{Arguments, Change, OrderPlan};
 use bitflags::Flags;
 use capability::diminish::diminish;
 use capability::objects;
@@ -41,17 +41,17 @@ fn fetched(access: Access, capability: Capability) -> Capability
 }
 
 /// What a store into a slot of a node comes to.
-fn stored(object: u64, access: Access, slot: u64, capability: Capability) -> Plan
+fn stored(object: u64, access: Access, slot: u64, capability: Capability) -> OrderPlan
     ensures only { IsFor (Capability.Node object access) result }
     ensures outcome { (os : List Object) → outcome_of os result ≡ stored os object access slot capability }
 {
     if !access.is_empty() {
-        return Plan::refused(ResultCode::NoAccess);
+        return OrderPlan::refused(ResultCode::NoAccess);
     }
     if slot >= SLOTS as u64 {
-        return Plan::refused(ResultCode::BadIndex);
+        return OrderPlan::refused(ResultCode::BadIndex);
     }
-    Plan::changed(Change::Slot {
+    OrderPlan::changed(Change::Slot {
         node: object,
         slot: slot as usize,
         capability,
@@ -66,7 +66,7 @@ pub fn on_node<F: PresentFrames>(
     access: Access,
     order: NodeOrder,
     arguments: Arguments,
-) -> Plan
+) -> OrderPlan
     requires { F.IsFetched store.now object }
     ensures only { IsFor (Capability.Node object access) result }
     ensures outcome { outcome_of (objects_of (F.frames store.now)) result
@@ -75,24 +75,24 @@ pub fn on_node<F: PresentFrames>(
     match order {
         NodeOrder::Fetch => {
             if arguments.first >= SLOTS as u64 {
-                return Plan::refused(ResultCode::BadIndex);
+                return OrderPlan::refused(ResultCode::BadIndex);
             }
             let held = objects::slot(store, object, arguments.first as usize);
-            Plan::given(fetched(access, held))
+            OrderPlan::given(fetched(access, held))
         }
         NodeOrder::Store => stored(object, access, arguments.first, arguments.capability),
         NodeOrder::Reduce => match reduction(arguments.first) {
-            None => Plan::refused(ResultCode::BadIndex),
-            Some(less) => Plan::given(Capability::Node {
+            None => OrderPlan::refused(ResultCode::BadIndex),
+            Some(less) => OrderPlan::given(Capability::Node {
                 object,
                 access: access.union(less),
             }),
         },
         NodeOrder::MakeSpace => {
             if arguments.first == 0 || arguments.first > MAX_HEIGHT {
-                return Plan::refused(ResultCode::BadIndex);
+                return OrderPlan::refused(ResultCode::BadIndex);
             }
-            Plan::given(Capability::Space {
+            OrderPlan::given(Capability::Space {
                 object,
                 height: arguments.first as u8,
                 access,

@@ -4,7 +4,7 @@ ghost use Rattle.model.specs.Order.{on_page, page_order, reduces};
 ghost use Rattle.model.specs.Capability.{union};
 ghost use Rattle.gate.specs.Plan.{outcome_of, IsFor};
 
-use crate::plan::{Arguments, Change, Plan};
+use crate::plan::{Arguments, Change, OrderPlan};
 use bitflags::Flags;
 use capability::objects;
 use model::{Access, Capability, PageOrder, PresentFrames, ResultCode, WORDS};
@@ -40,7 +40,7 @@ pub fn on_page<F: PresentFrames>(
     access: Access,
     order: PageOrder,
     arguments: Arguments,
-) -> Plan
+) -> OrderPlan
     requires { F.IsFetched store.now object }
     ensures only { IsFor (Capability.Page object access) result }
     ensures outcome { outcome_of (objects_of (F.frames store.now)) result
@@ -49,26 +49,26 @@ pub fn on_page<F: PresentFrames>(
     match order {
         PageOrder::Read => {
             if arguments.first >= WORDS as u64 {
-                return Plan::refused(ResultCode::BadIndex);
+                return OrderPlan::refused(ResultCode::BadIndex);
             }
-            Plan::told(objects::word(store, object, arguments.first as usize))
+            OrderPlan::told(objects::word(store, object, arguments.first as usize))
         }
         PageOrder::Write => {
             if !access.is_empty() {
-                return Plan::refused(ResultCode::NoAccess);
+                return OrderPlan::refused(ResultCode::NoAccess);
             }
             if arguments.first >= WORDS as u64 {
-                return Plan::refused(ResultCode::BadIndex);
+                return OrderPlan::refused(ResultCode::BadIndex);
             }
-            Plan::changed(Change::Word {
+            OrderPlan::changed(Change::Word {
                 page: object,
                 index: arguments.first as usize,
                 word: arguments.second,
             })
         }
         PageOrder::Reduce => match reduction(arguments.first) {
-            None => Plan::refused(ResultCode::BadIndex),
-            Some(less) => Plan::given(Capability::Page {
+            None => OrderPlan::refused(ResultCode::BadIndex),
+            Some(less) => OrderPlan::given(Capability::Page {
                 object,
                 access: access.union(less),
             }),

@@ -22,7 +22,7 @@ pub enum Change {
 
 /// What an order comes to: what it tells, and what it is going to change.
 #[derive(Clone, Copy, Debug)]
-pub struct Plan {
+pub struct OrderPlan {
     pub code: ResultCode,
     /// The result words after the code.
     pub words: [u64; 3],
@@ -38,12 +38,12 @@ pub struct Arguments {
     pub capability: Capability,
 }
 
-impl Plan {
+impl OrderPlan {
     /// Nothing is done, for that reason.
-    pub fn refused(code: ResultCode) -> Plan
+    pub fn refused(code: ResultCode) -> OrderPlan
         ensures { result ≡ record { code = code; words = 0 ∷ 0 ∷ 0 ∷ []; capability = Capability.Void; change = Change.Nothing } }
     {
-        Plan {
+        OrderPlan {
             code,
             words: [0; 3],
             capability: Capability::Void,
@@ -52,32 +52,32 @@ impl Plan {
     }
 
     /// A word is told.
-    pub fn told(word: u64) -> Plan
+    pub fn told(word: u64) -> OrderPlan
         ensures { result ≡ record { code = ResultCode.Done; words = word ∷ 0 ∷ 0 ∷ []; capability = Capability.Void; change = Change.Nothing } }
     {
-        Plan {
+        OrderPlan {
             words: [word, 0, 0],
-            ..Plan::refused(ResultCode::Done)
+            ..OrderPlan::refused(ResultCode::Done)
         }
     }
 
     /// A capability is given.
-    pub fn given(capability: Capability) -> Plan
+    pub fn given(capability: Capability) -> OrderPlan
         ensures { result ≡ record { code = ResultCode.Done; words = 0 ∷ 0 ∷ 0 ∷ []; capability = capability; change = Change.Nothing } }
     {
-        Plan {
+        OrderPlan {
             capability,
-            ..Plan::refused(ResultCode::Done)
+            ..OrderPlan::refused(ResultCode::Done)
         }
     }
 
     /// An object is changed.
-    pub fn changed(change: Change) -> Plan
+    pub fn changed(change: Change) -> OrderPlan
         ensures { result ≡ record { code = ResultCode.Done; words = 0 ∷ 0 ∷ 0 ∷ []; capability = Capability.Void; change = change } }
     {
-        Plan {
+        OrderPlan {
             change,
-            ..Plan::refused(ResultCode::Done)
+            ..OrderPlan::refused(ResultCode::Done)
         }
     }
 }

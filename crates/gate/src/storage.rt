@@ -7,7 +7,7 @@ ghost use Rattle.gate.specs.Plan.{outcome_of, IsFor, IsStorage};
 
 use crate::node::{node_order, on_node};
 use crate::page::{on_page, page_order, reduction};
-use crate::plan::{Arguments, Plan};
+use crate::plan::{Arguments, OrderPlan};
 use bitflags::Flags;
 use model::{Access, Capability, PresentFrames, ResultCode};
 
@@ -38,17 +38,17 @@ pub fn object_named(capability: Capability) -> Option<u64>
 
 /// What an order on an address space comes to.
 #[tactic(auto, unfolding(model::specs::Order::order))]
-fn on_space(object: u64, height: u8, access: Access, word: u64, arguments: Arguments) -> Plan
+fn on_space(object: u64, height: u8, access: Access, word: u64, arguments: Arguments) -> OrderPlan
     ensures only { IsFor (Capability.Space object height access) result }
     ensures outcome { (os : List Object) → outcome_of os result
         ≡ order os (Capability.Space object height access) word (record { first = arguments.first; second = arguments.second; capability = arguments.capability }) }
 {
     if word != REDUCE_SPACE {
-        return Plan::refused(ResultCode::NoOrder);
+        return OrderPlan::refused(ResultCode::NoOrder);
     }
     match reduction(arguments.first) {
-        None => Plan::refused(ResultCode::BadIndex),
-        Some(less) => Plan::given(Capability::Space {
+        None => OrderPlan::refused(ResultCode::BadIndex),
+        Some(less) => OrderPlan::given(Capability::Space {
             object,
             height,
             access: access.union(less),
@@ -64,7 +64,7 @@ pub fn plan<F: PresentFrames>(
     capability: Capability,
     word: u64,
     arguments: Arguments,
-) -> Plan
+) -> OrderPlan
     requires storage { IsStorage capability }
     requires fetched { (n : ℕ) → named capability ≡ Some n → F.IsFetched store.now n }
     ensures only { IsFor capability result }
@@ -74,24 +74,24 @@ pub fn plan<F: PresentFrames>(
     match capability {
         Capability::Number(number) => {
             if word == READ_NUMBER {
-                Plan::told(number)
+                OrderPlan::told(number)
             } else {
-                Plan::refused(ResultCode::NoOrder)
+                OrderPlan::refused(ResultCode::NoOrder)
             }
         }
         Capability::Page { object, access } => match page_order(word) {
             Some(order) => on_page(store, object, access, order, arguments),
-            None => Plan::refused(ResultCode::NoOrder),
+            None => OrderPlan::refused(ResultCode::NoOrder),
         },
         Capability::Node { object, access } => match node_order(word) {
             Some(order) => on_node(store, object, access, order, arguments),
-            None => Plan::refused(ResultCode::NoOrder),
+            None => OrderPlan::refused(ResultCode::NoOrder),
         },
         Capability::Space {
             object,
             height,
             access,
         } => on_space(object, height, access, word, arguments),
-        _ => Plan::refused(ResultCode::VoidCapability),
+        _ => OrderPlan::refused(ResultCode::VoidCapability),
     }
 }

@@ -14,7 +14,7 @@ use layout::{
     NODE_FRAME_BYTES, NodeBody, PAGE_FRAME_BYTES, PageBody, decode_node_frame, decode_page_frame,
     encode_node_frame, encode_page_frame,
 };
-use model::{Cap, Frame, Header, Slots, Words};
+use model::{Cap, Frame, ObjectHeader, Slots, Words};
 
 impl Home {
     /// Reads the home frame of a node's number. The slots of a node or an annex are left in `slots`, and no memory
@@ -28,7 +28,7 @@ impl Home {
         number: u64,
         age: u64,
         slots: &mut Slots<Cap>,
-    ) -> Result<(Header, NodeBody), HomeFault>
+    ) -> Result<(ObjectHeader, NodeBody), HomeFault>
         requires node { IsNode self.now number }
         requires inside { self.now.total ≤ (D.disk device.old).sectors }
         ensures found { IfOk result (λ read. IsFrameOf self.now.geometry age number (home_bytes (D.disk device.new).seen self.now number) (node_frame read slots.new)) }
@@ -56,7 +56,7 @@ impl Home {
         number: u64,
         age: u64,
         words: &mut Words,
-    ) -> Result<(Header, PageBody), HomeFault>
+    ) -> Result<(ObjectHeader, PageBody), HomeFault>
         requires page { IsPage self.now number }
         requires inside { self.now.total ≤ (D.disk device.old).sectors }
         ensures found { IfOk result (λ read. IsFrameOf self.now.geometry age number (home_bytes (D.disk device.new).seen self.now number) (page_frame read words.new)) }

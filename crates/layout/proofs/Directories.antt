@@ -9,7 +9,7 @@ use Rattle.std.proofs.lemmas.List.Elements.{All-same, All-push, All-nil, All-tai
 use Rattle.model.specs.declared.geometry.Geometry.{Geometry}
 use Rattle.layout.specs.declared.directory.Entry.{Entry}
 use Rattle.layout.specs.Bytes.{number}
-use Rattle.layout.specs.Directory.{entry_bytes, directory_bytes, entry_at, AreRising, AreApart, IsDirectory, AllFitting}
+use Rattle.layout.specs.Directory.{entry_bytes, directory_bytes, entry_at, AreRising, HaveOwnSlots, IsDirectory, AllFitting}
 use Rattle.layout.proofs.Numbers.{length-number, number_splits}
 
 -- ---- bytes
@@ -163,7 +163,7 @@ used_more es used i fits was fresh =
       ];
     }
 
-pub twice_used : (es : List Entry) (used : List Bool) (i : ℕ) → i < length es → IsUsed es used i → get_or used (entry_at es i).slot false ≡ true → AreApart es → ⊥
+pub twice_used : (es : List Entry) (used : List Bool) (i : ℕ) → i < length es → IsUsed es used i → get_or used (entry_at es i).slot false ≡ true → HaveOwnSlots es → ⊥
 twice_used es used i lt was taken apart =
     let old = was.marked (entry_at es i).slot taken in
     apart old.0 i old.1 lt old.2

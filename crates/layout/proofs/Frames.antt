@@ -6,7 +6,7 @@ use borrow.Rule.Slice.PartMut.{put_mid}
 use Rattle.std.proofs.lemmas.List.{replicate-append-replicate, drop-replicate, drop-drop, take_at, drop_at, take-append-drop, length-append, length-take-le, length-map}
 use Rattle.model.specs.declared.capability.Cap.{Cap}
 use Rattle.model.specs.declared.frame.Frame.{Frame}
-use Rattle.model.specs.declared.frame.Header.{Header}
+use Rattle.model.specs.declared.frame.ObjectHeader.{ObjectHeader}
 use Rattle.model.specs.declared.geometry.Geometry.{Geometry}
 use Rattle.model.specs.declared.object.Content.{Content}
 use Rattle.model.specs.declared.object.Content.TheVariants as content
@@ -18,7 +18,7 @@ use Rattle.model.specs.declared.object.State.TheVariants.{Available, Running, Wa
 use Rattle.model.specs.Object.{role_of, state_number}
 use Rattle.layout.specs.Bytes.{number, short_number, zeros}
 use Rattle.layout.specs.Capability.{capability_bytes, head_bytes, IsCount}
-use Rattle.layout.specs.Frame.{front_numbers, front_bytes, role_number, void_cap, number_cap, slots_of, slots_bytes, node_frame_bytes, root_slots, root_in, state_in, body_in, with_slots, FollowsRole, IsFront, AreSlots, IsBody, IsNodeFrame}
+use Rattle.layout.specs.Frame.{front_numbers, front_bytes, role_number, void_cap, number_cap, slots_of, slots_bytes, node_frame_bytes, root_slots, root_from, state_in, body_in, with_slots, FollowsRole, IsFront, AreSlots, IsBody, IsNodeFrame}
 use Rattle.layout.proofs.Numbers.{stream, AllFit, stream_splits, IsWritten}
 use Rattle.layout.proofs.SlotLists.{slots_bytes-nil, slots_bytes-cons, slots_bytes-append, length-slots, slots_split}
 
@@ -26,20 +26,20 @@ four : (a b c d z : List ℕ) → (a ++ b ++ c ++ d) ++ z ≡ a ++ (b ++ (c ++ (
 four a b c d z = simp append_assoc
 
 -- the front of a frame as numbers
-pub front_stream : (role : ℕ) (h : Header) (rest : List ℕ) → front_numbers role h ++ rest ≡ stream (role ∷ h.allocations ∷ h.calls ∷ h.owner ∷ []) rest
+pub front_stream : (role : ℕ) (h : ObjectHeader) (rest : List ℕ) → front_numbers role h ++ rest ≡ stream (role ∷ h.allocations ∷ h.calls ∷ h.owner ∷ []) rest
 unfolding front_numbers
 front_stream role h rest = four (number role) (number h.allocations) (number h.calls) (number h.owner) rest
 
-pub four_read : (bytes : List ℕ) (role : ℕ) (h : Header) → bytes ≡ number role ++ drop 8 bytes → drop 8 bytes ≡ number h.allocations ++ drop 16 bytes
+pub four_read : (bytes : List ℕ) (role : ℕ) (h : ObjectHeader) → bytes ≡ number role ++ drop 8 bytes → drop 8 bytes ≡ number h.allocations ++ drop 16 bytes
     → drop 16 bytes ≡ number h.calls ++ drop 24 bytes → drop 24 bytes ≡ number h.owner ++ drop 32 bytes → bytes ≡ front_numbers role h ++ drop 32 bytes
 four_read bytes role h er ea ec eo =
     er ∙ ap (λ (r : List ℕ). number role ++ r) (ea ∙ ap (λ (r : List ℕ). number h.allocations ++ r) (ec ∙ ap (λ (r : List ℕ). number h.calls ++ r) eo)) ∙ sym (front_stream role h (drop 32 bytes))
 
-pub front_is : (role : ℕ) (h : Header) → ([] ++ number role) ++ number h.allocations ++ number h.calls ++ number h.owner ≡ front_numbers role h
+pub front_is : (role : ℕ) (h : ObjectHeader) → ([] ++ number role) ++ number h.allocations ++ number h.calls ++ number h.owner ≡ front_numbers role h
 unfolding front_numbers
 front_is role h = refl
 
-pub front_written : (old new : List ℕ) (role : Role) (n : ℕ) (h : Header) → n ≡ role_number role
+pub front_written : (old new : List ℕ) (role : Role) (n : ℕ) (h : ObjectHeader) → n ≡ role_number role
     → IsWritten old (number n ++ number h.allocations ++ number h.calls ++ number h.owner) new 32
     → record { before : take 32 new ≡ front_numbers (role_number role) h; after : drop 32 new ≡ drop 32 old }
 front_written old new role n h is was = record {
@@ -133,7 +133,7 @@ abbrev root_of : State → List ℕ → ℕ → ℕ → Cap → Root Cap
 root_of s ws key annex space = record { state = s; words = ws; key = key; annex = annex; space = space }
 
 root_again : (s : State) (ws : List ℕ) (key annex : ℕ) (space : Cap) → length ws ≡ 4 → key < 2 ^ 16
-    → root_in (slots_of (content.Root (root_of s ws key annex space))) ≡ root_of s ws key annex space
+    → root_from (slots_of (content.Root (root_of s ws key annex space))) ≡ root_of s ws key annex space
 root_again s [] key annex space len fits = absurd (omega (arith, len))
 root_again s (a ∷ []) key annex space len fits = absurd (omega (arith, len))
 root_again s (a ∷ b ∷ []) key annex space len fits = absurd (omega (arith, len))
@@ -159,7 +159,7 @@ pub record HasParts (f : Frame) (bytes : List ℕ) : Type 0 where
   pub middle : between 32 800 bytes ≡ slots_bytes (slots_of f.content)
   pub last : drop 800 bytes ≡ zeros 224
 
-pub length-front : (role : ℕ) (h : Header) → length (front_numbers role h) ≡ 32
+pub length-front : (role : ℕ) (h : ObjectHeader) → length (front_numbers role h) ≡ 32
 unfolding front_numbers number
 length-front role h = refl
 
@@ -178,15 +178,15 @@ node_parts g age f bytes fits e =
     }
 
 -- what was read of the bytes of a frame
-pub record IsReadOf (f : Frame) (role : ℕ) (h : Header) (slots : List Cap) : Type 0 where
+pub record IsReadOf (f : Frame) (role : ℕ) (h : ObjectHeader) (slots : List Cap) : Type 0 where
   pub role_is : role ≡ role_number (role_of f.content)
   pub header_is : h ≡ f.header
   pub slots_are : slots ≡ slots_of f.content
 
-abbrev pub front_list : ℕ → Header → List ℕ
+abbrev pub front_list : ℕ → ObjectHeader → List ℕ
 front_list role h = role ∷ h.allocations ∷ h.calls ∷ h.owner ∷ []
 
-abbrev header_of : ℕ → ℕ → ℕ → Header
+abbrev header_of : ℕ → ℕ → ℕ → ObjectHeader
 header_of a c o = record { allocations = a; calls = c; owner = o }
 
 same_front : (role a c o role' a' c' o' : ℕ) → role ∷ a ∷ c ∷ o ∷ [] ≡ role' ∷ a' ∷ c' ∷ o' ∷ [] → (role ≡ role') × (header_of a c o ≡ header_of a' c' o')
@@ -204,7 +204,7 @@ role_fits role.Root = omega arith
 role_fits role.Annex = omega arith
 role_fits role.Bank = omega arith
 
-pub front_told : (age role : ℕ) (h : Header) (f : Frame) (x y : List ℕ) → AllFit (front_list role h) → IsFront age f
+pub front_told : (age role : ℕ) (h : ObjectHeader) (f : Frame) (x y : List ℕ) → AllFit (front_list role h) → IsFront age f
     → front_numbers role h ++ x ≡ front_numbers (role_number (role_of f.content)) f.header ++ y → (role ≡ role_number (role_of f.content)) × (h ≡ f.header)
 front_told age role h f x y fits front e =
     let s = stream_splits (front_list role h) (front_list (role_number (role_of f.content)) f.header) x y fits
@@ -212,7 +212,7 @@ front_told age role h f x y fits front e =
     (sym (front_stream role h x) ∙ e ∙ front_stream (role_number (role_of f.content)) f.header y) in
     same_front role h.allocations h.calls h.owner (role_number (role_of f.content)) f.header.allocations f.header.calls f.header.owner s.0
 
-pub node_told : (g : Geometry) (age role : ℕ) (h : Header) (slots : List Cap) (f : Frame) (bytes rest : List ℕ) → AllFit (front_list role h) → AreSlots g age slots
+pub node_told : (g : Geometry) (age role : ℕ) (h : ObjectHeader) (slots : List Cap) (f : Frame) (bytes rest : List ℕ) → AllFit (front_list role h) → AreSlots g age slots
     → bytes ≡ front_numbers role h ++ rest → between 32 800 bytes ≡ slots_bytes slots → IsNodeFrame g age f → bytes ≡ node_frame_bytes f → IsReadOf f role h slots
 node_told g age role h slots f bytes rest fits are front middle is e =
     let parts = node_parts g age f bytes is e in
@@ -221,16 +221,16 @@ node_told g age role h slots f bytes rest fits are front middle is e =
     record { role_is = told.0; header_is = told.1; slots_are = same.0 }
 
 -- the body that is read is that of the frame
-pub body_told : (f : Frame) (role : ℕ) (h : Header) (slots : List Cap) (age : ℕ) → IsReadOf f role h slots → FollowsRole f.content → IsFront age f
+pub body_told : (f : Frame) (role : ℕ) (h : ObjectHeader) (slots : List Cap) (age : ℕ) → IsReadOf f role h slots → FollowsRole f.content → IsFront age f
     → IsBody role h.owner slots (with_slots (body_in role slots) slots)
 body_told f role h slots age read follows front =
     let same : with_slots (body_in role slots) slots ≡ f.content =
     ap (λ (r : ℕ). with_slots (body_in r slots) slots) read.role_is ∙ ap (λ (s : List Cap). with_slots (body_in (role_number (role_of f.content)) s) s) read.slots_are ∙ content_again f.content follows in
     subst (IsBody role h.owner slots) (sym same)
-    (record { role_is = read.role_is; slots_are = read.slots_are; follows = follows; unowned = λ t. ap (λ (x : Header). x.owner) read.header_is ∙ front.unowned t })
+    (record { role_is = read.role_is; slots_are = read.slots_are; follows = follows; unowned = λ t. ap (λ (x : ObjectHeader). x.owner) read.header_is ∙ front.unowned t })
 
 -- the frame that is read
-pub node_found : (g : Geometry) (age role : ℕ) (h : Header) (slots : List Cap) (c : Content Cap) (bytes : List ℕ) → AllFit (front_list role h)
+pub node_found : (g : Geometry) (age role : ℕ) (h : ObjectHeader) (slots : List Cap) (c : Content Cap) (bytes : List ℕ) → AllFit (front_list role h)
     → IsCount age h.allocations × IsCount age h.calls → AreSlots g age slots → IsBody role h.owner slots c
     → bytes ≡ front_numbers role h ++ drop 32 bytes → between 32 800 bytes ≡ slots_bytes slots → drop 800 bytes ≡ zeros 224
     → IsNodeFrame g age (record { header = h; content = c }) × (bytes ≡ node_frame_bytes (record { header = h; content = c }))
@@ -260,7 +260,7 @@ one_node_frame g age e f ie if same =
     let contents : e.content ≡ f.content = sym (content_again e.content ie.role)
     ∙ ap (λ (r : ℕ). with_slots (body_in r (slots_of e.content)) (slots_of e.content)) read.role_is
     ∙ ap (λ (s : List Cap). with_slots (body_in (role_number (role_of f.content)) s) s) read.slots_are ∙ content_again f.content if.role in
-    ap (λ (h : Header). record { header = h; content = e.content }) read.header_is ∙ ap (λ (c : Content Cap). record { header = f.header; content = c }) contents
+    ap (λ (h : ObjectHeader). record { header = h; content = e.content }) read.header_is ∙ ap (λ (c : Content Cap). record { header = f.header; content = c }) contents
 
 pub root_count : (r : Root Cap) (held : List Cap) → held ≡ root_slots r → length r.words ≡ 4 → length held + 24 ≡ 32
 root_count r held e len =

@@ -9,7 +9,8 @@ use Rattle.layout.specs.declared.directory.Entry.{Entry}
 use Rattle.layout.specs.declared.header.CheckpointHeader.{CheckpointHeader}
 use Rattle.layout.specs.Header.{header_bytes}
 use Rattle.layout.specs.Superblock.{Plan}
-use Rattle.layout.specs.Image.{Image, HasPlan, HasHeader, HasDirectory, IsFrameOf, IsFrameIf, frame_in, Saved, Denotes}
+use Rattle.device.specs.Disk.{Image}
+use Rattle.layout.specs.Image.{HasPlan, HasHeader, HasDirectory, IsFrameOf, IsFrameIf, frame_in, SavedState, Denotes}
 use Rattle.layout.proofs.Headers.{one_header}
 use Rattle.layout.proofs.Directories.{one_directory, directory_fits}
 use Rattle.layout.proofs.Frames.{one_node_frame}
@@ -44,13 +45,13 @@ same_frames image p h es fs gs lf lg ef eg = same_lists fs gs (lf ∙ sym lg) (�
     ∙ one_frame (nat_lt o p.geometry.nodes) p.geometry h.age (frame_in image p h.generation es o) (frame_at fs o) (frame_at gs o) (ef o within) (eg o within)
     ∙ get_or_default gs o blank_frame d in')
 
-abbrev state : Plan → CheckpointHeader → List Entry → List Frame → Saved
+abbrev state : Plan → CheckpointHeader → List Entry → List Frame → SavedState
 state p h es fs = record { plan = p; header = h; directory = es; frames = fs }
 
 frames_equal : (size : ℕ) (image : Image) (p : Plan) (h : CheckpointHeader) (es : List Entry) (fs gs : List Frame) → Denotes size image (state p h es fs) → Denotes size image (state p h es gs) → state p h es fs ≡ state p h es gs
 frames_equal size image p h es fs gs s t = ap (state p h es) (same_frames image p h es fs gs s.count t.count s.each t.each)
 
-pub one_state : (size : ℕ) (image : Image) (s t : Saved) → Denotes size image s → Denotes size image t → s ≡ t
+pub one_state : (size : ℕ) (image : Image) (s t : SavedState) → Denotes size image s → Denotes size image t → s ≡ t
 one_state size image s t ds dt =
     let ep : t.plan ≡ s.plan = same_plan size image t.plan s.plan dt.plan ds.plan in
     let dt1 : Denotes size image (state s.plan t.header t.directory t.frames) = subst (λ (p : Plan). Denotes size image (state p t.header t.directory t.frames)) ep dt in

@@ -9,7 +9,7 @@ use Rattle.std.proofs.lemmas.List.Concat.{flat_map-append}
 use Rattle.std.proofs.lemmas.List.Elements.{All-same, All-replicate, All-push, All-nil}
 use Rattle.model.specs.declared.capability.Cap.{Cap}
 use Rattle.model.specs.declared.frame.Frame.{Frame}
-use Rattle.model.specs.declared.frame.Header.{Header}
+use Rattle.model.specs.declared.frame.ObjectHeader.{ObjectHeader}
 use Rattle.model.specs.declared.object.Content.{Content}
 use Rattle.model.specs.declared.object.Content.TheVariants as content
 use Rattle.model.specs.Object.{role_of, zero_words}
@@ -132,12 +132,12 @@ page_parts f bytes e =
       last = sym (drop-drop 480 32 bytes) ∙ ap (drop 480) behind ∙ drop_at (zeros 480) words 480 (length-zeros 480);
     }
 
-pub record IsPageReadOf (f : Frame) (role : ℕ) (h : Header) (words : List ℕ) : Type 0 where
+pub record IsPageReadOf (f : Frame) (role : ℕ) (h : ObjectHeader) (words : List ℕ) : Type 0 where
   pub role_is : role ≡ role_number (role_of f.content)
   pub header_is : h ≡ f.header
   pub words_are : words ≡ page_words f.content
 
-pub page_told : (age role : ℕ) (h : Header) (words : List ℕ) (f : Frame) (bytes rest : List ℕ) → AllFit (front_list role h) → AreWords words
+pub page_told : (age role : ℕ) (h : ObjectHeader) (words : List ℕ) (f : Frame) (bytes rest : List ℕ) → AllFit (front_list role h) → AreWords words
     → bytes ≡ front_numbers role h ++ rest → drop 512 bytes ≡ words_bytes words → IsPageFrame age f → bytes ≡ page_frame_bytes f → IsPageReadOf f role h words
 page_told age role h words f bytes rest fits are front last is e =
     let parts = page_parts f bytes e in
@@ -147,19 +147,19 @@ page_told age role h words f bytes rest fits are front last is e =
     (sym (words_stream words) ∙ sym last ∙ parts.last ∙ words_stream (page_words f.content)) in
     record { role_is = told.0; header_is = told.1; words_are = same.0 }
 
-pub page_body_told : (f : Frame) (role : ℕ) (h : Header) (words : List ℕ) (age : ℕ) → IsPageReadOf f role h words → HoldsPage f.content → IsFront age f
+pub page_body_told : (f : Frame) (role : ℕ) (h : ObjectHeader) (words : List ℕ) (age : ℕ) → IsPageReadOf f role h words → HoldsPage f.content → IsFront age f
     → IsPageBody role h.owner words (with_words (page_body_in role) words)
 page_body_told f role h words age read holds front =
     let same : with_words (page_body_in role) words ≡ f.content =
     ap (λ (r : ℕ). with_words (page_body_in r) words) read.role_is ∙ ap (λ (w : List ℕ). with_words (page_body_in (role_number (role_of f.content))) w) read.words_are ∙ content_again f.content holds in
     subst (IsPageBody role h.owner words) (sym same)
-    (record { role_is = read.role_is; words_are = read.words_are; unowned = λ t. ap (λ (x : Header). x.owner) read.header_is ∙ front.unowned t })
+    (record { role_is = read.role_is; words_are = read.words_are; unowned = λ t. ap (λ (x : ObjectHeader). x.owner) read.header_is ∙ front.unowned t })
 
 holds_words : (b : PageBody) (words : List ℕ) → AreWords words → HoldsPage (with_words b words)
 holds_words page_body.Free words are = tt
 holds_words page_body.Page words are = are
 
-pub page_found : (age role : ℕ) (h : Header) (words : List ℕ) (b : PageBody) (bytes : List ℕ) → AllFit (front_list role h)
+pub page_found : (age role : ℕ) (h : ObjectHeader) (words : List ℕ) (b : PageBody) (bytes : List ℕ) → AllFit (front_list role h)
     → IsCount age h.allocations × IsCount age h.calls → AreWords words → IsPageBody role h.owner words (with_words b words)
     → bytes ≡ front_numbers role h ++ drop 32 bytes → take 480 (drop 32 bytes) ≡ zeros 480 → drop 512 bytes ≡ words_bytes words
     → IsPageFrame age (record { header = h; content = with_words b words }) × (bytes ≡ page_frame_bytes (record { header = h; content = with_words b words }))
@@ -189,7 +189,7 @@ one_page_frame age e f ie if same =
     let contents : e.content ≡ f.content = sym (content_again e.content ie.holds)
     ∙ ap (λ (r : ℕ). with_words (page_body_in r) (page_words e.content)) read.role_is
     ∙ ap (λ (w : List ℕ). with_words (page_body_in (role_number (role_of f.content))) w) read.words_are ∙ content_again f.content if.holds in
-    ap (λ (h : Header). record { header = h; content = e.content }) read.header_is ∙ ap (λ (c : Content Cap). record { header = f.header; content = c }) contents
+    ap (λ (h : ObjectHeader). record { header = h; content = e.content }) read.header_is ∙ ap (λ (c : Content Cap). record { header = f.header; content = c }) contents
 
 -- ---- writing
 

@@ -28,14 +28,14 @@ abbrev pub AreRising : List Entry → Type 0
 AreRising es = (i : ℕ) → i + 1 < length es → (entry_at es i).object < (entry_at es (i + 1)).object
 
 -- no slot comes twice
-abbrev pub AreApart : List Entry → Type 0
-AreApart es = (i j : ℕ) → i < j → j < length es → (entry_at es i).slot ≡ (entry_at es j).slot → ⊥
+abbrev pub HaveOwnSlots : List Entry → Type 0
+HaveOwnSlots es = (i j : ℕ) → i < j → j < length es → (entry_at es i).slot ≡ (entry_at es j).slot → ⊥
 
 -- what a directory needs
 pub record IsDirectory (g : Geometry) (es : List Entry) : Type 0 where
   pub each : All (IsEntry g) es
   pub rising : AreRising es
-  pub apart : AreApart es
+  pub apart : HaveOwnSlots es
 
 -- the numbers of each entry fit their bytes
 abbrev pub AllFitting : List Entry → Type 0

@@ -5,7 +5,7 @@ use Rattle.model.specs.declared.capability.Cap.{Cap}
 use Rattle.model.specs.declared.capability.Capability.{Capability}
 use Rattle.model.specs.declared.capability.Capability.TheVariants.{Void, Number}
 use Rattle.model.specs.declared.frame.Frame.{Frame}
-use Rattle.model.specs.declared.frame.Header.{Header}
+use Rattle.model.specs.declared.frame.ObjectHeader.{ObjectHeader}
 use Rattle.model.specs.declared.geometry.Geometry.{Geometry}
 use Rattle.model.specs.declared.object.Content.{Content}
 use Rattle.model.specs.declared.object.Content.TheVariants as content
@@ -37,7 +37,7 @@ unfoldable pub front_bytes : Frame → List ℕ
 front_bytes f = (role_number (role_of f.content) ∷ zeros 7) ++ number f.header.allocations ++ number f.header.calls ++ number f.header.owner
 
 -- the same of any role, which is a number of eight bytes then
-unfoldable pub front_numbers : ℕ → Header → List ℕ
+unfoldable pub front_numbers : ℕ → ObjectHeader → List ℕ
 front_numbers role h = number role ++ number h.allocations ++ number h.calls ++ number h.owner
 
 -- what every frame needs
@@ -103,7 +103,7 @@ with_slots (body.Root root) slots = content.Root root
 with_slots body.Annex slots = content.Annex slots
 with_slots (body.Bank limit) slots = content.Bank limit
 
-abbrev pub node_frame : Header × NodeBody → List Cap → Frame
+abbrev pub node_frame : ObjectHeader × NodeBody → List Cap → Frame
 node_frame read slots = record { header = read.0; content = with_slots read.1 slots }
 
 -- the parts of 32 slots that a role reads, each as if the slots were of that role
@@ -111,30 +111,30 @@ abbrev pub number_field : Capability → ℕ
 number_field (Number n) = n
 number_field _ = 0
 
-abbrev pub number_in : Cap → ℕ
-number_in c = number_field c.what
+abbrev pub number_held : Cap → ℕ
+number_held c = number_field c.what
 
-abbrev pub slot_in : List Cap → ℕ → Cap
-slot_in slots i = slice_index_or slots i void_cap
+abbrev pub cap_at : List Cap → ℕ → Cap
+cap_at slots i = slice_index_or slots i void_cap
 
 abbrev pub state_in : ℕ → State
 state_in n = if n == 0 then Available else if n == 1 then Running else Waiting
 
-abbrev pub root_in : List Cap → Root Cap
-root_in slots = record {
-  state = state_in (number_in (slot_in slots 1));
-  words = number_in (slot_in slots 2) ∷ number_in (slot_in slots 3) ∷ number_in (slot_in slots 4) ∷ number_in (slot_in slots 5) ∷ [];
-  key = number_in (slot_in slots 6) % 65536;
-  annex = number_in (slot_in slots 0);
-  space = slot_in slots 7;
+abbrev pub root_from : List Cap → Root Cap
+root_from slots = record {
+  state = state_in (number_held (cap_at slots 1));
+  words = number_held (cap_at slots 2) ∷ number_held (cap_at slots 3) ∷ number_held (cap_at slots 4) ∷ number_held (cap_at slots 5) ∷ [];
+  key = number_held (cap_at slots 6) % 65536;
+  annex = number_held (cap_at slots 0);
+  space = cap_at slots 7;
 }
 
 abbrev pub body_in : ℕ → List Cap → NodeBody
 body_in role slots =
     if role == 2 then body.Node else
-    if role == 3 then body.Root (root_in slots) else
+    if role == 3 then body.Root (root_from slots) else
     if role == 4 then body.Annex else
-    if role == 5 then body.Bank (number_in (slot_in slots 0)) else body.Free
+    if role == 5 then body.Bank (number_held (cap_at slots 0)) else body.Free
 
 -- a content is that of a role and of 32 slots
 pub record IsBody (role owner : ℕ) (slots : List Cap) (c : Content Cap) : Type 0 where
@@ -177,7 +177,7 @@ abbrev pub with_words : PageBody → List ℕ → Content Cap
 with_words page_body.Free words = content.Free
 with_words page_body.Page words = content.Page words
 
-abbrev pub page_frame : Header × PageBody → List ℕ → Frame
+abbrev pub page_frame : ObjectHeader × PageBody → List ℕ → Frame
 page_frame read words = record { header = read.0; content = with_words read.1 words }
 
 -- a body is that of a role and of 512 words

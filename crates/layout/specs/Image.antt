@@ -3,6 +3,7 @@ use Rattle.std.specs.Prelude.{◌≡◌, ◌⊎◌, ℕ, zero, suc, ◌+◌, ◌
 use Rattle.model.specs.declared.frame.Frame.{Frame}
 use Rattle.model.specs.declared.geometry.Geometry.{Geometry}
 use Rattle.model.specs.Frame.{frame_at}
+use Rattle.device.specs.Disk.{Image}
 use Rattle.layout.specs.declared.bad_image.BadImage.{BadImage}
 use Rattle.layout.specs.declared.bad_image.BadImage.TheVariants as bad
 use Rattle.layout.specs.declared.directory.Entry.{Entry}
@@ -14,10 +15,6 @@ use Rattle.layout.specs.Header.{header_bytes, IsHeader}
 use Rattle.layout.specs.Directory.{directory_bytes, IsDirectory}
 use Rattle.layout.specs.Frame.{node_frame_bytes, page_frame_bytes, IsNodeFrame, IsPageFrame}
 use Rattle.layout.specs.Superblock.{Plan, superblock_bytes, HasMark, IsPlan}
-
--- the 512 bytes of each sector
-abbrev pub Image : Type 0
-Image = ℕ → List ℕ
 
 -- the bytes of n sectors from one on
 unfoldable pub sectors_from : Image → ℕ → ℕ → List ℕ
@@ -170,14 +167,14 @@ pub record HasDirectory (image : Image) (p : Plan) (h : CheckpointHeader) (es : 
   pub spelt : directory_in image p h.generation h.entries ≡ directory_bytes es
 
 -- a saved state of frames
-pub record Saved : Type 0 where
+pub record SavedState : Type 0 where
   pub plan : Plan
   pub header : CheckpointHeader
   pub directory : List Entry
   pub frames : List Frame
 
 -- an image denotes a saved state where none of the reasons holds
-pub record Denotes (size : ℕ) (image : Image) (s : Saved) : Type 0 where
+pub record Denotes (size : ℕ) (image : Image) (s : SavedState) : Type 0 where
   pub plan : HasPlan size image s.plan
   pub header : HasHeader image s.plan s.header
   pub directory : HasDirectory image s.plan s.header s.directory

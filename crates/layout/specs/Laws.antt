@@ -12,7 +12,8 @@ use Rattle.layout.specs.Header.{header_bytes, IsHeader}
 use Rattle.layout.specs.Directory.{directory_bytes, IsDirectory}
 use Rattle.layout.specs.Frame.{node_frame_bytes, page_frame_bytes, IsNodeFrame, IsPageFrame}
 use Rattle.layout.specs.Superblock.{Plan, superblock_bytes, IsPlan}
-use Rattle.layout.specs.Image.{Image, Saved, Denotes}
+use Rattle.device.specs.Disk.{Image}
+use Rattle.layout.specs.Image.{SavedState, Denotes}
 
 abbrev pub SpellOneCapability : Type 0
 SpellOneCapability = (g : Geometry) (age : ℕ) (b c : Cap) → IsCapability g age b → IsCapability g age c → capability_bytes b ≡ capability_bytes c → b ≡ c
@@ -36,4 +37,4 @@ abbrev pub SpellOneSuperblock : Type 0
 SpellOneSuperblock = (p q : Plan) → IsPlan p → IsPlan q → superblock_bytes p ≡ superblock_bytes q → p ≡ q
 
 abbrev pub DenoteOneState : Type 0
-DenoteOneState = (size : ℕ) (image : Image) (s t : Saved) → Denotes size image s → Denotes size image t → s ≡ t
+DenoteOneState = (size : ℕ) (image : Image) (s t : SavedState) → Denotes size image s → Denotes size image t → s ≡ t

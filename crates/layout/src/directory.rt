@@ -1,7 +1,7 @@
 ghost use Rattle.std.specs.Prelude.{◌≡◌, ℕ, ◌+◌, ◌*◌, ◌<◌, ◌≤◌, ◌↔◌, List, length, IsTrue, OnOk, IfErr};
 ghost use Rattle.std.specs.List.{All};
 ghost use Rattle.layout.specs.declared.directory.Entry.{Entry};
-ghost use Rattle.layout.specs.Directory.{directory_bytes, IsEntry, AreRising, AreApart, IsDirectory, AllFitting};
+ghost use Rattle.layout.specs.Directory.{directory_bytes, IsEntry, AreRising, HaveOwnSlots, IsDirectory, AllFitting};
 
 use crate::bad_image::BadImage;
 use crate::bytes::{number_at, put_number};
@@ -38,9 +38,9 @@ fn are_rising(entries: &[Entry]) -> bool
     true
 }
 
-fn are_apart(entries: &[Entry]) -> bool
+fn have_own_slots(entries: &[Entry]) -> bool
     requires { All (λ e. e.slot < MAX_LOG) entries.now }
-    ensures { IsTrue result ↔ AreApart entries.now }
+    ensures { IsTrue result ↔ HaveOwnSlots entries.now }
 {
     let mut used = [false; MAX_LOG];
     for entry in entries {
@@ -59,7 +59,7 @@ fn is_directory(geometry: Geometry, entries: &[Entry]) -> bool
 {
     entries.iter().all(|entry| is_entry(geometry, *entry))
         && are_rising(entries)
-        && are_apart(entries)
+        && have_own_slots(entries)
 }
 
 /// Writes a directory, 16 bytes for each entry.

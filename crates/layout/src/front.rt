@@ -4,7 +4,7 @@ ghost use Rattle.layout.specs.Capability.{IsCount};
 ghost use Rattle.layout.specs.Frame.{front_numbers, role_number};
 
 use crate::bytes::{number_at, put_number};
-use model::{Cap, Content, Header, Role};
+use model::{Cap, Content, ObjectHeader, Role};
 
 /// What an object is.
 pub fn role_of(content: &Content<Cap>) -> Role
@@ -34,14 +34,14 @@ fn role_number(role: Role) -> u64
 }
 
 /// Whether the counts of a frame are at most the age.
-pub fn has_counts(header: Header, age: u64) -> bool
+pub fn has_counts(header: ObjectHeader, age: u64) -> bool
     ensures { IsTrue result ↔ (IsCount age header.allocations × IsCount age header.calls) }
 {
     header.allocations <= age && header.calls <= age
 }
 
 /// Writes the front of a frame.
-pub fn encode_front(role: Role, header: Header, into: &mut [u8])
+pub fn encode_front(role: Role, header: ObjectHeader, into: &mut [u8])
     requires { 32 ≤ length into.old }
     ensures before { take 32 into.new ≡ front_numbers (role_number role) header }
     ensures after { drop 32 into.new ≡ drop 32 into.old }
@@ -54,12 +54,12 @@ pub fn encode_front(role: Role, header: Header, into: &mut [u8])
 
 /// Reads the front of a frame: its first eight bytes, which are its role and seven zeros, and the
 /// rest of it.
-pub fn decode_front(bytes: &[u8]) -> (u64, Header)
+pub fn decode_front(bytes: &[u8]) -> (u64, ObjectHeader)
     requires { 32 ≤ length bytes.now }
     ensures { bytes.now ≡ front_numbers result.0 result.1 ++ drop 32 bytes.now }
 {
     let role = number_at(bytes, 0);
-    let header = Header {
+    let header = ObjectHeader {
         allocations: number_at(bytes, 8),
         calls: number_at(bytes, 16),
         owner: number_at(bytes, 24),

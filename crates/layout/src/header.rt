@@ -4,11 +4,10 @@ ghost use Rattle.layout.specs.Header.{header_bytes, IsHeader};
 
 use crate::bad_image::BadImage;
 use crate::bytes::{blank, is_blank_from, number_at, put_number};
+use model::MAX_AGE;
 
 // The bytes of EROSHEAD as a number.
 const HEADER_MAGIC: u64 = 0x4441_4548_534f_5245;
-
-const MAX_AGE: u64 = 0x4000_0000_0000_0000;
 
 /// What a committed checkpoint tells of itself.
 #[derive(Clone, Copy, PartialEq, Eq, Debug)]

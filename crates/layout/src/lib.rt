@@ -28,5 +28,5 @@ pub use node_frame::{NODE_FRAME_BYTES, NodeBody, decode_node_frame, encode_node_
 pub use page_frame::{PAGE_FRAME_BYTES, PageBody, decode_page_frame, encode_page_frame};
 pub use slots::VOID;
 pub use superblock::{
-    MAX_RANGES, MAX_SECTORS, SECTOR_BYTES, Superblock, decode_superblock, encode_superblock,
+    MAX_RANGES, Superblock, decode_superblock, encode_superblock,
 };

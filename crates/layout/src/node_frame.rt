@@ -4,14 +4,14 @@ ghost use Rattle.model.specs.declared.object.Content.TheVariants as content;
 ghost use Rattle.model.specs.Object.{state_number};
 ghost use Rattle.model.specs.Sound.{IsSpace};
 ghost use Rattle.layout.specs.Bytes.{zeros};
-ghost use Rattle.layout.specs.Frame.{number_in, number_cap, state_in, root_in, body_in, root_slots, slots_of, slots_bytes, with_slots, node_frame, node_frame_bytes, FollowsRole, IsBody, IsNodeFrame};
+ghost use Rattle.layout.specs.Frame.{number_held, number_cap, state_in, root_from, body_in, root_slots, slots_of, slots_bytes, with_slots, node_frame, node_frame_bytes, FollowsRole, IsBody, IsNodeFrame};
 
 use crate::bad_image::BadImage;
 use crate::bytes::{blank_from, is_blank_from};
 use crate::capability::CAPABILITY_BYTES;
 use crate::front::{decode_front, encode_front, has_counts, role_of};
 use crate::slots::{VOID, are_held, decode_slots, encode_slots};
-use model::{Cap, Capability, Content, Frame, Geometry, Header, Root, Slots, State};
+use model::{Cap, Capability, Content, Frame, Geometry, ObjectHeader, Root, Slots, State};
 
 /// How many bytes a frame with the number of a node takes.
 pub const NODE_FRAME_BYTES: usize = 1024;
@@ -27,8 +27,8 @@ pub enum NodeBody {
 }
 
 // The number that a capability is, or 0.
-fn number_in(cap: Cap) -> u64
-    ensures { result ≡ number_in cap }
+fn number_held(cap: Cap) -> u64
+    ensures { result ≡ number_held cap }
 {
     match cap.what {
         Capability::Number(number) => number,
@@ -75,20 +75,20 @@ fn is_space(what: Capability) -> bool
 }
 
 // The root of a process that 32 slots would be.
-fn root_in(slots: &[Cap]) -> Root<Cap>
+fn root_from(slots: &[Cap]) -> Root<Cap>
     requires { length slots.now ≡ 32 }
-    ensures { result ≡ root_in slots.now }
+    ensures { result ≡ root_from slots.now }
 {
     Root {
-        annex: number_in(slots[0]),
-        state: state_in(number_in(slots[1])),
+        annex: number_held(slots[0]),
+        state: state_in(number_held(slots[1])),
         words: [
-            number_in(slots[2]),
-            number_in(slots[3]),
-            number_in(slots[4]),
-            number_in(slots[5]),
+            number_held(slots[2]),
+            number_held(slots[3]),
+            number_held(slots[4]),
+            number_held(slots[5]),
         ],
-        key: (number_in(slots[6]) % 65536) as u16,
+        key: (number_held(slots[6]) % 65536) as u16,
         space: slots[7],
     }
 }
@@ -118,10 +118,10 @@ fn body_in(role: u64, slots: &[Cap]) -> NodeBody
 {
     match role {
         2 => NodeBody::Node,
-        3 => NodeBody::Root(root_in(slots)),
+        3 => NodeBody::Root(root_from(slots)),
         4 => NodeBody::Annex,
         5 => NodeBody::Bank {
-            limit: number_in(slots[0]),
+            limit: number_held(slots[0]),
         },
         _ => NodeBody::Free,
     }
@@ -156,7 +156,7 @@ pub fn decode_node_frame(
     geometry: Geometry,
     age: u64,
     slots: &mut Slots<Cap>,
-) -> Result<(Header, NodeBody), BadImage>
+) -> Result<(ObjectHeader, NodeBody), BadImage>
     requires { length bytes.now ≡ 1024 }
     ensures found { IfOk result (λ read. IsNodeFrame geometry age (node_frame read slots.new)
         × (bytes.now ≡ node_frame_bytes (node_frame read slots.new))) }

@@ -7,7 +7,7 @@ use crate::bad_image::BadImage;
 use crate::bytes::{blank_from, blank_front, is_blank_between, number_at};
 use crate::front::{decode_front, encode_front, has_counts, role_of};
 use byteorder::{ByteOrder, LittleEndian};
-use model::{Content, Frame, Header, Words};
+use model::{Content, Frame, ObjectHeader, Words};
 
 /// How many bytes a frame with the number of a page takes.
 pub const PAGE_FRAME_BYTES: usize = 4608;
@@ -72,7 +72,7 @@ pub fn decode_page_frame(
     bytes: &[u8],
     age: u64,
     words: &mut Words,
-) -> Result<(Header, PageBody), BadImage>
+) -> Result<(ObjectHeader, PageBody), BadImage>
     requires { length bytes.now ≡ 4608 }
     ensures found { IfOk result (λ read. IsPageFrame age (page_frame read words.new)
         × (bytes.now ≡ page_frame_bytes (page_frame read words.new))) }

@@ -5,17 +5,12 @@ ghost use Rattle.layout.specs.Superblock.{Plan, superblock_bytes, ranges_bytes, 
 use crate::bad_image::BadImage;
 use crate::bytes::{blank, is_blank_from, number_at, put_number};
 use crate::extent::{Extent, HomeRange, are_apart, are_within, fill_extents};
+use device::MAX_SECTORS;
 use model::Geometry;
 use std::marker::Model;
 
-/// How many bytes a sector has.
-pub const SECTOR_BYTES: usize = 512;
-
 /// How many home ranges a device may have.
 pub const MAX_RANGES: usize = 8;
-
-/// How many sectors a device may have.
-pub const MAX_SECTORS: u64 = 131072;
 
 // The bytes of EROSCKPT as a number.
 const SUPERBLOCK_MAGIC: u64 = 0x5450_4b43_534f_5245;

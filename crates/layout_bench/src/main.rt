@@ -8,12 +8,12 @@ use layout::{
     NODE_FRAME_BYTES, PAGE_FRAME_BYTES, decode_node_frame, decode_page_frame, encode_node_frame,
     encode_page_frame,
 };
-use model::{Access, Cap, Capability, Content, Frame, Geometry, Header, Slots, Words};
+use model::{Access, Cap, Capability, Content, Frame, Geometry, ObjectHeader, Slots, Words};
 use std::alloc::{AllocError, Global};
 
 const AGE: u64 = 1000;
 
-const HEADER: Header = Header {
+const HEADER: ObjectHeader = ObjectHeader {
     allocations: 1,
     calls: 2,
     owner: 0,

@@ -6,7 +6,7 @@ use layout::{
     decode_page_frame, decode_superblock, encode_capability, encode_gate, encode_header,
     encode_node_frame, encode_superblock, total_in,
 };
-use model::{Cap, Capability, Content, Frame, Geometry, Header, Root, Slots, State, Words};
+use model::{Cap, Capability, Content, Frame, Geometry, ObjectHeader, Root, Slots, State, Words};
 use std::alloc::{AllocError, Global};
 use std::process::Abort;
 use std::test::Fail;
@@ -271,7 +271,7 @@ fn written_node_frame(rt: HostRuntime) -> Result<(), Fail> {
     spelt[24] = 3;
     put_slot(&mut spelt, 0, 1, 200);
     let frame = Frame {
-        header: Header {
+        header: ObjectHeader {
             allocations: 1,
             calls: 2,
             owner: 3,

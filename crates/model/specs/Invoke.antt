@@ -2,26 +2,21 @@ use Rattle.std.specs.Prelude.{ℕ, ◌+◌, ◌==◌, Bool, true, false, ◌&&�
 use Rattle.model.specs.declared.capability.Capability.{Capability}
 use Rattle.model.specs.declared.capability.Capability.TheVariants.{Void, Start, Resume}
 use Rattle.model.specs.declared.command.Invocation.{Invocation}
+use Rattle.model.specs.declared.command.Message.{Message}
 use Rattle.model.specs.declared.command.Operation.{Operation}
 use Rattle.model.specs.declared.command.Operation.TheVariants.{Call, Return, Send}
 use Rattle.model.specs.declared.object.Object.{Object}
 use Rattle.model.specs.declared.object.State.TheVariants.{Available, Running, Waiting}
 use Rattle.model.specs.Object.{is_available}
 use Rattle.model.specs.World.{root_at, annex_at, register_at, with_root, with_state, with_slots_from, is_running_process}
-use Rattle.model.specs.Order.{Arguments, Outcome, order, code_number}
+use Rattle.model.specs.Order.{OrderOutcome, order, code_number}
 use Rattle.model.specs.Revoke.{consume}
-
--- words, a key and four capabilities on their way to a process
-pub record Message : Type 0 where
-  pub words : List ℕ
-  pub key : ℕ
-  pub capabilities : List Capability
 
 -- a process gets a message: its words and key, and from register 28 on the capabilities; it is running
 unfoldable pub deliver : List Object → ℕ → Message → List Object
 deliver os p m =
     let r = root_at os p in
-    with_slots_from (with_root os p (record { state = Running; words = m.words; key = m.key; annex = r.annex; space = r.space })) r.annex 28 m.capabilities
+    with_slots_from (with_root os p (record r { state = Running; words = m.words; key = m.key })) r.annex 28 m.capabilities
 
 -- what comes of an invocation: the objects, and the numbers written
 pub record Effect : Type 0 where
@@ -55,7 +50,7 @@ through_gate os i q key = record {
 }
 
 -- the reply of a kernel object: the code and the words, key 0, and the capability
-abbrev pub reply_of : Outcome → Message
+abbrev pub reply_of : OrderOutcome → Message
 reply_of outcome = record {
   words = code_number outcome.code ∷ outcome.words;
   key = 0;
@@ -63,14 +58,14 @@ reply_of outcome = record {
 }
 
 -- the objects after the reply, which is dropped unless the process called and still runs
-abbrev pub replied : List Object → Invocation → Outcome → List Object
+abbrev pub replied : List Object → Invocation → OrderOutcome → List Object
 replied os i outcome = elim i.operation [
   | Call ↦ if is_running_process os i.process then deliver os i.process (reply_of outcome) else os
   | _ ↦ os
 ]
 
 -- what the order of an invocation of a kernel object comes to
-abbrev pub ordered : List Object → Invocation → Outcome
+abbrev pub ordered : List Object → Invocation → OrderOutcome
 ordered os i = order (after_order os i) (register_at os i.process i.register) (slice_index i.words 0)
     (record { first = slice_index i.words 1; second = slice_index i.words 2; capability = slice_index_or (sent_by os i) 0 Void })
 

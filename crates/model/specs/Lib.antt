@@ -4,6 +4,7 @@ pub mod Frame
 pub mod World
 pub mod Bank
 pub mod Sound
+pub mod Keepable
 pub mod Revoke
 pub mod Walk
 pub mod Order

@@ -52,6 +52,15 @@ role_of (content.Root root) = role.Root
 role_of (content.Annex registers) = role.Annex
 role_of (content.Bank limit) = role.Bank
 
+-- a role as a number
+abbrev pub role_number : Role → ℕ
+role_number role.Free = 0
+role_number role.Page = 1
+role_number role.Node = 2
+role_number role.Root = 3
+role_number role.Annex = 4
+role_number role.Bank = 5
+
 -- the parts of a content, or nothing where it has none
 abbrev pub words_in : {C : Type 0} → Content C → List ℕ
 words_in (content.Page words) = words

@@ -6,6 +6,7 @@ use Rattle.model.specs.declared.object.Object.{Object}
 use Rattle.model.specs.declared.object.Root.{Root}
 use Rattle.model.specs.declared.object.State.{State}
 use Rattle.model.specs.declared.object.State.TheVariants.{Available, Running}
+use Rattle.model.specs.declared.order.Arguments.{Arguments}
 use Rattle.model.specs.declared.order.ResultCode.{ResultCode}
 use Rattle.model.specs.declared.order.ResultCode.TheVariants as code
 use Rattle.model.specs.declared.order.PageOrder.{PageOrder}
@@ -19,14 +20,8 @@ use Rattle.model.specs.Object.{state_number}
 use Rattle.model.specs.World.{word_at, slot_at, root_at, annex_at, register_at, with_word, with_slot, with_root, with_state}
 use Rattle.model.specs.Revoke.{consume}
 
--- what an order is given: the second and third word sent, and the first capability
-pub record Arguments : Type 0 where
-  pub first : ℕ
-  pub second : ℕ
-  pub capability : Capability
-
 -- what comes of an order: the result words after the code, the result capability, the objects, and the numbers written
-pub record Outcome : Type 0 where
+pub record OrderOutcome : Type 0 where
   pub code : ResultCode
   pub words : List ℕ
   pub capability : Capability
@@ -48,19 +43,19 @@ code_number code.NotFromThisBank = 9
 code_number code.PrimeBank = 10
 
 -- an order that isn't carried out changes and tells nothing
-abbrev pub refused : List Object → ResultCode → Outcome
+abbrev pub refused : List Object → ResultCode → OrderOutcome
 refused os why = record { code = why; words = 0 ∷ 0 ∷ 0 ∷ []; capability = Void; objects = os; written = [] }
 
 -- one that tells two words
-abbrev pub told : List Object → ℕ → ℕ → Outcome
+abbrev pub told : List Object → ℕ → ℕ → OrderOutcome
 told os first second = record { code = code.Done; words = first ∷ second ∷ 0 ∷ []; capability = Void; objects = os; written = [] }
 
 -- one that gives a capability
-abbrev pub given : List Object → Capability → Outcome
+abbrev pub given : List Object → Capability → OrderOutcome
 given os c = record { code = code.Done; words = 0 ∷ 0 ∷ 0 ∷ []; capability = c; objects = os; written = [] }
 
 -- one that writes an object
-abbrev pub wrote : List Object → ℕ → Outcome
+abbrev pub wrote : List Object → ℕ → OrderOutcome
 wrote os n = record { code = code.Done; words = 0 ∷ 0 ∷ 0 ∷ []; capability = Void; objects = os; written = n ∷ [] }
 
 -- the orders by the first word sent
@@ -82,7 +77,7 @@ process_order w =
 abbrev pub reduces : ℕ → Bool
 reduces w = (w == 1) || (w == 3)
 
-unfoldable pub on_page : List Object → ℕ → Access → PageOrder → Arguments → Outcome
+unfoldable pub on_page : List Object → ℕ → Access → PageOrder → Arguments → OrderOutcome
 on_page os o a page.Read args = if nat_lt args.first 512 then told os (word_at os o args.first) 0 else refused os code.BadIndex
 on_page os o a page.Write args =
     if not (a.0 == 0) then refused os code.NoAccess
@@ -95,13 +90,13 @@ abbrev pub fetched : Access → Capability → Capability
 fetched a c = if a.0 == 3 then diminished c else c
 
 -- a store of a capability into a slot
-abbrev pub stored : List Object → ℕ → Access → ℕ → Capability → Outcome
+abbrev pub stored : List Object → ℕ → Access → ℕ → Capability → OrderOutcome
 stored os o a slot c =
     if not (a.0 == 0) then refused os code.NoAccess
     else if nat_lt slot 32 then wrote (with_slot os o slot c) o
     else refused os code.BadIndex
 
-unfoldable pub on_node : List Object → ℕ → Access → NodeOrder → Arguments → Outcome
+unfoldable pub on_node : List Object → ℕ → Access → NodeOrder → Arguments → OrderOutcome
 on_node os o a node.Fetch args = if nat_lt args.first 32 then given os (fetched a (slot_at os o args.first)) else refused os code.BadIndex
 on_node os o a node.Store args = stored os o a args.first args.capability
 on_node os o a node.Reduce args = if reduces args.first then given os (Node o (union a args.first)) else refused os code.BadIndex
@@ -117,12 +112,12 @@ is_space (Space o h a) = true
 is_space _ = false
 
 abbrev pub with_root_word : Root Capability → ℕ → ℕ → Root Capability
-with_root_word r i word = record { state = r.state; words = slice_set r.words i word; key = r.key; annex = r.annex; space = r.space }
+with_root_word r i word = record r { words = slice_set r.words i word }
 
 abbrev pub with_space : Root Capability → Capability → Root Capability
-with_space r c = record { state = r.state; words = r.words; key = r.key; annex = r.annex; space = c }
+with_space r c = record r { space = c }
 
-unfoldable pub on_process : List Object → ℕ → ProcessOrder → Arguments → Outcome
+unfoldable pub on_process : List Object → ℕ → ProcessOrder → Arguments → OrderOutcome
 on_process os p process.GetRegister args = if nat_lt args.first 32 then given os (register_at os p args.first) else refused os code.BadIndex
 on_process os p process.PutRegister args =
     if (args.first == 0) || not (nat_lt args.first 32) then refused os code.BadIndex
@@ -143,7 +138,7 @@ on_process os p process.SetSpace args =
 
 -- What an order does. Every order on void is refused as such. A bank takes no order yet. A start or
 -- resume capability is no kernel object, and is never asked here.
-unfoldable pub order : List Object → Capability → ℕ → Arguments → Outcome
+unfoldable pub order : List Object → Capability → ℕ → Arguments → OrderOutcome
 order os Void w args = refused os code.VoidCapability
 order os (Number n) w args = if w == 1 then told os n 0 else refused os code.NoOrder
 order os (Page o a) w args = elim (page_order w) [ None ↦ refused os code.NoOrder | Some asked ↦ on_page os o a asked args ]

@@ -16,7 +16,7 @@ abbrev pub object_count : Geometry → ℕ
 object_count g = g.nodes + g.pages
 
 -- a number of a page holds a page, any other a node, a root, an annex or a bank, and each of them may be free
-abbrev pub IsOfKind : Geometry → ℕ → Content Capability → Type 0
+abbrev pub IsOfKind : {C : Type 0} → Geometry → ℕ → Content C → Type 0
 IsOfKind g n content.Free = Unit {0}
 IsOfKind g n (content.Page words) = (g.nodes ≤ n) × (n < object_count g)
 IsOfKind g n (content.Node slots) = n < g.nodes

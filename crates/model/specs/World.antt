@@ -60,9 +60,7 @@ unfoldable pub with_root : List Object → ℕ → Root Capability → List Obje
 with_root os p r = with_content os p (content.Root r)
 
 unfoldable pub with_state : List Object → ℕ → State → List Object
-with_state os p s =
-    let r = root_at os p in
-    with_root os p (record { state = s; words = r.words; key = r.key; annex = r.annex; space = r.space })
+with_state os p s = with_root os p (record (root_at os p) { state = s })
 
 -- with capabilities in the slots from i on
 abbrev pub with_slots_from : List Object → ℕ → ℕ → List Capability → List Object

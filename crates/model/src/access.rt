@@ -1,4 +1,6 @@
+// What a capability lets its holder do.
 ghost use Rattle.std.specs.Prelude.{⊤, ◌≡◌, ℕ, [], ◌∷◌, codes};
+ghost use Rattle.model.specs.Capability.{full, weak};
 
 use bitflags::{Flag, Flags, bitflag_items};
 
@@ -36,5 +38,21 @@ impl Flags for Access {
 
     fn from_bits_retain(bits: u8) -> Access {
         Access(bits)
+    }
+}
+
+impl Access {
+    /// The access of a capability that restricts nothing.
+    pub fn full() -> Access
+        ensures { result ≡ full }
+    {
+        Access::empty()
+    }
+
+    /// The access of a capability that is read-only and weak.
+    pub fn weak() -> Access
+        ensures { result ≡ weak }
+    {
+        Access::READ_ONLY.union(Access::WEAK)
     }
 }

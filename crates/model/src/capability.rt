@@ -1,3 +1,8 @@
+// Capabilities, and capabilities as they are held.
+ghost use Rattle.std.specs.Prelude.{◌≡◌};
+ghost use Rattle.model.specs.Capability.{named, diminished};
+ghost use Rattle.model.specs.Frame.{void_held};
+
 use crate::access::Access;
 
 /// The authority that a slot or a register holds.
@@ -46,4 +51,64 @@ pub enum Capability {
 pub struct Cap {
     pub what: Capability,
     pub count: u64,
+}
+
+impl Capability {
+    /// The number of the object that it names, if it names one.
+    pub fn named(self) -> Option<u64>
+        ensures { result ≡ named self }
+    {
+        match self {
+            Capability::Page { object, .. }
+            | Capability::Node { object, .. }
+            | Capability::Space { object, .. }
+            | Capability::Process(object)
+            | Capability::Start {
+                process: object,
+                ..
+            }
+            | Capability::Resume(object)
+            | Capability::Bank(object) => Some(object),
+            Capability::Void | Capability::Number(_) | Capability::Discrim => None,
+        }
+    }
+
+    /// What is left of a capability that is fetched through a weak one (EROS: weak access, KeyKOS:
+    /// sense).
+    ///
+    /// A number stays. A page, a node and a space are read-only and weak. All else becomes void,
+    /// since it can't be made harmless.
+    pub fn diminish(self) -> Capability
+        ensures { result ≡ diminished self }
+    {
+        let access = Access::weak();
+        match self {
+            Capability::Number(number) => Capability::Number(number),
+            Capability::Page { object, .. } => Capability::Page { object, access },
+            Capability::Node { object, .. } => Capability::Node { object, access },
+            Capability::Space { object, height, .. } => Capability::Space {
+                object,
+                height,
+                access,
+            },
+            Capability::Void
+            | Capability::Process(_)
+            | Capability::Start { .. }
+            | Capability::Resume(_)
+            | Capability::Bank(_)
+            | Capability::Discrim => Capability::Void,
+        }
+    }
+}
+
+impl Cap {
+    /// A capability that conveys nothing.
+    pub fn void() -> Cap
+        ensures { result ≡ void_held }
+    {
+        Cap {
+            what: Capability::Void,
+            count: 0,
+        }
+    }
 }

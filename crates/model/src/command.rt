@@ -1,7 +1,10 @@
+// Invocations, and the commands of a script.
+use crate::capability::Capability;
+
 /// What an invocation does to the process that makes it.
 #[derive(Clone, Copy, PartialEq, Eq, Debug)]
 pub enum Operation {
-    /// It waits for an answer.
+    /// Through a gate it waits for an answer; with a kernel object, which answers at once, it goes on.
     Call,
     /// It is available again.
     Return,
@@ -21,6 +24,16 @@ pub struct Invocation {
     pub words: [u64; 4],
     /// The registers, each below 32, whose capabilities are sent.
     pub sent: [u8; 4],
+}
+
+/// Words, a key and four capabilities on their way to a process.
+#[derive(Clone, Copy, PartialEq, Eq, Debug)]
+pub struct Message {
+    pub words: [u64; 4],
+    /// Which start capability was used, or 0.
+    pub key: u16,
+    /// They come into registers 28 to 31.
+    pub capabilities: [Capability; 4],
 }
 
 /// What a script asks of the machine, a line each.

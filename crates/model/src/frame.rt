@@ -1,9 +1,12 @@
+// Objects as they are kept: with counts.
 use crate::capability::Cap;
-use crate::object::Content;
+use crate::object::{Content, Role};
 
-/// What is kept of an object beside its content.
+/// What is kept of an object beside its content, whether or not the content is at hand.
 #[derive(Clone, Copy, PartialEq, Eq, Debug)]
-pub struct Header {
+pub struct ObjectHeader {
+    /// What the object is.
+    pub role: Role,
     /// How often the number was given up. A capability with a smaller count is stale (EROS: the
     /// allocation count).
     pub allocations: u64,
@@ -16,6 +19,6 @@ pub struct Header {
 /// An object as it is kept: its capabilities have counts, and may be stale.
 #[derive(Drop)]
 pub struct Frame {
-    pub header: Header,
+    pub header: ObjectHeader,
     pub content: Content<Cap>,
 }

@@ -1,3 +1,8 @@
+// How much a device holds, and how far the machine may go.
+
+/// The age at which nothing can be invoked any more, and no checkpoint begun.
+pub const MAX_AGE: u64 = 1 << 62;
+
 /// How much a device holds.
 ///
 /// Nodes have the numbers below `nodes`, and pages the `pages` numbers after them.

@@ -1,3 +1,7 @@
+// Objects, and what they hold.
+ghost use Rattle.std.specs.Prelude.{◌≡◌};
+ghost use Rattle.model.specs.Object.{role_of, role_number, state_number};
+
 use contents::{Slots, Words};
 
 /// What an object is.
@@ -54,4 +58,38 @@ pub enum Content<C> {
 pub struct Object {
     pub owner: u64,
     pub content: Content<crate::Capability>,
+}
+
+impl Role {
+    /// Its number in an image: the order above, from 0.
+    pub fn number(self) -> u64
+        ensures { result ≡ role_number self }
+    {
+        self as u64
+    }
+}
+
+impl State {
+    /// Its number in an image, and as orders tell it: the order above, from 0.
+    pub fn number(self) -> u64
+        ensures { result ≡ state_number self }
+    {
+        self as u64
+    }
+}
+
+impl<C> Content<C> {
+    /// What the object is.
+    pub fn role(&self) -> Role
+        ensures { result ≡ role_of self.now }
+    {
+        match self {
+            Content::Free => Role::Free,
+            Content::Page(_) => Role::Page,
+            Content::Node(_) => Role::Node,
+            Content::Root(_) => Role::Root,
+            Content::Annex(_) => Role::Annex,
+            Content::Bank { .. } => Role::Bank,
+        }
+    }
 }

@@ -1,3 +1,9 @@
+// What kernel objects are asked, and what comes of it.
+ghost use Rattle.std.specs.Prelude.{◌≡◌};
+ghost use Rattle.model.specs.Order.{code_number};
+
+use crate::capability::Capability;
+
 /// What came of an order: the first of the result words.
 #[derive(Clone, Copy, PartialEq, Eq, Debug)]
 pub enum ResultCode {
@@ -44,4 +50,21 @@ pub enum ProcessOrder {
     SetState = 7,
     GetSpace = 8,
     SetSpace = 9,
+}
+
+/// What an order is given: the second and third word sent, and the first capability.
+#[derive(Clone, Copy, PartialEq, Eq, Debug)]
+pub struct Arguments {
+    pub first: u64,
+    pub second: u64,
+    pub capability: Capability,
+}
+
+impl ResultCode {
+    /// The code as the first result word.
+    pub fn number(self) -> u64
+        ensures { result ≡ code_number self }
+    {
+        self as u64
+    }
 }

@@ -19,8 +19,9 @@ use Rattle.model.specs.declared.order.ResultCode.TheVariants as code
 use Rattle.model.specs.Object.{is_available, is_running, is_waiting}
 use Rattle.model.specs.World.{root_at, annex_at, register_at, is_process, is_running_process, with_slot, with_root, with_state, with_slots_from}
 use Rattle.model.specs.Revoke.{consume}
-use Rattle.model.specs.Order.{Outcome, code_number}
-use Rattle.model.specs.Invoke.{Message, Effect, deliver, sent_by, is_return, sent_to_gate, after_gate, after_order, through_gate, reply_of, replied, ordered, on_kernel_object, can_start, invoke}
+use Rattle.model.specs.Order.{OrderOutcome, code_number}
+use Rattle.model.specs.declared.command.Message.{Message}
+use Rattle.model.specs.Invoke.{Effect, deliver, sent_by, is_return, sent_to_gate, after_gate, after_order, through_gate, reply_of, replied, ordered, on_kernel_object, can_start, invoke}
 use Rattle.model.specs.Text.{Fits}
 use Rattle.model_laws.specs.Laws.{InvocationKeepsSound}
 use Rattle.model_laws.proofs.Usage.{SameFrame, frame_refl, tests_at}
@@ -249,7 +250,7 @@ code_fits : (c : ResultCode) → code_number c < 2 ^ 64
 code_fits code.Done = omega arith
 code_fits c = omega arith
 
-reply_message : (g : Geometry) (o : Outcome) → IsOutcome g o → IsMessage o.objects (Waits o.objects) (reply_of o)
+reply_message : (g : Geometry) (o : OrderOutcome) → IsOutcome g o → IsMessage o.objects (Waits o.objects) (reply_of o)
 reply_message g o h = record {
   count = ap suc h.count;
   words = elim [ zero ↦ code_fits o.code | suc i ↦ h.words i ];
@@ -263,7 +264,7 @@ reply_message g o h = record {
   ];
 }
 
-replied_keeps : (g : Geometry) (i : Invocation) (o : Outcome) → IsOutcome g o → IsNow g (replied o.objects i o)
+replied_keeps : (g : Geometry) (i : Invocation) (o : OrderOutcome) → IsOutcome g o → IsNow g (replied o.objects i o)
 replied_keeps g i o h = go i.operation
   where
     branch : (b : Bool) → is_running_process o.objects i.process ≡ b → IsNow g (if b then deliver o.objects i.process (reply_of o) else o.objects)

@@ -24,7 +24,8 @@ use Rattle.model.specs.Object.{is_root, is_node, is_annex, is_waiting, root_in, 
 use Rattle.model.specs.World.{content_at, word_at, slot_at, root_at, annex_at, register_at, is_process, with_state}
 use Rattle.model.specs.Revoke.{consume}
 use Rattle.model.specs.Sound.{HasShape, IsSpace}
-use Rattle.model.specs.Order.{Arguments, Outcome, refused, told, given, wrote, page_order, node_order, process_order, reduces, fetched, stored, is_space, with_root_word, with_space, on_page, on_node, on_process, order}
+use Rattle.model.specs.declared.order.Arguments.{Arguments}
+use Rattle.model.specs.Order.{OrderOutcome, refused, told, given, wrote, page_order, node_order, process_order, reduces, fetched, stored, is_space, with_root_word, with_space, on_page, on_node, on_process, order}
 use Rattle.model_laws.proofs.SoundParts.{IsHeld, IsNearlySound, Waits, state_at, held_void, nearly_weaken}
 use Rattle.model_laws.proofs.SoundEdits.{IsEdited, IsRootOf, But, at_set, edited_slot, edited_word, edited_root, nearly_root, nearly_consume, root_other, state_consume}
 
@@ -33,7 +34,7 @@ abbrev pub IsNow : Geometry → List Object → Type 0
 IsNow g os = IsNearlySound g (Waits os) os
 
 -- an outcome that may be told to a process
-pub record IsOutcome (g : Geometry) (o : Outcome) : Type 0 where
+pub record IsOutcome (g : Geometry) (o : OrderOutcome) : Type 0 where
   pub now : IsNow g o.objects
   pub count : length o.words ≡ 3
   pub words : (i : ℕ) → slice_index o.words i < 2 ^ 64
@@ -66,7 +67,7 @@ wrote_keeps g os n h = record { now = h; count = refl; words = three_words 0 0 0
 pub edited_now : (g : Geometry) (os us : List Object) → IsEdited g (Waits os) os us → IsNow g us
 edited_now g os us e = nearly_weaken g (Waits os) (Waits us) us (λ p w. ap is_waiting (e.states p) ∙ w) e.sound
 
-either : (g : Geometry) (b : Bool) (x y : Outcome) → (b ≡ true → IsOutcome g x) → (b ≡ false → IsOutcome g y) → IsOutcome g (if b then x else y)
+either : (g : Geometry) (b : Bool) (x y : OrderOutcome) → (b ≡ true → IsOutcome g x) → (b ≡ false → IsOutcome g y) → IsOutcome g (if b then x else y)
 either g true x y p q = p refl
 either g false x y p q = q refl
 
@@ -264,7 +265,7 @@ on_process_keeps g os p process.SetSpace args h is fits =
 
 -- any capability
 
-asked_keeps : {A : Type 0} (g : Geometry) (found : Option A) (x : Outcome) (f : A → Outcome) → IsOutcome g x → ((a : A) → IsOutcome g (f a))
+asked_keeps : {A : Type 0} (g : Geometry) (found : Option A) (x : OrderOutcome) (f : A → OrderOutcome) → IsOutcome g x → ((a : A) → IsOutcome g (f a))
     → IsOutcome g (elim found [ None ↦ x | Some a ↦ f a ])
 asked_keeps g None x f p q = p
 asked_keeps g (Some a) x f p q = q a

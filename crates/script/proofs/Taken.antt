@@ -5,7 +5,7 @@ use Rattle.std.proofs.lemmas.Bool.Decides.{nat_tests}
 use Rattle.model.specs.Run.{lines_of}
 use Rattle.std.specs.Io.KnownBytes.{Consumes, IsAtEnd}
 use Rattle.model.specs.Text.{line_of}
-use Rattle.script.specs.Lines.{IsOneLine, TakesText, Holds}
+use Rattle.script.specs.Lines.{IsOneLine, TakesText, HoldsLine}
 
 pub takes_nothing_more : (a b c : Option (List ℕ)) (text : List ℕ) → Consumes a b text → Consumes b c [] → Consumes a c text
 takes_nothing_more a b c text h k = subst (Consumes a c) (append-nil text) (Consumes-trans a b c text [] h k)
@@ -41,7 +41,7 @@ pub no_line_taken : (old new : List ℕ) → Consumes (Some old) (Some new) [] �
 no_line_taken old new same end = ap lines_of (same ∙ end)
 
 -- where bytes were counted, the line has some
-pub holds_some : (kept : List ℕ) (count : ℕ) (line : List ℕ) → Holds kept count line → (count ≡ 0 → ⊥) → line ≡ [] → ⊥
+pub holds_some : (kept : List ℕ) (count : ℕ) (line : List ℕ) → HoldsLine kept count line → (count ≡ 0 → ⊥) → line ≡ [] → ⊥
 holds_some kept count line holds some none = ⊎_elim
     (λ keeps. some (keeps.1 ∙ ap length none))
     (λ long. omega (arith, long.1, ap length none)) holds

@@ -29,8 +29,8 @@ abbrev pub Keeps : List ℕ → ℕ → List ℕ → Type 0
 Keeps kept count line = (length line ≤ 256) × (count ≡ length line) × (take count kept ≡ line)
 
 -- they are the line, or it is too long, and so is their number
-abbrev pub Holds : List ℕ → ℕ → List ℕ → Type 0
-Holds kept count line = Keeps kept count line ⊎ ((count ≡ 257) × (256 < length line))
+abbrev pub HoldsLine : List ℕ → ℕ → List ℕ → Type 0
+HoldsLine kept count line = Keeps kept count line ⊎ ((count ≡ 257) × (256 < length line))
 
 -- a byte was taken, or none
 abbrev pub TakesByte : Option (List ℕ) → Option (List ℕ) → Next → Type 0

@@ -1,5 +1,5 @@
 ghost use Rattle.std.specs.Prelude.{◌≡◌, ℕ, List, [], ◌∷◌, ◌++◌, length, IfOk, OnErr, IfErr};
-ghost use Rattle.script.specs.Lines.{TakesLine, TakesNoLine, Holds, TakesByte};
+ghost use Rattle.script.specs.Lines.{TakesLine, TakesNoLine, HoldsLine, TakesByte};
 ghost use Rattle.model.specs.Text.{Says};
 
 use crate::fault::RunFault;
@@ -11,7 +11,7 @@ use std::io::{ErrorKind, Read};
 /// that have no room aren't kept, and count as one too many.
 fn push(text: &mut [u8], count: usize, byte: u8) -> usize
     requires room { length text.old ≡ 256 }
-    ensures holds { (line : List ℕ) → Holds text.old count line → Holds text.new result (line ++ byte ∷ []) }
+    ensures holds { (line : List ℕ) → HoldsLine text.old count line → HoldsLine text.new result (line ++ byte ∷ []) }
     ensures room { length text.new ≡ 256 }
 {
     if count >= LONGEST_LINE {
@@ -24,7 +24,7 @@ fn push(text: &mut [u8], count: usize, byte: u8) -> usize
 /// What a line says of which so many bytes were read.
 fn said(text: &[u8], count: usize) -> Line
     requires room { length text.now ≡ 256 }
-    ensures { (line : List ℕ) → Holds text.now count line → Says line result }
+    ensures { (line : List ℕ) → HoldsLine text.now count line → Says line result }
 {
     match text.get(..count) {
         Some(line) => parse_line(line),

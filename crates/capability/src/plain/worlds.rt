@@ -9,7 +9,7 @@ ghost use Rattle.capability.specs.Plain.{world_of, frame_of, fresh_cap, fresh_fr
 
 use crate::diminish::full_access;
 use crate::plain::Plain;
-use model::{Cap, Capability, Content, Frame, Geometry, Header, Root, Slots, State, Words};
+use model::{Cap, Capability, Content, Frame, Geometry, ObjectHeader, Root, Slots, State, Words};
 use std::alloc::{AllocError, Global};
 
 /// The geometry of both worlds.
@@ -156,7 +156,7 @@ fn of_prime_bank(content: Content<Cap>) -> Frame
     ensures { result ≡ frame_of 0 content }
 {
     Frame {
-        header: Header {
+        header: ObjectHeader {
             allocations: 0,
             calls: 0,
             owner: 0,

@@ -2,7 +2,7 @@ use Rattle.std.proofs.Common.{◌≡◌, ◌-◌, ℕ, List, refl, sym, ap, subs
 use Rattle.std.proofs.lemmas.Bool.{false≢true}
 use Rattle.std.proofs.lemmas.Result.{err_from_is_err_and}
 use Rattle.model.specs.declared.capability.Cap.{Cap}
-use Rattle.model.specs.declared.frame.Header.{Header}
+use Rattle.model.specs.declared.frame.ObjectHeader.{ObjectHeader}
 use Rattle.layout.specs.Bytes.{zeros}
 use Rattle.layout.specs.Capability.{IsCount}
 use Rattle.layout.specs.declared.node_frame.NodeBody.{NodeBody}
@@ -49,6 +49,6 @@ returns-else-has_counts-clause-refused c =
                 false≢true (sym w.if-is_blank.false ∙ c.is_blank_from-is_blank.ensures.1 ((node_parts c.args.geometry c.args.age f c.args.bytes.now is e).last ∙ ap (λ (n : ℕ). zeros (n - 800)) (sym c.requires)))
             | else-has_counts-via-else-has_counts w ↦
                 false≢true (sym w.if-has_counts.false ∙ c.has_counts-has_counts.ensures.1
-                (subst (λ (h : Header). IsCount c.args.age h.allocations × IsCount c.args.age h.calls) (sym told.header_is) (is.front.allocations, is.front.calls)))
+                (subst (λ (h : ObjectHeader). IsCount c.args.age h.allocations × IsCount c.args.age h.calls) (sym told.header_is) (is.front.allocations, is.front.calls)))
           ],
     )

@@ -1,7 +1,7 @@
 use Rattle.std.proofs.Common.{ℕ, List, drop, refl, sym, subst, ◌∙◌, arith}
 use Rattle.std.proofs.lemmas.Bool.{false≢true}
 use Rattle.std.proofs.lemmas.List.{take_rest}
-use Rattle.model.specs.declared.frame.Header.{Header}
+use Rattle.model.specs.declared.frame.ObjectHeader.{ObjectHeader}
 use Rattle.layout.specs.Capability.{IsCount}
 use Rattle.layout.specs.declared.page_frame.PageBody.{PageBody}
 use Rattle.layout.specs.Frame.{IsPageBody, with_words}
@@ -14,7 +14,7 @@ use Rattle.layout.proofs.page_frame.decode_page_frame.Goals.{else-has_counts-via
 pub returns-then-is_body-clause-found : goal.returns-then-is_body-clause-found
 returns-then-is_body-clause-found c =
     let role : ℕ = c.decode_front-role.result.0 in
-    let header : Header = c.decode_front-role.result.1 in
+    let header : ObjectHeader = c.decode_front-role.result.1 in
     let words : List ℕ = c.decode_words.new.into in
     let body : PageBody = c.body_in-body.result in
     let is = subst (λ (w : List ℕ). IsPageBody role header.owner w (with_words body w)) c.as_slice.ensures.value (c.is_body.ensures.0 c.if-is_body.true) in
@@ -25,7 +25,7 @@ returns-then-is_body-clause-found c =
 pub returns-else-has_counts-clause-refused : goal.returns-else-has_counts-clause-refused
 returns-else-has_counts-clause-refused c =
     let role : ℕ = c.decode_front-role.result.0 in
-    let header : Header = c.decode_front-role.result.1 in
+    let header : ObjectHeader = c.decode_front-role.result.1 in
     let words : List ℕ = c.decode_words.new.into in
     let fits : AllFit (front_list role header) = (omega arith, (omega arith, (omega arith, (omega arith, tt)))) in (
       refl,
@@ -40,6 +40,6 @@ returns-else-has_counts-clause-refused c =
                 false≢true (sym w.if-is_blank.false ∙ c.is_blank_between-is_blank.ensures.1 (page_parts f c.args.bytes.now e).gap)
             | else-has_counts-via-else-has_counts w ↦
                 false≢true (sym w.if-has_counts.false ∙ c.has_counts-has_counts.ensures.1
-                (subst (λ (h : Header). IsCount c.args.age h.allocations × IsCount c.args.age h.calls) (sym told.header_is) (is.front.allocations, is.front.calls)))
+                (subst (λ (h : ObjectHeader). IsCount c.args.age h.allocations × IsCount c.args.age h.calls) (sym told.header_is) (is.front.allocations, is.front.calls)))
           ],
     )

@@ -2,7 +2,8 @@
 use Rattle.std.specs.Prelude.{◌≡◌, ℕ, ◌+◌, ◌<◌, List}
 use Rattle.layout.specs.declared.directory.Entry.{Entry}
 use Rattle.layout.specs.declared.header.CheckpointHeader.{CheckpointHeader}
-use Rattle.layout.specs.Image.{Image, HasDirectory, frame_in, frame_sector, frame_length, directory_sector, directory_length, Saved, Denotes, committed_slot, committed_bytes}
+use Rattle.device.specs.Disk.{Image}
+use Rattle.layout.specs.Image.{HasDirectory, frame_in, frame_sector, frame_length, directory_sector, directory_length, SavedState, Denotes, committed_slot, committed_bytes}
 use Rattle.layout.specs.Superblock.{Plan}
 
 -- the same bytes in n sectors from one on
@@ -31,4 +32,4 @@ SameFrames = (p : Plan) (h : CheckpointHeader) (es : List Entry) (object : ℕ) 
 
 -- and denote the same saved state, where the superblock is the same too
 abbrev pub SameSaved : Type 0
-SameSaved = (size : ℕ) (s : Saved) (old new : Image) → SameFrom 0 1 old new → SameWhereRead s.plan s.header s.directory old new → Denotes size old s → Denotes size new s
+SameSaved = (size : ℕ) (s : SavedState) (old new : Image) → SameFrom 0 1 old new → SameWhereRead s.plan s.header s.directory old new → Denotes size old s → Denotes size new s

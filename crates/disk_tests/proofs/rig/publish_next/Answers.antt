@@ -4,7 +4,7 @@ use Rattle.layout.specs.declared.header.CheckpointHeader.{CheckpointHeader}
 use Rattle.device.proofs.Images.{agrees_is}
 use Rattle.ckpt_log.proofs.Commits.{precedes, next_fits}
 use Rattle.ckpt_log.proofs.Runs.{one_committed}
-use Rattle.storage_tests.proofs.rig.publish_next.Goals as goal
+use Rattle.disk_tests.proofs.rig.publish_next.Goals as goal
 
 pub overflow_add-next : goal.overflow_add-next
 overflow_add-next g c =

@@ -4,7 +4,7 @@ use crate::rig::{FRONT, Rig};
 use device::{Device, Memory, Outcome};
 use home_ranges::{Home, HomeFault};
 use layout::{BadImage, HomeRange, NodeBody, PageBody, Superblock, VOID};
-use model::{Cap, Capability, Content, Geometry, Header, Slots, Words};
+use model::{Cap, Capability, Content, Geometry, ObjectHeader, Slots, Words};
 use std::alloc::Global;
 use std::test::Fail;
 
@@ -86,7 +86,7 @@ fn write_node_3(alloc: Global, rig: &mut Rig<Memory>) -> Result<(), Fail> {
     Ok(())
 }
 
-fn node_3(alloc: Global, rig: &mut Rig<Memory>) -> Result<(Header, NodeBody, Slots<Cap>), Fail> {
+fn node_3(alloc: Global, rig: &mut Rig<Memory>) -> Result<(ObjectHeader, NodeBody, Slots<Cap>), Fail> {
     let mut slots = Slots::new(alloc, VOID)?;
     let (header, body) = rig.read_node(3, &mut slots).ok().ok_or("a frame")?;
     Ok((header, body, slots))

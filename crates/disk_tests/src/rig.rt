@@ -7,7 +7,7 @@ use layout::{
     CheckpointHeader, Entry, Gate, HomeRange, NodeBody, PageBody, Superblock, VOID, encode_gate,
     encode_header,
 };
-use model::{Cap, Content, Frame, Geometry, Header, Slots, Words};
+use model::{Cap, Content, Frame, Geometry, ObjectHeader, Slots, Words};
 use std::alloc::Global;
 use std::marker::Model;
 use std::test::Fail;
@@ -15,7 +15,7 @@ use std::test::Fail;
 pub(crate) const AGE: u64 = 10;
 
 /// The header of every frame that is written.
-pub(crate) const FRONT: Header = Header {
+pub(crate) const FRONT: ObjectHeader = ObjectHeader {
     allocations: 1,
     calls: 2,
     owner: 3,
@@ -147,7 +147,7 @@ impl<D: Device> Rig<D> {
         &mut self,
         number: u64,
         slots: &mut Slots<Cap>,
-    ) -> Result<(Header, NodeBody), HomeFault> {
+    ) -> Result<(ObjectHeader, NodeBody), HomeFault> {
         if number >= 16 {
             return Err(HomeFault::Failed);
         }
@@ -159,7 +159,7 @@ impl<D: Device> Rig<D> {
         &mut self,
         number: u64,
         words: &mut Words,
-    ) -> Result<(Header, PageBody), HomeFault> {
+    ) -> Result<(ObjectHeader, PageBody), HomeFault> {
         if number < 16 || number >= 24 {
             return Err(HomeFault::Failed);
         }
@@ -211,7 +211,7 @@ impl<D: Device> Rig<D> {
         generation: u64,
         slot: u64,
         slots: &mut Slots<Cap>,
-    ) -> Result<(Header, NodeBody), LogFault> {
+    ) -> Result<(ObjectHeader, NodeBody), LogFault> {
         if slot >= 16 {
             return Err(LogFault::Failed);
         }
@@ -225,7 +225,7 @@ impl<D: Device> Rig<D> {
         generation: u64,
         slot: u64,
         words: &mut Words,
-    ) -> Result<(Header, PageBody), LogFault> {
+    ) -> Result<(ObjectHeader, PageBody), LogFault> {
         if slot >= 16 {
             return Err(LogFault::Failed);
         }

@@ -1,0 +1,92 @@
+-- The parts of a store of present frames, and what goes on beside a change.
+use Rattle.std.specs.Prelude.{◌≡◌, ℕ, ◌+◌, ◌<◌, ◌≤◌, ◌^◌, Bool, false, List, length, replicate, slice_index_or, slice_set, take, if◌then◌else◌}
+use Rattle.model.specs.declared.capability.Cap.{Cap}
+use Rattle.model.specs.declared.frame.Frame.{Frame}
+use Rattle.model.specs.declared.frame.ObjectHeader.{ObjectHeader}
+use Rattle.model.specs.declared.geometry.Geometry.{Geometry}
+use Rattle.model.specs.declared.object.Content.{Content}
+use Rattle.model.specs.declared.object.Content.TheVariants as content
+use Rattle.model.specs.declared.object.State.TheVariants.{Available}
+use Rattle.model.specs.Frame.{frames_in, header_at, held_at, given_up}
+use Rattle.model.specs.Object.{all_slots, zero_words}
+use Rattle.model.specs.Revoke.{is_member}
+use Rattle.capability.specs.declared.present.Fresh.{Fresh}
+use Rattle.capability.specs.declared.present.Fresh.TheVariants as fresh
+
+-- what a store of present frames is made of: a header and a content for each number, which numbers were
+-- written since the last checkpoint, and how often the device failed
+pub record Parts : Type 0 where
+  pub geometry : Geometry
+  pub headers : List ObjectHeader
+  pub contents : List (Content Cap)
+  pub touched : List Bool
+  pub failures : ℕ
+
+-- its frames
+abbrev pub frames_of : Parts → List Frame
+frames_of p = frames_in p.headers p.contents
+
+-- the parts with another header, content, or both, at a number
+abbrev pub with_header : Parts → ℕ → ObjectHeader → Parts
+with_header p n h = record p { headers = slice_set p.headers n h }
+
+abbrev pub with_held : Parts → ℕ → Content Cap → Parts
+with_held p n c = record p { contents = slice_set p.contents n c }
+
+abbrev pub with_both : Parts → ℕ → ObjectHeader → Content Cap → Parts
+with_both p n h c = record p { headers = slice_set p.headers n h; contents = slice_set p.contents n c }
+
+-- what a new object holds: nothing, in slots that hold a void capability
+abbrev pub fresh_content : {C : Type 0} → C → Fresh → Content C
+fresh_content void fresh.Page = content.Page zero_words
+fresh_content void fresh.Node = content.Node (all_slots void)
+fresh_content void (fresh.Root annex) = content.Root (record { state = Available; words = replicate 4 0; key = 0; annex = annex; space = void })
+fresh_content void fresh.Annex = content.Annex (all_slots void)
+fresh_content void (fresh.Bank limit) = content.Bank limit
+
+-- a number of its kind
+abbrev pub IsFreshAt : Geometry → ℕ → Fresh → Type 0
+IsFreshAt g n fresh.Page = g.nodes ≤ n
+IsFreshAt g n fresh.Node = n < g.nodes
+IsFreshAt g n (fresh.Root annex) = n < g.nodes
+IsFreshAt g n fresh.Annex = n < g.nodes
+IsFreshAt g n (fresh.Bank limit) = n < g.nodes
+
+-- its numbers have 64 bits
+abbrev pub FreshFits : Fresh → Type 0
+FreshFits (fresh.Root annex) = annex < 2 ^ 64
+FreshFits (fresh.Bank limit) = limit < 2 ^ 64
+FreshFits _ = Unit {0}
+
+-- A change of present frames: what lies beside them goes on as it was, and what was fetched and announced
+-- stays so. The parameters are the ghost members of a store of present frames.
+pub record KeepsAside {S : Type 0} (parts : S → Parts) (Fetched Announced : S → ℕ → Type 0) (Leads : S → S → Type 0) (old new : S) : Type 0 where
+  pub count : length (parts new).headers ≡ length (parts old).headers
+  pub touched : (parts new).touched ≡ (parts old).touched
+  pub geometry : (parts new).geometry ≡ (parts old).geometry
+  pub failures : (parts new).failures ≡ (parts old).failures
+  pub fetched : (n : ℕ) → Fetched old n → Fetched new n
+  pub announced : (n : ℕ) → Announced old n → Announced new n
+  pub leads : Leads old new
+
+-- Frames were fetched, and nothing else came of it.
+pub record LooksUp {S : Type 0} (parts : S → Parts) (Leads : S → S → Type 0) (old new : S) : Type 0 where
+  pub headers : (parts new).headers ≡ (parts old).headers
+  pub contents : (parts new).contents ≡ (parts old).contents
+  pub touched : (parts new).touched ≡ (parts old).touched
+  pub geometry : (parts new).geometry ≡ (parts old).geometry
+  pub leads : Leads old new
+
+-- no number is listed twice
+abbrev pub IsOnce : List ℕ → Type 0
+IsOnce ns = (i : ℕ) → i < length ns → is_member (take i ns) (slice_index_or ns i 0) ≡ false
+
+-- the members of a set are given up, and nothing else is another
+pub record AreGivenUp (set : List ℕ) (old new : Parts) : Type 0 where
+  pub geometry : new.geometry ≡ old.geometry
+  pub touched : new.touched ≡ old.touched
+  pub failures : new.failures ≡ old.failures
+  pub header_count : length new.headers ≡ length old.headers
+  pub content_count : length new.contents ≡ length old.contents
+  pub headers : (n : ℕ) → header_at new.headers n ≡ (if is_member set n then given_up (header_at old.headers n) else header_at old.headers n)
+  pub contents : (n : ℕ) → held_at new.contents n ≡ (if is_member set n then content.Free else held_at old.contents n)

@@ -1,0 +1,122 @@
+// The table of all objects' headers.
+ghost use Rattle.std.specs.Prelude.{◌≡◌, ℕ, ◌<◌, length, not, nat_lt, slice_set};
+ghost use Rattle.model.specs.Frame.{header_at, current_count, conveyed, given_up, owned_by, called, claimed};
+
+use model::{Cap, Capability, ObjectHeader, Role};
+use std::marker::Model;
+
+/// The headers of all objects, by number. None of its calls takes memory or refuses.
+#[derive(Drop)]
+pub struct ObjectTable {
+    headers: Vec<ObjectHeader>,
+}
+
+impl Model for ObjectTable {
+    ghost use Rattle.std.specs.Prelude.{List};
+    ghost use Rattle.model.specs.declared.frame.ObjectHeader.{ObjectHeader};
+
+    ghost Value = { List ObjectHeader };
+
+    ghost view = { λ t. t.headers.items };
+}
+
+impl ObjectTable {
+    /// The table of these headers.
+    pub fn new(headers: Vec<ObjectHeader>) -> ObjectTable
+        ensures { result ≡ headers.items }
+    {
+        ObjectTable { headers }
+    }
+
+    /// How many objects there are.
+    pub fn count(&self) -> u64
+        ensures { result ≡ length self.now }
+    {
+        self.headers.len() as u64
+    }
+
+    /// The header of an object, or a blank one where there is no such object.
+    pub fn header(&self, number: u64) -> ObjectHeader
+        ensures { result ≡ header_at self.now number }
+    {
+        match self.headers.get(number as usize) {
+            Some(header) => *header,
+            None => ObjectHeader {
+                role: Role::Free,
+                allocations: 0,
+                calls: 0,
+                owner: 0,
+            },
+        }
+    }
+
+    /// The count that a capability is given now: it is live until its object's count rises.
+    pub fn current_count(&self, capability: Capability) -> u64
+        ensures { result ≡ current_count self.now capability }
+    {
+        match (capability, capability.named()) {
+            (Capability::Resume(process), _) => self.header(process).calls,
+            (_, Some(number)) => self.header(number).allocations,
+            (_, None) => 0,
+        }
+    }
+
+    /// Whether a held capability still conveys what it did: its object's count hasn't risen since.
+    pub fn is_live(&self, held: Cap) -> bool
+        ensures { result ≡ not (nat_lt held.count (current_count self.now held.what)) }
+    {
+        held.count >= self.current_count(held.what)
+    }
+
+    /// What a held capability conveys: nothing where it is stale.
+    pub fn conveyed(&self, held: Cap) -> Capability
+        ensures { result ≡ conveyed self.now held }
+    {
+        if self.is_live(held) {
+            held.what
+        } else {
+            Capability::Void
+        }
+    }
+
+    /// Makes a free number an object of a bank. Its counts stay.
+    pub fn claim(&mut self, number: u64, role: Role, owner: u64)
+        requires { number < length self.old }
+        ensures { self.new ≡ slice_set self.old number (claimed role owner (header_at self.old number)) }
+    {
+        let header = &mut self.headers[number as usize];
+        header.role = role;
+        header.owner = owner;
+    }
+
+    /// Gives an object another owner.
+    pub fn set_owner(&mut self, number: u64, bank: u64)
+        requires { number < length self.old }
+        ensures { self.new ≡ slice_set self.old number (owned_by bank (header_at self.old number)) }
+    {
+        self.headers[number as usize].owner = bank;
+    }
+
+    /// Gives an object up: it is free, and both of its counts are one more.
+    pub fn rescind(&mut self, number: u64)
+        requires known { number < length self.old }
+        requires allocations { (header_at self.old number).allocations < u64.MAX }
+        requires calls { (header_at self.old number).calls < u64.MAX }
+        ensures { self.new ≡ slice_set self.old number (given_up (header_at self.old number)) }
+    {
+        let header = &mut self.headers[number as usize];
+        header.role = Role::Free;
+        header.allocations += 1;
+        header.calls += 1;
+        header.owner = 0;
+    }
+
+    /// Gives the right to resume a process up: its call count is one more.
+    pub fn consume(&mut self, root: u64)
+        requires known { root < length self.old }
+        requires calls { (header_at self.old root).calls < u64.MAX }
+        ensures { self.new ≡ slice_set self.old root (called (header_at self.old root)) }
+    {
+        self.headers[root as usize].calls += 1;
+    }
+}
