@@ -8,5 +8,5 @@ pub mod Directories
 pub mod Extents
 pub mod Superblocks
 pub mod Images
-pub mod Image
+pub mod Sectors
 pub mod Halves
