@@ -24,7 +24,7 @@ use denote.RattleType.{owns}
 use denote.Ref.{shr_vals, shr_Tells}
 use denote.Shadow.{pure_i}
 use denote.Signature.{plain, types_at}
-use denote.Triple.RecordEntry.{on_entry, alive, Args}
+use denote.Triple.Entry.{on_entry, alive, Args}
 use denote.Triple.Spec.{Meets, triple_of}
 use denote.Triple.Table.{entered}
 use denote.Triple.Walked.{says, stay_none_ref, Stays, walk_of, Walks, ends_at, walked, Goes-none_ref, walk_Meets}
