@@ -1,5 +1,51 @@
 // Invocations, and the commands of a script.
+ghost use Rattle.std.specs.Prelude.{◌≡◌, ◌<◌, ◌^◌, ◌↔◌, IfSome, IsSome, length};
+ghost use Rattle.std.specs.List.{All};
+ghost use Rattle.model.specs.Text.{Fits};
+
 use crate::capability::Capability;
+use std::marker::Model;
+
+/// How many registers a process has.
+pub const REGISTERS: u8 = 32;
+
+/// A register of a process, by its number, which is below 32.
+#[derive(Clone, Copy, PartialEq, Eq, Debug)]
+pub struct Register(u8);
+
+impl Model for Register {
+    ghost use Rattle.std.specs.Prelude.{ℕ, ◌<◌};
+
+    ghost Value = { ℕ };
+
+    ghost view = { λ r. r.0 };
+
+    ghost inverse = { λ n. record { 0 = n } };
+
+    ghost invariant = { λ r. r.0 < 32 };
+}
+
+impl Register {
+    /// The register of a number, where a process has it.
+    pub fn new(number: u8) -> Option<Register>
+        ensures register { IfSome result (λ r. r ≡ number) }
+        ensures some { IsSome result ↔ (number < 32) }
+    {
+        if number < REGISTERS {
+            Some(Register(number))
+        } else {
+            None
+        }
+    }
+
+    /// Its place among the registers of an annex.
+    pub fn index(self) -> usize
+        ensures value { result ≡ self }
+        ensures within { result < 32 }
+    {
+        self.0 as usize
+    }
+}
 
 /// What an invocation does to the process that makes it.
 #[derive(Clone, Copy, PartialEq, Eq, Debug)]
@@ -18,12 +64,27 @@ pub struct Invocation {
     pub operation: Operation,
     /// The number of the process.
     pub process: u64,
-    /// The register of the invoked capability, below 32.
-    pub register: u8,
+    /// The register of the invoked capability.
+    pub register: Register,
     /// The words that are sent. For a kernel object the first is the order.
     pub words: [u64; 4],
-    /// The registers, each below 32, whose capabilities are sent.
-    pub sent: [u8; 4],
+    /// The registers whose capabilities are sent.
+    pub sent: [Register; 4],
+}
+
+impl Invocation {
+    /// Every invocation can be spelt in a script. This does nothing; its contract is the fact.
+    pub fn can_be_spelt(self)
+        ensures { Fits (Command.Invoke self) }
+    {
+        let _words = self.words;
+        let _process = self.process;
+        let _register = self.register.index();
+        let _first = self.sent[0].index();
+        let _second = self.sent[1].index();
+        let _third = self.sent[2].index();
+        let _fourth = self.sent[3].index();
+    }
 }
 
 /// Words, a key and four capabilities on their way to a process.
@@ -75,4 +136,15 @@ pub enum Command {
     Restart,
     /// Cuts the power, and opens the device again.
     Cut,
+}
+
+impl Command {
+    /// Every command can be spelt in a script. This does nothing; its contract is the fact.
+    pub fn can_be_spelt(self)
+        ensures { Fits self }
+    {
+        if let Command::Invoke(invocation) = self {
+            invocation.can_be_spelt();
+        }
+    }
 }

@@ -14,7 +14,7 @@ pub mod order;
 pub use access::Access;
 pub use answer::{Answer, MemoryFault, Refusal};
 pub use capability::{Cap, Capability};
-pub use command::{Command, Invocation, Message, Operation};
+pub use command::{Command, Invocation, Message, Operation, REGISTERS, Register};
 pub use contents::{SLOTS, Slots, WORDS, Words};
 pub use frame::{Frame, ObjectHeader};
 pub use geometry::{Geometry, MAX_AGE};
