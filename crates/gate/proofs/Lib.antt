@@ -1,6 +1,2 @@
-pub mod Calls
-pub mod FirstWorld
-pub mod Known
-pub mod Looking
-pub mod Messages
-pub mod OnlyStorage
+mod Fits
+mod Messages
