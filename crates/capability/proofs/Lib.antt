@@ -1,5 +1,5 @@
 pub mod Asides
+pub mod Counts
+pub mod Edits
 pub mod Frames
-pub mod PlainFresh
-pub mod PlainUsage
-pub mod Touched
+pub mod Keeping
