@@ -105,7 +105,7 @@ module _ (g : Geometry) (age later : ℕ) (le : age ≤ later) (p q : Parts) (n 
       })
 
 -- another content of its kind
-refilled : (g : Geometry) (age n : ℕ) (h : ObjectHeader) (c d : Content Cap) → role_of d ≡ role_of c → IsOfKind g n d → MayBeKept g age d →
+pub refilled : (g : Geometry) (age n : ℕ) (h : ObjectHeader) (c d : Content Cap) → role_of d ≡ role_of c → IsOfKind g n d → MayBeKept g age d →
     IsKeepable g age n (record { header = h; content = c }) → IsKeepable g age n (record { header = h; content = d })
 refilled g age n h c d same kind may k = record {
   kind = kind;

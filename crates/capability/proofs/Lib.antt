@@ -3,3 +3,4 @@ pub mod Counts
 pub mod Edits
 pub mod Frames
 pub mod Keeping
+pub mod RootEdits

@@ -3,6 +3,7 @@
 
 pub mod objects;
 pub mod present;
+pub mod roots;
 pub mod table;
 pub mod view;
 
