@@ -68,6 +68,7 @@ pub fn set_word<F: PresentFrames>(store: &mut F, number: u64, index: usize, word
     requires within { index < 512 }
     ensures objects { objects_of (frames_of (F.parts store.new))
         ≡ with_word (objects_of (frames_of (F.parts store.old))) number index word }
+    ensures headers { (F.parts store.new).headers ≡ (F.parts store.old).headers }
     ensures current { AreCurrent (frames_of (F.parts store.old)) → AreCurrent (frames_of (F.parts store.new)) }
     ensures keepable { (age : ℕ)
         → AreKeepable (F.parts store.old).geometry age (frames_of (F.parts store.old))
@@ -85,6 +86,7 @@ pub fn set_slot<F: PresentFrames>(store: &mut F, number: u64, slot: usize, capab
     requires within { slot < 32 }
     ensures objects { objects_of (frames_of (F.parts store.new))
         ≡ with_slot (objects_of (frames_of (F.parts store.old))) number slot capability }
+    ensures headers { (F.parts store.new).headers ≡ (F.parts store.old).headers }
     ensures current { AreCurrent (frames_of (F.parts store.old)) → AreCurrent (frames_of (F.parts store.new)) }
     ensures keepable { (age : ℕ)
         → IsKeptCap (F.parts store.old).geometry age
@@ -108,6 +110,7 @@ pub fn set_message<F: PresentFrames>(store: &mut F, process: u64, words: [u64; 4
     requires process { IsTrue (is_process (objects_of (frames_of (F.parts store.old))) process) }
     ensures objects { objects_of (frames_of (F.parts store.new))
         ≡ with_message (objects_of (frames_of (F.parts store.old))) process words key }
+    ensures headers { (F.parts store.new).headers ≡ (F.parts store.old).headers }
     ensures current { AreCurrent (frames_of (F.parts store.old)) → AreCurrent (frames_of (F.parts store.new)) }
     ensures keepable { (age : ℕ)
         → AreKeepable (F.parts store.old).geometry age (frames_of (F.parts store.old))

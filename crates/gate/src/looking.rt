@@ -85,12 +85,12 @@ pub fn look_at_named<F: PresentFrames>(
 pub fn ask<F: PresentFrames>(
     alloc: Global,
     store: &mut F,
-    invocation: Invocation,
+    invocation: &Invocation,
 ) -> Result<Asked, PrepareFault>
     requires keepable { AreKeepable (F.parts store.old).geometry u64.MAX (frames_of (F.parts store.old)) }
-    requires process { IsTrue (is_process (objects_of (frames_of (F.parts store.old))) invocation.process) }
-    requires annex { IsTrue (is_annex (content_at (objects_of (frames_of (F.parts store.old))) (annex_at (objects_of (frames_of (F.parts store.old))) invocation.process))) }
-    ensures asked { IfOk result (λ asked. IsAsked (objects_of (frames_of (F.parts store.old))) invocation asked) }
+    requires process { IsTrue (is_process (objects_of (frames_of (F.parts store.old))) invocation.now.process) }
+    requires annex { IsTrue (is_annex (content_at (objects_of (frames_of (F.parts store.old))) (annex_at (objects_of (frames_of (F.parts store.old))) invocation.now.process))) }
+    ensures asked { IfOk result (λ asked. IsAsked (objects_of (frames_of (F.parts store.old))) invocation.now asked) }
     ensures looks { Looks F.parts F.LeadsTo store.old store.new result }
 {
     let annex = look_at_process(alloc, store, invocation.process)?;

@@ -89,11 +89,6 @@ fn on_plain(word: u64, capability: Capability, arguments: Arguments) -> OrderPla
             let sent = arguments.capability;
             OrderPlan::told(tag_of(sent), access_bits(sent))
         }
-        Capability::Space {
-            object,
-            height,
-            access,
-        } => on_space(object, height, access, word, arguments),
         Capability::Void => OrderPlan::refused(ResultCode::VoidCapability),
         _ => OrderPlan::refused(ResultCode::NoOrder),
     }
@@ -130,6 +125,11 @@ pub fn plan<F: PresentFrames>(
             Some(order) => on_process(store, process, order, arguments),
             None => OrderPlan::refused(ResultCode::NoOrder),
         },
+        Capability::Space {
+            object,
+            height,
+            access,
+        } => on_space(object, height, access, word, arguments),
         _ => on_plain(word, capability, arguments),
     }
 }

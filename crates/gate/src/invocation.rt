@@ -47,7 +47,8 @@ pub fn invoke<F: PresentFrames>(
     ensures geometry { (F.parts store.new).geometry ≡ (F.parts store.old).geometry }
     ensures leads { F.LeadsTo store.old store.new }
 {
-    let asked = ask(alloc, store, invocation)?;
+    invocation.can_be_spelt();
+    let asked = ask(alloc, store, &invocation)?;
     match asked.invoked {
         Capability::Start { process, key } => {
             let gate = Gate {
@@ -55,7 +56,7 @@ pub fn invoke<F: PresentFrames>(
                 key,
                 is_resume: false,
             };
-            invoke_gate(alloc, store, invocation, asked, gate)
+            invoke_gate(alloc, store, &invocation, asked, gate)
         }
         Capability::Resume(process) => {
             let gate = Gate {
@@ -63,8 +64,8 @@ pub fn invoke<F: PresentFrames>(
                 key: 0,
                 is_resume: true,
             };
-            invoke_gate(alloc, store, invocation, asked, gate)
+            invoke_gate(alloc, store, &invocation, asked, gate)
         }
-        _ => Ok(invoke_object(alloc, store, invocation, asked)?),
+        _ => Ok(invoke_object(alloc, store, &invocation, asked)?),
     }
 }
