@@ -23,14 +23,14 @@ use Rattle.gate.specs.declared.plan.OrderPlan.{OrderPlan}
 use Rattle.gate.specs.Invoke.{Invokes, IsAsked, IsKernelObject, IsPlanned, Overfills, finished, written_by}
 
 -- an invocation by the capability that is invoked
-abbrev invoked_by : List Object → Invocation → Capability → Option Effect
+abbrev pub invoked_by : List Object → Invocation → Capability → Option Effect
 invoked_by os i c = elim c [
   | Start q key ↦ if can_start os i q then Some (through_gate os i q key) else None
   | Resume q ↦ let effect = through_gate os i q 0 in Some (record { objects = consume q effect.objects; written = effect.written })
   | _ ↦ Some (on_kernel_object os i)
 ]
 
-invoke_is : (os : List Object) (i : Invocation) → invoke os i ≡ invoked_by os i (register_at os i.process i.register)
+pub invoke_is : (os : List Object) (i : Invocation) → invoke os i ≡ invoked_by os i (register_at os i.process i.register)
 unfolding invoke
 invoke_is os i = refl
 

@@ -1,4 +1,5 @@
 mod Effects
+mod Entering
 mod Fits
 mod Known
 mod Listed

@@ -6,7 +6,9 @@ use Rattle.std.specs.List.{All, Contains}
 use Rattle.std.specs.Option.{unwrap_or}
 use Rattle.model.specs.declared.command.Operation.{Operation}
 use Rattle.gate.specs.declared.plan.Change.{Change}
-use Rattle.gate.specs.Invoke.{AreAnnounced}
+use Rattle.capability.specs.declared.present.PrepareFault.TheVariants as prepare
+use Rattle.gate.specs.declared.fault.InvokeFault.TheVariants as invoke_fault
+use Rattle.gate.specs.Invoke.{AreAnnounced, fault_of}
 use Rattle.gate.specs.Plan.{target_of}
 
 pub on_ok : {T E : Type 0} (r : Result T E) {P Q : Type 0} → (P → Q) → OnOk r P → OnOk r Q
@@ -48,6 +50,8 @@ all_four P a b c d x y z w (suc (suc zero)) e inside = z
 all_four P a b c d x y z w (suc (suc (suc zero))) e inside = w
 all_four P a b c d x y z w (suc (suc (suc (suc k)))) e inside = absurd (omega arith)
 
--- an error is what it is beside any answer
-pub same_error : {T U : Type 0} (e f : PrepareFault) → IsErrOf {T = T} (Err e) f → IsErrOf {T = U} (Err e) f
-same_error e f is = let same : e ≡ f = cc in ap Err same
+-- a full log is told as one
+pub full_fault : {T U : Type 0} (e : PrepareFault) → IsErrOf {T = U} (Err (fault_of e)) invoke_fault.LogFull → IsErrOf {T = T} (Err e) prepare.LogFull
+full_fault prepare.LogFull is = refl
+full_fault prepare.NoMemory is = cc
+full_fault prepare.Failed is = cc

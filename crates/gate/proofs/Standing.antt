@@ -15,6 +15,7 @@ use Rattle.model_laws.proofs.SoundParts.{nearly_from}
 use Rattle.capability.specs.Parts.{Parts, frames_of}
 use Rattle.capability.proofs.Frames.{length_objects}
 use Rattle.capability.proofs.Keeping.{keepable_count, keepable_later}
+use Rattle.gate.specs.Invoke.{KeepsSoundFrames}
 use Rattle.gate.proofs.Fits.{calls_kept}
 use Rattle.gate.proofs.Known.{annex_known, same_frames}
 
@@ -59,7 +60,7 @@ module _ (old now : Parts) (looks : LooksAs old now) where
   looked_sound sound = (
     sound.0,
     subst (λ (g : Geometry). IsSoundFrames g sound.0 (frames_of now)) (sym looks.geometry)
-    (subst (λ (fs : List Frame). IsSoundFrames old.geometry sound.0 fs) (sym looked_frames) sound.1),
+        (subst (λ (fs : List Frame). IsSoundFrames old.geometry sound.0 fs) (sym looked_frames) sound.1),
   )
 
   pub looked_number : (n : ℕ) → n < length old.headers → n < length now.headers
@@ -80,3 +81,10 @@ inside_known p n inside = subst (λ (m : ℕ). n < m) (length_objects p.headers 
 
 pub asked_annex : (p : Parts) (sound : AreSound p) (q a : ℕ) → IsTrue (is_process (objects_of (frames_of p)) q) → a ≡ annex_at (objects_of (frames_of p)) q → a < length p.headers
 asked_annex p sound q a is same = subst (λ (n : ℕ). n < length p.headers) (sym same) (annex_known p (annex_at (objects_of (frames_of p)) q) (annex_there p sound q is))
+
+-- what keeps frames sound after a look keeps those before it
+pub keeps_looked : (old mid new : Parts) → LooksAs old mid → KeepsSoundFrames mid new → KeepsSoundFrames old new
+keeps_looked old mid new looks keeps age young sound =
+    let there = subst (λ (g : Geometry). IsSoundFrames g age (frames_of mid)) (sym looks.geometry)
+    (subst (λ (fs : List Frame). IsSoundFrames old.geometry age fs) (sym (looked_frames old mid looks)) sound) in
+    subst (λ (g : Geometry). IsSoundFrames g (age + 1) (frames_of new)) looks.geometry (keeps age young there)

@@ -1,5 +1,5 @@
 // Invocations through gates: start and resume capabilities.
-ghost use Rattle.std.specs.Prelude.{◌≡◌, ◌↔◌, ◌+◌, ◌<◌, ◌≤◌, ◌^◌, ℕ, [], ◌∷◌, length, None, ◌||◌, OnOk, OnErr, IsErrOf, IsTrue};
+ghost use Rattle.std.specs.Prelude.{◌≡◌, ◌↔◌, ◌+◌, ◌<◌, ◌≤◌, ◌^◌, ℕ, [], ◌∷◌, length, None, true, ◌||◌, OnOk, OnErr, IsErrOf, IsTrue};
 ghost use Rattle.model.specs.declared.command.Command.TheVariants as command;
 ghost use Rattle.model.specs.Frame.{header_at, objects_of};
 ghost use Rattle.model.specs.Invoke.{after_gate, can_start, invoke};
@@ -102,7 +102,13 @@ fn leave<F: PresentFrames>(store: &mut F, invocation: &Invocation)
 
 /// The message goes through the gate. One that works only once is given up at the end, so that a
 /// copy of it that was sent arrives void.
-fn enter<F: PresentFrames>(store: &mut F, invocation: &Invocation, gate: Gate, annex: u64, sent: [Capability; 4])
+fn enter<F: PresentFrames>(
+    store: &mut F,
+    invocation: &Invocation,
+    gate: Gate,
+    annex: u64,
+    sent: [Capability; 4],
+)
     requires process { IsTrue (is_process (objects_of (frames_of (F.parts store.old))) invocation.now.process) }
     requires receiver { IsTrue (is_process (objects_of (frames_of (F.parts store.old))) gate.process) }
     requires annex { annex ≡ annex_at (objects_of (frames_of (F.parts store.old))) gate.process }
@@ -154,6 +160,7 @@ pub fn invoke_gate<F: PresentFrames>(
     requires few { length (F.parts store.old).headers < 2 ^ 64 }
     requires asked { IsAsked (objects_of (frames_of (F.parts store.old))) invocation.now asked }
     requires gate { asked.invoked ≡ gate_capability gate }
+    requires key { gate.is_resume ≡ true → gate.key ≡ 0 }
     ensures done { OnOk result (Invokes invocation.now (F.parts store.old).geometry.log (objects_of (frames_of (F.parts store.old))) (F.parts store.old).touched (objects_of (frames_of (F.parts store.new))) (F.parts store.new).touched) }
     ensures stalled { IsErrOf result InvokeFault.Stalled → invoke (objects_of (frames_of (F.parts store.old))) invocation.now ≡ None }
     ensures full { IsErrOf result InvokeFault.LogFull → Overfills invocation.now (F.parts store.old).geometry.log (objects_of (frames_of (F.parts store.old))) (F.parts store.old).touched }

@@ -10,7 +10,7 @@ ghost use Rattle.gate.specs.Invoke.{Invokes, IsUnchanged, KeepsSoundFrames, Over
 use crate::fault::InvokeFault;
 use crate::gates::{Gate, invoke_gate};
 use crate::kernel_object::invoke_object;
-use crate::looking::ask;
+use crate::looking::{ask, numbers_fit};
 use capability::PresentFrames;
 use model::{Capability, Invocation};
 use std::alloc::Global;
@@ -48,6 +48,7 @@ pub fn invoke<F: PresentFrames>(
     ensures leads { F.LeadsTo store.old store.new }
 {
     invocation.can_be_spelt();
+    numbers_fit(store);
     let asked = ask(alloc, store, &invocation)?;
     match asked.invoked {
         Capability::Start { process, key } => {
@@ -66,6 +67,6 @@ pub fn invoke<F: PresentFrames>(
             };
             invoke_gate(alloc, store, &invocation, asked, gate)
         }
-        _ => Ok(invoke_object(alloc, store, &invocation, asked)?),
+        _ => invoke_object(alloc, store, &invocation, asked),
     }
 }

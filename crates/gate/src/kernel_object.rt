@@ -163,7 +163,7 @@ pub fn invoke_object<F: PresentFrames>(
     store: &mut F,
     invocation: &Invocation,
     asked: Asked,
-) -> Result<(), PrepareFault>
+) -> Result<(), InvokeFault>
     requires sound { (age : ℕ) × IsSoundFrames (F.parts store.old).geometry age (frames_of (F.parts store.old)) }
     requires running { IsTrue (is_running_process (objects_of (frames_of (F.parts store.old))) invocation.now.process) }
     requires fits { Fits (command.Invoke invocation.now) }
@@ -171,10 +171,11 @@ pub fn invoke_object<F: PresentFrames>(
     requires asked { IsAsked (objects_of (frames_of (F.parts store.old))) invocation.now asked }
     requires object { IsKernelObject asked.invoked }
     ensures done { OnOk result (Invokes invocation.now (F.parts store.old).geometry.log (objects_of (frames_of (F.parts store.old))) (F.parts store.old).touched (objects_of (frames_of (F.parts store.new))) (F.parts store.new).touched) }
-    ensures full { IsErrOf result PrepareFault.LogFull → Overfills invocation.now (F.parts store.old).geometry.log (objects_of (frames_of (F.parts store.old))) (F.parts store.old).touched }
+    ensures stalled { IsErrOf result InvokeFault.Stalled → ⊥ }
+    ensures full { IsErrOf result InvokeFault.LogFull → Overfills invocation.now (F.parts store.old).geometry.log (objects_of (frames_of (F.parts store.old))) (F.parts store.old).touched }
     ensures sound { OnOk result (KeepsSoundFrames (F.parts store.old) (F.parts store.new)) }
     ensures unchanged { OnErr result (IsUnchanged (F.parts store.old) (F.parts store.new)) }
-    ensures cause { IsErrOf result PrepareFault.Failed ↔ ((F.parts store.old).failures < (F.parts store.new).failures) }
+    ensures cause { IsErrOf result InvokeFault.Failed ↔ ((F.parts store.old).failures < (F.parts store.new).failures) }
     ensures later { (F.parts store.old).failures ≤ (F.parts store.new).failures }
     ensures geometry { (F.parts store.new).geometry ≡ (F.parts store.old).geometry }
     ensures leads { F.LeadsTo store.old store.new }

@@ -1,5 +1,5 @@
 // What an invocation reads before anything changes.
-ghost use Rattle.std.specs.Prelude.{◌≡◌, ℕ, ◌<◌, length, Some, IfOk, OnOk, IsTrue};
+ghost use Rattle.std.specs.Prelude.{◌≡◌, ℕ, ◌<◌, ◌^◌, length, Some, IfOk, OnOk, IsTrue};
 ghost use Rattle.model.specs.Capability.{named};
 ghost use Rattle.model.specs.Frame.{objects_of};
 ghost use Rattle.model.specs.Keepable.{AreKeepable};
@@ -24,11 +24,7 @@ pub struct Asked {
 }
 
 /// Fetches one object.
-pub fn look<F: PresentFrames>(
-    alloc: Global,
-    store: &mut F,
-    number: u64,
-) -> Result<(), PrepareFault>
+pub fn look<F: PresentFrames>(alloc: Global, store: &mut F, number: u64) -> Result<(), PrepareFault>
     requires known { number < length (F.parts store.old).headers }
     requires keepable { AreKeepable (F.parts store.old).geometry u64.MAX (frames_of (F.parts store.old)) }
     ensures fetched { OnOk result (F.IsFetched store.new number) }
@@ -104,4 +100,11 @@ pub fn ask<F: PresentFrames>(
             objects::slot(store, annex, invocation.sent[3].index()),
         ],
     })
+}
+
+/// The numbers of objects have 64 bits. This does nothing; its contract is the fact.
+pub fn numbers_fit<F: PresentFrames>(store: &F)
+    ensures { length (F.parts store.now).headers < 2 ^ 64 }
+{
+    let _count = store.table().count();
 }

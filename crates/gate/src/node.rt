@@ -42,12 +42,7 @@ fn fetched(access: Access, capability: Capability) -> Capability
 }
 
 /// What a store into a slot of a node comes to, of the capability that was sent or of a number.
-fn stored(
-    object: u64,
-    access: Access,
-    arguments: Arguments,
-    capability: Capability,
-) -> OrderPlan
+fn stored(object: u64, access: Access, arguments: Arguments, capability: Capability) -> OrderPlan
     requires { (capability ≡ arguments.capability) ⊎ (capability ≡ Capability.Number arguments.second) }
     ensures only { (os : List Object) → IsFor os (Capability.Node object access) arguments result.change }
     ensures outcome { (os : List Object) → outcome_of os result ≡ stored os object access arguments.first capability }

@@ -43,8 +43,8 @@ returns-in-Return-clause-keepable g c age young held fits k =
     let mid = g.F.PresentFrames.parts c.set_state.new.store in
     let same = c.set_state.ensures.aside.geometry in
     let there = subst (λ (h : Geometry). MayHold h (objects_of (frames_of mid)) c.args.plan.change) (sym same)
-        (subst (λ (os : List Object). MayHold old.geometry os c.args.plan.change) (sym c.set_state.ensures.objects)
-        (state_may_hold old.geometry (objects_of (frames_of old)) c.args.process Available c.requires.invoker c.args.plan.change held)) in
+    (subst (λ (os : List Object). MayHold old.geometry os c.args.plan.change) (sym c.set_state.ensures.objects)
+    (state_may_hold old.geometry (objects_of (frames_of old)) c.args.process Available c.requires.invoker c.args.plan.change held)) in
     in_geometry old.geometry mid.geometry (age + 1) (frames_of (g.F.PresentFrames.parts c.make-in-Return.new.store)) (sym same)
     (c.make-in-Return.ensures.keepable age young there (in_geometry mid.geometry old.geometry age (frames_of mid) same (c.set_state.ensures.keepable age k)))
 

@@ -11,7 +11,7 @@ use Rattle.gate.specs.Plan.{FitsCap, MayHold}
 use Rattle.gate.proofs.Effects.{invokes_by, object_invoked, overfills_by, planned_objects, planned_written, sound_after}
 use Rattle.gate.proofs.Fits.{in_geometry}
 use Rattle.gate.proofs.Known.{process_known, running_process}
-use Rattle.gate.proofs.Listed.{same_error}
+use Rattle.gate.proofs.Listed.{full_fault}
 use Rattle.gate.proofs.Standing.{LooksAs, asked_annex, calls_below, inside_known, keepable_most, looked_keepable, looked_number, looked_objects, looked_sound, looks_again}
 use Rattle.gate.proofs.kernel_object.invoke_object.Goals as goal
 
@@ -54,10 +54,10 @@ returns-in_err-announce-clause-full g c =
     let os = objects_of (frames_of old) in
     let written = planned_written old.geometry os i c.args.asked c.in_ok-plan.plan c.requires.asked c.in_ok-plan.ensures.planned in
     rw (p.1, p.2) (λ is.
-        let over = c.in_err-announce.ensures.full (same_error _ _ is) in
-        let here = rw (c.in_ok-plan.ensures.looks.aside.geometry, c.in_ok-plan.ensures.looks.aside.touched) at over in
-        overfills_by i old.geometry.log os old.touched (on_kernel_object os i) (object_invoked os i c.args.asked c.requires.asked c.requires.object)
-        (subst (λ (ns : List ℕ). old.geometry.log < touched_count (touching old.touched ns)) (sym written) here))
+    let over = c.in_err-announce.ensures.full (full_fault _ is) in
+    let here = rw (c.in_ok-plan.ensures.looks.aside.geometry, c.in_ok-plan.ensures.looks.aside.touched) at over in
+    overfills_by i old.geometry.log os old.touched (on_kernel_object os i) (object_invoked os i c.args.asked c.requires.asked c.requires.object)
+    (subst (λ (ns : List ℕ). old.geometry.log < touched_count (touching old.touched ns)) (sym written) here))
 
 pub finish-requires-clause-calls : goal.finish-requires-clause-calls
 finish-requires-clause-calls g c n is =
@@ -112,7 +112,7 @@ returns-clause-sound g c age young sound =
     let new = g.F.PresentFrames.parts c.finish.new.store in
     let planned = c.in_ok-plan.ensures.planned in
     let holds = subst (λ (h : Geometry). MayHold h (objects_of (frames_of mid)) plan.change) (sym there.geometry)
-        (subst (λ (us : List Object). MayHold old.geometry us plan.change) (sym (looked_objects old mid there)) planned.holds) in
+    (subst (λ (us : List Object). MayHold old.geometry us plan.change) (sym (looked_objects old mid there)) planned.holds) in
     let fits = subst (λ (h : Geometry). FitsCap h plan.capability) (sym there.geometry) planned.fits in
     sound_after old.geometry age (frames_of old) (frames_of new) i (on_kernel_object os i) young c.requires.fits c.requires.running
     (object_invoked os i c.args.asked c.requires.asked c.requires.object)
