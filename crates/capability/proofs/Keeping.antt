@@ -3,7 +3,7 @@ use Rattle.std.proofs.Common.{rules, ◌≡◌, ℕ, ◌+◌, ◌*◌, ◌^◌, 
 use Rattle.std.specs.Prelude.{IsTrue}
 use Rattle.std.specs.List.{All}
 use Rattle.std.proofs.lemmas.Bool.{cases_lt}
-use Rattle.std.proofs.lemmas.List.{length-set}
+use Rattle.std.proofs.lemmas.List.{get_or_past, length-set}
 use Rattle.std.proofs.lemmas.List.Elements.{All-replicate, All-set, All-weaker}
 use Rattle.model.specs.declared.capability.Cap.{Cap}
 use Rattle.model.specs.declared.capability.Capability.{Capability}
@@ -21,7 +21,7 @@ use Rattle.model.specs.Sound.{IsOfKind, object_count}
 use Rattle.capability.specs.declared.present.Fresh.{Fresh}
 use Rattle.capability.specs.declared.present.Fresh.TheVariants as fresh
 use Rattle.capability.specs.Objects.{with_message_in}
-use Rattle.capability.specs.Parts.{FreshFits, IsFreshAt, Parts, frames_of, fresh_content, with_both, with_header, with_held}
+use Rattle.capability.specs.Parts.{FreshFits, HaveTheirRoles, IsFreshAt, Parts, frames_of, fresh_content, with_both, with_header, with_held}
 use Rattle.capability.proofs.Edits.{content_kept, header_kept}
 use Rattle.capability.proofs.Frames.{at_set, frame_in, length_in, pair_at, set_in}
 
@@ -91,6 +91,13 @@ keepable_from g age p count each = record {
       let known : n < length p.headers = subst (λ m. n < m) (sym count) inside in
       subst (λ (f : Frame). IsKeepable g age n f) (sym (frame_in p.headers p.contents n known)) (each n known);
 }
+
+-- frames that can be kept have their roles
+pub keepable_roles : (g : Geometry) (age : ℕ) (fs : List Frame) → AreKeepable g age fs → HaveTheirRoles fs
+keepable_roles g age fs k n = elim (cases_lt n (object_count g)) [
+  | inl known ↦ (k.each n known).kept.role
+  | inr past ↦ subst (λ (f : Frame). f.header.role ≡ role_of f.content) (sym (get_or_past fs n blank_frame (omega (arith, k.count)))) refl
+]
 
 -- one object is another that can be kept
 module _ (g : Geometry) (age later : ℕ) (le : age ≤ later) (p q : Parts) (n : ℕ) (h : ObjectHeader) (c : Content Cap) (inside : n < length p.contents) where

@@ -9,3 +9,4 @@ pub use Rattle.model.specs.Machine
 pub use Rattle.model.specs.Worlds
 pub mod Parts
 pub mod Objects
+pub mod Plain

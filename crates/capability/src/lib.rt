@@ -2,10 +2,13 @@
 #![tactic(auto)]
 
 pub mod objects;
+pub mod plain;
 pub mod present;
 pub mod table;
 pub mod view;
 
 pub use model::{Access, Cap, Capability};
+pub use plain::Plain;
+pub use plain::usage::usage;
 pub use present::{Fresh, MAX_FETCHED, PrepareFault, PresentFrames};
 pub use table::ObjectTable;
