@@ -5,4 +5,5 @@ pub mod Edits
 pub mod Frames
 pub mod FreshWorlds
 pub mod Keeping
+pub mod SoundFrames
 pub mod Touched

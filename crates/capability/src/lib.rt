@@ -1,6 +1,7 @@
 //! Capabilities and the objects that they name, as frames with counts.
 #![tactic(auto)]
 
+pub mod laws;
 pub mod objects;
 pub mod plain;
 pub mod present;
