@@ -10,7 +10,6 @@ use Rattle.model.specs.declared.frame.ObjectHeader.{ObjectHeader}
 use Rattle.model.specs.declared.object.Content.{Content}
 use Rattle.model.specs.declared.object.Content.TheVariants as content
 use Rattle.model.specs.declared.object.Object.{Object}
-use Rattle.model.specs.declared.object.Role.{Role}
 use Rattle.model.specs.declared.object.Role.TheVariants as role
 use Rattle.model.specs.Frame.{conveyed, header_at, held_at, objects_of}
 use Rattle.model.specs.Object.{map_content, role_of, is_free, free}
@@ -48,7 +47,7 @@ chain_over os i b sought past =
     rw k refl
 
 -- the kind of an object is that of what it holds
-role_of_map : {B C : Type 0} (f : B → C) (c : Content B) → role_of (map_content f c) ≡ role_of c
+pub role_of_map : {B C : Type 0} (f : B → C) (c : Content B) → role_of (map_content f c) ≡ role_of c
 role_of_map f content.Free = refl
 role_of_map f (content.Page words) = refl
 role_of_map f (content.Node slots) = refl
@@ -56,7 +55,7 @@ role_of_map f (content.Root r) = refl
 role_of_map f (content.Annex registers) = refl
 role_of_map f (content.Bank limit) = refl
 
-role_free : {C : Type 0} (c : Content C) → role_of c ≡ role.Free → is_free c ≡ true
+pub role_free : {C : Type 0} (c : Content C) → role_of c ≡ role.Free → is_free c ≡ true
 role_free content.Free is = refl
 role_free (content.Page words) is = cc
 role_free (content.Node slots) is = cc

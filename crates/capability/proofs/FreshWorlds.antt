@@ -72,7 +72,7 @@ objects_of_fresh os =
     map_back fresh_frame (object_of hs) (fresh_object hs (fresh_headers os)) os
 
 -- the two lists that such frames are made of
-frames_fresh : (os : List Object) → frames_in (map fresh_header os) (map fresh_held os) ≡ map fresh_frame os
+pub frames_fresh : (os : List Object) → frames_in (map fresh_header os) (map fresh_held os) ≡ map fresh_frame os
 unfolding frames_in
 frames_fresh [] = refl
 frames_fresh (o ∷ os) = ap (λ (t : List Frame). fresh_frame o ∷ t) (frames_fresh os)

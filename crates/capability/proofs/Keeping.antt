@@ -1,7 +1,6 @@
 -- Frames that can be kept stay so through each change.
-use Rattle.std.proofs.Common.{rules, ◌≡◌, ℕ, ◌+◌, ◌*◌, ◌^◌, ◌<◌, ◌≤◌, inl, inr, true, List, length, replicate, slice_index_or, slice_set, refl, sym, ap, ◌∙◌, subst, arith}
+use Rattle.std.proofs.Common.{rules, ◌≡◌, ℕ, ◌+◌, ◌^◌, ◌<◌, ◌≤◌, inl, inr, List, length, slice_index_or, slice_set, refl, sym, ap, ◌∙◌, subst, arith}
 use Rattle.std.specs.Prelude.{IsTrue}
-use Rattle.std.specs.List.{All}
 use Rattle.std.proofs.lemmas.Bool.{cases_lt}
 use Rattle.std.proofs.lemmas.List.{get_or_past, length-set}
 use Rattle.std.proofs.lemmas.List.Elements.{All-replicate, All-set, All-weaker}
@@ -14,8 +13,8 @@ use Rattle.model.specs.declared.geometry.Geometry.{Geometry}
 use Rattle.model.specs.declared.object.Content.{Content}
 use Rattle.model.specs.declared.object.Content.TheVariants as content
 use Rattle.model.specs.declared.object.Role.TheVariants as role
-use Rattle.model.specs.Frame.{blank_frame, blank_header, called, claimed, current_count, frame_at, frames_in, header_at, held_at, owned_by, void_held}
-use Rattle.model.specs.Keepable.{AreKeepable, AreKeptSlots, AreKeptWords, Follows, IsCount, IsKept, IsKeepable, IsKeptCap, MayBeKept}
+use Rattle.model.specs.Frame.{blank_frame, blank_header, called, claimed, current_count, frame_at, header_at, held_at, owned_by, void_held}
+use Rattle.model.specs.Keepable.{AreKeepable, AreKeptSlots, AreKeptWords, Follows, IsCount, IsKeepable, IsKeptCap, MayBeKept}
 use Rattle.model.specs.Object.{all_slots, is_annex, role_of, with_slot_in, with_word_in, zero_words}
 use Rattle.model.specs.Sound.{IsOfKind, object_count}
 use Rattle.capability.specs.declared.present.Fresh.{Fresh}
@@ -202,9 +201,9 @@ module _ (g : Geometry) (age later : ℕ) (le : age ≤ later) (p q : Parts) (n 
       subst (λ (r : Parts). AreKeepable g later (frames_of r)) (sym is)
       (keepable_from g later (with_header p n h) (length-set p.headers n h ∙ keepable_count g age p k)
       (λ m within.
-        let known : m < length p.headers = omega (arith, length-set p.headers n h) in
-        at_set (λ (i : ℕ) (o : ObjectHeader). IsKeepable g later i (record { header = o; content = held_at p.contents i })) p.headers n m h blank_header new
-        (frame_later g age later m (pair_at p.headers p.contents m) le (keepable_at g age p m known k))))
+      let known : m < length p.headers = omega (arith, length-set p.headers n h) in
+      at_set (λ (i : ℕ) (o : ObjectHeader). IsKeepable g later i (record { header = o; content = held_at p.contents i })) p.headers n m h blank_header new
+      (frame_later g age later m (pair_at p.headers p.contents m) le (keepable_at g age p m known k))))
 
 module _ (g : Geometry) (age : ℕ) (p q : Parts) (n : ℕ) (known : n < length p.headers) where
   pub owner_stays_keepable : (bank : ℕ) → bank < 2 ^ 64 → ((header_at p.headers n).role ≡ role.Free → bank ≡ 0) →

@@ -1,9 +1,10 @@
 pub mod Asides
-pub mod Chains
 pub mod Counts
 pub mod Edits
 pub mod Frames
+pub mod FreshSound
 pub mod FreshWorlds
 pub mod Keeping
-pub mod SoundFrames
-pub mod Touched
+mod Chains
+mod SoundFrames
+mod Touched

@@ -1,6 +1,5 @@
 -- Frames stay sound where counts are raised.
-use Rattle.std.proofs.Common.{ℕ, ◌+◌, List, arith, subst, sym}
-use Rattle.model.specs.declared.geometry.Geometry.{Geometry}
+use Rattle.std.proofs.Common.{◌+◌, List, arith, subst, sym}
 use Rattle.model.specs.declared.object.Object.{Object}
 use Rattle.model.specs.Sound.{IsSound}
 use Rattle.capability.specs.Laws.{CalledIsConsumed, ConsumeKeepsSoundFrames, GivenUpIsRescinded, RescindKeepsSoundFrames}
