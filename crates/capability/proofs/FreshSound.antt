@@ -4,6 +4,7 @@ use Rattle.std.specs.List.{All}
 use Rattle.std.proofs.Math.ListN.{get_or-map}
 use Rattle.std.proofs.lemmas.List.{length-map}
 use Rattle.std.proofs.lemmas.List.Elements.{All-from_get_or, All-map}
+use Rattle.model.specs.declared.capability.Cap.{Cap}
 use Rattle.model.specs.declared.capability.Capability.{Capability}
 use Rattle.model.specs.declared.capability.Capability.TheVariants.{Void, Number, Page, Node, Space, Process, Start, Resume, Bank, Discrim}
 use Rattle.model.specs.declared.frame.Frame.{Frame}
@@ -12,14 +13,15 @@ use Rattle.model.specs.declared.geometry.Geometry.{Geometry}
 use Rattle.model.specs.declared.object.Content.{Content}
 use Rattle.model.specs.declared.object.Content.TheVariants as content
 use Rattle.model.specs.declared.object.Object.{Object}
-use Rattle.model.specs.Frame.{headers}
+use Rattle.model.specs.Frame.{frames_in, headers}
 use Rattle.model.specs.Keepable.{AreKeptSlots, Follows, IsCurrent, IsKeepable, IsKeptCap, IsSoundFrames, MayBeKept, caps_in}
 use Rattle.model.specs.Object.{free, is_annex, is_bank, is_free, is_node, is_page, is_root, map_content, root_in, slots_in, words_in}
 use Rattle.model.specs.Sound.{HasShape, IsOfKind, IsSound, IsSpace, MayBeHeld, object_count}
 use Rattle.model.specs.World.{World, annex_at, content_at, object_at, owner_at}
-use Rattle.capability.specs.Plain.{fresh_cap, fresh_frame}
+use Rattle.capability.specs.Parts.{Parts, frames_of}
+use Rattle.capability.specs.Plain.{fresh_cap, fresh_frame, fresh_header, fresh_held}
 use Rattle.capability.proofs.Chains.{role_free, role_of_map}
-use Rattle.capability.proofs.FreshWorlds.{objects_of_fresh}
+use Rattle.capability.proofs.FreshWorlds.{frames_fresh, objects_of_fresh}
 
 -- a content of a kind stands at a number of its kind
 node_number : (g : Geometry) (n : ℕ) (c : Content Capability) → IsOfKind g n c → is_node c ≡ true → n < g.nodes
@@ -178,3 +180,13 @@ module _ (g : Geometry) (w : World) (few : object_count g < 2 ^ 64) (sound : IsS
             (fresh_held_current (headers fs) (content_at w.objects n));
         sound = subst (λ (os : List Object). IsSound g (record { objects = os; age = w.age })) (sym (objects_of_fresh w.objects)) sound;
       }
+
+  -- and parts of its headers and contents make these frames
+  pub fresh_parts_sound : (p : Parts) → p.headers ≡ map fresh_header w.objects → p.contents ≡ map fresh_held w.objects → IsSoundFrames g w.age (frames_of p)
+  fresh_parts_sound p headers contents =
+      subst (λ (fs : List Frame). IsSoundFrames g w.age fs)
+      (sym
+      (ap (λ (hs : List ObjectHeader). frames_in hs p.contents) headers
+      ∙ ap (λ (cs : List (Content Cap)). frames_in (map fresh_header w.objects) cs) contents
+      ∙ frames_fresh w.objects))
+      fresh_sound_frames

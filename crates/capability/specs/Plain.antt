@@ -30,13 +30,20 @@ pub record PlainState : Type 0 where
 
 -- its parts, and the world that it stands for
 abbrev pub parts_of : PlainState → Parts
-parts_of s = record { geometry = s.geometry; headers = s.headers; contents = s.contents; touched = s.touched; failures = 0 }
+parts_of s = record {
+  geometry = s.geometry;
+  headers = s.headers;
+  contents = s.contents;
+  touched = s.touched;
+  failures = 0;
+}
 
 abbrev pub world_of : PlainState → World
 world_of s = world_at s.age (frames_of (parts_of s))
 
 -- what its fields keep: one of each for each number, and how many are marked
-pub record IsWholeStore (geometry : Geometry) (headers : List ObjectHeader) (contents : List (Content Cap)) (touched : List Bool) (rooms : List (Content Cap)) (count : ℕ) : Type 0 where
+pub record IsWholeStore (geometry : Geometry) (headers : List ObjectHeader) (contents : List (Content Cap))
+    (touched : List Bool) (rooms : List (Content Cap)) (count : ℕ) : Type 0 where
   pub header_each : length headers ≡ object_count geometry
   pub content_each : length contents ≡ object_count geometry
   pub mark_each : length touched ≡ object_count geometry

@@ -53,7 +53,8 @@ impl Model for Plain {
       age = p.age;
     } };
 
-    ghost invariant = { λ p. IsWholeStore p.geometry p.table p.contents.items p.touched.items p.rooms.items p.count };
+    ghost invariant = { λ p.
+        IsWholeStore p.geometry p.table p.contents.items p.touched.items p.rooms.items p.count };
 }
 
 impl Plain {
@@ -98,7 +99,10 @@ impl PresentFrames for Plain {
     }
 
     /// Every object is at hand, so this marks, and puts a blank body aside for each free number.
-    /// Takes memory for these alone. Compares each number to be written with those before it.
+    ///
+    /// `LogFull` exactly where the numbers written would be more than half of the log holds,
+    /// `NoMemory` only where a number is free and memory runs out, and never `Failed`. Compares
+    /// each number to be written with those before it.
     fn prepare(
         &mut self,
         alloc: Global,
@@ -174,7 +178,10 @@ impl PresentFrames for Plain {
 
     ghost fetched_with = { λ s n c m h. (h.0, Prim.grind (arith, length-set, h.1)) };
 
-    ghost announced_with = { λ s n c m h. record { there = (h.there.0, Prim.grind (arith, length-set, h.there.1)); room = h.room } };
+    ghost announced_with = { λ s n c m h. record {
+      there = (h.there.0, Prim.grind (arith, length-set, h.there.1));
+      room = h.room;
+    } };
 
     ghost known_fetched = { λ s n h. h };
 

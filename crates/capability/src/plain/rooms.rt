@@ -20,10 +20,11 @@ pub fn put_aside(
     written: &[u64],
 ) -> Result<(), AllocError>
     requires { All (λ n. n < length rooms.old) written.now }
-    ensures aside { OnOk result ((n : ℕ) → Contains written.now n → (header_at table.now n).role ≡ Role.Free
-        → held_at rooms.new n ≡ room_at geometry n) }
+    ensures aside { OnOk result ((n : ℕ) → Contains written.now n
+        → (header_at table.now n).role ≡ Role.Free → held_at rooms.new n ≡ room_at geometry n) }
     ensures count { length rooms.new ≡ length rooms.old }
-    ensures used { All (λ n. (header_at table.now n).role ≢ Role.Free) written.now → IsErr result → ⊥ }
+    ensures used { All (λ n. (header_at table.now n).role ≢ Role.Free) written.now
+        → IsErr result → ⊥ }
 {
     for number in written {
         put_one(alloc, geometry, table, rooms, *number)?;
@@ -40,8 +41,10 @@ fn put_one(
     number: u64,
 ) -> Result<(), AllocError>
     requires { number < length rooms.old }
-    ensures aside { OnOk result ((header_at table.now number).role ≡ Role.Free → held_at rooms.new number ≡ room_at geometry number) }
-    ensures others { (m : ℕ) → held_at rooms.old m ≡ room_at geometry m → held_at rooms.new m ≡ room_at geometry m }
+    ensures aside { OnOk result ((header_at table.now number).role ≡ Role.Free
+        → held_at rooms.new number ≡ room_at geometry number) }
+    ensures others { (m : ℕ) → held_at rooms.old m ≡ room_at geometry m
+        → held_at rooms.new m ≡ room_at geometry m }
     ensures count { length rooms.new ≡ length rooms.old }
     ensures used { (header_at table.now number).role ≢ Role.Free → IsErr result → ⊥ }
 {

@@ -46,7 +46,8 @@ fn is_under<F: PresentFrames>(store: &F, bank: u64, number: u64) -> bool
 
 // Whether a bank is in the chain that begins with another.
 fn is_in_chain<F: PresentFrames>(store: &F, first: u64, bank: u64) -> bool
-    ensures { result ≡ list_any (nat_eq bank) (chain (objects_of (frames_of (F.parts store.now))) first) }
+    ensures { result
+        ≡ list_any (nat_eq bank) (chain (objects_of (frames_of (F.parts store.now))) first) }
 {
     let mut current = first;
     for _step in 0..MAX_CHAIN {
