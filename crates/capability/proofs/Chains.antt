@@ -16,7 +16,7 @@ use Rattle.model.specs.Object.{map_content, role_of, is_free, free}
 use Rattle.model.specs.Bank.{chain, chain_within, is_under, usage}
 use Rattle.model.specs.World.{object_at, owner_at}
 use Rattle.capability.specs.Parts.{HaveTheirRoles, Parts, frames_of}
-use Rattle.capability.proofs.Frames.{frame_in, object_in}
+use Rattle.capability.proofs.Frames.{frame_in, length_objects, object_in, owner_in}
 
 -- A walk along a chain, where i banks were passed: it stands at the bank that is sought, at the
 -- end, goes on with the owner, or has passed 16.
@@ -131,3 +131,11 @@ used_same_other os b n inside apart =
 pub used_whole : (os : List Object) (b n : ℕ) → length os ≤ n → usage os b ≡ used_below os b n
 unfolding usage
 used_whole os b n whole = ap (count_by (is_used os b)) (sym (take_all n (enumerate_from 0 os) (rw (length-enumerate_from 0 os) whole)))
+
+-- what a call on the table tells of the objects
+pub owner_read : (p : Parts) (hs : List ObjectHeader) (h : ObjectHeader) (n : ℕ) → hs ≡ p.headers → h ≡ header_at hs n → h.owner ≡ owner_at (objects_of (frames_of p)) n
+owner_read p hs h n table is =
+    ap (λ (k : ObjectHeader). k.owner) (is ∙ ap (λ (ks : List ObjectHeader). header_at ks n) table) ∙ sym (owner_in p.headers p.contents n)
+
+pub count_read : (p : Parts) (hs : List ObjectHeader) (count : ℕ) → hs ≡ p.headers → count ≡ length hs → length (objects_of (frames_of p)) ≡ count
+count_read p hs count table is = length_objects p.headers p.contents ∙ sym (is ∙ ap (λ (ks : List ObjectHeader). length ks) table)

@@ -1,9 +1,7 @@
-use Rattle.std.proofs.Common.{List, sym, ap, ◌∙◌}
-use Rattle.model.specs.declared.frame.ObjectHeader.{ObjectHeader}
-use Rattle.model.specs.Frame.{header_at, objects_of}
+use Rattle.std.proofs.Common.{sym}
+use Rattle.model.specs.Frame.{objects_of}
 use Rattle.capability.specs.Parts.{frames_of}
-use Rattle.capability.proofs.Frames.{owner_in}
-use Rattle.capability.proofs.Chains.{chain_whole, chain_here, chain_ends, chain_goes_on, chain_over}
+use Rattle.capability.proofs.Chains.{owner_read, chain_whole, chain_here, chain_ends, chain_goes_on, chain_over}
 use Rattle.capability.proofs.plain.usage.is_in_chain.Goals as goal
 
 pub loop-step-init : goal.loop-step-init
@@ -27,8 +25,7 @@ loop-step-preserved g c =
     let os = objects_of (frames_of (g.F.PresentFrames.parts c.args.store.now)) in
     rw c.loop-step.invariant
     (chain_goes_on os c.loop-step._step c.loop-step.current c.header-current.result.owner c.args.bank c.loop-step-test.true c.if-current-bank.false c.if-current-eq0.false
-    (ap (λ (h : ObjectHeader). h.owner) (c.header-current.ensures ∙ ap (λ (hs : List ObjectHeader). header_at hs c.loop-step.current) c.table.ensures)
-    ∙ sym (owner_in p.headers p.contents c.loop-step.current)))
+    (owner_read p c.table.result.now c.header-current.result c.loop-step.current c.table.ensures c.header-current.ensures))
 
 pub returns : goal.returns
 returns g c =

@@ -1,9 +1,7 @@
-use Rattle.std.proofs.Common.{◌≡◌, ◌∙◌, ◌<◌, ◌≤◌, List, sym, ap, length, arith}
+use Rattle.std.proofs.Common.{◌≡◌, ◌∙◌, ◌<◌, ◌≤◌, sym, length, arith}
 use Rattle.model.specs.Frame.{objects_of}
-use Rattle.model.specs.declared.frame.ObjectHeader.{ObjectHeader}
 use Rattle.capability.specs.Parts.{frames_of}
-use Rattle.capability.proofs.Frames.{length_objects}
-use Rattle.capability.proofs.Chains.{used_more, used_same_itself, used_same_other, used_whole}
+use Rattle.capability.proofs.Chains.{count_read, used_more, used_same_itself, used_same_other, used_whole}
 use Rattle.capability.proofs.plain.usage.usage.Goals as goal
 use Rattle.capability.proofs.plain.usage.usage.Goals.{then-number-bank+then-is_under, else-number-bank, else-number-bank-via-then-number-bank+else-is_under, else-number-bank-via-else-number-bank}
 
@@ -12,7 +10,7 @@ loop-number-preserved g c =
     let p = g.F.PresentFrames.parts c.args.store.now in
     let os = objects_of (frames_of p) in
     let n = c.loop-number.number in
-    let numbers : length os ≡ c.count-count.result = length_objects p.headers p.contents ∙ sym (c.count-count.ensures ∙ ap (λ (hs : List ObjectHeader). length hs) c.table.ensures) in
+    let numbers : length os ≡ c.count-count.result = count_read p c.table.result.now c.count-count.result c.table.ensures c.count-count.ensures in
     let inside : n < length os = omega arith in
     elim c.if-number-bank.branch [
       | then-number-bank+then-is_under w ↦
@@ -33,6 +31,6 @@ pub returns : goal.returns
 returns g c =
     let p = g.F.PresentFrames.parts c.args.store.now in
     let os = objects_of (frames_of p) in
-    let numbers : length os ≡ c.count-count.result = length_objects p.headers p.contents ∙ sym (c.count-count.ensures ∙ ap (λ (hs : List ObjectHeader). length hs) c.table.ensures) in
+    let numbers : length os ≡ c.count-count.result = count_read p c.table.result.now c.count-count.result c.table.ensures c.count-count.ensures in
     let whole : length os ≤ c.loop-number.number = omega arith in
     omega (arith, used_whole os c.args.bank c.loop-number.number whole)
