@@ -75,7 +75,11 @@ looked_annex before now p a same is annex =
 pub looked_process : (before now : Parts) (p : ℕ) → LooksSame before now → IsTrue (is_process (objects_of (frames_of before)) p) → p < length now.headers
 looked_process before now p same is = subst (λ (hs : List ObjectHeader). p < length hs) (sym same.0) (process_known before p is)
 
--- two numbers that exist
+-- one and two numbers that exist
+pub one_known : (P : ℕ → Type 0) (m : ℕ) → P m → All P (m ∷ [])
+one_known P m x zero d inside = x
+one_known P m x (suc k) d inside = absurd (omega arith)
+
 pub both_known : (P : ℕ → Type 0) (m n : ℕ) → P m → P n → All P (m ∷ n ∷ [])
 both_known P m n x y zero d inside = x
 both_known P m n x y (suc zero) d inside = y

@@ -1,9 +1,9 @@
 mod Effects
 mod Entering
 mod Fits
-mod Known
+pub mod Known
 mod Listed
 mod Messages
 mod Plans
 mod Roles
-mod Standing
+pub mod Standing
