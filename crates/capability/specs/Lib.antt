@@ -3,6 +3,7 @@ pub use Rattle.model.specs.Object
 pub use Rattle.model.specs.Frame
 pub use Rattle.model.specs.Keepable
 pub use Rattle.model.specs.World
+pub use Rattle.model.specs.Sound
 pub use Rattle.model.specs.Bank
 pub use Rattle.model.specs.Revoke
 pub use Rattle.model.specs.Machine
@@ -10,3 +11,4 @@ pub use Rattle.model.specs.Worlds
 pub mod Parts
 pub mod Objects
 pub mod Plain
+pub mod Laws

@@ -1,9 +1,11 @@
 //! Capabilities and the objects that they name, as frames with counts.
 #![tactic(auto)]
 
+pub mod laws;
 pub mod objects;
 pub mod plain;
 pub mod present;
+pub mod roots;
 pub mod table;
 pub mod view;
 

@@ -1,64 +1,25 @@
-ghost use Rattle.std.specs.Prelude.{◌≡◌, ◌↔◌, ℕ, ◌<◌, length, slice_index, IsTrue, IsSome, IfSome};
-ghost use Rattle.model.specs.Capability.{named};
-ghost use Rattle.model.specs.Frame.{conveyed, current_count, header_at, headers, objects_of, frame_at};
-ghost use Rattle.model.specs.Object.{root_in, is_root};
-ghost use Rattle.model.specs.World.{word_at, slot_at, root_at, annex_at, is_process, is_running_process, with_word, with_slot, content_at};
-ghost use Rattle.capability.specs.Objects.{KeepsAside, with_message};
+// Present frames, read and changed as the objects that they stand for.
+ghost use Rattle.std.specs.Prelude.{◌≡◌, ◌≢◌, ◌↔◌, ℕ, ◌+◌, ◌<◌, ◌≤◌, ◌^◌, false, length, slice_set, IsTrue, IsSome, IfSome, OnOk, IsErrOf};
+ghost use Rattle.std.specs.List.{All, Contains};
+ghost use Rattle.model.specs.Frame.{current_count, header_at, held_at, objects_of};
+ghost use Rattle.model.specs.Keepable.{AreCurrent, AreKeepable, AreKeptWords, IsKeptCap};
+ghost use Rattle.model.specs.Object.{is_annex, is_root, with_slot_in, with_word_in};
+ghost use Rattle.model.specs.Revoke.{consume as consumed, is_member, rescind as rescinded};
+ghost use Rattle.model.specs.World.{word_at, slot_at, root_at, annex_at, content_at, is_process, with_word, with_slot};
+ghost use Rattle.capability.specs.Objects.{with_message, with_message_in};
+ghost use Rattle.capability.specs.Parts.{AreGivenUp, FreshFits, IsFreshAt, IsOnce, KeepsAside, LooksUp, frames_of, fresh_content};
 
-use model::{Cap, Capability, Content, ObjectHeader, PresentFrames, State};
-
-/// The header of an object, or a blank one where there is no such object.
-fn header<F: PresentFrames>(store: &F, number: u64) -> ObjectHeader
-    ensures { result ≡ header_at (headers (F.frames store.now)) number }
-{
-    if number < store.count() {
-        store.header(number)
-    } else {
-        ObjectHeader {
-            allocations: 0,
-            calls: 0,
-            owner: 0,
-        }
-    }
-}
-
-/// The count that a capability is given now: it is live until its object's count rises.
-pub fn current_count<F: PresentFrames>(store: &F, capability: Capability) -> u64
-    ensures { result ≡ current_count (headers (F.frames store.now)) capability }
-{
-    match capability {
-        Capability::Page { object, .. }
-        | Capability::Node { object, .. }
-        | Capability::Space { object, .. } => header(store, object).allocations,
-        Capability::Process(number)
-        | Capability::Start {
-            process: number,
-            ..
-        }
-        | Capability::Bank(number) => header(store, number).allocations,
-        Capability::Resume(process) => header(store, process).calls,
-        Capability::Void | Capability::Number(_) | Capability::Discrim => 0,
-    }
-}
-
-/// What a held capability conveys: nothing where it is stale.
-pub fn conveyed<F: PresentFrames>(store: &F, held: Cap) -> Capability
-    ensures { result ≡ conveyed (headers (F.frames store.now)) held }
-{
-    if held.count < current_count(store, held.what) {
-        Capability::Void
-    } else {
-        held.what
-    }
-}
+use crate::present::{Fresh, MAX_FETCHED, PrepareFault, PresentFrames};
+use model::{Cap, Capability, Content, Role, State};
+use std::alloc::Global;
 
 /// The word of a page that is fetched, or 0 where it is no page.
 pub fn word<F: PresentFrames>(store: &F, number: u64, index: usize) -> u64
     requires fetched { F.IsFetched store.now number }
     requires within { index < 512 }
-    ensures { result ≡ word_at (objects_of (F.frames store.now)) number index }
+    ensures { result ≡ word_at (objects_of (frames_of (F.parts store.now))) number index }
 {
-    match &store.frame(number).content {
+    match store.frame(number) {
         Content::Page(words) => words.get(index),
         _ => 0,
     }
@@ -67,10 +28,12 @@ pub fn word<F: PresentFrames>(store: &F, number: u64, index: usize) -> u64
 /// The state of a process whose root is fetched, or nothing where it is no root.
 pub fn state<F: PresentFrames>(store: &F, process: u64) -> Option<State>
     requires fetched { F.IsFetched store.now process }
-    ensures process { IsSome result ↔ IsTrue (is_process (objects_of (F.frames store.now)) process) }
-    ensures state { IfSome result (λ s. s ≡ (root_at (objects_of (F.frames store.now)) process).state) }
+    ensures process { IsSome result
+        ↔ IsTrue (is_process (objects_of (frames_of (F.parts store.now))) process) }
+    ensures state { IfSome result
+        (λ s. s ≡ (root_at (objects_of (frames_of (F.parts store.now))) process).state) }
 {
-    match &store.frame(process).content {
+    match store.frame(process) {
         Content::Root(root) => Some(root.state),
         _ => None,
     }
@@ -79,9 +42,9 @@ pub fn state<F: PresentFrames>(store: &F, process: u64) -> Option<State>
 /// The annex of a process whose root is fetched, or 0 where it is no root.
 pub fn annex<F: PresentFrames>(store: &F, process: u64) -> u64
     requires fetched { F.IsFetched store.now process }
-    ensures { result ≡ annex_at (objects_of (F.frames store.now)) process }
+    ensures { result ≡ annex_at (objects_of (frames_of (F.parts store.now))) process }
 {
-    match &store.frame(process).content {
+    match store.frame(process) {
         Content::Root(root) => root.annex,
         _ => 0,
     }
@@ -92,56 +55,210 @@ pub fn annex<F: PresentFrames>(store: &F, process: u64) -> u64
 pub fn slot<F: PresentFrames>(store: &F, number: u64, slot: usize) -> Capability
     requires fetched { F.IsFetched store.now number }
     requires within { slot < 32 }
-    ensures { result ≡ slot_at (objects_of (F.frames store.now)) number slot }
+    ensures { result ≡ slot_at (objects_of (frames_of (F.parts store.now))) number slot }
 {
-    match &store.frame(number).content {
-        Content::Node(slots) | Content::Annex(slots) => conveyed(store, slots.get(slot)),
+    match store.frame(number) {
+        Content::Node(slots) | Content::Annex(slots) => store.table().conveyed(slots.get(slot)),
         _ => Capability::Void,
     }
 }
 
-/// Puts a word into a page that is fetched and announced.
+/// Puts a word into a page that is fetched and announced. What is no page stays.
 pub fn set_word<F: PresentFrames>(store: &mut F, number: u64, index: usize, word: u64)
     requires fetched { F.IsFetched store.old number }
     requires announced { F.IsAnnounced store.old number }
     requires within { index < 512 }
-    ensures objects { objects_of (F.frames store.new) ≡ with_word (objects_of (F.frames store.old)) number index word }
-    ensures aside { KeepsAside F.frames F.touched F.geometry F.failures F.IsFetched F.IsAnnounced F.LeadsTo store.old store.new }
+    ensures objects { objects_of (frames_of (F.parts store.new))
+        ≡ with_word (objects_of (frames_of (F.parts store.old))) number index word }
+    ensures headers { (F.parts store.new).headers ≡ (F.parts store.old).headers }
+    ensures current { AreCurrent (frames_of (F.parts store.old))
+        → AreCurrent (frames_of (F.parts store.new)) }
+    ensures keepable { (age : ℕ)
+        → AreKeepable (F.parts store.old).geometry age (frames_of (F.parts store.old))
+        → AreKeepable (F.parts store.old).geometry age (frames_of (F.parts store.new)) }
+    ensures aside { KeepsAside F.parts F.IsFetched F.IsAnnounced F.LeadsTo store.old store.new }
 {
-    if let Content::Page(words) = &mut store.frame_mut(number).content {
-        words.set(index, word);
-    }
+    put_word(store.frame_mut(number), index, word);
 }
 
 /// Puts a capability, live, into a slot of a node or a register of an annex that is fetched and
-/// announced.
+/// announced. What is neither stays.
 pub fn set_slot<F: PresentFrames>(store: &mut F, number: u64, slot: usize, capability: Capability)
     requires fetched { F.IsFetched store.old number }
     requires announced { F.IsAnnounced store.old number }
     requires within { slot < 32 }
-    ensures objects { objects_of (F.frames store.new) ≡ with_slot (objects_of (F.frames store.old)) number slot capability }
-    ensures aside { KeepsAside F.frames F.touched F.geometry F.failures F.IsFetched F.IsAnnounced F.LeadsTo store.old store.new }
+    ensures objects { objects_of (frames_of (F.parts store.new))
+        ≡ with_slot (objects_of (frames_of (F.parts store.old))) number slot capability }
+    ensures headers { (F.parts store.new).headers ≡ (F.parts store.old).headers }
+    ensures current { AreCurrent (frames_of (F.parts store.old))
+        → AreCurrent (frames_of (F.parts store.new)) }
+    ensures keepable { (age : ℕ)
+        → IsKeptCap (F.parts store.old).geometry age
+        (record { what = capability; count = current_count (F.parts store.old).headers capability })
+        → (IsTrue (is_annex (held_at (F.parts store.old).contents number)) → slot ≡ 0
+        → capability ≡ Capability.Void)
+        → AreKeepable (F.parts store.old).geometry age (frames_of (F.parts store.old))
+        → AreKeepable (F.parts store.old).geometry age (frames_of (F.parts store.new)) }
+    ensures aside { KeepsAside F.parts F.IsFetched F.IsAnnounced F.LeadsTo store.old store.new }
 {
     let held = Cap {
         what: capability,
-        count: current_count(store, capability),
+        count: store.table().current_count(capability),
     };
-    match &mut store.frame_mut(number).content {
-        Content::Node(slots) => slots.set(slot, held),
-        Content::Annex(registers) => registers.set(slot, held),
-        _ => {}
-    }
+    put_slot(store.frame_mut(number), slot, held);
 }
 
 /// Gives a process, whose root is fetched and announced, words and a key. It is running.
 pub fn set_message<F: PresentFrames>(store: &mut F, process: u64, words: [u64; 4], key: u16)
     requires fetched { F.IsFetched store.old process }
     requires announced { F.IsAnnounced store.old process }
-    requires process { IsTrue (is_process (objects_of (F.frames store.old)) process) }
-    ensures objects { objects_of (F.frames store.new) ≡ with_message (objects_of (F.frames store.old)) process words key }
-    ensures aside { KeepsAside F.frames F.touched F.geometry F.failures F.IsFetched F.IsAnnounced F.LeadsTo store.old store.new }
+    requires process { IsTrue (is_process (objects_of (frames_of (F.parts store.old))) process) }
+    ensures objects { objects_of (frames_of (F.parts store.new))
+        ≡ with_message (objects_of (frames_of (F.parts store.old))) process words key }
+    ensures headers { (F.parts store.new).headers ≡ (F.parts store.old).headers }
+    ensures current { AreCurrent (frames_of (F.parts store.old))
+        → AreCurrent (frames_of (F.parts store.new)) }
+    ensures keepable { (age : ℕ)
+        → AreKeepable (F.parts store.old).geometry age (frames_of (F.parts store.old))
+        → AreKeepable (F.parts store.old).geometry age (frames_of (F.parts store.new)) }
+    ensures aside { KeepsAside F.parts F.IsFetched F.IsAnnounced F.LeadsTo store.old store.new }
 {
-    if let Content::Root(root) = &mut store.frame_mut(process).content {
+    put_message(store.frame_mut(process), words, key);
+}
+
+/// Makes a free number, fetched and announced, a new object of a bank (EROS: a space bank's
+/// allocation). It holds nothing yet, and its number's counts stay.
+pub fn claim<F: PresentFrames>(store: &mut F, number: u64, fresh: Fresh, owner: u64)
+    requires fetched { F.IsFetched store.old number }
+    requires announced { F.IsAnnounced store.old number }
+    requires free { (header_at (F.parts store.old).headers number).role ≡ Role.Free }
+    requires place { IsFreshAt (F.parts store.old).geometry number fresh }
+    ensures objects { objects_of (frames_of (F.parts store.new))
+        ≡ slice_set (objects_of (frames_of (F.parts store.old))) number
+        (record { owner = owner; content = fresh_content Capability.Void fresh }) }
+    ensures current { AreCurrent (frames_of (F.parts store.old))
+        → AreCurrent (frames_of (F.parts store.new)) }
+    ensures keepable { (age : ℕ) → FreshFits fresh
+        → AreKeepable (F.parts store.old).geometry age (frames_of (F.parts store.old))
+        → AreKeepable (F.parts store.old).geometry age (frames_of (F.parts store.new)) }
+    ensures aside { KeepsAside F.parts F.IsFetched F.IsAnnounced F.LeadsTo store.old store.new }
+{
+    store.claim(number, fresh, owner);
+}
+
+/// Gives an object that is announced another bank as its owner.
+pub fn set_owner<F: PresentFrames>(store: &mut F, number: u64, bank: u64)
+    requires announced { F.IsAnnounced store.old number }
+    ensures objects { let objects = objects_of (frames_of (F.parts store.old)) in
+        objects_of (frames_of (F.parts store.new))
+        ≡ slice_set objects number (record { owner = bank; content = content_at objects number }) }
+    ensures current { AreCurrent (frames_of (F.parts store.old))
+        → AreCurrent (frames_of (F.parts store.new)) }
+    ensures keepable { (age : ℕ)
+        → ((header_at (F.parts store.old).headers number).role ≡ Role.Free → bank ≡ 0)
+        → AreKeepable (F.parts store.old).geometry age (frames_of (F.parts store.old))
+        → AreKeepable (F.parts store.old).geometry age (frames_of (F.parts store.new)) }
+    ensures aside { KeepsAside F.parts F.IsFetched F.IsAnnounced F.LeadsTo store.old store.new }
+{
+    store.set_owner(number, bank);
+}
+
+/// Gives the right to resume a process up, whose root is announced: every capability that resumes
+/// it is void (EROS: a resume capability works at most once).
+pub fn consume<F: PresentFrames>(store: &mut F, process: u64)
+    requires announced { F.IsAnnounced store.old process }
+    requires calls { (header_at (F.parts store.old).headers process).calls < u64.MAX }
+    requires current { AreCurrent (frames_of (F.parts store.old)) }
+    ensures objects { objects_of (frames_of (F.parts store.new))
+        ≡ consumed process (objects_of (frames_of (F.parts store.old))) }
+    ensures current { AreCurrent (frames_of (F.parts store.new)) }
+    ensures keepable { (age : ℕ) → age + 1 < 2 ^ 64
+        → AreKeepable (F.parts store.old).geometry age (frames_of (F.parts store.old))
+        → AreKeepable (F.parts store.old).geometry (age + 1) (frames_of (F.parts store.new)) }
+    ensures aside { KeepsAside F.parts F.IsFetched F.IsAnnounced F.LeadsTo store.old store.new }
+{
+    store.consume(process);
+}
+
+/// Gives objects that are announced up, no number twice: they are free, and every capability that
+/// names one is void (EROS: rescind, KeyKOS: sever).
+pub fn rescind<F: PresentFrames>(store: &mut F, numbers: &[u64])
+    requires announced { All (F.IsAnnounced store.old) numbers.now }
+    requires once { IsOnce numbers.now }
+    requires allocations { All
+        (λ n. (header_at (F.parts store.old).headers n).allocations < u64.MAX) numbers.now }
+    requires calls { All
+        (λ n. (header_at (F.parts store.old).headers n).calls < u64.MAX) numbers.now }
+    requires current { AreCurrent (frames_of (F.parts store.old)) }
+    ensures objects { objects_of (frames_of (F.parts store.new))
+        ≡ rescinded numbers.now (objects_of (frames_of (F.parts store.old))) }
+    ensures current { AreCurrent (frames_of (F.parts store.new)) }
+    ensures keepable { (age : ℕ) → age + 1 < 2 ^ 64
+        → AreKeepable (F.parts store.old).geometry age (frames_of (F.parts store.old))
+        → AreKeepable (F.parts store.old).geometry (age + 1) (frames_of (F.parts store.new)) }
+    ensures given_up { AreGivenUp numbers.now (F.parts store.old) (F.parts store.new) }
+    ensures fetched { (n : ℕ) → is_member numbers.now n ≡ false
+        → F.IsFetched store.old n → F.IsFetched store.new n }
+    ensures announced { (n : ℕ) → is_member numbers.now n ≡ false
+        → F.IsAnnounced store.old n → F.IsAnnounced store.new n }
+    ensures leads { F.LeadsTo store.old store.new }
+{
+    for number in numbers {
+        store.reset(*number);
+    }
+}
+
+/// Fetches objects, at most 8, to be read. No object is another than before.
+///
+/// `NoMemory` where memory ran out, `Failed` exactly where the device failed, and never `LogFull`,
+/// since nothing is announced.
+pub fn fetch<F: PresentFrames>(
+    store: &mut F,
+    alloc: Global,
+    numbers: &[u64],
+) -> Result<(), PrepareFault>
+    requires few { length numbers.now ≤ MAX_FETCHED }
+    requires known { All (λ n. n < length (F.parts store.old).headers) numbers.now }
+    requires keepable { AreKeepable (F.parts store.old).geometry u64.MAX
+        (frames_of (F.parts store.old)) }
+    ensures fetched { OnOk result ((n : ℕ) → Contains numbers.now n → F.IsFetched store.new n) }
+    ensures room { IsErrOf result PrepareFault.LogFull → ⊥ }
+    ensures cause { IsErrOf result PrepareFault.Failed
+        ↔ ((F.parts store.old).failures < (F.parts store.new).failures) }
+    ensures later { (F.parts store.old).failures ≤ (F.parts store.new).failures }
+    ensures aside { LooksUp F.parts F.LeadsTo store.old store.new }
+{
+    store.prepare(alloc, numbers, &[])
+}
+
+// A content with another word, where it is a page.
+fn put_word(content: &mut Content<Cap>, index: usize, word: u64)
+    requires { index < 512 }
+    ensures { content.new ≡ with_word_in content.old index word }
+{
+    if let Content::Page(words) = content {
+        words.set(index, word);
+    }
+}
+
+// A content with another capability in a slot or register, where it has some.
+fn put_slot(content: &mut Content<Cap>, slot: usize, held: Cap)
+    requires { slot < 32 }
+    ensures { content.new ≡ with_slot_in content.old slot held }
+{
+    match content {
+        Content::Node(slots) => slots.set(slot, held),
+        Content::Annex(registers) => registers.set(slot, held),
+        _ => {}
+    }
+}
+
+// A root with words and a key delivered, and running. What is no root stays.
+fn put_message(content: &mut Content<Cap>, words: [u64; 4], key: u16)
+    ensures set { content.new ≡ with_message_in content.old words key }
+    ensures fits { AreKeptWords 4 words }
+{
+    if let Content::Root(root) = content {
         root.state = State::Running;
         root.words = words;
         root.key = key;

@@ -1,47 +1,50 @@
-ghost use Rattle.std.specs.Prelude.{◌≡◌, ℕ, map, IfOk, IsTrue};
-ghost use Rattle.model.specs.Frame.{conveyed, headers, objects_of};
+// Objects as values that can be shown.
+ghost use Rattle.std.specs.Prelude.{◌≡◌, map, IfOk, IsTrue};
+ghost use Rattle.model.specs.Frame.{conveyed, objects_of};
 ghost use Rattle.model.specs.Object.{is_annex, map_content, slots_in};
 ghost use Rattle.model.specs.World.{content_at, object_at};
+ghost use Rattle.capability.specs.Parts.{frames_of};
 
-use crate::objects;
-use model::{Cap, Capability, Content, Object, PresentFrames, Root, Slots};
+use crate::present::PresentFrames;
+use crate::table::ObjectTable;
+use model::{Cap, Capability, Content, Object, Root, Slots};
 use std::alloc::{AllocError, Global};
 
-/// What each of 32 held capabilities conveys.
-fn conveyed_slots<F: PresentFrames>(
+// What each of 32 held capabilities conveys.
+fn conveyed_slots(
     alloc: Global,
-    store: &F,
+    table: &ObjectTable,
     held: &Slots<Cap>,
 ) -> Result<Slots<Capability>, AllocError>
-    ensures { IfOk result (λ slots. slots ≡ map (conveyed (headers (F.frames store.now))) held.now) }
+    ensures { IfOk result (λ slots. slots ≡ map (conveyed table.now) held.now) }
 {
     let mut slots = Slots::new(alloc, Capability::Void)?;
     for (i, capability) in held.as_slice().iter().enumerate() {
-        slots.set(i, objects::conveyed(store, *capability));
+        slots.set(i, table.conveyed(*capability));
     }
     Ok(slots)
 }
 
-/// What a frame holds, its capabilities as what they convey.
-fn conveyed_content<F: PresentFrames>(
+// What an object holds, its capabilities as what they convey.
+fn conveyed_content(
     alloc: Global,
-    store: &F,
+    table: &ObjectTable,
     held: &Content<Cap>,
 ) -> Result<Content<Capability>, AllocError>
-    ensures { IfOk result (λ content. content ≡ map_content (conveyed (headers (F.frames store.now))) held.now) }
+    ensures { IfOk result (λ content. content ≡ map_content (conveyed table.now) held.now) }
 {
     match held {
         Content::Free => Ok(Content::Free),
         Content::Page(words) => Ok(Content::Page(words.copy(alloc)?)),
-        Content::Node(slots) => Ok(Content::Node(conveyed_slots(alloc, store, slots)?)),
+        Content::Node(slots) => Ok(Content::Node(conveyed_slots(alloc, table, slots)?)),
         Content::Root(root) => Ok(Content::Root(Root {
             state: root.state,
             words: root.words,
             key: root.key,
             annex: root.annex,
-            space: objects::conveyed(store, root.space),
+            space: table.conveyed(root.space),
         })),
-        Content::Annex(registers) => Ok(Content::Annex(conveyed_slots(alloc, store, registers)?)),
+        Content::Annex(registers) => Ok(Content::Annex(conveyed_slots(alloc, table, registers)?)),
         Content::Bank { limit } => Ok(Content::Bank { limit: *limit }),
     }
 }
@@ -50,12 +53,12 @@ fn conveyed_content<F: PresentFrames>(
 /// runs out.
 pub fn object<F: PresentFrames>(alloc: Global, store: &F, number: u64) -> Result<Object, AllocError>
     requires { F.IsFetched store.now number }
-    ensures { IfOk result (λ object. object ≡ object_at (objects_of (F.frames store.now)) number) }
+    ensures { IfOk result (λ object.
+        object ≡ object_at (objects_of (frames_of (F.parts store.now))) number) }
 {
-    let frame = store.frame(number);
     Ok(Object {
-        owner: frame.header.owner,
-        content: conveyed_content(alloc, store, &frame.content)?,
+        owner: store.table().header(number).owner,
+        content: conveyed_content(alloc, store.table(), store.frame(number))?,
     })
 }
 
@@ -67,11 +70,13 @@ pub fn registers<F: PresentFrames>(
     annex: u64,
 ) -> Result<Slots<Capability>, AllocError>
     requires fetched { F.IsFetched store.now annex }
-    requires annex { IsTrue (is_annex (content_at (objects_of (F.frames store.now)) annex)) }
-    ensures { IfOk result (λ registers. registers ≡ slots_in (content_at (objects_of (F.frames store.now)) annex)) }
+    requires annex { IsTrue
+        (is_annex (content_at (objects_of (frames_of (F.parts store.now))) annex)) }
+    ensures { IfOk result (λ registers.
+        registers ≡ slots_in (content_at (objects_of (frames_of (F.parts store.now))) annex)) }
 {
-    match &store.frame(annex).content {
-        Content::Annex(registers) => conveyed_slots(alloc, store, registers),
+    match store.frame(annex) {
+        Content::Annex(registers) => conveyed_slots(alloc, store.table(), registers),
         _ => unreachable!(),
     }
 }

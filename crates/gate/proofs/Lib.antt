@@ -1,6 +1,9 @@
-pub mod Calls
-pub mod FirstWorld
+mod Effects
+mod Entering
+mod Fits
 pub mod Known
-pub mod Looking
-pub mod Messages
-pub mod OnlyStorage
+mod Listed
+mod Messages
+mod Plans
+mod Roles
+pub mod Standing

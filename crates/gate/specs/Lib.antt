@@ -1,2 +1,2 @@
-pub mod Call
 pub mod Plan
+pub mod Invoke

@@ -1,26 +1,41 @@
-use Rattle.std.specs.Prelude.{◌≡◌, ℕ, ◌<◌, Option, None, Some, List}
+-- What an order on a kernel object comes to, before it is made.
+use Rattle.std.specs.Prelude.{◌≡◌, ◌⊎◌, ℕ, ◌<◌, ◌≤◌, Option, None, Some, List, IsTrue}
 use Rattle.std.specs.Option.{option_to_list}
 use Rattle.model.specs.declared.capability.Capability.{Capability}
-use Rattle.model.specs.declared.capability.Capability.TheVariants.{Void, Number, Page, Node, Space}
+use Rattle.model.specs.declared.capability.Capability.TheVariants.{Number, Page, Node, Space, Process}
+use Rattle.model.specs.declared.geometry.Geometry.{Geometry}
 use Rattle.model.specs.declared.object.Object.{Object}
+use Rattle.model.specs.declared.order.Arguments.{Arguments}
 use Rattle.model.specs.Capability.{named}
-use Rattle.model.specs.Order.{OrderOutcome}
-use Rattle.model.specs.World.{slot_at, with_word, with_slot}
+use Rattle.model.specs.Order.{OrderOutcome, with_root_word, with_space}
+use Rattle.model.specs.Revoke.{consume}
+use Rattle.model.specs.Keepable.{IsKeptCap}
+use Rattle.model.specs.Object.{is_node}
+use Rattle.model.specs.Sound.{IsSpace}
+use Rattle.model.specs.World.{root_at, annex_at, content_at, is_process, with_word, with_slot, with_root, with_state}
 use Rattle.gate.specs.declared.plan.Change.{Change}
 use Rattle.gate.specs.declared.plan.Change.TheVariants as change
-use Rattle.gate.specs.declared.plan.Plan.{OrderPlan}
+use Rattle.gate.specs.declared.plan.OrderPlan.{OrderPlan}
 
 -- the objects after a change
 abbrev pub changed : List Object → Change → List Object
 changed os change.Nothing = os
 changed os (change.Word page index word) = with_word os page index word
-changed os (change.Slot node slot capability) = with_slot os node slot capability
+changed os (change.Slot node slot held) = with_slot os node slot held
+changed os (change.Register process annex register held) = with_slot os annex register held
+changed os (change.RootWord process index word) = with_root os process (with_root_word (root_at os process) index word)
+changed os (change.SetState process state) = consume process (with_state os process state)
+changed os (change.Space process held) = with_root os process (with_space (root_at os process) held)
 
 -- the object that it writes
 abbrev pub target_of : Change → Option ℕ
 target_of change.Nothing = None
 target_of (change.Word page index word) = Some page
-target_of (change.Slot node slot capability) = Some node
+target_of (change.Slot node slot held) = Some node
+target_of (change.Register process annex register held) = Some annex
+target_of (change.RootWord process index word) = Some process
+target_of (change.SetState process state) = Some process
+target_of (change.Space process held) = Some process
 
 -- what comes of an order that goes as planned
 abbrev pub outcome_of : List Object → OrderPlan → OrderOutcome
@@ -32,26 +47,68 @@ outcome_of os plan = record {
   written = option_to_list (target_of plan.change);
 }
 
--- void, a number, or a page, node or space
-abbrev pub IsStorage : Capability → Type 0
-IsStorage Void = Unit {0}
-IsStorage (Number n) = Unit {0}
-IsStorage (Page o a) = Unit {0}
-IsStorage (Node o a) = Unit {0}
-IsStorage (Space o h a) = Unit {0}
-IsStorage _ = ⊥
+-- an outcome changes what the plan changes, and writes what it writes
+pub record ChangesAs (os : List Object) (plan : OrderPlan) (outcome : OrderOutcome) : Type 0 where
+  pub objects : outcome.objects ≡ changed os plan.change
+  pub written : outcome.written ≡ option_to_list (target_of plan.change)
 
--- a change of a word that a page has, or a slot that a node has
+-- each process has the annex that it has in other objects
+abbrev pub HaveAnnexesOf : List Object → List Object → Type 0
+HaveAnnexesOf os us = (p : ℕ) → annex_at us p ≡ annex_at os p
+
+-- the node and the process that a capability of such a kind names
+abbrev pub node_named : Capability → Option ℕ
+node_named (Node n a) = Some n
+node_named _ = None
+
+abbrev pub process_named : Capability → Option ℕ
+process_named (Process p) = Some p
+process_named _ = None
+
+-- a change that an order on a capability may make: of the object that it names, or of the annex of that process,
+-- within its bounds, with what was sent
+abbrev pub IsFor : List Object → Capability → Arguments → Change → Type 0
+IsFor os c args change.Nothing = Unit {0}
+IsFor os c args (change.Word page index word) = (index < 512) × (named c ≡ Some page)
+IsFor os c args (change.Slot node slot held) = (slot < 32) × (node_named c ≡ Some node) × ((held ≡ args.capability) ⊎ (held ≡ Number args.second))
+IsFor os c args (change.Register process annex register held) =
+    (register < 32) × (1 ≤ register) × (process_named c ≡ Some process) × (annex ≡ annex_at os process) × (held ≡ args.capability)
+IsFor os c args (change.RootWord process index word) = (index < 4) × (process_named c ≡ Some process)
+IsFor os c args (change.SetState process state) = process_named c ≡ Some process
+IsFor os c args (change.Space process held) = (process_named c ≡ Some process) × (held ≡ args.capability) × IsSpace held
+
+-- a capability whose orders need no object, and no access
+abbrev pub IsPlain : Capability → Type 0
+IsPlain (Page o a) = ⊥
+IsPlain (Node o a) = ⊥
+IsPlain (Space o h a) = ⊥
+IsPlain (Process p) = ⊥
+IsPlain _ = Unit {0}
+
+-- a change of a word, slot or register that its object has
 abbrev pub IsWithinObject : Change → Type 0
 IsWithinObject change.Nothing = Unit {0}
 IsWithinObject (change.Word page index word) = index < 512
-IsWithinObject (change.Slot node slot capability) = slot < 32
+IsWithinObject (change.Slot node slot held) = slot < 32
+IsWithinObject (change.Register process annex register held) = (register < 32) × (1 ≤ register)
+IsWithinObject (change.RootWord process index word) = index < 4
+IsWithinObject (change.SetState process state) = Unit {0}
+IsWithinObject (change.Space process held) = Unit {0}
 
--- a plan for an order on a capability changes no other object than the one that it names
-pub record IsFor (capability : Capability) (plan : OrderPlan) : Type 0 where
-  pub within : IsWithinObject plan.change
-  pub target : (n : ℕ) → target_of plan.change ≡ Some n → named capability ≡ Some n
+-- a change of a root is one of a process
+abbrev pub IsOfProcess : List Object → Change → Type 0
+IsOfProcess os (change.RootWord process index word) = IsTrue (is_process os process)
+IsOfProcess os (change.SetState process state) = IsTrue (is_process os process)
+IsOfProcess os (change.Space process held) = IsTrue (is_process os process)
+IsOfProcess os _ = Unit {0}
 
--- objects in whose slots there is nothing else
-abbrev pub HoldOnlyStorage : List Object → Type 0
-HoldOnlyStorage os = (n i : ℕ) → IsStorage (slot_at os n i)
+-- a capability that can be kept where its object was never given up, and so live wherever it is
+abbrev pub FitsCap : Geometry → Capability → Type 0
+FitsCap g c = IsKeptCap g 0 (record { what = c; count = 0 })
+
+-- a change puts only what may be kept where it may stand
+abbrev pub MayHold : Geometry → List Object → Change → Type 0
+MayHold g os (change.Slot node slot held) = FitsCap g held × IsTrue (is_node (content_at os node))
+MayHold g os (change.Register process annex register held) = FitsCap g held
+MayHold g os (change.Space process held) = FitsCap g held × IsSpace held
+MayHold g os _ = Unit {0}

@@ -1,19 +1,29 @@
-ghost use Rattle.std.specs.Prelude.{◌≡◌, ◌<◌, ℕ, Some};
-ghost use Rattle.model.specs.Frame.{objects_of};
-ghost use Rattle.capability.specs.Objects.{KeepsAside};
-ghost use Rattle.gate.specs.Plan.{changed, target_of, IsWithinObject};
+// The changes that orders make.
+ghost use Rattle.std.specs.Prelude.{◌≡◌, ◌+◌, ◌<◌, ◌^◌, ℕ, List, Some, IsTrue};
+ghost use Rattle.model.specs.Frame.{header_at, objects_of};
+ghost use Rattle.model.specs.Keepable.{AreCurrent, AreKeepable};
+ghost use Rattle.model.specs.World.{is_process};
+ghost use Rattle.capability.specs.Parts.{KeepsAside, frames_of};
+ghost use Rattle.gate.specs.Plan.{changed, target_of, IsWithinObject, IsOfProcess, MayHold};
 
 use crate::plan::Change;
-use capability::objects;
-use model::PresentFrames;
+use capability::{PresentFrames, objects, roots};
 
 /// Makes a change in an object that is fetched and announced.
 pub fn make<F: PresentFrames>(store: &mut F, change: Change)
     requires within { IsWithinObject change }
+    requires process { IsOfProcess (objects_of (frames_of (F.parts store.old))) change }
+    requires calls { (p : ℕ) → target_of change ≡ Some p → (header_at (F.parts store.old).headers p).calls < u64.MAX }
+    requires current { AreCurrent (frames_of (F.parts store.old)) }
     requires fetched { (n : ℕ) → target_of change ≡ Some n → F.IsFetched store.old n }
     requires announced { (n : ℕ) → target_of change ≡ Some n → F.IsAnnounced store.old n }
-    ensures objects { objects_of (F.frames store.new) ≡ changed (objects_of (F.frames store.old)) change }
-    ensures aside { KeepsAside F.frames F.touched F.geometry F.failures F.IsFetched F.IsAnnounced F.LeadsTo store.old store.new }
+    ensures objects { objects_of (frames_of (F.parts store.new)) ≡ changed (objects_of (frames_of (F.parts store.old))) change }
+    ensures current { AreCurrent (frames_of (F.parts store.new)) }
+    ensures keepable { (age : ℕ) → age + 1 < 2 ^ 64
+        → MayHold (F.parts store.old).geometry (objects_of (frames_of (F.parts store.old))) change
+        → AreKeepable (F.parts store.old).geometry age (frames_of (F.parts store.old))
+        → AreKeepable (F.parts store.old).geometry (age + 1) (frames_of (F.parts store.new)) }
+    ensures aside { KeepsAside F.parts F.IsFetched F.IsAnnounced F.LeadsTo store.old store.new }
 {
     match change {
         Change::Nothing => {}
@@ -23,18 +33,24 @@ pub fn make<F: PresentFrames>(store: &mut F, change: Change)
             slot,
             capability,
         } => objects::set_slot(store, node, slot, capability),
-    }
-}
-
-impl Change {
-    /// The number that it writes.
-    pub fn target(&self) -> Option<u64>
-        ensures { result ≡ target_of self.now }
-    {
-        match self {
-            Change::Nothing => None,
-            Change::Word { page, .. } => Some(*page),
-            Change::Slot { node, .. } => Some(*node),
+        Change::Register {
+            annex,
+            register,
+            capability,
+            ..
+        } => objects::set_slot(store, annex, register, capability),
+        Change::RootWord {
+            process,
+            index,
+            word,
+        } => roots::set_word(store, process, index, word),
+        Change::SetState { process, state } => {
+            roots::set_state(store, process, state);
+            objects::consume(store, process);
         }
+        Change::Space {
+            process,
+            capability,
+        } => roots::set_space(store, process, capability),
     }
 }

@@ -1,10 +1,18 @@
 //! Invocations of capabilities.
 #![tactic(auto)]
 
-pub mod call;
-pub mod change;
-pub mod delivery;
-pub mod node;
-pub mod page;
-pub mod plan;
-pub mod storage;
+mod change;
+mod delivery;
+mod fault;
+mod gates;
+mod invocation;
+mod kernel_object;
+mod looking;
+mod node;
+mod orders;
+mod page;
+mod plan;
+mod process;
+
+pub use fault::InvokeFault;
+pub use invocation::invoke;

@@ -1,16 +1,17 @@
-ghost use Rattle.std.specs.Prelude.{◌≡◌, List};
+// Orders on nodes.
+ghost use Rattle.std.specs.Prelude.{◌≡◌, ◌⊎◌, List};
 ghost use Rattle.model.specs.declared.object.Object.{Object};
 ghost use Rattle.model.specs.Frame.{objects_of};
 ghost use Rattle.model.specs.Capability.{diminished};
 ghost use Rattle.model.specs.Order.{fetched, node_order, on_node, stored};
-ghost use Rattle.gate.specs.Plan.{outcome_of, IsFor};
+ghost use Rattle.capability.specs.Parts.{frames_of};
+ghost use Rattle.gate.specs.Plan.{outcome_of, ChangesAs, IsFor};
 
 use crate::page::reduction;
-use crate::plan::{Arguments, Change, OrderPlan};
+use crate::plan::{Change, OrderPlan};
 use bitflags::Flags;
-use capability::diminish::diminish;
-use capability::objects;
-use model::{Access, Capability, NodeOrder, PresentFrames, ResultCode, SLOTS};
+use capability::{PresentFrames, objects};
+use model::{Access, Arguments, Capability, NodeOrder, ResultCode, SLOTS};
 
 /// The height of the highest address space.
 const MAX_HEIGHT: u64 = 4;
@@ -33,27 +34,29 @@ pub fn node_order(word: u64) -> Option<NodeOrder>
 fn fetched(access: Access, capability: Capability) -> Capability
     ensures { result ≡ fetched access capability }
 {
-    if access == Access::READ_ONLY.union(Access::WEAK) {
-        diminish(capability)
+    if access == Access::weak() {
+        capability.diminish()
     } else {
         capability
     }
 }
 
-/// What a store into a slot of a node comes to.
-fn stored(object: u64, access: Access, slot: u64, capability: Capability) -> OrderPlan
-    ensures only { IsFor (Capability.Node object access) result }
-    ensures outcome { (os : List Object) → outcome_of os result ≡ stored os object access slot capability }
+/// What a store into a slot of a node comes to, of the capability that was sent or of a number.
+fn stored(object: u64, access: Access, arguments: Arguments, capability: Capability) -> OrderPlan
+    requires { (capability ≡ arguments.capability) ⊎ (capability ≡ Capability.Number arguments.second) }
+    ensures only { (os : List Object) → IsFor os (Capability.Node object access) arguments result.change }
+    ensures outcome { (os : List Object) → outcome_of os result ≡ stored os object access arguments.first capability }
+    ensures change { (os : List Object) → ChangesAs os result (stored os object access arguments.first capability) }
 {
     if !access.is_empty() {
         return OrderPlan::refused(ResultCode::NoAccess);
     }
-    if slot >= SLOTS as u64 {
+    if arguments.first >= SLOTS as u64 {
         return OrderPlan::refused(ResultCode::BadIndex);
     }
     OrderPlan::changed(Change::Slot {
         node: object,
-        slot: slot as usize,
+        slot: arguments.first as usize,
         capability,
     })
 }
@@ -68,9 +71,10 @@ pub fn on_node<F: PresentFrames>(
     arguments: Arguments,
 ) -> OrderPlan
     requires { F.IsFetched store.now object }
-    ensures only { IsFor (Capability.Node object access) result }
-    ensures outcome { outcome_of (objects_of (F.frames store.now)) result
-        ≡ on_node (objects_of (F.frames store.now)) object access order (record { first = arguments.first; second = arguments.second; capability = arguments.capability }) }
+    ensures only { IsFor (objects_of (frames_of (F.parts store.now))) (Capability.Node object access) arguments result.change }
+    ensures outcome { outcome_of (objects_of (frames_of (F.parts store.now))) result
+        ≡ on_node (objects_of (frames_of (F.parts store.now))) object access order arguments }
+    ensures change { (os : List Object) → ChangesAs os result (on_node os object access order arguments) }
 {
     match order {
         NodeOrder::Fetch => {
@@ -80,7 +84,7 @@ pub fn on_node<F: PresentFrames>(
             let held = objects::slot(store, object, arguments.first as usize);
             OrderPlan::given(fetched(access, held))
         }
-        NodeOrder::Store => stored(object, access, arguments.first, arguments.capability),
+        NodeOrder::Store => stored(object, access, arguments, arguments.capability),
         NodeOrder::Reduce => match reduction(arguments.first) {
             None => OrderPlan::refused(ResultCode::BadIndex),
             Some(less) => OrderPlan::given(Capability::Node {
@@ -100,7 +104,7 @@ pub fn on_node<F: PresentFrames>(
         }
         NodeOrder::PutNumber => {
             let number = Capability::Number(arguments.second);
-            stored(object, access, arguments.first, number)
+            stored(object, access, arguments, number)
         }
     }
 }

@@ -1,13 +1,16 @@
-ghost use Rattle.std.specs.Prelude.{◌≡◌, ℕ, if◌then◌else◌};
+// Orders on pages.
+ghost use Rattle.std.specs.Prelude.{◌≡◌, ℕ, if◌then◌else◌, List};
+ghost use Rattle.model.specs.declared.object.Object.{Object};
 ghost use Rattle.model.specs.Frame.{objects_of};
 ghost use Rattle.model.specs.Order.{on_page, page_order, reduces};
 ghost use Rattle.model.specs.Capability.{union};
-ghost use Rattle.gate.specs.Plan.{outcome_of, IsFor};
+ghost use Rattle.capability.specs.Parts.{frames_of};
+ghost use Rattle.gate.specs.Plan.{outcome_of, ChangesAs, IsFor};
 
-use crate::plan::{Arguments, Change, OrderPlan};
+use crate::plan::{Change, OrderPlan};
 use bitflags::Flags;
-use capability::objects;
-use model::{Access, Capability, PageOrder, PresentFrames, ResultCode, WORDS};
+use capability::{PresentFrames, objects};
+use model::{Access, Arguments, Capability, PageOrder, ResultCode, WORDS};
 
 /// The order that a word asks of a page.
 pub fn page_order(word: u64) -> Option<PageOrder>
@@ -27,7 +30,7 @@ pub fn reduction(word: u64) -> Option<Access>
 {
     match word {
         1 => Some(Access::READ_ONLY),
-        3 => Some(Access::READ_ONLY.union(Access::WEAK)),
+        3 => Some(Access::weak()),
         _ => None,
     }
 }
@@ -42,16 +45,17 @@ pub fn on_page<F: PresentFrames>(
     arguments: Arguments,
 ) -> OrderPlan
     requires { F.IsFetched store.now object }
-    ensures only { IsFor (Capability.Page object access) result }
-    ensures outcome { outcome_of (objects_of (F.frames store.now)) result
-        ≡ on_page (objects_of (F.frames store.now)) object access order (record { first = arguments.first; second = arguments.second; capability = arguments.capability }) }
+    ensures only { IsFor (objects_of (frames_of (F.parts store.now))) (Capability.Page object access) arguments result.change }
+    ensures outcome { outcome_of (objects_of (frames_of (F.parts store.now))) result
+        ≡ on_page (objects_of (frames_of (F.parts store.now))) object access order arguments }
+    ensures change { (os : List Object) → ChangesAs os result (on_page os object access order arguments) }
 {
     match order {
         PageOrder::Read => {
             if arguments.first >= WORDS as u64 {
                 return OrderPlan::refused(ResultCode::BadIndex);
             }
-            OrderPlan::told(objects::word(store, object, arguments.first as usize))
+            OrderPlan::told(objects::word(store, object, arguments.first as usize), 0)
         }
         PageOrder::Write => {
             if !access.is_empty() {

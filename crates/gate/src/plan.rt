@@ -1,6 +1,8 @@
+// What an order comes to, before anything changes.
 ghost use Rattle.std.specs.Prelude.{◌≡◌, ℕ, [], ◌∷◌};
+ghost use Rattle.gate.specs.Plan.{target_of};
 
-use model::{Capability, ResultCode};
+use model::{Capability, ResultCode, State};
 
 /// The one change that an order makes.
 #[derive(Clone, Copy, Debug)]
@@ -18,6 +20,29 @@ pub enum Change {
         slot: usize,
         capability: Capability,
     },
+    /// A register of a process, which its annex holds.
+    Register {
+        process: u64,
+        annex: u64,
+        register: usize,
+        capability: Capability,
+    },
+    /// One of the words that a process was last delivered.
+    RootWord {
+        process: u64,
+        index: usize,
+        word: u64,
+    },
+    /// The state of a process, and no capability resumes it any more.
+    SetState {
+        process: u64,
+        state: State,
+    },
+    /// The address space of a process.
+    Space {
+        process: u64,
+        capability: Capability,
+    },
 }
 
 /// What an order comes to: what it tells, and what it is going to change.
@@ -30,12 +55,21 @@ pub struct OrderPlan {
     pub change: Change,
 }
 
-/// What an order is given: the second and third word sent, and the first capability.
-#[derive(Clone, Copy, Debug)]
-pub struct Arguments {
-    pub first: u64,
-    pub second: u64,
-    pub capability: Capability,
+impl Change {
+    /// The number that it writes.
+    pub fn target(&self) -> Option<u64>
+        ensures { result ≡ target_of self.now }
+    {
+        match self {
+            Change::Nothing => None,
+            Change::Word { page, .. } => Some(*page),
+            Change::Slot { node, .. } => Some(*node),
+            Change::Register { annex, .. } => Some(*annex),
+            Change::RootWord { process, .. }
+            | Change::SetState { process, .. }
+            | Change::Space { process, .. } => Some(*process),
+        }
+    }
 }
 
 impl OrderPlan {
@@ -51,12 +85,12 @@ impl OrderPlan {
         }
     }
 
-    /// A word is told.
-    pub fn told(word: u64) -> OrderPlan
-        ensures { result ≡ record { code = ResultCode.Done; words = word ∷ 0 ∷ 0 ∷ []; capability = Capability.Void; change = Change.Nothing } }
+    /// Two words are told.
+    pub fn told(first: u64, second: u64) -> OrderPlan
+        ensures { result ≡ record { code = ResultCode.Done; words = first ∷ second ∷ 0 ∷ []; capability = Capability.Void; change = Change.Nothing } }
     {
         OrderPlan {
-            words: [word, 0, 0],
+            words: [first, second, 0],
             ..OrderPlan::refused(ResultCode::Done)
         }
     }

@@ -1,3 +1,4 @@
+// Which numbers were written since the last checkpoint.
 ghost use Rattle.std.specs.Prelude.{◌≡◌, ◌+◌, ◌<◌, ◌^◌, length};
 ghost use Rattle.std.specs.List.{All};
 ghost use Rattle.model.specs.Machine.{touching, touched_count};

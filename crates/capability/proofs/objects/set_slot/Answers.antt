@@ -1,30 +1,30 @@
-use Rattle.std.proofs.Common.{sym, ap, ◌∙◌}
-use Rattle.model.specs.declared.object.Content.{Content}
-use Rattle.model.specs.declared.object.Content.TheVariants as content
-use Rattle.model.specs.declared.capability.Cap.{Cap}
-use Rattle.model.specs.Frame.{objects_of}
-use Rattle.model.specs.World.{with_slot}
-use Rattle.model.specs.Object.{with_slot_in}
-use Rattle.capability.proofs.Frames.{put_slot, slot_kept, made_live}
+use Rattle.capability.proofs.Edits.{slot_objects, slot_put, slot_stays_current}
+use Rattle.capability.proofs.Keeping.{slot_stays_keepable}
 use Rattle.capability.proofs.objects.set_slot.Goals as goal
 
-pub returns-in_default-clause-objects : goal.returns-in_default-clause-objects
-returns-in_default-clause-objects g c =
-    ap objects_of (g.met.F.PresentFrames.frames_with _ _ _)
-    ∙ put_slot _ c.args.number c.frame_mut.result.now c.frame_mut.ensures.value c.args.slot (record { what = c.args.capability; count = c.current_count.result }) _
-    (slot_kept c.frame_mut.result.now.content c.args.slot _ c.in_default.not-Node c.in_default.not-Annex)
-    ∙ ap (with_slot _ c.args.number c.args.slot) (made_live _ _ _ c.current_count.ensures)
+pub returns-clause-objects : goal.returns-clause-objects
+returns-clause-objects g c =
+    let old = g.F.PresentFrames.parts c.args.store.now in
+    let new = g.F.PresentFrames.parts (g.F.PresentFrames.with_content c.args.store.now c.args.number c.put_slot.new.content) in
+    let at = g.met.F.PresentFrames.known_announced c.args.store.now c.args.number c.requires.announced in
+    let is = slot_put old new c.table.result.now c.args.number c.args.slot c.current_count.result c.args.capability c.frame_mut.result.now c.put_slot.new.content
+    (g.met.F.PresentFrames.parts_with c.args.store.now c.args.number c.put_slot.new.content) c.put_slot.ensures c.frame_mut.ensures.value c.current_count.ensures c.table.ensures in
+    slot_objects old new c.args.number at.0 at.1 c.args.slot c.args.capability is
 
-pub returns-in-Node-clause-objects : goal.returns-in-Node-clause-objects
-returns-in-Node-clause-objects g c =
-    ap objects_of (g.met.F.PresentFrames.frames_with _ _ _)
-    ∙ put_slot _ c.args.number c.frame_mut.result.now c.frame_mut.ensures.value c.args.slot (record { what = c.args.capability; count = c.current_count.result }) _
-    (ap content.Node c.set.ensures.set ∙ sym (ap (λ (d : Content Cap). with_slot_in d c.args.slot (record { what = c.args.capability; count = c.current_count.result })) c.in-Node.is))
-    ∙ ap (with_slot _ c.args.number c.args.slot) (made_live _ _ _ c.current_count.ensures)
+pub returns-clause-current : goal.returns-clause-current
+returns-clause-current g c =
+    let old = g.F.PresentFrames.parts c.args.store.now in
+    let new = g.F.PresentFrames.parts (g.F.PresentFrames.with_content c.args.store.now c.args.number c.put_slot.new.content) in
+    let at = g.met.F.PresentFrames.known_announced c.args.store.now c.args.number c.requires.announced in
+    let is = slot_put old new c.table.result.now c.args.number c.args.slot c.current_count.result c.args.capability c.frame_mut.result.now c.put_slot.new.content
+    (g.met.F.PresentFrames.parts_with c.args.store.now c.args.number c.put_slot.new.content) c.put_slot.ensures c.frame_mut.ensures.value c.current_count.ensures c.table.ensures in
+    slot_stays_current old new c.args.number at.0 at.1 c.args.slot c.args.capability is
 
-pub returns-in-Annex-clause-objects : goal.returns-in-Annex-clause-objects
-returns-in-Annex-clause-objects g c =
-    ap objects_of (g.met.F.PresentFrames.frames_with _ _ _)
-    ∙ put_slot _ c.args.number c.frame_mut.result.now c.frame_mut.ensures.value c.args.slot (record { what = c.args.capability; count = c.current_count.result }) _
-    (ap content.Annex c.set-in-Annex.ensures.set ∙ sym (ap (λ (d : Content Cap). with_slot_in d c.args.slot (record { what = c.args.capability; count = c.current_count.result })) c.in-Annex.is))
-    ∙ ap (with_slot _ c.args.number c.args.slot) (made_live _ _ _ c.current_count.ensures)
+pub returns-clause-keepable : goal.returns-clause-keepable
+returns-clause-keepable g c =
+    let old = g.F.PresentFrames.parts c.args.store.now in
+    let new = g.F.PresentFrames.parts (g.F.PresentFrames.with_content c.args.store.now c.args.number c.put_slot.new.content) in
+    let at = g.met.F.PresentFrames.known_announced c.args.store.now c.args.number c.requires.announced in
+    let is = slot_put old new c.table.result.now c.args.number c.args.slot c.current_count.result c.args.capability c.frame_mut.result.now c.put_slot.new.content
+    (g.met.F.PresentFrames.parts_with c.args.store.now c.args.number c.put_slot.new.content) c.put_slot.ensures c.frame_mut.ensures.value c.current_count.ensures c.table.ensures in
+    λ age held first keepable. slot_stays_keepable old.geometry age old new c.args.number at.0 at.1 c.args.slot c.args.capability is held first keepable

@@ -8,15 +8,18 @@ use Rattle.capability.proofs.objects.state.Goals as goal
 
 pub returns-in_default-clause-process : goal.returns-in_default-clause-process
 returns-in_default-clause-process g c =
-    let now = c.frame.result.now in
-    (λ no. cc, λ is. sym (no_root_there _ c.args.process now now.content c.frame.ensures refl c.in_default.not-Root) ∙ is)
+    let p = g.F.PresentFrames.parts c.args.store.now in
+    let known = (g.met.F.PresentFrames.known_fetched c.args.store.now c.args.process c.requires.fetched).0 in
+    (λ none. cc, λ is. sym (no_root_there p c.args.process known c.frame.result.now (sym c.frame.ensures) c.in_default.not-Root) ∙ is)
 
 pub returns-in-Root-clause-process : goal.returns-in-Root-clause-process
 returns-in-Root-clause-process g c =
-    let now = c.frame.result.now in
-    (λ yes. ap is_root (content_there _ c.args.process now (content.Root c.in-Root.root) c.frame.ensures c.in-Root.is), λ is. refl)
+    let p = g.F.PresentFrames.parts c.args.store.now in
+    let known = (g.met.F.PresentFrames.known_fetched c.args.store.now c.args.process c.requires.fetched).0 in
+    (λ some. ap is_root (content_there p c.args.process known (content.Root c.in-Root.root) (sym c.frame.ensures ∙ c.in-Root.is)), λ is. refl)
 
 pub returns-in-Root-clause-state : goal.returns-in-Root-clause-state
 returns-in-Root-clause-state g c =
-    let now = c.frame.result.now in
-    sym (ap (λ (d : Content Capability). (root_in d).state) (content_there _ c.args.process now (content.Root c.in-Root.root) c.frame.ensures c.in-Root.is))
+    let p = g.F.PresentFrames.parts c.args.store.now in
+    let known = (g.met.F.PresentFrames.known_fetched c.args.store.now c.args.process c.requires.fetched).0 in
+    sym (ap (λ (d : Content Capability). (root_in d).state) (content_there p c.args.process known (content.Root c.in-Root.root) (sym c.frame.ensures ∙ c.in-Root.is)))

@@ -1,9 +1,9 @@
 use Rattle.std.proofs.Common.{◌≡◌, length, map, take}
-use Rattle.model.specs.Frame.{conveyed, headers}
+use Rattle.model.specs.Frame.{conveyed}
 use Rattle.capability.proofs.view.conveyed_slots.Given as goal
 
 abbrev pub invariant-loop-i : goal.invariant-loop-i
-invariant-loop-i g l = record {
+invariant-loop-i l = record {
   whole : length l.slots ≡ 32;
-  front : take l.i l.slots ≡ map (conveyed (headers (g.F.PresentFrames.frames l.store))) (take l.i l.held);
+  front : take l.i l.slots ≡ map (conveyed l.table) (take l.i l.held);
 }

@@ -1,15 +1,16 @@
 use Rattle.std.proofs.Common.{◌≡◌, ◌∙◌, ◌<◌, ◌≤◌, sym, length, arith}
 use Rattle.model.specs.Frame.{objects_of}
-use Rattle.capability.proofs.PlainUsage.{used_more, used_same_itself, used_same_other, used_whole, length-objects}
+use Rattle.capability.specs.Parts.{frames_of}
+use Rattle.capability.proofs.Chains.{count_read, used_more, used_same_itself, used_same_other, used_whole}
 use Rattle.capability.proofs.plain.usage.usage.Goals as goal
 use Rattle.capability.proofs.plain.usage.usage.Goals.{then-number-bank+then-is_under, else-number-bank, else-number-bank-via-then-number-bank+else-is_under, else-number-bank-via-else-number-bank}
 
 pub loop-number-preserved : goal.loop-number-preserved
 loop-number-preserved g c =
-    let fs = g.F.PresentFrames.frames c.args.store.now in
-    let os = objects_of fs in
+    let p = g.F.PresentFrames.parts c.args.store.now in
+    let os = objects_of (frames_of p) in
     let n = c.loop-number.number in
-    let numbers : length os ≡ c.count-count.result = length-objects fs ∙ sym c.count-count.ensures in
+    let numbers : length os ≡ c.count-count.result = count_read p c.table.result.now c.count-count.result c.table.ensures c.count-count.ensures in
     let inside : n < length os = omega arith in
     elim c.if-number-bank.branch [
       | then-number-bank+then-is_under w ↦
@@ -28,8 +29,8 @@ loop-number-preserved g c =
 
 pub returns : goal.returns
 returns g c =
-    let fs = g.F.PresentFrames.frames c.args.store.now in
-    let os = objects_of fs in
-    let numbers : length os ≡ c.count-count.result = length-objects fs ∙ sym c.count-count.ensures in
+    let p = g.F.PresentFrames.parts c.args.store.now in
+    let os = objects_of (frames_of p) in
+    let numbers : length os ≡ c.count-count.result = count_read p c.table.result.now c.count-count.result c.table.ensures c.count-count.ensures in
     let whole : length os ≤ c.loop-number.number = omega arith in
     omega (arith, used_whole os c.args.bank c.loop-number.number whole)

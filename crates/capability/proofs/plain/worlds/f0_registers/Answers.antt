@@ -9,5 +9,5 @@ returns c =
       c.set.ensures.set,
       c.held.ensures,
       c.in_ok-registers.ensures,
-      c.full_access-access.ensures,
+      c.full-access.ensures,
     ) (simp map-set)

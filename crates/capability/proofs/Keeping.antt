@@ -1,0 +1,298 @@
+-- Frames that can be kept stay so through each change.
+use Rattle.std.proofs.Common.{rules, ◌≡◌, ℕ, ◌+◌, ◌^◌, ◌<◌, ◌≤◌, inl, inr, List, length, slice_index_or, slice_set, refl, sym, ap, ◌∙◌, subst, arith}
+use Rattle.std.specs.Prelude.{IsTrue}
+use Rattle.std.proofs.lemmas.Bool.{cases_lt}
+use Rattle.std.proofs.lemmas.List.{get_or_past, length-set}
+use Rattle.std.proofs.lemmas.List.Elements.{All-replicate, All-set, All-weaker}
+use Rattle.model.specs.declared.capability.Cap.{Cap}
+use Rattle.model.specs.declared.capability.Capability.{Capability}
+use Rattle.model.specs.declared.capability.Capability.TheVariants.{Void, Number, Page, Node, Space, Process, Start, Resume, Bank, Discrim}
+use Rattle.model.specs.declared.frame.Frame.{Frame}
+use Rattle.model.specs.declared.frame.ObjectHeader.{ObjectHeader}
+use Rattle.model.specs.declared.geometry.Geometry.{Geometry}
+use Rattle.model.specs.declared.object.Content.{Content}
+use Rattle.model.specs.declared.object.Content.TheVariants as content
+use Rattle.model.specs.declared.object.Role.TheVariants as role
+use Rattle.model.specs.Frame.{blank_frame, blank_header, called, claimed, current_count, frame_at, header_at, held_at, owned_by, void_held}
+use Rattle.model.specs.Keepable.{AreKeepable, AreKeptSlots, AreKeptWords, Follows, IsCount, IsKeepable, IsKeptCap, MayBeKept}
+use Rattle.model.specs.Object.{all_slots, is_annex, role_of, with_slot_in, with_word_in, zero_words}
+use Rattle.model.specs.Sound.{IsOfKind, object_count}
+use Rattle.capability.specs.declared.present.Fresh.{Fresh}
+use Rattle.capability.specs.declared.present.Fresh.TheVariants as fresh
+use Rattle.capability.specs.Objects.{with_message_in}
+use Rattle.capability.specs.Parts.{FreshFits, HaveTheirRoles, IsFreshAt, Parts, frames_of, fresh_content, with_both, with_header, with_held}
+use Rattle.capability.proofs.Edits.{header_kept}
+use Rattle.capability.proofs.Frames.{at_set, frame_in, length_in, pair_at, set_in}
+
+-- what can be kept at an age can be at a later one
+count_later : (age later n : ℕ) → age ≤ later → IsCount age n → IsCount later n
+count_later age later n le c = (omega (arith, c.0), c.1)
+
+follows_later : (g : Geometry) (age later count : ℕ) → age ≤ later → (w : Capability) → Follows g age count w → Follows g later count w
+follows_later g age later count le Void f = f
+follows_later g age later count le (Number n) f = f
+follows_later g age later count le (Page o a) f = (f.0, f.1, count_later age later count le f.2)
+follows_later g age later count le (Node o a) f = (f.0, f.1, count_later age later count le f.2)
+follows_later g age later count le (Space o h a) f = (f.0, f.1, f.2, f.3, count_later age later count le f.4)
+follows_later g age later count le (Process p) f = (f.0, count_later age later count le f.1)
+follows_later g age later count le (Start p key) f = (f.0, f.1, count_later age later count le f.2)
+follows_later g age later count le (Resume p) f = (f.0, count_later age later count le f.1)
+follows_later g age later count le (Bank b) f = (f.0, count_later age later count le f.1)
+follows_later g age later count le Discrim f = f
+
+slots_later : (g : Geometry) (age later : ℕ) → age ≤ later → (slots : List Cap) → AreKeptSlots g age slots → AreKeptSlots g later slots
+slots_later g age later le slots s = record {
+  count = s.count;
+  each = All-weaker (IsKeptCap g age) (IsKeptCap g later) (λ c f. follows_later g age later c.count le c.what f) slots s.each;
+}
+
+content_later : (g : Geometry) (age later : ℕ) → age ≤ later → (c : Content Cap) → MayBeKept g age c → MayBeKept g later c
+content_later g age later le content.Free k = k
+content_later g age later le (content.Page words) k = k
+content_later g age later le (content.Node slots) k = slots_later g age later le slots k
+content_later g age later le (content.Root r) k = (k.0, k.1, k.2, follows_later g age later r.space.count le r.space.what k.3, k.4)
+content_later g age later le (content.Annex registers) k = (slots_later g age later le registers k.0, k.1)
+content_later g age later le (content.Bank limit) k = k
+
+pub frame_later : (g : Geometry) (age later n : ℕ) (f : Frame) → age ≤ later → IsKeepable g age n f → IsKeepable g later n f
+frame_later g age later n f le k = record {
+  kind = k.kind;
+  kept = record {
+    role = k.kept.role;
+    allocations = count_later age later f.header.allocations le k.kept.allocations;
+    calls = count_later age later f.header.calls le k.kept.calls;
+    owner = k.kept.owner;
+    unowned = k.kept.unowned;
+    content = content_later g age later le f.content k.kept.content;
+  };
+}
+
+-- frames that can be kept at an age can be at a later one
+pub keepable_later : (g : Geometry) (age later : ℕ) (fs : List Frame) → age ≤ later → AreKeepable g age fs → AreKeepable g later fs
+keepable_later g age later fs le k = record {
+  count = k.count;
+  each = λ n inside. frame_later g age later n (frame_at fs n) le (k.each n inside);
+}
+
+-- what parts have at a number can be kept, where their frames can; and the other way round
+pub keepable_count : (g : Geometry) (age : ℕ) (p : Parts) → AreKeepable g age (frames_of p) → length p.headers ≡ object_count g
+keepable_count g age p k = sym (length_in p.headers p.contents) ∙ k.count
+
+pub keepable_at : (g : Geometry) (age : ℕ) (p : Parts) (n : ℕ) → n < length p.headers → AreKeepable g age (frames_of p) → IsKeepable g age n (pair_at p.headers p.contents n)
+keepable_at g age p n known k =
+    subst (λ (f : Frame). IsKeepable g age n f) (frame_in p.headers p.contents n known) (k.each n (subst (λ m. n < m) (keepable_count g age p k) known))
+
+pub keepable_from : (g : Geometry) (age : ℕ) (p : Parts) → length p.headers ≡ object_count g →
+    ((n : ℕ) → n < length p.headers → IsKeepable g age n (pair_at p.headers p.contents n)) → AreKeepable g age (frames_of p)
+keepable_from g age p count each = record {
+  count = length_in p.headers p.contents ∙ count;
+  each = λ n inside.
+      let known : n < length p.headers = subst (λ m. n < m) (sym count) inside in
+      subst (λ (f : Frame). IsKeepable g age n f) (sym (frame_in p.headers p.contents n known)) (each n known);
+}
+
+-- frames that can be kept have their roles
+pub keepable_roles : (g : Geometry) (age : ℕ) (fs : List Frame) → AreKeepable g age fs → HaveTheirRoles fs
+keepable_roles g age fs k n = elim (cases_lt n (object_count g)) [
+  | inl known ↦ (k.each n known).kept.role
+  | inr past ↦ subst (λ (f : Frame). f.header.role ≡ role_of f.content) (sym (get_or_past fs n blank_frame (omega (arith, k.count)))) refl
+]
+
+-- one object is another that can be kept
+module _ (g : Geometry) (age later : ℕ) (le : age ≤ later) (p q : Parts) (n : ℕ) (h : ObjectHeader) (c : Content Cap) (inside : n < length p.contents) where
+  pub one_keepable : q ≡ with_both p n h c → IsKeepable g later n (record { header = h; content = c }) → AreKeepable g age (frames_of p) → AreKeepable g later (frames_of q)
+  one_keepable is new k =
+      let frame : Frame = record { header = h; content = c } in
+      subst (λ (fs : List Frame). AreKeepable g later fs) (sym (ap (λ (r : Parts). frames_of r) is ∙ set_in p.headers p.contents n h c inside))
+      (record {
+        count = length-set (frames_of p) n frame ∙ k.count;
+        each = λ m known. at_set (λ (i : ℕ) (f : Frame). IsKeepable g later i f) (frames_of p) n m frame blank_frame new
+            (frame_later g age later m (frame_at (frames_of p) m) le (k.each m known));
+      })
+
+-- another content of its kind
+pub refilled : (g : Geometry) (age n : ℕ) (h : ObjectHeader) (c d : Content Cap) → role_of d ≡ role_of c → IsOfKind g n d → MayBeKept g age d →
+    IsKeepable g age n (record { header = h; content = c }) → IsKeepable g age n (record { header = h; content = d })
+refilled g age n h c d same kind may k = record {
+  kind = kind;
+  kept = record {
+    role = k.kept.role ∙ sym same;
+    allocations = k.kept.allocations;
+    calls = k.kept.calls;
+    owner = k.kept.owner;
+    unowned = k.kept.unowned;
+    content = may;
+  };
+}
+
+slots_set : (g : Geometry) (age : ℕ) (slots : List Cap) (i : ℕ) (held : Cap) → IsKeptCap g age held → AreKeptSlots g age slots → AreKeptSlots g age (slice_set slots i held)
+slots_set g age slots i held new s = record { count = length-set slots i held ∙ s.count; each = All-set (IsKeptCap g age) slots i held new s.each }
+
+with_slot_keeps : (g : Geometry) (age n : ℕ) (h : ObjectHeader) (c : Content Cap) (i : ℕ) (held : Cap) → IsKeptCap g age held →
+    (IsTrue (is_annex c) → i ≡ 0 → held ≡ void_held) → IsKeepable g age n (record { header = h; content = c }) →
+    IsKeepable g age n (record { header = h; content = with_slot_in c i held })
+with_slot_keeps g age n h content.Free i held new first k = k
+with_slot_keeps g age n h (content.Page words) i held new first k = k
+with_slot_keeps g age n h (content.Node slots) i held new first k =
+    refilled g age n h (content.Node slots) (content.Node (slice_set slots i held)) refl k.kind (slots_set g age slots i held new k.kept.content) k
+with_slot_keeps g age n h (content.Root r) i held new first k = k
+with_slot_keeps g age n h (content.Annex registers) i held new first k =
+    refilled g age n h (content.Annex registers) (content.Annex (slice_set registers i held)) refl k.kind (
+      slots_set g age registers i held new k.kept.content.0,
+      at_set (λ (m : ℕ) (d : Cap). m ≡ 0 → d ≡ void_held) registers i 0 held void_held (first refl) (λ _. k.kept.content.1) refl,
+    ) k
+with_slot_keeps g age n h (content.Bank limit) i held new first k = k
+
+with_word_keeps : (g : Geometry) (age n : ℕ) (h : ObjectHeader) (c : Content Cap) (i word : ℕ) → word < 2 ^ 64 →
+    IsKeepable g age n (record { header = h; content = c }) → IsKeepable g age n (record { header = h; content = with_word_in c i word })
+with_word_keeps g age n h content.Free i word fits k = k
+with_word_keeps g age n h (content.Page words) i word fits k =
+    refilled g age n h (content.Page words) (content.Page (slice_set words i word)) refl k.kind
+    (record { count_is = length-set words i word ∙ k.kept.content.count_is; each = All-set (λ w. w < 2 ^ 64) words i word fits k.kept.content.each }) k
+with_word_keeps g age n h (content.Node slots) i word fits k = k
+with_word_keeps g age n h (content.Root r) i word fits k = k
+with_word_keeps g age n h (content.Annex registers) i word fits k = k
+with_word_keeps g age n h (content.Bank limit) i word fits k = k
+
+with_message_keeps : (g : Geometry) (age n : ℕ) (h : ObjectHeader) (c : Content Cap) (words : List ℕ) (key : ℕ) → AreKeptWords 4 words → key < 2 ^ 16 →
+    IsKeepable g age n (record { header = h; content = c }) → IsKeepable g age n (record { header = h; content = with_message_in c words key })
+with_message_keeps g age n h content.Free words key fit fits k = k
+with_message_keeps g age n h (content.Page ws) words key fit fits k = k
+with_message_keeps g age n h (content.Node slots) words key fit fits k = k
+with_message_keeps g age n h (content.Root r) words key fit fits k =
+    refilled g age n h (content.Root r) (with_message_in (content.Root r) words key) refl k.kind
+    (fit, fits, k.kept.content.2, k.kept.content.3, k.kept.content.4) k
+with_message_keeps g age n h (content.Annex registers) words key fit fits k = k
+with_message_keeps g age n h (content.Bank limit) words key fit fits k = k
+
+-- The helpers' edits. The new parts are q.
+module _ (g : Geometry) (age : ℕ) (p q : Parts) (n : ℕ) (known : n < length p.headers) (inside : n < length p.contents) where
+  pub slot_stays_keepable : (i : ℕ) (w : Capability) →
+      q ≡ with_held p n (with_slot_in (held_at p.contents n) i (record { what = w; count = current_count p.headers w })) →
+      IsKeptCap g age (record { what = w; count = current_count p.headers w }) →
+      (IsTrue (is_annex (held_at p.contents n)) → i ≡ 0 → w ≡ Void) → AreKeepable g age (frames_of p) → AreKeepable g age (frames_of q)
+  slot_stays_keepable i w is new first k =
+      let held : Cap = record { what = w; count = current_count p.headers w } in
+      let c = with_slot_in (held_at p.contents n) i held in
+      one_keepable g age age (omega arith) p q n (header_at p.headers n) c inside (is ∙ header_kept p n c)
+      (with_slot_keeps g age n (header_at p.headers n) (held_at p.contents n) i held new
+      (λ annex zeroth. ap (λ (v : Capability). let d : Cap = record { what = v; count = current_count p.headers v } in d) (first annex zeroth))
+      (keepable_at g age p n known k)) k
+
+  pub word_stays_keepable : (i word : ℕ) → word < 2 ^ 64 → q ≡ with_held p n (with_word_in (held_at p.contents n) i word) →
+      AreKeepable g age (frames_of p) → AreKeepable g age (frames_of q)
+  word_stays_keepable i word fits is k =
+      let c = with_word_in (held_at p.contents n) i word in
+      one_keepable g age age (omega arith) p q n (header_at p.headers n) c inside (is ∙ header_kept p n c)
+      (with_word_keeps g age n (header_at p.headers n) (held_at p.contents n) i word fits (keepable_at g age p n known k)) k
+
+  pub message_stays_keepable : (words : List ℕ) (key : ℕ) → AreKeptWords 4 words → key < 2 ^ 16 → q ≡ with_held p n (with_message_in (held_at p.contents n) words key) →
+      AreKeepable g age (frames_of p) → AreKeepable g age (frames_of q)
+  message_stays_keepable words key fit fits is k =
+      let c = with_message_in (held_at p.contents n) words key in
+      one_keepable g age age (omega arith) p q n (header_at p.headers n) c inside (is ∙ header_kept p n c)
+      (with_message_keeps g age n (header_at p.headers n) (held_at p.contents n) words key fit fits (keepable_at g age p n known k)) k
+
+-- one header is another, beside what its object holds
+module _ (g : Geometry) (age later : ℕ) (le : age ≤ later) (p q : Parts) (n : ℕ) (h : ObjectHeader) where
+  header_keepable : q ≡ with_header p n h → IsKeepable g later n (record { header = h; content = held_at p.contents n }) →
+      AreKeepable g age (frames_of p) → AreKeepable g later (frames_of q)
+  header_keepable is new k =
+      subst (λ (r : Parts). AreKeepable g later (frames_of r)) (sym is)
+      (keepable_from g later (with_header p n h) (length-set p.headers n h ∙ keepable_count g age p k)
+      (λ m within.
+      let known : m < length p.headers = omega (arith, length-set p.headers n h) in
+      at_set (λ (i : ℕ) (o : ObjectHeader). IsKeepable g later i (record { header = o; content = held_at p.contents i })) p.headers n m h blank_header new
+      (frame_later g age later m (pair_at p.headers p.contents m) le (keepable_at g age p m known k))))
+
+module _ (g : Geometry) (age : ℕ) (p q : Parts) (n : ℕ) (known : n < length p.headers) where
+  pub owner_stays_keepable : (bank : ℕ) → bank < 2 ^ 64 → ((header_at p.headers n).role ≡ role.Free → bank ≡ 0) →
+      q ≡ with_header p n (owned_by bank (header_at p.headers n)) → AreKeepable g age (frames_of p) → AreKeepable g age (frames_of q)
+  owner_stays_keepable bank fits unowned is k =
+      let old = keepable_at g age p n known k in
+      header_keepable g age age (omega arith) p q n (owned_by bank (header_at p.headers n)) is
+      (record {
+        kind = old.kind;
+        kept = record {
+          role = old.kept.role;
+          allocations = old.kept.allocations;
+          calls = old.kept.calls;
+          owner = fits;
+          unowned = unowned;
+          content = old.kept.content;
+        };
+      }) k
+
+  -- one more call is counted, at the next age
+  pub call_stays_keepable : age + 1 < 2 ^ 64 → q ≡ with_header p n (called (header_at p.headers n)) →
+      AreKeepable g age (frames_of p) → AreKeepable g (age + 1) (frames_of q)
+  call_stays_keepable few is k =
+      let before = keepable_at g age p n known k in
+      let old = frame_later g age (age + 1) n (pair_at p.headers p.contents n) (omega arith) before in
+      header_keepable g age (age + 1) (omega arith) p q n (called (header_at p.headers n)) is
+      (record {
+        kind = old.kind;
+        kept = record {
+          role = old.kept.role;
+          allocations = old.kept.allocations;
+          calls = (omega (arith, before.kept.calls.0), omega (arith, before.kept.calls.0));
+          owner = old.kept.owner;
+          unowned = old.kept.unowned;
+          content = old.kept.content;
+        };
+      }) k
+
+-- A new object can be kept.
+blank_slots : (g : Geometry) (age : ℕ) → AreKeptSlots g age (all_slots void_held)
+unfolding all_slots
+blank_slots g age = record { count = refl; each = All-replicate (IsKeptCap g age) 32 void_held refl }
+
+blank_words : AreKeptWords 512 zero_words
+unfolding zero_words
+blank_words = record { count_is = refl; each = All-replicate (λ w. w < 2 ^ 64) 512 0 (omega arith) }
+
+first_blank : slice_index_or (all_slots void_held) 0 void_held ≡ void_held
+unfolding all_slots
+first_blank = refl
+
+fresh_kept : (g : Geometry) (age : ℕ) (f : Fresh) → FreshFits f → MayBeKept g age (fresh_content void_held f)
+fresh_kept g age fresh.Page fits = blank_words
+fresh_kept g age fresh.Node fits = blank_slots g age
+fresh_kept g age (fresh.Root annex) fits = (record { count_is = refl; each = search rules }, omega arith, fits, refl, tt)
+fresh_kept g age fresh.Annex fits = (blank_slots g age, first_blank)
+fresh_kept g age (fresh.Bank limit) fits = fits
+
+fresh_kind : (g : Geometry) (n : ℕ) (f : Fresh) → n < object_count g → IsFreshAt g n f → IsOfKind g n (fresh_content void_held f)
+fresh_kind g n fresh.Page known place = (place, known)
+fresh_kind g n fresh.Node known place = place
+fresh_kind g n (fresh.Root annex) known place = place
+fresh_kind g n fresh.Annex known place = place
+fresh_kind g n (fresh.Bank limit) known place = place
+
+fresh_used : (f : Fresh) → role_of (fresh_content void_held f) ≡ role.Free → ⊥
+fresh_used fresh.Page is = cc
+fresh_used fresh.Node is = cc
+fresh_used (fresh.Root annex) is = cc
+fresh_used fresh.Annex is = cc
+fresh_used (fresh.Bank limit) is = cc
+
+pub claim_stays_keepable : (age : ℕ) (p q : Parts) (n : ℕ) → n < length p.headers → n < length p.contents → (f : Fresh) (owner : ℕ) → owner < 2 ^ 64 →
+    FreshFits f → IsFreshAt p.geometry n f →
+    q ≡ with_both p n (claimed (role_of (fresh_content void_held f)) owner (header_at p.headers n)) (fresh_content void_held f) →
+    AreKeepable p.geometry age (frames_of p) → AreKeepable p.geometry age (frames_of q)
+claim_stays_keepable age p q n known inside f owner fits fresh_fits place is k =
+    let g = p.geometry in
+    let old = keepable_at g age p n known k in
+    let h = claimed (role_of (fresh_content void_held f)) owner (header_at p.headers n) in
+    one_keepable g age age (omega arith) p q n h (fresh_content void_held f) inside is
+    (record {
+      kind = fresh_kind g n f (subst (λ m. n < m) (keepable_count g age p k) known) place;
+      kept = record {
+        role = refl;
+        allocations = old.kept.allocations;
+        calls = old.kept.calls;
+        owner = fits;
+        unowned = λ free. absurd (fresh_used f free);
+        content = fresh_kept g age f fresh_fits;
+      };
+    }) k

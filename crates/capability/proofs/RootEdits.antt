@@ -1,0 +1,113 @@
+-- What frames stand for once the root of a process is another.
+use Rattle.std.proofs.Common.{◌≡◌, ℕ, ◌<◌, ◌^◌, true, slice_set, List, [], ◌∷◌, length, refl, sym, ap, ◌∙◌, subst, arith}
+use Rattle.std.specs.List.{All}
+use Rattle.std.proofs.lemmas.List.{length-set}
+use Rattle.std.proofs.lemmas.List.Elements.{All-set}
+use Rattle.model.specs.declared.capability.Cap.{Cap}
+use Rattle.model.specs.declared.capability.Capability.{Capability}
+use Rattle.model.specs.declared.frame.ObjectHeader.{ObjectHeader}
+use Rattle.model.specs.declared.geometry.Geometry.{Geometry}
+use Rattle.model.specs.declared.object.Content.{Content}
+use Rattle.model.specs.declared.object.Content.TheVariants as content
+use Rattle.model.specs.declared.object.Object.{Object}
+use Rattle.model.specs.declared.object.Root.{Root}
+use Rattle.model.specs.declared.object.State.{State}
+use Rattle.model.specs.Frame.{conveyed, current_count, header_at, held_at, objects_of}
+use Rattle.model.specs.Keepable.{AreCurrent, AreKeepable, AreKeptWords, IsCurrent, IsKeepable, IsKeptCap, MayBeKept, caps_in}
+use Rattle.model.specs.Order.{with_space}
+use Rattle.model.specs.Sound.{IsSpace}
+use Rattle.model.specs.Object.{is_root, map_content, root_in}
+use Rattle.model.specs.World.{is_process, root_at, with_content, with_root, with_state}
+use Rattle.capability.specs.Objects.{with_root_in}
+use Rattle.capability.specs.Parts.{Parts, frames_of, with_held}
+use Rattle.capability.proofs.Edits.{current_held, header_kept, held_current, held_objects, live}
+use Rattle.capability.proofs.Frames.{content_there}
+use Rattle.capability.proofs.Keeping.{keepable_at, one_keepable, refilled}
+
+-- how the parts come out of what was put into a lent content
+pub root_put : (p q : Parts) (n : ℕ) (change : Root Cap → Root Cap) (now new : Content Cap) → q ≡ with_held p n new → new ≡ with_root_in change now →
+    now ≡ held_at p.contents n → q ≡ with_held p n (with_root_in change (held_at p.contents n))
+root_put p q n change now new back set value = back ∙ ap (with_held p n) (set ∙ ap (with_root_in change) value)
+
+-- a change that goes through the map of capabilities
+abbrev pub GoesThrough : (Root Cap → Root Cap) → (Root Capability → Root Capability) → (Cap → Capability) → Type 0
+GoesThrough change after f = (r : Root Cap) → map_content f (content.Root (change r)) ≡ content.Root (after (root_in (map_content f (content.Root r))))
+
+through_map : (change : Root Cap → Root Cap) (after : Root Capability → Root Capability) (f : Cap → Capability) → GoesThrough change after f → (c : Content Cap) →
+    is_root (map_content f c) ≡ true → map_content f (with_root_in change c) ≡ content.Root (after (root_in (map_content f c)))
+through_map change after f through content.Free is = cc
+through_map change after f through (content.Page ws) is = cc
+through_map change after f through (content.Node slots) is = cc
+through_map change after f through (content.Root r) is = through r
+through_map change after f through (content.Annex registers) is = cc
+through_map change after f through (content.Bank limit) is = cc
+
+root_current : (hs : List ObjectHeader) (change : Root Cap → Root Cap) → ((r : Root Cap) → IsCurrent hs r.space → IsCurrent hs (change r).space) → (c : Content Cap) →
+    All (IsCurrent hs) (caps_in c) → All (IsCurrent hs) (caps_in (with_root_in change c))
+root_current hs change stays content.Free all = all
+root_current hs change stays (content.Page ws) all = all
+root_current hs change stays (content.Node slots) all = all
+root_current hs change stays (content.Root r) all = one (IsCurrent hs) (change r).space (stays r (all 0 r.space (omega arith)))
+  where
+    one : (P : Cap → Type 0) (c : Cap) → P c → All P (c ∷ [])
+    one P c is = λ k d inside. let first : k ≡ 0 = omega arith in rw first is
+root_current hs change stays (content.Annex registers) all = all
+root_current hs change stays (content.Bank limit) all = all
+
+root_keeps : (g : Geometry) (age n : ℕ) (h : ObjectHeader) (change : Root Cap → Root Cap) →
+    ((r : Root Cap) → MayBeKept g age (content.Root r) → MayBeKept g age (content.Root (change r))) → (c : Content Cap) →
+    IsKeepable g age n (record { header = h; content = c }) → IsKeepable g age n (record { header = h; content = with_root_in change c })
+root_keeps g age n h change stays content.Free k = k
+root_keeps g age n h change stays (content.Page ws) k = k
+root_keeps g age n h change stays (content.Node slots) k = k
+root_keeps g age n h change stays (content.Root r) k =
+    refilled g age n h (content.Root r) (content.Root (change r)) refl k.kind (stays r k.kept.content) k
+root_keeps g age n h change stays (content.Annex registers) k = k
+root_keeps g age n h change stays (content.Bank limit) k = k
+
+module _ (p q : Parts) (n : ℕ) (known : n < length p.headers) (inside : n < length p.contents) (change : Root Cap → Root Cap)
+    (is : q ≡ with_held p n (with_root_in change (held_at p.contents n))) where
+  pub root_objects : (after : Root Capability → Root Capability) → GoesThrough change after (conveyed p.headers) → is_process (objects_of (frames_of p)) n ≡ true →
+      objects_of (frames_of q) ≡ with_root (objects_of (frames_of p)) n (after (root_at (objects_of (frames_of p)) n))
+  unfolding with_root
+  root_objects after through process =
+      let c = held_at p.contents n in
+      let there = content_there p n known c refl in
+      ap (λ (r : Parts). objects_of (frames_of r)) is
+      ∙ held_objects p n (with_root_in change c) known inside
+      ∙ ap (with_content (objects_of (frames_of p)) n)
+      (through_map change after (conveyed p.headers) through c (sym (ap is_root there) ∙ process)
+      ∙ ap (λ (d : Content Capability). content.Root (after (root_in d))) (sym there))
+
+  pub root_stays_current : ((r : Root Cap) → IsCurrent p.headers r.space → IsCurrent p.headers (change r).space) → AreCurrent (frames_of p) → AreCurrent (frames_of q)
+  root_stays_current stays current =
+      let c = held_at p.contents n in
+      subst (λ (r : Parts). AreCurrent (frames_of r)) (sym is)
+      (held_current p n (with_root_in change c) known inside (root_current p.headers change stays c (current_held p current n known)) current)
+
+  pub root_stays_keepable : (g : Geometry) (age : ℕ) → ((r : Root Cap) → MayBeKept g age (content.Root r) → MayBeKept g age (content.Root (change r))) →
+      AreKeepable g age (frames_of p) → AreKeepable g age (frames_of q)
+  root_stays_keepable g age stays k =
+      let c = with_root_in change (held_at p.contents n) in
+      one_keepable g age age (omega arith) p q n (header_at p.headers n) c inside (is ∙ header_kept p n c)
+      (root_keeps g age n (header_at p.headers n) change stays (held_at p.contents n) (keepable_at g age p n known k)) k
+
+-- another word, state or address space
+pub word_kept : (i word : ℕ) (ws : List ℕ) → word < 2 ^ 64 → AreKeptWords 4 ws → AreKeptWords 4 (slice_set ws i word)
+word_kept i word ws fits k = record { count_is = length-set ws i word ∙ k.count_is; each = All-set (λ w. w < 2 ^ 64) ws i word fits k.each }
+
+pub state_is : (os : List Object) (p : ℕ) (s : State) → with_state os p s ≡ with_root os p (record (root_at os p) { state = s })
+unfolding with_state
+state_is os p s = refl
+
+pub space_through : (hs : List ObjectHeader) (w : Capability) (count : ℕ) → count ≡ current_count hs w →
+    GoesThrough (λ (r : Root Cap). record r { space = record { what = w; count = count } }) (λ (r : Root Capability). with_space r w) (conveyed hs)
+space_through hs w count is r =
+    ap (λ (s : Capability). content.Root (record (root_in (map_content (conveyed hs) (content.Root r))) { space = s }))
+    (ap (λ (n : ℕ). conveyed hs (record { what = w; count = n })) is ∙ live hs w)
+
+pub space_kept : (g : Geometry) (age : ℕ) (hs : List ObjectHeader) (w : Capability) (count : ℕ) → count ≡ current_count hs w →
+    IsKeptCap g age (record { what = w; count = current_count hs w }) → IsSpace w → (r : Root Cap) →
+    MayBeKept g age (content.Root r) → MayBeKept g age (content.Root (record r { space = record { what = w; count = count } }))
+space_kept g age hs w count is held space r k =
+    (k.0, k.1, k.2, subst (λ (n : ℕ). IsKeptCap g age (record { what = w; count = n })) (sym is) held, space)

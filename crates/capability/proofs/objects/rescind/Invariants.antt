@@ -1,0 +1,12 @@
+use Rattle.std.proofs.Common.{◌≡◌, ℕ, false, take}
+use Rattle.model.specs.Revoke.{is_member}
+use Rattle.capability.specs.Parts.{AreGivenUp}
+use Rattle.capability.proofs.objects.rescind.Given as goal
+
+abbrev pub invariant-loop-number : goal.invariant-loop-number
+invariant-loop-number g l = record {
+  given_up : AreGivenUp (take l.number-index l.numbers) (g.F.PresentFrames.parts l.initial.store) (g.F.PresentFrames.parts l.store);
+  fetched : (n : ℕ) → is_member (take l.number-index l.numbers) n ≡ false → g.F.PresentFrames.IsFetched l.initial.store n → g.F.PresentFrames.IsFetched l.store n;
+  announced : (n : ℕ) → is_member (take l.number-index l.numbers) n ≡ false → g.F.PresentFrames.IsAnnounced l.initial.store n → g.F.PresentFrames.IsAnnounced l.store n;
+  leads : g.F.PresentFrames.LeadsTo l.initial.store l.store;
+}

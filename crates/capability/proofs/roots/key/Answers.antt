@@ -1,0 +1,21 @@
+use Rattle.std.proofs.Common.{ℕ, ◌≡◌, sym, ap, ◌∙◌}
+use Rattle.model.specs.declared.capability.Capability.{Capability}
+use Rattle.model.specs.declared.object.Content.{Content}
+use Rattle.model.specs.declared.object.Content.TheVariants as content
+use Rattle.model.specs.Object.{root_in}
+use Rattle.capability.proofs.Frames.{content_there, no_root_there}
+use Rattle.capability.proofs.roots.key.Goals as goal
+
+pub returns-in-Root : goal.returns-in-Root
+returns-in-Root g c =
+    let p = g.F.PresentFrames.parts c.args.store.now in
+    let known = (g.met.F.PresentFrames.known_fetched c.args.store.now c.args.process c.requires.fetched).0 in
+    sym (ap (λ (d : Content Capability). (root_in d).key) (content_there p c.args.process known (content.Root c.in-Root.root) (sym c.frame.ensures ∙ c.in-Root.is)))
+
+pub returns-in_default : goal.returns-in_default
+returns-in_default g c =
+    let p = g.F.PresentFrames.parts c.args.store.now in
+    let known = (g.met.F.PresentFrames.known_fetched c.args.store.now c.args.process c.requires.fetched).0 in
+    let none = no_root_there p c.args.process known c.frame.result.now (sym c.frame.ensures) c.in_default.not-Root in
+    let some = c.requires.process in
+    cc

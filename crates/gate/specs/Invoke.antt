@@ -1,0 +1,125 @@
+-- What an invocation comes to over a store of present frames.
+use Rattle.std.specs.Prelude.{◌≡◌, ◌↔◌, ℕ, ◌+◌, ◌^◌, ◌<◌, ◌≤◌, Bool, List, [], ◌∷◌, ◌++◌, length, None, Some, Result, IsErrOf, if◌then◌else◌, slice_set}
+use Rattle.std.specs.Option.{option_to_list}
+use Rattle.model.specs.declared.capability.Capability.{Capability}
+use Rattle.model.specs.declared.capability.Capability.TheVariants.{Start, Resume}
+use Rattle.model.specs.declared.command.Invocation.{Invocation}
+use Rattle.model.specs.declared.command.Operation.{Operation}
+use Rattle.model.specs.declared.command.Operation.TheVariants.{Call, Return, Send}
+use Rattle.model.specs.declared.geometry.Geometry.{Geometry}
+use Rattle.model.specs.declared.object.Object.{Object}
+use Rattle.model.specs.declared.object.State.TheVariants.{Available}
+use Rattle.model.specs.Invoke.{Effect, invoke, on_kernel_object, after_gate, reply_of, deliver, sent_by}
+use Rattle.model.specs.Keepable.{IsSoundFrames}
+use Rattle.model.specs.Machine.{touching, touched_count}
+use Rattle.model.specs.Revoke.{consume}
+use Rattle.model.specs.World.{annex_at, register_at, is_running_process, with_state}
+use Rattle.capability.specs.declared.present.PrepareFault.{PrepareFault}
+use Rattle.capability.specs.declared.present.PrepareFault.TheVariants as prepare
+use Rattle.capability.specs.Parts.{Parts, LooksUp, frames_of}
+use Rattle.gate.specs.declared.fault.InvokeFault.{InvokeFault}
+use Rattle.gate.specs.declared.fault.InvokeFault.TheVariants as fault
+use Rattle.gate.specs.declared.gates.Gate.{Gate}
+use Rattle.gate.specs.declared.looking.Asked.{Asked}
+use Rattle.gate.specs.declared.plan.Change.{Change}
+use Rattle.gate.specs.declared.plan.OrderPlan.{OrderPlan}
+use Rattle.gate.specs.Plan.{changed, outcome_of, target_of, FitsCap, IsOfProcess, IsWithinObject, MayHold}
+
+-- why an invocation wasn't carried out, where it is that objects weren't prepared
+abbrev pub fault_of : PrepareFault → InvokeFault
+fault_of prepare.NoMemory = fault.NoMemory
+fault_of prepare.LogFull = fault.LogFull
+fault_of prepare.Failed = fault.Failed
+
+-- Frames were fetched for a call that may want memory or fail, and nothing else came of it. The parameters are
+-- ghost members of a store of present frames.
+pub record Looks {S T : Type 0} (parts : S → Parts) (Leads : S → S → Type 0) (old new : S) (result : Result T PrepareFault) : Type 0 where
+  pub aside : LooksUp parts Leads old new
+  pub later : (parts old).failures ≤ (parts new).failures
+  pub cause : IsErrOf result prepare.Failed ↔ ((parts old).failures < (parts new).failures)
+  pub room : IsErrOf result prepare.LogFull → ⊥
+
+-- the objects after an invocation, and the numbers that it touched, which half of the log holds
+abbrev pub Invokes : Invocation → ℕ → List Object → List Bool → List Object → List Bool → Type 0
+Invokes i log before touched after touched_after =
+    (effect : Effect) × (invoke before i ≡ Some effect) × (after ≡ effect.objects)
+    × (touched_after ≡ touching touched effect.written) × (touched_count touched_after ≤ log)
+
+-- an invocation that would write more numbers than half of the log holds
+abbrev pub Overfills : Invocation → ℕ → List Object → List Bool → Type 0
+Overfills i log before touched =
+    (effect : Effect) × (invoke before i ≡ Some effect) × (log < touched_count (touching touched effect.written))
+
+-- a capability that isn't a gate
+abbrev pub IsKernelObject : Capability → Type 0
+IsKernelObject (Start p key) = ⊥
+IsKernelObject (Resume p) = ⊥
+IsKernelObject _ = Unit {0}
+
+-- the numbers that an invocation of a kernel object writes: for a call the process and its annex, for a return the
+-- process, and what the order changes
+abbrev pub written_by : Operation → ℕ → ℕ → Change → List ℕ
+written_by operation process annex change =
+    (elim operation [ Call ↦ process ∷ annex ∷ [] | Return ↦ process ∷ [] | Send ↦ [] ]) ++ option_to_list (target_of change)
+
+-- and those of one through the gate of another process: that one, its annex, and who calls or returns
+abbrev pub written_through : Operation → ℕ → ℕ → ℕ → List ℕ
+written_through operation process q annex = q ∷ annex ∷ (elim operation [ Send ↦ [] | _ ↦ process ∷ [] ])
+
+-- what an invocation writes is announced
+pub record AreAnnounced {S : Type 0} (Announced : S → ℕ → Type 0) (store : S) (operation : Operation) (process annex : ℕ) (change : Change) : Type 0 where
+  pub target : (n : ℕ) → target_of change ≡ Some n → Announced store n
+  pub invoker : (operation ≡ Send → ⊥) → Announced store process
+  pub registers : operation ≡ Call → Announced store annex
+
+-- the objects after the reply to a process that called, which is dropped where it doesn't run any more
+abbrev pub replied_to : List Object → ℕ → OrderPlan → List Object
+replied_to os process plan = if is_running_process os process then deliver os process (reply_of (outcome_of os plan)) else os
+
+-- the objects after the change of a plan, with the reply to a call; a process that returns is available before
+abbrev pub finished : List Object → Operation → ℕ → OrderPlan → List Object
+finished os Call process plan = replied_to (changed os plan.change) process plan
+finished os Return process plan = changed (with_state os process Available) plan.change
+finished os Send process plan = changed os plan.change
+
+-- what was read of an invocation is what it says
+pub record IsAsked (os : List Object) (i : Invocation) (asked : Asked) : Type 0 where
+  pub annex : asked.annex ≡ annex_at os i.process
+  pub invoked : asked.invoked ≡ register_at os i.process i.register
+  pub sent : asked.sent ≡ sent_by os i
+
+-- an order that is planned comes to what the definitions say, in objects that there are, and puts only what may be kept
+pub record IsPlanned (g : Geometry) (os : List Object) (i : Invocation) (plan : OrderPlan) : Type 0 where
+  pub effect : on_kernel_object os i ≡ record {
+    objects = finished os i.operation i.process plan;
+    written = written_by i.operation i.process (annex_at os i.process) plan.change;
+  }
+  pub within : IsWithinObject plan.change
+  pub process : IsOfProcess os plan.change
+  pub target : (n : ℕ) → target_of plan.change ≡ Some n → n < length os
+  pub holds : MayHold g os plan.change
+  pub fits : FitsCap g plan.capability
+
+-- frames that are sound at an age are sound at the next
+abbrev pub KeepsSoundFrames : Parts → Parts → Type 0
+KeepsSoundFrames old new = (age : ℕ) → age < 2 ^ 62 → IsSoundFrames old.geometry age (frames_of old) → IsSoundFrames old.geometry (age + 1) (frames_of new)
+
+-- no object and no number written is another
+pub record IsUnchanged (old new : Parts) : Type 0 where
+  pub headers : new.headers ≡ old.headers
+  pub contents : new.contents ≡ old.contents
+  pub touched : new.touched ≡ old.touched
+
+-- the capabilities that a gate receives of those that are sent: with a call the last is the right to answer
+abbrev pub received : Invocation → List Capability → List Capability
+received i sent = elim i.operation [ Call ↦ slice_set sent 3 (Resume i.process) | _ ↦ sent ]
+
+-- the capability that a gate is
+abbrev pub gate_capability : Gate → Capability
+gate_capability gate = if gate.is_resume then Resume gate.process else Start gate.process gate.key
+
+-- the objects after a message went through a gate; a resume capability is consumed last
+abbrev pub entered : List Object → Invocation → Gate → List Capability → List Object
+entered os i gate sent =
+    let delivered = deliver (after_gate os i) gate.process (record { words = i.words; key = gate.key; capabilities = received i sent }) in
+    if gate.is_resume then consume gate.process delivered else delivered

@@ -1,0 +1,35 @@
+// Why an invocation isn't carried out.
+use capability::PrepareFault;
+use thiserror::Error;
+
+/// Why an invocation wasn't carried out. Nothing was changed.
+#[derive(Clone, Copy, PartialEq, Eq, Debug, Error)]
+pub enum InvokeFault {
+    /// The process that is started isn't available.
+    #[error("stalled")]
+    Stalled,
+    /// More numbers would be written since the last checkpoint than half of the log holds.
+    #[error("log full")]
+    LogFull,
+    /// Memory ran out.
+    #[error("no memory")]
+    NoMemory,
+    /// The device failed.
+    #[error("the device failed")]
+    Failed,
+}
+
+impl From<PrepareFault> for InvokeFault {
+    ghost use Rattle.std.specs.Prelude.{◌≡◌};
+    ghost use Rattle.gate.specs.Invoke.{fault_of};
+
+    ghost from_gives = { λ e f. f ≡ fault_of e };
+
+    fn from(fault: PrepareFault) -> InvokeFault {
+        match fault {
+            PrepareFault::NoMemory => InvokeFault::NoMemory,
+            PrepareFault::LogFull => InvokeFault::LogFull,
+            PrepareFault::Failed => InvokeFault::Failed,
+        }
+    }
+}

@@ -1,0 +1,110 @@
+// What an invocation reads before anything changes.
+ghost use Rattle.std.specs.Prelude.{◌≡◌, ℕ, ◌<◌, ◌^◌, length, Some, IfOk, OnOk, IsTrue};
+ghost use Rattle.model.specs.Capability.{named};
+ghost use Rattle.model.specs.Frame.{objects_of};
+ghost use Rattle.model.specs.Keepable.{AreKeepable};
+ghost use Rattle.model.specs.Object.{is_annex};
+ghost use Rattle.model.specs.Sound.{NamesItsKind};
+ghost use Rattle.model.specs.World.{annex_at, content_at, is_process};
+ghost use Rattle.capability.specs.Parts.{frames_of};
+ghost use Rattle.gate.specs.Invoke.{IsAsked, Looks};
+ghost use Rattle.gate.specs.Plan.{process_named};
+
+use capability::{PrepareFault, PresentFrames, objects};
+use model::{Capability, Invocation};
+use std::alloc::Global;
+
+/// What an invocation sends, as it is before anything changes.
+#[derive(Clone, Copy, Debug)]
+pub struct Asked {
+    /// The annex of the process that invokes.
+    pub annex: u64,
+    pub invoked: Capability,
+    pub sent: [Capability; 4],
+}
+
+/// Fetches one object.
+pub fn look<F: PresentFrames>(alloc: Global, store: &mut F, number: u64) -> Result<(), PrepareFault>
+    requires known { number < length (F.parts store.old).headers }
+    requires keepable { AreKeepable (F.parts store.old).geometry u64.MAX (frames_of (F.parts store.old)) }
+    ensures fetched { OnOk result (F.IsFetched store.new number) }
+    ensures looks { Looks F.parts F.LeadsTo store.old store.new result }
+{
+    objects::fetch(store, alloc, &[number])
+}
+
+/// Fetches a process and its annex.
+pub fn look_at_process<F: PresentFrames>(
+    alloc: Global,
+    store: &mut F,
+    process: u64,
+) -> Result<u64, PrepareFault>
+    requires keepable { AreKeepable (F.parts store.old).geometry u64.MAX (frames_of (F.parts store.old)) }
+    requires process { IsTrue (is_process (objects_of (frames_of (F.parts store.old))) process) }
+    requires annex { IsTrue (is_annex (content_at (objects_of (frames_of (F.parts store.old))) (annex_at (objects_of (frames_of (F.parts store.old))) process))) }
+    ensures root { OnOk result (F.IsFetched store.new process) }
+    ensures annex { IfOk result (λ annex. (annex ≡ annex_at (objects_of (frames_of (F.parts store.old))) process) × F.IsFetched store.new annex) }
+    ensures looks { Looks F.parts F.LeadsTo store.old store.new result }
+{
+    look(alloc, store, process)?;
+    let annex = objects::annex(store, process);
+    objects::fetch(store, alloc, &[process, annex])?;
+    Ok(annex)
+}
+
+/// Fetches what an order on a capability reads: the object that it names, and of a process its
+/// annex too.
+pub fn look_at_named<F: PresentFrames>(
+    alloc: Global,
+    store: &mut F,
+    capability: Capability,
+) -> Result<(), PrepareFault>
+    requires keepable { AreKeepable (F.parts store.old).geometry u64.MAX (frames_of (F.parts store.old)) }
+    requires kind { NamesItsKind (objects_of (frames_of (F.parts store.old))) capability }
+    requires annex { (p : ℕ) → process_named capability ≡ Some p
+        → IsTrue (is_annex (content_at (objects_of (frames_of (F.parts store.old))) (annex_at (objects_of (frames_of (F.parts store.old))) p))) }
+    ensures object { OnOk result ((n : ℕ) → named capability ≡ Some n → F.IsFetched store.new n) }
+    ensures annex { OnOk result ((p : ℕ) → process_named capability ≡ Some p → F.IsFetched store.new (annex_at (objects_of (frames_of (F.parts store.old))) p)) }
+    ensures looks { Looks F.parts F.LeadsTo store.old store.new result }
+{
+    if let Capability::Process(process) = capability {
+        look_at_process(alloc, store, process)?;
+        return Ok(());
+    }
+    match capability.named() {
+        Some(object) => look(alloc, store, object),
+        None => Ok(()),
+    }
+}
+
+/// Reads what a process invokes and sends.
+pub fn ask<F: PresentFrames>(
+    alloc: Global,
+    store: &mut F,
+    invocation: &Invocation,
+) -> Result<Asked, PrepareFault>
+    requires keepable { AreKeepable (F.parts store.old).geometry u64.MAX (frames_of (F.parts store.old)) }
+    requires process { IsTrue (is_process (objects_of (frames_of (F.parts store.old))) invocation.now.process) }
+    requires annex { IsTrue (is_annex (content_at (objects_of (frames_of (F.parts store.old))) (annex_at (objects_of (frames_of (F.parts store.old))) invocation.now.process))) }
+    ensures asked { IfOk result (λ asked. IsAsked (objects_of (frames_of (F.parts store.old))) invocation.now asked) }
+    ensures looks { Looks F.parts F.LeadsTo store.old store.new result }
+{
+    let annex = look_at_process(alloc, store, invocation.process)?;
+    Ok(Asked {
+        annex,
+        invoked: objects::slot(store, annex, invocation.register.index()),
+        sent: [
+            objects::slot(store, annex, invocation.sent[0].index()),
+            objects::slot(store, annex, invocation.sent[1].index()),
+            objects::slot(store, annex, invocation.sent[2].index()),
+            objects::slot(store, annex, invocation.sent[3].index()),
+        ],
+    })
+}
+
+/// The numbers of objects have 64 bits. This does nothing; its contract is the fact.
+pub fn numbers_fit<F: PresentFrames>(store: &F)
+    ensures { length (F.parts store.now).headers < 2 ^ 64 }
+{
+    let _count = store.table().count();
+}

@@ -1,0 +1,115 @@
+// Orders on processes.
+ghost use Rattle.std.specs.Prelude.{◌≡◌, ℕ, ◌↔◌, List, IsTrue};
+ghost use Rattle.model.specs.declared.object.Object.{Object};
+ghost use Rattle.model.specs.Frame.{objects_of};
+ghost use Rattle.model.specs.Order.{is_space, on_process, process_order};
+ghost use Rattle.model.specs.Sound.{IsSpace};
+ghost use Rattle.model.specs.World.{annex_at, is_process};
+ghost use Rattle.capability.specs.Parts.{frames_of};
+ghost use Rattle.gate.specs.Plan.{outcome_of, ChangesAs, HaveAnnexesOf, IsFor};
+
+use crate::plan::{Change, OrderPlan};
+use capability::{PresentFrames, objects, roots};
+use model::{Arguments, Capability, ProcessOrder, REGISTERS, ResultCode, State};
+
+/// How many words a process is delivered.
+const ROOT_WORDS: u64 = 4;
+
+/// The greatest key of a start capability.
+const MAX_KEY: u64 = 65535;
+
+/// The order that a word asks of a process.
+pub fn process_order(word: u64) -> Option<ProcessOrder>
+    ensures { result ≡ process_order word }
+{
+    match word {
+        1 => Some(ProcessOrder::GetRegister),
+        2 => Some(ProcessOrder::PutRegister),
+        3 => Some(ProcessOrder::GetWord),
+        4 => Some(ProcessOrder::PutWord),
+        5 => Some(ProcessOrder::MakeStart),
+        6 => Some(ProcessOrder::GetState),
+        7 => Some(ProcessOrder::SetState),
+        8 => Some(ProcessOrder::GetSpace),
+        9 => Some(ProcessOrder::SetSpace),
+        _ => None,
+    }
+}
+
+/// Whether a capability may be an address space.
+fn may_be_space(capability: Capability) -> bool
+    ensures value { result ≡ is_space capability }
+    ensures space { IsTrue result → IsSpace capability }
+{
+    matches!(
+        capability,
+        Capability::Void | Capability::Page { .. } | Capability::Space { .. }
+    )
+}
+
+/// What an order on a process comes to whose root and annex are fetched.
+#[tactic(auto, unfolding(model::specs::Order::on_process))]
+pub fn on_process<F: PresentFrames>(
+    store: &F,
+    process: u64,
+    order: ProcessOrder,
+    arguments: Arguments,
+) -> OrderPlan
+    requires root { F.IsFetched store.now process }
+    requires annex { F.IsFetched store.now (annex_at (objects_of (frames_of (F.parts store.now))) process) }
+    requires process { IsTrue (is_process (objects_of (frames_of (F.parts store.now))) process) }
+    ensures only { IsFor (objects_of (frames_of (F.parts store.now))) (Capability.Process process) arguments result.change }
+    ensures outcome { outcome_of (objects_of (frames_of (F.parts store.now))) result
+        ≡ on_process (objects_of (frames_of (F.parts store.now))) process order arguments }
+    ensures change { (os : List Object) → HaveAnnexesOf (objects_of (frames_of (F.parts store.now))) os
+        → ChangesAs os result (on_process os process order arguments) }
+{
+    let first = arguments.first;
+    let annex = objects::annex(store, process);
+    match order {
+        ProcessOrder::GetRegister if first < REGISTERS as u64 => {
+            OrderPlan::given(objects::slot(store, annex, first as usize))
+        }
+        ProcessOrder::PutRegister if first != 0 && first < REGISTERS as u64 => {
+            OrderPlan::changed(Change::Register {
+                process,
+                annex,
+                register: first as usize,
+                capability: arguments.capability,
+            })
+        }
+        ProcessOrder::GetWord if first < ROOT_WORDS => {
+            OrderPlan::told(roots::word(store, process, first as usize), 0)
+        }
+        ProcessOrder::PutWord if first < ROOT_WORDS => OrderPlan::changed(Change::RootWord {
+            process,
+            index: first as usize,
+            word: arguments.second,
+        }),
+        ProcessOrder::MakeStart if first <= MAX_KEY => OrderPlan::given(Capability::Start {
+            process,
+            key: first as u16,
+        }),
+        ProcessOrder::GetState => {
+            let state = roots::state(store, process);
+            OrderPlan::told(state.number(), roots::key(store, process) as u64)
+        }
+        ProcessOrder::SetState if first == 0 => OrderPlan::changed(Change::SetState {
+            process,
+            state: State::Available,
+        }),
+        ProcessOrder::SetState if first == 1 => OrderPlan::changed(Change::SetState {
+            process,
+            state: State::Running,
+        }),
+        ProcessOrder::GetSpace => OrderPlan::given(roots::space(store, process)),
+        ProcessOrder::SetSpace if may_be_space(arguments.capability) => {
+            OrderPlan::changed(Change::Space {
+                process,
+                capability: arguments.capability,
+            })
+        }
+        ProcessOrder::SetSpace => OrderPlan::refused(ResultCode::BadCapability),
+        _ => OrderPlan::refused(ResultCode::BadIndex),
+    }
+}

@@ -1,0 +1,42 @@
+-- The machine of present frames, and what a command comes to over them.
+use Rattle.std.specs.Prelude.{◌≡◌, ◌↔◌, ℕ, ◌+◌, ◌<◌, ◌≤◌, Option, None, Some, List, true, false}
+use Rattle.model.specs.declared.answer.Answer.{Answer}
+use Rattle.model.specs.declared.answer.Answer.TheVariants as answer
+use Rattle.model.specs.declared.answer.Refusal.{Refusal}
+use Rattle.model.specs.declared.answer.Refusal.TheVariants as refusal
+use Rattle.model.specs.declared.command.Command.{Command}
+use Rattle.model.specs.declared.object.Object.{Object}
+use Rattle.model.specs.Keepable.{IsSoundFrames, world_at}
+use Rattle.model.specs.Machine.{Frozen, Saved, Machine, Up}
+use Rattle.model.specs.Step.{Step}
+use Rattle.model.specs.World.{is_process, is_running_process}
+use Rattle.capability.specs.Parts.{Parts, frames_of}
+
+-- the machine whose objects now are those of present frames
+abbrev pub machine_at : ℕ → Parts → Option Frozen → Saved → ℕ → Machine
+machine_at age p frozen saved to_move =
+    Up (record { now = world_at age (frames_of p); touched = p.touched; frozen = frozen; saved = saved; to_move = to_move })
+
+-- the age after an answer to an invocation
+abbrev pub age_after : ℕ → Answer → ℕ
+age_after age answer.Done = age + 1
+age_after age _ = age
+
+-- from parts at an age to parts at an age a command is answered as the machine answers it, whatever is frozen and
+-- saved; a failure of the device aside, after which the machine is down
+pub record Serves (old_age : ℕ) (old : Parts) (c : Command) (a : Answer) (new_age : ℕ) (new : Parts) : Type 0 where
+  pub step : (frozen : Option Frozen) (saved : Saved) (to_move : ℕ) → (a ≡ answer.Refused refusal.Fault → ⊥) →
+      Step old.geometry (machine_at old_age old frozen saved to_move) c a (machine_at new_age new frozen saved to_move)
+  pub sound : IsSoundFrames new.geometry new_age (frames_of new)
+  pub geometry : new.geometry ≡ old.geometry
+  pub later : old.failures ≤ new.failures
+  pub cause : (a ≡ answer.Refused refusal.Fault) ↔ (old.failures < new.failures)
+
+-- why a process can't act, or nothing where it runs
+abbrev pub IsEarly : List Object → ℕ → Option Refusal → Type 0
+IsEarly os p None = (is_process os p ≡ true) × (is_running_process os p ≡ true)
+IsEarly os p (Some refusal.NoProcess) = is_process os p ≡ false
+IsEarly os p (Some refusal.NotRunning) = (is_process os p ≡ true) × (is_running_process os p ≡ false)
+IsEarly os p (Some refusal.NoMemory) = is_process os p ≡ true
+IsEarly os p (Some refusal.Fault) = Unit {0}
+IsEarly os p _ = ⊥
