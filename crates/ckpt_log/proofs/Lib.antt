@@ -1,4 +1,6 @@
+pub mod BesideHeaders
 pub mod Commits
+pub mod Directories
 pub mod Places
 pub mod ReadBack
 pub mod Refusals

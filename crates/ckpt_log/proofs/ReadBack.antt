@@ -7,11 +7,12 @@ use Rattle.layout.specs.Image.{frame_bytes, IsFrameOf}
 use Rattle.layout.specs.Superblock.{Plan}
 use Rattle.layout.proofs.Directories.{one_directory, directory_fits}
 use Rattle.layout.proofs.Images.{one_frame}
-use Rattle.ckpt_log.specs.declared.fault.LogFault.{LogFault}
-use Rattle.ckpt_log.specs.declared.fault.LogFault.TheVariants.{Failed, Bad}
-use Rattle.ckpt_log.specs.Slot.{IsBadSlot, IsBadDirectory, SlotsAreReadBack, DirectoriesAreReadBack}
+use Rattle.frame_io.specs.declared.fault.ReadFault.{ReadFault}
+use Rattle.frame_io.specs.declared.fault.ReadFault.TheVariants.{Failed, Bad}
+use Rattle.frame_io.specs.Fault.{IsRefused}
+use Rattle.ckpt_log.specs.Slot.{IsBadDirectory, SlotsAreReadBack, DirectoriesAreReadBack}
 
-slot_not_refused : (p : Plan) (age object : ℕ) (f : Frame) (e : LogFault) → IsFrameOf p.geometry age object (frame_bytes p object f) f → IsBadSlot p age object (frame_bytes p object f) e → e ≡ Failed
+slot_not_refused : (p : Plan) (age object : ℕ) (f : Frame) (e : ReadFault) → IsFrameOf p.geometry age object (frame_bytes p object f) f → IsRefused p.geometry age object (frame_bytes p object f) e → e ≡ Failed
 slot_not_refused p age object f Failed is bad = refl
 slot_not_refused p age object f (Bad reason) is bad = absurd (bad.1 f is)
 
@@ -21,7 +22,7 @@ slots_read_back p age object f is = (
   λ e bad. slot_not_refused p age object f e is bad,
 )
 
-directory_not_refused : (p : Plan) (es : List Entry) (e : LogFault) → IsDirectory p.geometry es → IsBadDirectory p (directory_bytes es) e → e ≡ Failed
+directory_not_refused : (p : Plan) (es : List Entry) (e : ReadFault) → IsDirectory p.geometry es → IsBadDirectory p (directory_bytes es) e → e ≡ Failed
 directory_not_refused p es Failed is bad = refl
 directory_not_refused p es (Bad reason) is bad = absurd (bad.1 es is refl)
 

@@ -8,12 +8,12 @@ use Rattle.layout.specs.Directory.{directory_bytes, IsDirectory}
 use Rattle.device.specs.Disk.{Image}
 use Rattle.layout.specs.Image.{HasHeader, HasDirectory, directory_in}
 use Rattle.layout.specs.Superblock.{Plan}
-use Rattle.ckpt_log.specs.declared.fault.LogFault.{LogFault}
-use Rattle.ckpt_log.specs.declared.fault.LogFault.TheVariants as fault
+use Rattle.frame_io.specs.declared.fault.ReadFault.{ReadFault}
+use Rattle.frame_io.specs.declared.fault.ReadFault.TheVariants as fault
 use Rattle.ckpt_log.specs.Log.{HasCommitted, IsRefusal}
 use Rattle.ckpt_log.specs.Slot.{IsBadDirectory}
 
-pub bad_directory : (p : Plan) (image seen : Image) (h : CheckpointHeader) (n : ℕ) (e : LogFault) → seen ≡ image → n ≡ h.entries → HasHeader image p h → IsBadDirectory p (directory_in seen p h.generation n) e → IsRefusal p image e
+pub bad_directory : (p : Plan) (image seen : Image) (h : CheckpointHeader) (n : ℕ) (e : ReadFault) → seen ≡ image → n ≡ h.entries → HasHeader image p h → IsBadDirectory p (directory_in seen p h.generation n) e → IsRefusal p image e
 bad_directory p image seen h n fault.Failed same all has bad = tt
 bad_directory p image seen h n (fault.Bad reason) same all has bad = subst (λ (r : BadImage). IsRefusal p image (fault.Bad r)) (sym bad.0)
     (h, has, λ es is count spelt. bad.1 es is (ap (λ (i : Image). directory_in i p h.generation n) same ∙ ap (directory_in image p h.generation) all ∙ spelt))

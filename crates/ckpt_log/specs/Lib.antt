@@ -1,4 +1,6 @@
 pub mod Commit
+pub mod HeaderLaws
+pub mod HeaderSlot
 pub mod Log
 pub mod Places
 pub mod SavedSectors

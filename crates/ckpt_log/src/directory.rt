@@ -1,15 +1,15 @@
 // The directories of the log.
 ghost use Rattle.std.specs.Prelude.{◌≡◌, ◌+◌, ◌*◌, ◌^◌, ◌<◌, ◌≤◌, List, length, take, IfErr, OnOk};
 ghost use Rattle.layout.specs.Directory.{directory_bytes, IsDirectory};
-ghost use Rattle.layout.specs.Image.{sectors_from, directory_sector, directory_length, directory_in};
-ghost use Rattle.device.specs.Calls.{Agrees, Elsewhere, Tears, IsTorn, Counts};
-ghost use Rattle.device.specs.Moments.{Elapses, LeavesOnly, Peeks};
-ghost use Rattle.ckpt_log.specs.Slot.{IsBadDirectory, CountsFailed};
+ghost use Rattle.layout.specs.Image.{directory_sector, directory_length, directory_in};
+ghost use Rattle.device.specs.Calls.{Counts};
+ghost use Rattle.frame_io.specs.Calls.{ReadsOnly, WritesAt};
+ghost use Rattle.frame_io.specs.Fault.{CountsFailed};
+ghost use Rattle.ckpt_log.specs.Slot.{IsBadDirectory};
 
-use crate::fault::LogFault;
 use crate::log::Log;
-use crate::sector::{read_sectors, write_sectors};
 use device::{Device, Failed, SECTOR_SIZE};
+use frame_io::{ReadFault, read_sectors, write_sectors};
 use layout::{BadImage, ENTRY_BYTES, Entry, decode_directory, encode_directory};
 use model::Geometry;
 
@@ -27,21 +27,6 @@ fn put_entries(entries: &[Entry], into: &mut [u8])
     encode_directory(entries, &mut into[..ENTRY_BYTES * entries.len()]);
 }
 
-// Writes so many sectors.
-fn write_run<D: Device>(device: &mut D, at: u64, sectors: usize, from: &[u8]) -> Result<(), Failed>
-    requires size { length from.now ≡ 512 * sectors }
-    requires inside { at + sectors ≤ (D.disk device.old).sectors }
-    ensures written { OnOk result (sectors_from (D.disk device.new).seen at sectors ≡ from.now) }
-    ensures size { (D.disk device.new).sectors ≡ (D.disk device.old).sectors }
-    ensures elsewhere { Elsewhere at sectors (D.disk device.old).seen (D.disk device.new).seen }
-    ensures crash { Tears at sectors (D.disk device.old) (D.disk device.new) }
-    ensures any_moment { LeavesOnly (D.disk device.old) (D.disk device.new) (λ c. IsTorn at sectors (D.disk device.old) c) }
-    ensures time { Elapses (D.disk device.old) (D.disk device.new) }
-    ensures cause { Counts (D.disk device.old) (D.disk device.new) result }
-{
-    write_sectors(device, at, from)
-}
-
 // Reads a directory of as many entries as `into` takes from the first of the bytes.
 fn entries_in(bytes: &[u8], geometry: Geometry, into: &mut [Entry]) -> Result<(), BadImage>
     requires room { 16 * length into.old ≤ length bytes.now }
@@ -50,24 +35,6 @@ fn entries_in(bytes: &[u8], geometry: Geometry, into: &mut [Entry]) -> Result<()
     ensures refused { IfErr result (λ e. (e ≡ BadImage.BadDirectory) × ((es : List Entry) → IsDirectory geometry es → take (16 * length into.old) bytes.now ≡ directory_bytes es → ⊥)) }
 {
     decode_directory(&bytes[..ENTRY_BYTES * into.len()], geometry, into)
-}
-
-// Reads so many sectors.
-fn read_run<D: Device>(
-    device: &mut D,
-    at: u64,
-    sectors: usize,
-    into: &mut [u8],
-) -> Result<(), Failed>
-    requires size { length into.old ≡ 512 * sectors }
-    requires inside { at + sectors ≤ (D.disk device.old).sectors }
-    ensures bytes { OnOk result (sectors_from (D.disk device.new).seen at sectors ≡ into.new) }
-    ensures size { (D.disk device.new).sectors ≡ (D.disk device.old).sectors }
-    ensures seen { Agrees (D.disk device.new).seen (D.disk device.old).seen }
-    ensures any_moment { Peeks (D.disk device.old) (D.disk device.new) }
-    ensures cause { Counts (D.disk device.old) (D.disk device.new) result }
-{
-    read_sectors(device, at, into)
 }
 
 impl Log {
@@ -83,19 +50,19 @@ impl Log {
         requires few { length entries.now ≤ self.now.geometry.log }
         requires inside { self.now.total ≤ (D.disk device.old).sectors }
         ensures written { OnOk result (directory_in (D.disk device.new).seen self.now generation (length entries.now) ≡ directory_bytes entries.now) }
-        ensures size { (D.disk device.new).sectors ≡ (D.disk device.old).sectors }
-        ensures elsewhere { Elsewhere (directory_sector self.now generation) (directory_length (length entries.now)) (D.disk device.old).seen (D.disk device.new).seen }
-        ensures crash { Tears (directory_sector self.now generation) (directory_length (length entries.now)) (D.disk device.old) (D.disk device.new) }
-        ensures any_moment { LeavesOnly (D.disk device.old) (D.disk device.new) (λ c. IsTorn (directory_sector self.now generation) (directory_length (length entries.now)) (D.disk device.old) c) }
-        ensures time { Elapses (D.disk device.old) (D.disk device.new) }
+        ensures writes { WritesAt (directory_sector self.now generation) (directory_length (length entries.now)) (D.disk device.old) (D.disk device.new) }
+        ensures untouched { length entries.now ≡ 0 → device.new ≡ device.old }
         ensures cause { Counts (D.disk device.old) (D.disk device.new) result }
     {
+        if entries.is_empty() {
+            return Ok(());
+        }
         let at = self.directory_sector(generation);
         let mut bytes = [0; MAX_BYTES];
         let sectors = (entries.len() + ENTRIES_IN_SECTOR - 1) / ENTRIES_IN_SECTOR;
         let run = &mut bytes[..SECTOR_SIZE * sectors];
         put_entries(entries, run);
-        write_run(device, at, sectors, run)
+        write_sectors(device, at, sectors, run)
     }
 
     /// Reads a directory of as many entries as `into` takes from the half of a generation. It takes no memory.
@@ -107,21 +74,23 @@ impl Log {
         device: &mut D,
         generation: u64,
         into: &mut [Entry],
-    ) -> Result<(), LogFault>
+    ) -> Result<(), ReadFault>
         requires few { length into.old ≤ self.now.geometry.log }
         requires inside { self.now.total ≤ (D.disk device.old).sectors }
         ensures found { OnOk result (IsDirectory self.now.geometry into.new × (directory_in (D.disk device.new).seen self.now generation (length into.old) ≡ directory_bytes into.new)) }
         ensures refused { IfErr result (λ e. IsBadDirectory self.now (directory_in (D.disk device.new).seen self.now generation (length into.old)) e) }
-        ensures size { (D.disk device.new).sectors ≡ (D.disk device.old).sectors }
-        ensures seen { Agrees (D.disk device.new).seen (D.disk device.old).seen }
-        ensures any_moment { Peeks (D.disk device.old) (D.disk device.new) }
+        ensures reads { ReadsOnly (D.disk device.old) (D.disk device.new) }
+        ensures untouched { length into.old ≡ 0 → device.new ≡ device.old }
         ensures cause { CountsFailed (D.disk device.old) (D.disk device.new) result }
     {
+        if into.is_empty() {
+            return Ok(());
+        }
         let at = self.directory_sector(generation);
         let mut bytes = [0; MAX_BYTES];
         let sectors = (into.len() + ENTRIES_IN_SECTOR - 1) / ENTRIES_IN_SECTOR;
         let run = &mut bytes[..SECTOR_SIZE * sectors];
-        read_run(device, at, sectors, run)?;
+        read_sectors(device, at, sectors, run)?;
         entries_in(run, self.geometry(), into)?;
         Ok(())
     }

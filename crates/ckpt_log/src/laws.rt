@@ -1,3 +1,5 @@
+// The laws of the log: they do nothing, and their contracts are the laws.
+ghost use Rattle.ckpt_log.specs.HeaderLaws.{SequencesAreTold, NextFollows, HeadersSpareSectors, HeadersSpareFrames, HeadersSpareSlots, HeadersSpareDirectories};
 ghost use Rattle.ckpt_log.specs.Places.{SlotsAreInside, DirectoriesAreInside, HalvesAreWithin, HalvesAreApart, SlotsAreApart, SlotsSpareDirectories};
 ghost use Rattle.ckpt_log.specs.SavedSectors.{SameHeader, SameDirectory, SameFrames, SameSaved};
 ghost use Rattle.ckpt_log.specs.Slot.{SlotsAreReadBack, DirectoriesAreReadBack};
@@ -29,4 +31,16 @@ pub fn keep_halves_apart()
 pub fn what_is_written_is_read()
     ensures slots { SlotsAreReadBack }
     ensures directories { DirectoriesAreReadBack }
+{}
+
+/// The bytes of a header have its sequence number, so the header with the next one may be published after the
+/// committed one. A write of a header's slot leaves the superblock and all that lies behind the headers: frames
+/// and directories. It does nothing: its contract is the law.
+pub fn headers_spare_the_rest()
+    ensures sequences { SequencesAreTold }
+    ensures next { NextFollows }
+    ensures sectors { HeadersSpareSectors }
+    ensures frames { HeadersSpareFrames }
+    ensures slots { HeadersSpareSlots }
+    ensures directories { HeadersSpareDirectories }
 {}

@@ -4,13 +4,15 @@
 
 mod committed;
 mod directory;
-mod fault;
+mod header_slot;
 mod laws;
 mod log;
 mod publish;
 mod sector;
 mod slots;
 
-pub use fault::LogFault;
-pub use laws::{keep_halves_apart, saved_is_read_from_its_sectors, what_is_written_is_read};
+pub use laws::{
+    headers_spare_the_rest, keep_halves_apart, saved_is_read_from_its_sectors,
+    what_is_written_is_read,
+};
 pub use log::Log;

@@ -1,15 +1,15 @@
 // The slots of the log.
 ghost use Rattle.std.specs.Prelude.{◌≡◌, ◌<◌, ◌≤◌, IfOk, IfErr, OnOk};
+ghost use Rattle.device.specs.Calls.{Counts};
 ghost use Rattle.layout.specs.Frame.{node_frame, page_frame, node_frame_bytes, page_frame_bytes};
 ghost use Rattle.layout.specs.Image.{IsFrameOf, sectors_from, slot_sector, frame_length, frame_bytes};
-ghost use Rattle.device.specs.Calls.{Agrees, Elsewhere, Tears, IsTorn, Counts};
-ghost use Rattle.device.specs.Moments.{Elapses, LeavesOnly, Peeks};
-ghost use Rattle.ckpt_log.specs.Slot.{slot_bytes, IsBadSlot, CountsFailed};
+ghost use Rattle.frame_io.specs.Calls.{ReadsOnly, WritesAt};
+ghost use Rattle.frame_io.specs.Fault.{IsRefused, CountsFailed};
+ghost use Rattle.ckpt_log.specs.Slot.{slot_bytes};
 
-use crate::fault::LogFault;
 use crate::log::Log;
-use crate::sector::{read_sectors, write_sectors};
 use device::{Device, Failed};
+use frame_io::{ReadFault, read_sectors, write_sectors};
 use layout::{
     NODE_FRAME_BYTES, NodeBody, PAGE_FRAME_BYTES, PageBody, decode_node_frame, decode_page_frame,
     encode_node_frame, encode_page_frame,
@@ -30,19 +30,17 @@ impl Log {
         object: u64,
         age: u64,
         slots: &mut Slots<Cap>,
-    ) -> Result<(ObjectHeader, NodeBody), LogFault>
+    ) -> Result<(ObjectHeader, NodeBody), ReadFault>
         requires node { object < self.now.geometry.nodes }
         requires slot { slot < self.now.geometry.log }
         requires inside { self.now.total ≤ (D.disk device.old).sectors }
         ensures found { IfOk result (λ read. IsFrameOf self.now.geometry age object (slot_bytes (D.disk device.new).seen self.now generation slot object) (node_frame read slots.new)) }
-        ensures refused { IfErr result (λ e. IsBadSlot self.now age object (slot_bytes (D.disk device.new).seen self.now generation slot object) e) }
-        ensures size { (D.disk device.new).sectors ≡ (D.disk device.old).sectors }
-        ensures seen { Agrees (D.disk device.new).seen (D.disk device.old).seen }
-        ensures any_moment { Peeks (D.disk device.old) (D.disk device.new) }
+        ensures refused { IfErr result (λ e. IsRefused self.now.geometry age object (slot_bytes (D.disk device.new).seen self.now generation slot object) e) }
+        ensures reads { ReadsOnly (D.disk device.old) (D.disk device.new) }
         ensures cause { CountsFailed (D.disk device.old) (D.disk device.new) result }
     {
         let mut node = [0; NODE_FRAME_BYTES];
-        read_sectors(device, self.slot_sector(generation, slot), &mut node)?;
+        read_sectors(device, self.slot_sector(generation, slot), 2, &mut node)?;
         let read = decode_node_frame(&node, self.geometry(), age, slots)?;
         Ok(read)
     }
@@ -58,19 +56,17 @@ impl Log {
         object: u64,
         age: u64,
         words: &mut Words,
-    ) -> Result<(ObjectHeader, PageBody), LogFault>
+    ) -> Result<(ObjectHeader, PageBody), ReadFault>
         requires page { self.now.geometry.nodes ≤ object }
         requires slot { slot < self.now.geometry.log }
         requires inside { self.now.total ≤ (D.disk device.old).sectors }
         ensures found { IfOk result (λ read. IsFrameOf self.now.geometry age object (slot_bytes (D.disk device.new).seen self.now generation slot object) (page_frame read words.new)) }
-        ensures refused { IfErr result (λ e. IsBadSlot self.now age object (slot_bytes (D.disk device.new).seen self.now generation slot object) e) }
-        ensures size { (D.disk device.new).sectors ≡ (D.disk device.old).sectors }
-        ensures seen { Agrees (D.disk device.new).seen (D.disk device.old).seen }
-        ensures any_moment { Peeks (D.disk device.old) (D.disk device.new) }
+        ensures refused { IfErr result (λ e. IsRefused self.now.geometry age object (slot_bytes (D.disk device.new).seen self.now generation slot object) e) }
+        ensures reads { ReadsOnly (D.disk device.old) (D.disk device.new) }
         ensures cause { CountsFailed (D.disk device.old) (D.disk device.new) result }
     {
         let mut page = [0; PAGE_FRAME_BYTES];
-        read_sectors(device, self.slot_sector(generation, slot), &mut page)?;
+        read_sectors(device, self.slot_sector(generation, slot), 9, &mut page)?;
         let read = decode_page_frame(&page, age, words)?;
         Ok(read)
     }
@@ -86,16 +82,12 @@ impl Log {
         requires slot { slot < self.now.geometry.log }
         requires inside { self.now.total ≤ (D.disk device.old).sectors }
         ensures written { OnOk result (sectors_from (D.disk device.new).seen (slot_sector self.now generation slot) 2 ≡ node_frame_bytes frame.now) }
-        ensures size { (D.disk device.new).sectors ≡ (D.disk device.old).sectors }
-        ensures elsewhere { Elsewhere (slot_sector self.now generation slot) 2 (D.disk device.old).seen (D.disk device.new).seen }
-        ensures crash { Tears (slot_sector self.now generation slot) 2 (D.disk device.old) (D.disk device.new) }
-        ensures any_moment { LeavesOnly (D.disk device.old) (D.disk device.new) (λ c. IsTorn (slot_sector self.now generation slot) 2 (D.disk device.old) c) }
-        ensures time { Elapses (D.disk device.old) (D.disk device.new) }
+        ensures writes { WritesAt (slot_sector self.now generation slot) 2 (D.disk device.old) (D.disk device.new) }
         ensures cause { Counts (D.disk device.old) (D.disk device.new) result }
     {
         let mut node = [0; NODE_FRAME_BYTES];
         encode_node_frame(frame, &mut node);
-        write_sectors(device, self.slot_sector(generation, slot), &node)
+        write_sectors(device, self.slot_sector(generation, slot), 2, &node)
     }
 
     // Writes the frame of a page into a slot.
@@ -109,16 +101,12 @@ impl Log {
         requires slot { slot < self.now.geometry.log }
         requires inside { self.now.total ≤ (D.disk device.old).sectors }
         ensures written { OnOk result (sectors_from (D.disk device.new).seen (slot_sector self.now generation slot) 9 ≡ page_frame_bytes frame.now) }
-        ensures size { (D.disk device.new).sectors ≡ (D.disk device.old).sectors }
-        ensures elsewhere { Elsewhere (slot_sector self.now generation slot) 9 (D.disk device.old).seen (D.disk device.new).seen }
-        ensures crash { Tears (slot_sector self.now generation slot) 9 (D.disk device.old) (D.disk device.new) }
-        ensures any_moment { LeavesOnly (D.disk device.old) (D.disk device.new) (λ c. IsTorn (slot_sector self.now generation slot) 9 (D.disk device.old) c) }
-        ensures time { Elapses (D.disk device.old) (D.disk device.new) }
+        ensures writes { WritesAt (slot_sector self.now generation slot) 9 (D.disk device.old) (D.disk device.new) }
         ensures cause { Counts (D.disk device.old) (D.disk device.new) result }
     {
         let mut page = [0; PAGE_FRAME_BYTES];
         encode_page_frame(frame, &mut page);
-        write_sectors(device, self.slot_sector(generation, slot), &page)
+        write_sectors(device, self.slot_sector(generation, slot), 9, &page)
     }
 
     /// Writes the frame of an object into a slot of the half of a generation, and touches that slot alone: a crash
@@ -135,11 +123,7 @@ impl Log {
         requires slot { slot < self.now.geometry.log }
         requires inside { self.now.total ≤ (D.disk device.old).sectors }
         ensures written { OnOk result (slot_bytes (D.disk device.new).seen self.now generation slot object ≡ frame_bytes self.now object frame.now) }
-        ensures size { (D.disk device.new).sectors ≡ (D.disk device.old).sectors }
-        ensures elsewhere { Elsewhere (slot_sector self.now generation slot) (frame_length self.now object) (D.disk device.old).seen (D.disk device.new).seen }
-        ensures crash { Tears (slot_sector self.now generation slot) (frame_length self.now object) (D.disk device.old) (D.disk device.new) }
-        ensures any_moment { LeavesOnly (D.disk device.old) (D.disk device.new) (λ c. IsTorn (slot_sector self.now generation slot) (frame_length self.now object) (D.disk device.old) c) }
-        ensures time { Elapses (D.disk device.old) (D.disk device.new) }
+        ensures writes { WritesAt (slot_sector self.now generation slot) (frame_length self.now object) (D.disk device.old) (D.disk device.new) }
         ensures cause { Counts (D.disk device.old) (D.disk device.new) result }
     {
         if object < self.geometry().nodes {

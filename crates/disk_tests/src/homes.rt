@@ -2,7 +2,8 @@ ghost use Rattle.std.specs.Prelude.{◌≡◌, IfOk};
 
 use crate::rig::{FRONT, Rig};
 use device::{Device, Memory, Outcome};
-use home_ranges::{Home, HomeFault};
+use frame_io::ReadFault;
+use home_ranges::Home;
 use layout::{BadImage, HomeRange, NodeBody, PageBody, Superblock, VOID};
 use model::{Cap, Capability, Content, Geometry, ObjectHeader, Slots, Words};
 use std::alloc::Global;
@@ -124,7 +125,7 @@ fn a_malformed_node_is_refused(rt: HostRuntime) -> Result<(), Fail> {
     let mut slots = Slots::new(rt.alloc(), VOID)?;
     rig.put_sector(13, &[9; 512])?;
     let refused = rig.read_node(4, &mut slots).err();
-    assert_eq!(rt; refused, Some(HomeFault::Bad(BadImage::BadFrame)));
+    assert_eq!(rt; refused, Some(ReadFault::Bad(BadImage::BadFrame)));
     Ok(())
 }
 
@@ -168,7 +169,7 @@ fn a_malformed_page_is_refused(rt: HostRuntime) -> Result<(), Fail> {
     sector[1] = 1;
     rig.put_sector(55, &sector)?;
     let refused = rig.read_page(18, &mut words);
-    assert_eq!(rt; refused, Err(HomeFault::Bad(BadImage::BadFrame)));
+    assert_eq!(rt; refused, Err(ReadFault::Bad(BadImage::BadFrame)));
     Ok(())
 }
 
@@ -179,8 +180,8 @@ fn stopped_after(alloc: Global, calls: u64) -> Result<[bool; 4], Fail> {
     let mut words = Words::new(alloc)?;
     Ok([
         rig.write_home(15, Content::Bank { limit: 8 }).is_err(),
-        rig.read_node(15, &mut slots).err() == Some(HomeFault::Failed),
-        rig.read_page(16, &mut words).err() == Some(HomeFault::Failed),
+        rig.read_node(15, &mut slots).err() == Some(ReadFault::Failed),
+        rig.read_page(16, &mut words).err() == Some(ReadFault::Failed),
         rig.write_home(16, Content::Bank { limit: 8 }).is_err(),
     ])
 }

@@ -1,6 +1,7 @@
-use crate::rig::{AGE, FRONT, NO_ENTRY, Rig};
-use ckpt_log::LogFault;
+use crate::next::NO_ENTRY;
+use crate::rig::{AGE, FRONT, Rig};
 use device::{Memory, Outcome, SECTOR_SIZE};
+use frame_io::ReadFault;
 use layout::{BadImage, CheckpointHeader, Entry, Gate, NodeBody, PageBody, VOID};
 use model::{Content, Slots, Words};
 use std::alloc::Global;
@@ -43,7 +44,7 @@ fn a_malformed_node_in_a_slot_is_refused(rt: HostRuntime) -> Result<(), Fail> {
     rig.put_sector(272, &sector)?;
     let mut slots = Slots::new(rt.alloc(), VOID)?;
     let refused = rig.read_node_slot(3, 2, &mut slots).err();
-    assert_eq!(rt; refused, Some(LogFault::Bad(BadImage::BadFrame)));
+    assert_eq!(rt; refused, Some(ReadFault::Bad(BadImage::BadFrame)));
     Ok(())
 }
 
@@ -86,7 +87,7 @@ fn a_malformed_page_in_a_slot_is_refused(rt: HostRuntime) -> Result<(), Fail> {
     rig.put_sector(118, &[9; SECTOR_SIZE])?;
     let mut words = Words::new(rt.alloc())?;
     let refused = rig.read_page_slot(0, 1, &mut words);
-    assert_eq!(rt; refused, Err(LogFault::Bad(BadImage::BadFrame)));
+    assert_eq!(rt; refused, Err(ReadFault::Bad(BadImage::BadFrame)));
     Ok(())
 }
 
@@ -110,7 +111,7 @@ fn a_directory_is_read_back(rt: HostRuntime) -> Result<(), Fail> {
     rig.put_sector(398, &sector)?;
     assert_eq!(rt;
         rig.read_directory(),
-        Err(LogFault::Bad(BadImage::BadDirectory))
+        Err(ReadFault::Bad(BadImage::BadDirectory))
     );
     Ok(())
 }
@@ -158,6 +159,15 @@ fn a_malformed_directory_is_refused(rt: HostRuntime) -> Result<(), Fail> {
     let mut rig = with_a_directory(rt.alloc())?;
     rig.put_sector(398, &[1; SECTOR_SIZE])?;
     let refused = rig.committed().err();
-    assert_eq!(rt; refused, Some(LogFault::Bad(BadImage::BadDirectory)));
+    assert_eq!(rt; refused, Some(ReadFault::Bad(BadImage::BadDirectory)));
+    Ok(())
+}
+
+#[test]
+fn a_device_that_fails_has_no_directory(rt: HostRuntime) -> Result<(), Fail> {
+    for calls in 0..5 {
+        let mut rig = with_a_directory(rt.alloc())?.fused(calls);
+        assert_eq!(rt; rig.committed().err(), Some(ReadFault::Failed));
+    }
     Ok(())
 }

@@ -1,8 +1,10 @@
 ghost use Rattle.std.specs.Prelude.{◌≡◌, ◌≤◌, IfOk};
 
-use ckpt_log::{Log, LogFault};
+use crate::next::{NO_ENTRY, publish_next};
+use ckpt_log::Log;
 use device::{Device, Failed, Fuse, Memory, Outcome, SECTOR_SIZE};
-use home_ranges::{Home, HomeFault};
+use frame_io::ReadFault;
+use home_ranges::Home;
 use layout::{
     CheckpointHeader, Entry, Gate, HomeRange, NodeBody, PageBody, Superblock, VOID, encode_gate,
     encode_header,
@@ -20,8 +22,6 @@ pub(crate) const FRONT: ObjectHeader = ObjectHeader {
     calls: 2,
     owner: 3,
 };
-
-pub(crate) const NO_ENTRY: Entry = Entry { object: 0, slot: 0 };
 
 /// A device with homes and a log: 16 nodes from sector 5 on, 8 pages from sector 37 on, and the halves of a log of
 /// 16 slots from sectors 109 and 254 on. A call for an object, a slot or a sector that isn't there fails.
@@ -147,9 +147,9 @@ impl<D: Device> Rig<D> {
         &mut self,
         number: u64,
         slots: &mut Slots<Cap>,
-    ) -> Result<(ObjectHeader, NodeBody), HomeFault> {
+    ) -> Result<(ObjectHeader, NodeBody), ReadFault> {
         if number >= 16 {
-            return Err(HomeFault::Failed);
+            return Err(ReadFault::Failed);
         }
         Home::new(&self.superblock).read_node_frame(&mut self.device, number, AGE, slots)
     }
@@ -159,30 +159,12 @@ impl<D: Device> Rig<D> {
         &mut self,
         number: u64,
         words: &mut Words,
-    ) -> Result<(ObjectHeader, PageBody), HomeFault> {
+    ) -> Result<(ObjectHeader, PageBody), ReadFault> {
         if number < 16 || number >= 24 {
-            return Err(HomeFault::Failed);
+            return Err(ReadFault::Failed);
         }
         Home::new(&self.superblock).read_page_frame(&mut self.device, number, AGE, words)
     }
-}
-
-fn publish_next<D: Device>(device: &mut D, log: &Log) -> Result<bool, Fail>
-    requires slots { log.now.geometry.log ≡ 16 }
-    requires inside { log.now.total ≤ (D.disk device.old).sectors }
-    requires headers { 5 ≤ (D.disk device.old).sectors }
-    ensures { (D.disk device.new).sectors ≡ (D.disk device.old).sectors }
-{
-    let mut directory = [NO_ENTRY; 16];
-    device.sync()?;
-    let committed = log.find_committed(device, &mut directory)?;
-    let next = CheckpointHeader {
-        sequence: committed.sequence + 1,
-        generation: committed.generation,
-        entries: committed.entries,
-        age: committed.age,
-    };
-    Ok(log.publish(device, next).is_ok())
 }
 
 // The log.
@@ -211,9 +193,9 @@ impl<D: Device> Rig<D> {
         generation: u64,
         slot: u64,
         slots: &mut Slots<Cap>,
-    ) -> Result<(ObjectHeader, NodeBody), LogFault> {
+    ) -> Result<(ObjectHeader, NodeBody), ReadFault> {
         if slot >= 16 {
-            return Err(LogFault::Failed);
+            return Err(ReadFault::Failed);
         }
         let log = Log::new(&self.superblock);
         log.read_node_slot(&mut self.device, generation, slot, 5, AGE, slots)
@@ -225,9 +207,9 @@ impl<D: Device> Rig<D> {
         generation: u64,
         slot: u64,
         words: &mut Words,
-    ) -> Result<(ObjectHeader, PageBody), LogFault> {
+    ) -> Result<(ObjectHeader, PageBody), ReadFault> {
         if slot >= 16 {
-            return Err(LogFault::Failed);
+            return Err(ReadFault::Failed);
         }
         let log = Log::new(&self.superblock);
         log.read_page_slot(&mut self.device, generation, slot, 16, AGE, words)
@@ -242,7 +224,7 @@ impl<D: Device> Rig<D> {
     }
 
     /// Reads a directory of two entries of half 1.
-    pub(crate) fn read_directory(&mut self) -> Result<[Entry; 2], LogFault> {
+    pub(crate) fn read_directory(&mut self) -> Result<[Entry; 2], ReadFault> {
         let mut found = [NO_ENTRY; 2];
         Log::new(&self.superblock).read_directory(&mut self.device, 1, &mut found)?;
         Ok(found)
@@ -268,7 +250,7 @@ impl<D: Device> Rig<D> {
     }
 
     /// The committed header and its directory.
-    pub(crate) fn committed(&mut self) -> Result<(CheckpointHeader, [Entry; 16]), LogFault> {
+    pub(crate) fn committed(&mut self) -> Result<(CheckpointHeader, [Entry; 16]), ReadFault> {
         let mut directory = [NO_ENTRY; 16];
         let header = Log::new(&self.superblock).find_committed(&mut self.device, &mut directory)?;
         Ok((header, directory))
@@ -276,6 +258,9 @@ impl<D: Device> Rig<D> {
 
     /// Syncs the device, publishes the header after the committed one, and answers whether that succeeded.
     pub(crate) fn publish_next(&mut self) -> Result<bool, Fail> {
-        publish_next(&mut self.device, &Log::new(&self.superblock))
+        Ok(publish_next(
+            &mut self.device,
+            &Log::new(&self.superblock),
+        )?)
     }
 }

@@ -1,15 +1,14 @@
-ghost use Rattle.std.specs.Prelude.{◌≡◌, ℕ, ◌+◌, ◌<◌, ◌≤◌, IfOk, IfErr, OnOk};
-ghost use Rattle.device.specs.Calls.{Agrees, Elsewhere, Narrows, Tears, IsTorn, Counts};
-ghost use Rattle.device.specs.Moments.{Elapses, LeavesOnly, Peeks};
+ghost use Rattle.std.specs.Prelude.{◌≡◌, ◌≤◌, IfOk, IfErr, OnOk};
+ghost use Rattle.device.specs.Calls.{Counts};
 ghost use Rattle.layout.specs.Frame.{node_frame, page_frame, node_frame_bytes, page_frame_bytes};
 ghost use Rattle.layout.specs.Image.{IsFrameOf, frame_length, frame_bytes};
+ghost use Rattle.frame_io.specs.Calls.{ReadsOnly, WritesAt};
+ghost use Rattle.frame_io.specs.Fault.{IsRefused, CountsFailed};
 ghost use Rattle.home_ranges.specs.Home.{IsObject, IsNode, IsPage, home_place, home_bytes};
-ghost use Rattle.home_ranges.specs.Fault.{IsRefused, CountsFailed};
 
-use crate::fault::HomeFault;
 use crate::home::Home;
-use crate::sectors::{read_sectors, write_sectors};
 use device::{Device, Failed};
+use frame_io::{ReadFault, read_sectors, write_sectors};
 use layout::{
     NODE_FRAME_BYTES, NodeBody, PAGE_FRAME_BYTES, PageBody, decode_node_frame, decode_page_frame,
     encode_node_frame, encode_page_frame,
@@ -28,21 +27,16 @@ impl Home {
         number: u64,
         age: u64,
         slots: &mut Slots<Cap>,
-    ) -> Result<(ObjectHeader, NodeBody), HomeFault>
+    ) -> Result<(ObjectHeader, NodeBody), ReadFault>
         requires node { IsNode self.now number }
         requires inside { self.now.total ≤ (D.disk device.old).sectors }
         ensures found { IfOk result (λ read. IsFrameOf self.now.geometry age number (home_bytes (D.disk device.new).seen self.now number) (node_frame read slots.new)) }
-        ensures refused { IfErr result (λ e. IsRefused self.now age number (home_bytes (D.disk device.new).seen self.now number) e) }
-        ensures size { (D.disk device.new).sectors ≡ (D.disk device.old).sectors }
-        ensures seen { Agrees (D.disk device.new).seen (D.disk device.old).seen }
-        ensures crash { Narrows (D.disk device.old) (D.disk device.new) }
-        ensures nothing_durable { Narrows (D.disk device.new) (D.disk device.old) }
-        ensures any_moment { Peeks (D.disk device.old) (D.disk device.new) }
-        ensures time { Elapses (D.disk device.old) (D.disk device.new) }
+        ensures refused { IfErr result (λ e. IsRefused self.now.geometry age number (home_bytes (D.disk device.new).seen self.now number) e) }
+        ensures reads { ReadsOnly (D.disk device.old) (D.disk device.new) }
         ensures cause { CountsFailed (D.disk device.old) (D.disk device.new) result }
     {
         let mut node = [0; NODE_FRAME_BYTES];
-        read_sectors(device, self.place(number), &mut node)?;
+        read_sectors(device, self.place(number), 2, &mut node)?;
         let read = decode_node_frame(&node, self.geometry(), age, slots)?;
         Ok(read)
     }
@@ -56,21 +50,16 @@ impl Home {
         number: u64,
         age: u64,
         words: &mut Words,
-    ) -> Result<(ObjectHeader, PageBody), HomeFault>
+    ) -> Result<(ObjectHeader, PageBody), ReadFault>
         requires page { IsPage self.now number }
         requires inside { self.now.total ≤ (D.disk device.old).sectors }
         ensures found { IfOk result (λ read. IsFrameOf self.now.geometry age number (home_bytes (D.disk device.new).seen self.now number) (page_frame read words.new)) }
-        ensures refused { IfErr result (λ e. IsRefused self.now age number (home_bytes (D.disk device.new).seen self.now number) e) }
-        ensures size { (D.disk device.new).sectors ≡ (D.disk device.old).sectors }
-        ensures seen { Agrees (D.disk device.new).seen (D.disk device.old).seen }
-        ensures crash { Narrows (D.disk device.old) (D.disk device.new) }
-        ensures nothing_durable { Narrows (D.disk device.new) (D.disk device.old) }
-        ensures any_moment { Peeks (D.disk device.old) (D.disk device.new) }
-        ensures time { Elapses (D.disk device.old) (D.disk device.new) }
+        ensures refused { IfErr result (λ e. IsRefused self.now.geometry age number (home_bytes (D.disk device.new).seen self.now number) e) }
+        ensures reads { ReadsOnly (D.disk device.old) (D.disk device.new) }
         ensures cause { CountsFailed (D.disk device.old) (D.disk device.new) result }
     {
         let mut page = [0; PAGE_FRAME_BYTES];
-        read_sectors(device, self.place(number), &mut page)?;
+        read_sectors(device, self.place(number), 9, &mut page)?;
         let read = decode_page_frame(&page, age, words)?;
         Ok(read)
     }
@@ -85,16 +74,12 @@ impl Home {
         requires node { IsNode self.now number }
         requires inside { self.now.total ≤ (D.disk device.old).sectors }
         ensures written { OnOk result (home_bytes (D.disk device.new).seen self.now number ≡ node_frame_bytes frame.now) }
-        ensures size { (D.disk device.new).sectors ≡ (D.disk device.old).sectors }
-        ensures elsewhere { Elsewhere (home_place self.now number) 2 (D.disk device.old).seen (D.disk device.new).seen }
-        ensures crash { Tears (home_place self.now number) 2 (D.disk device.old) (D.disk device.new) }
-        ensures any_moment { LeavesOnly (D.disk device.old) (D.disk device.new) (λ c. IsTorn (home_place self.now number) 2 (D.disk device.old) c) }
-        ensures time { Elapses (D.disk device.old) (D.disk device.new) }
+        ensures writes { WritesAt (home_place self.now number) 2 (D.disk device.old) (D.disk device.new) }
         ensures cause { Counts (D.disk device.old) (D.disk device.new) result }
     {
         let mut node = [0; NODE_FRAME_BYTES];
         encode_node_frame(frame, &mut node);
-        write_sectors(device, self.place(number), &node)
+        write_sectors(device, self.place(number), 2, &node)
     }
 
     // Writes the home frame of a page's number.
@@ -107,16 +92,12 @@ impl Home {
         requires page { IsPage self.now number }
         requires inside { self.now.total ≤ (D.disk device.old).sectors }
         ensures written { OnOk result (home_bytes (D.disk device.new).seen self.now number ≡ page_frame_bytes frame.now) }
-        ensures size { (D.disk device.new).sectors ≡ (D.disk device.old).sectors }
-        ensures elsewhere { Elsewhere (home_place self.now number) 9 (D.disk device.old).seen (D.disk device.new).seen }
-        ensures crash { Tears (home_place self.now number) 9 (D.disk device.old) (D.disk device.new) }
-        ensures any_moment { LeavesOnly (D.disk device.old) (D.disk device.new) (λ c. IsTorn (home_place self.now number) 9 (D.disk device.old) c) }
-        ensures time { Elapses (D.disk device.old) (D.disk device.new) }
+        ensures writes { WritesAt (home_place self.now number) 9 (D.disk device.old) (D.disk device.new) }
         ensures cause { Counts (D.disk device.old) (D.disk device.new) result }
     {
         let mut page = [0; PAGE_FRAME_BYTES];
         encode_page_frame(frame, &mut page);
-        write_sectors(device, self.place(number), &page)
+        write_sectors(device, self.place(number), 9, &page)
     }
 
     /// Writes the home frame of an object, and touches its place alone: a crash at any moment leaves all other
@@ -131,11 +112,7 @@ impl Home {
         requires object { IsObject self.now number }
         requires inside { self.now.total ≤ (D.disk device.old).sectors }
         ensures written { OnOk result (home_bytes (D.disk device.new).seen self.now number ≡ frame_bytes self.now number frame.now) }
-        ensures size { (D.disk device.new).sectors ≡ (D.disk device.old).sectors }
-        ensures elsewhere { Elsewhere (home_place self.now number) (frame_length self.now number) (D.disk device.old).seen (D.disk device.new).seen }
-        ensures crash { Tears (home_place self.now number) (frame_length self.now number) (D.disk device.old) (D.disk device.new) }
-        ensures any_moment { LeavesOnly (D.disk device.old) (D.disk device.new) (λ c. IsTorn (home_place self.now number) (frame_length self.now number) (D.disk device.old) c) }
-        ensures time { Elapses (D.disk device.old) (D.disk device.new) }
+        ensures writes { WritesAt (home_place self.now number) (frame_length self.now number) (D.disk device.old) (D.disk device.new) }
         ensures cause { Counts (D.disk device.old) (D.disk device.new) result }
     {
         if number < self.geometry().nodes {

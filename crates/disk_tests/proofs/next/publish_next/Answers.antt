@@ -4,7 +4,7 @@ use Rattle.layout.specs.declared.header.CheckpointHeader.{CheckpointHeader}
 use Rattle.device.proofs.Images.{agrees_is}
 use Rattle.ckpt_log.proofs.Commits.{precedes, next_fits}
 use Rattle.ckpt_log.proofs.Runs.{one_committed}
-use Rattle.disk_tests.proofs.rig.publish_next.Goals as goal
+use Rattle.disk_tests.proofs.next.publish_next.Goals as goal
 
 pub overflow_add-next : goal.overflow_add-next
 overflow_add-next g c =
@@ -14,7 +14,7 @@ overflow_add-next g c =
 
 pub publish-requires-clause-one : goal.publish-requires-clause-one
 publish-requires-clause-one g c =
-    one_committed c.in_ok-sync.ensures.durable c.find_committed.ensures.any_moment (g.met.D.Device.counts_now c.find_committed.new.device) c.find_committed.ensures.seen
+    one_committed c.in_ok-sync.ensures.durable c.find_committed.ensures.reads.any_moment (g.met.D.Device.counts_now c.find_committed.new.device) c.find_committed.ensures.reads.seen
 
 pub publish-requires-clause-next : goal.publish-requires-clause-next
 publish-requires-clause-next g c =
@@ -23,5 +23,5 @@ publish-requires-clause-next g c =
     let next : CheckpointHeader = record { sequence = h.sequence + 1; generation = h.generation; entries = h.entries; age = h.age } in
     let more = next_fits c.args.log.now.geometry.log h has.fits in
     precedes (g.D.Device.disk c.find_committed.new.device).seen h next
-    (ap committed_bytes (agrees_is (g.D.Device.disk c.find_committed.new.device).seen (g.D.Device.disk c.sync.new.self).seen c.find_committed.ensures.seen) ∙ has.spelt)
+    (ap committed_bytes (agrees_is (g.D.Device.disk c.find_committed.new.device).seen (g.D.Device.disk c.sync.new.self).seen c.find_committed.ensures.reads.seen) ∙ has.spelt)
     (omega (arith, more)) refl
