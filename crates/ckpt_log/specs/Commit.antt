@@ -28,8 +28,8 @@ abbrev pub IsInOrderAfter : CheckpointHeader → Disk → Image → Type 0
 IsInOrderAfter h disk c = (d : Image) × disk.may_leave d × IsInOrder h d c
 
 -- the committed header of an image is h
-abbrev pub Commits : CheckpointHeader → Image → Type 0
-Commits h image = committed_bytes image ≡ Some (header_bytes h)
+abbrev pub Commits : Image → CheckpointHeader → Type 0
+Commits image h = committed_bytes image ≡ Some (header_bytes h)
 
 -- a crash leaves the committed header that a read gives
 abbrev pub CommitsOne : Disk → Type 0
@@ -48,7 +48,7 @@ pub record KeepsHeader (h : CheckpointHeader) (old new : Image) : Type 0 where
 pub record HasNew (h : CheckpointHeader) (old new : Image) : Type 0 where
   pub written : new (header_sector h) ≡ header_bytes h
   pub elsewhere : Elsewhere (header_sector h) 2 old new
-  pub committed : Commits h new
+  pub committed : Commits new h
 
 abbrev pub IsOldOrNew : CheckpointHeader → Image → Image → Type 0
 IsOldOrNew h old new = KeepsHeader h old new ⊎ HasNew h old new

@@ -4,7 +4,8 @@ use Rattle.layout.specs.declared.directory.Entry.{Entry}
 use Rattle.layout.specs.declared.header.CheckpointHeader.{CheckpointHeader}
 use Rattle.layout.specs.Header.{header_bytes, IsHeader}
 use Rattle.layout.specs.Superblock.{Plan, IsPlan}
-use Rattle.layout.specs.Image.{sequence_in, frame_in, frame_sector, directory_in, slot_sector, frame_length, sectors_from}
+use Rattle.layout.specs.Frame.{frame_length}
+use Rattle.layout.specs.Image.{sequence_in, frame_in, frame_sector, directory_in, slot_sector, sectors_from}
 use Rattle.device.specs.Disk.{Image}
 use Rattle.device.specs.Calls.{Elsewhere}
 use Rattle.ckpt_log.specs.Commit.{header_sector, Commits, Precedes}
@@ -17,23 +18,23 @@ SequencesAreTold = (h : CheckpointHeader) → h.sequence < 2 ^ 64 → sequence_i
 
 -- the committed header is the one before the header with the next sequence number
 abbrev pub NextFollows : Type 0
-NextFollows = (room : ℕ) (h next : CheckpointHeader) (image : Image) → IsHeader room h → Commits h image → h.sequence + 1 ≡ next.sequence → Precedes image next
+NextFollows = (image : Image) (room : ℕ) (h next : CheckpointHeader) → IsHeader room h → Commits image h → h.sequence + 1 ≡ next.sequence → Precedes image next
 
 -- a change of the slot of a header leaves the superblock, and all that lies behind the headers
 abbrev pub HeadersSpareSectors : Type 0
-HeadersSpareSectors = (h : CheckpointHeader) (at n : ℕ) (old new : Image) → 5 ≤ at → Elsewhere (header_sector h) 2 old new → (new 0 ≡ old 0) × SameFrom at n old new
+HeadersSpareSectors = (old new : Image) (h : CheckpointHeader) (at n : ℕ) → 5 ≤ at → Elsewhere (header_sector h) 2 old new → (new 0 ≡ old 0) × SameFrom at n old new
 
 -- so it leaves the frames,
 abbrev pub HeadersSpareFrames : Type 0
-HeadersSpareFrames = (h : CheckpointHeader) (p : Plan) (generation : ℕ) (es : List Entry) (object : ℕ) (old new : Image) → 5 ≤ frame_sector p generation es object → Elsewhere (header_sector h) 2 old new
+HeadersSpareFrames = (old new : Image) (h : CheckpointHeader) (p : Plan) (generation : ℕ) (es : List Entry) (object : ℕ) → 5 ≤ frame_sector p generation es object → Elsewhere (header_sector h) 2 old new
     → frame_in new p generation es object ≡ frame_in old p generation es object
 
 -- those in the slots of the log,
 abbrev pub HeadersSpareSlots : Type 0
-HeadersSpareSlots = (h : CheckpointHeader) (p : Plan) (generation slot object : ℕ) (old new : Image) → IsPlan p → Elsewhere (header_sector h) 2 old new
+HeadersSpareSlots = (old new : Image) (h : CheckpointHeader) (p : Plan) (generation slot object : ℕ) → IsPlan p → Elsewhere (header_sector h) 2 old new
     → slot_bytes new p generation slot object ≡ slot_bytes old p generation slot object
 
 -- and the directories
 abbrev pub HeadersSpareDirectories : Type 0
-HeadersSpareDirectories = (h : CheckpointHeader) (p : Plan) (generation n : ℕ) (old new : Image) → IsPlan p → Elsewhere (header_sector h) 2 old new
+HeadersSpareDirectories = (old new : Image) (h : CheckpointHeader) (p : Plan) (generation n : ℕ) → IsPlan p → Elsewhere (header_sector h) 2 old new
     → directory_in new p generation n ≡ directory_in old p generation n

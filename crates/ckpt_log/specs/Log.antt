@@ -30,17 +30,17 @@ IsRefusedBy room bytes bad.BadHeader = (bytes ≡ None → ⊥) × ((h : Checkpo
 IsRefusedBy room bytes _ = ⊥
 
 -- why an image has no committed header, where the device didn't fail
-abbrev pub HasNone : Plan → Image → ReadFault → Type 0
-HasNone p image fault.Failed = ⊤
-HasNone p image (fault.Bad bad.NoHeader) = HasNoHeader image
-HasNone p image (fault.Bad bad.BadHeader) = (HasNoHeader image → ⊥) × HasBadHeader p image
-HasNone p image _ = ⊥
+abbrev pub HasNone : Image → Plan → ReadFault → Type 0
+HasNone image p fault.Failed = ⊤
+HasNone image p (fault.Bad bad.NoHeader) = HasNoHeader image
+HasNone image p (fault.Bad bad.BadHeader) = (HasNoHeader image → ⊥) × HasBadHeader image p
+HasNone image p _ = ⊥
 
 -- the committed header, and its directory at the front of the entries
 abbrev pub HasCommitted : Image → Plan → CheckpointHeader → List Entry → Type 0
 HasCommitted image p h entries = HasHeader image p h × HasDirectory image p h (take h.entries entries)
 
 -- why an image has no committed header with a directory: the least reason, where the device didn't fail
-abbrev pub IsRefusal : Plan → Image → ReadFault → Type 0
-IsRefusal p image (fault.Bad bad.BadDirectory) = (h : CheckpointHeader) × HasHeader image p h × HasBadDirectory p h image
-IsRefusal p image e = HasNone p image e
+abbrev pub HasNoCommitted : Image → Plan → ReadFault → Type 0
+HasNoCommitted image p (fault.Bad bad.BadDirectory) = (h : CheckpointHeader) × HasHeader image p h × HasBadDirectory image p h
+HasNoCommitted image p e = HasNone image p e

@@ -5,7 +5,7 @@ ghost use Rattle.device.specs.Calls.{Counts};
 ghost use Rattle.frame_io.specs.Calls.{ReadsOnly};
 ghost use Rattle.frame_io.specs.Fault.{CountsFailed};
 ghost use Rattle.ckpt_log.specs.HeaderSlot.{slot_number, header_at, gate_at};
-ghost use Rattle.ckpt_log.specs.Log.{chosen, IsHeaderIn, IsRefusedBy, HasNone, HasCommitted, IsRefusal};
+ghost use Rattle.ckpt_log.specs.Log.{chosen, IsHeaderIn, IsRefusedBy, HasNone, HasCommitted, HasNoCommitted};
 
 use crate::header_slot::HeaderSlot;
 use crate::log::Log;
@@ -14,11 +14,14 @@ use device::{Device, Failed, SECTOR_SIZE};
 use frame_io::ReadFault;
 use layout::{BadImage, CheckpointHeader, Entry, Gate, decode_gate, decode_header, sequence_in};
 
-// Reads the header of a slot, and answers whether it counts: its gate is open, and it belongs in this slot.
+// Reads the header of a slot, and answers whether it counts: its gate is open, and it belongs in
+// this slot.
 fn read_header<D: Device>(device: &mut D, slot: HeaderSlot, into: &mut [u8]) -> Result<bool, Failed>
     requires inside { 5 ≤ (D.disk device.old).sectors }
     requires one { length into.old ≡ 512 }
-    ensures counts { IfOk result (λ counts. counts ≡ does_count ((D.disk device.old).seen (header_at slot)) ((D.disk device.old).seen (gate_at slot)) (slot_number slot)) }
+    ensures counts { IfOk result (λ counts. counts
+        ≡ does_count ((D.disk device.old).seen (header_at slot))
+        ((D.disk device.old).seen (gate_at slot)) (slot_number slot)) }
     ensures bytes { OnOk result (into.new ≡ (D.disk device.old).seen (header_at slot)) }
     ensures reads { ReadsOnly (D.disk device.old) (D.disk device.new) }
     ensures cause { Counts (D.disk device.old) (D.disk device.new) result }
@@ -41,7 +44,8 @@ fn committed_of(first: bool, m: u64, second: bool, n: u64) -> Option<HeaderSlot>
     }
 }
 
-// Reads the header of a slot from the bytes of both. A greater one that is malformed is not passed over.
+// Reads the header of a slot from the bytes of both. A greater one that is malformed is not passed
+// over.
 fn choose(
     slot: Option<HeaderSlot>,
     first: &[u8],
@@ -65,7 +69,7 @@ impl Log {
     fn find_header<D: Device>(&self, device: &mut D) -> Result<CheckpointHeader, ReadFault>
         requires inside { self.now.total ≤ (D.disk device.old).sectors }
         ensures found { IfOk result (λ h. HasHeader (D.disk device.old).seen self.now h) }
-        ensures refused { IfErr result (λ e. HasNone self.now (D.disk device.old).seen e) }
+        ensures refused { IfErr result (λ e. HasNone (D.disk device.old).seen self.now e) }
         ensures reads { ReadsOnly (D.disk device.old) (D.disk device.new) }
         ensures cause { CountsFailed (D.disk device.old) (D.disk device.new) result }
     {
@@ -83,11 +87,13 @@ impl Log {
         Ok(choose(slot, &first, &second, room)?)
     }
 
-    /// The committed header, with its directory in the first of the entries. It takes no memory and writes nothing.
+    /// The committed header, with its directory in the first of the entries. It takes no memory and
+    /// writes nothing.
     ///
-    /// `Failed` is told exactly where the device failed; `BadImage::NoHeader` where no header counts,
-    /// `BadImage::BadHeader` where the committed one is malformed, though another may count too, and
-    /// `BadImage::BadDirectory` where its directory is malformed. A refusal leaves any entries.
+    /// `Failed` is told exactly where the device failed; `BadImage::NoHeader` where no header
+    /// counts, `BadImage::BadHeader` where the committed one is malformed, though another may count
+    /// too, and `BadImage::BadDirectory` where its directory is malformed. A refusal leaves any
+    /// entries.
     pub fn find_committed<D: Device>(
         &self,
         device: &mut D,
@@ -96,7 +102,7 @@ impl Log {
         requires room { self.now.geometry.log ≤ length directory.old }
         requires inside { self.now.total ≤ (D.disk device.old).sectors }
         ensures found { IfOk result (λ h. HasCommitted (D.disk device.old).seen self.now h directory.new) }
-        ensures refused { IfErr result (λ e. IsRefusal self.now (D.disk device.old).seen e) }
+        ensures refused { IfErr result (λ e. HasNoCommitted (D.disk device.old).seen self.now e) }
         ensures length { length directory.new ≡ length directory.old }
         ensures reads { ReadsOnly (D.disk device.old) (D.disk device.new) }
         ensures cause { CountsFailed (D.disk device.old) (D.disk device.new) result }

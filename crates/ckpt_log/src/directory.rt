@@ -78,7 +78,7 @@ impl Log {
         requires few { length into.old ≤ self.now.geometry.log }
         requires inside { self.now.total ≤ (D.disk device.old).sectors }
         ensures found { OnOk result (IsDirectory self.now.geometry into.new × (directory_in (D.disk device.new).seen self.now generation (length into.old) ≡ directory_bytes into.new)) }
-        ensures refused { IfErr result (λ e. IsBadDirectory self.now (directory_in (D.disk device.new).seen self.now generation (length into.old)) e) }
+        ensures refused { IfErr result (λ e. IsBadDirectory self.now.geometry (directory_in (D.disk device.new).seen self.now generation (length into.old)) e) }
         ensures reads { ReadsOnly (D.disk device.old) (D.disk device.new) }
         ensures untouched { length into.old ≡ 0 → device.new ≡ device.old }
         ensures cause { CountsFailed (D.disk device.old) (D.disk device.new) result }
