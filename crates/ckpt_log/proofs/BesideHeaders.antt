@@ -1,16 +1,11 @@
 -- What lies apart from the headers.
-use Rattle.std.proofs.Common.{◌≡◌, ◌+◌, ◌*◌, ◌<◌, ◌≤◌, ◌^◌, ℕ, List, take, ap, arith}
-use Rattle.device.specs.Disk.{Image}
-use Rattle.device.specs.Calls.{Elsewhere}
-use Rattle.layout.specs.declared.header.CheckpointHeader.{CheckpointHeader}
+use Rattle.std.proofs.Common.{◌+◌, ◌*◌, ◌≤◌, ℕ, List, take, ap, arith}
 use Rattle.layout.specs.Superblock.{Plan, IsPlan}
 use Rattle.layout.specs.Frame.{frame_length}
 use Rattle.layout.specs.Image.{frame_sector, half_sector, slot_sector, directory_sector, directory_length}
 use Rattle.layout.proofs.Halves.{half_within}
 use Rattle.layout.proofs.Sectors.{same_sectors}
-use Rattle.ckpt_log.specs.Commit.{header_sector}
 use Rattle.ckpt_log.specs.HeaderLaws.{SequencesAreTold, NextFollows, HeadersSpareSectors, HeadersSpareFrames, HeadersSpareSlots, HeadersSpareDirectories}
-use Rattle.ckpt_log.specs.SavedSectors.{SameFrom}
 use Rattle.ckpt_log.proofs.Commits.{sequence_of, next_fits, precedes}
 
 pub sequences_told : SequencesAreTold
@@ -26,7 +21,7 @@ pub spare_frames : HeadersSpareFrames
 spare_frames old new h p generation es object behind e =
     same_sectors (frame_sector p generation es object) (frame_length p.geometry object) old new (spare_sectors old new h (frame_sector p generation es object) (frame_length p.geometry object) behind e).1
 
-half_behind : (p : Plan) (generation : ℕ) → IsPlan p → 5 ≤ half_sector p generation
+pub half_behind : (p : Plan) (generation : ℕ) → IsPlan p → 5 ≤ half_sector p generation
 half_behind p generation fits = (half_within p generation fits).0
 
 pub spare_slots : HeadersSpareSlots

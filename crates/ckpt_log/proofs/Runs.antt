@@ -1,5 +1,5 @@
 -- What a crash leaves in the course of a commit.
-use Rattle.std.proofs.Common.{◌≡◌, ◌<◌, ◌^◌, ◌⊎◌, ℕ, false, inl, inr, refl, sym, ap, subst, ◌∙◌, arith}
+use Rattle.std.proofs.Common.{◌≡◌, ◌<◌, ◌^◌, ◌⊎◌, ℕ, false, inl, inr, refl, sym, ap, subst, ◌∙◌}
 use Rattle.layout.specs.declared.header.CheckpointHeader.{CheckpointHeader}
 use Rattle.layout.specs.Gate.{is_open}
 use Rattle.layout.specs.Header.{header_bytes}
@@ -9,8 +9,8 @@ use Rattle.device.specs.Calls.{Agrees, Elsewhere, Narrows, Only}
 use Rattle.device.specs.Moments.{Elapses, LeavesOnly, Peeks}
 use Rattle.device.proofs.Images.{agrees_is, elsewhere_same}
 use Rattle.device.proofs.Moments.{OnlyNow, CountsNow, in_one_call, leaves_weaker, leaves_on, ends}
-use Rattle.ckpt_log.specs.Commit.{header_sector, gate_sector, closed_gate, IsInOrder, IsInOrderAfter, CommitsOne, Precedes, KeepsHeader, HasNew, IsOldOrNew, IsOld}
-use Rattle.ckpt_log.proofs.Commits.{closing_keeps, header_keeps, opening, precedes_on, keeps_on, old_or_new_on}
+use Rattle.ckpt_log.specs.Commit.{header_sector, gate_sector, IsInOrder, IsInOrderAfter, CommitsOne, Precedes, KeepsHeader, HasNew, IsOldOrNew, IsOld}
+use Rattle.ckpt_log.proofs.Commits.{closing_keeps, header_keeps, opening, precedes_on, keeps_on}
 
 -- what a crash leaves while a gate is closed where it is open
 abbrev pub IsClosing : ℕ → Image → Image → Type 0

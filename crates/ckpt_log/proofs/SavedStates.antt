@@ -1,9 +1,9 @@
 -- Images that agree in the sectors that a saved state is read from.
-use Rattle.std.proofs.Common.{◌≡◌, ◌<◌, ◌+◌, ◌*◌, ◌/◌, ℕ, zero, suc, Option, Some, None, List, ◌++◌, take, refl, sym, ap, subst, ◌∙◌, arith}
+use Rattle.std.proofs.Common.{◌≡◌, ◌<◌, ◌+◌, ◌*◌, ℕ, Option, Some, None, List, take, refl, sym, ap, subst, ◌∙◌, arith}
 use Rattle.device.specs.Disk.{Image}
 use Rattle.layout.specs.Frame.{frame_length}
 use Rattle.layout.specs.Frame.{IsFrameOf}
-use Rattle.layout.specs.Image.{sectors_from, committed_slot, option_at, frame_sector, directory_sector, directory_length}
+use Rattle.layout.specs.Image.{committed_slot, option_at, frame_sector, directory_sector, directory_length}
 use Rattle.layout.proofs.Sectors.{same_sectors}
 use Rattle.ckpt_log.specs.SavedSectors.{SameFrom, SameHeader, SameDirectory, SameFrames, SameSaved}
 use Rattle.ckpt_log.proofs.Winners.{slot_of_image}

@@ -1,9 +1,9 @@
 -- One sector of a device.
-use Rattle.std.proofs.Common.{◌≡◌, ◌<◌, ◌+◌, ◌*◌, ◌/◌, ◌%◌, ◌++◌, ℕ, zero, suc, List, [], ◌∷◌, Result, Ok, Err, length, take, drop, refl, sym, ap, ◌∙◌, arith, length-drop, append-nil}
-use Rattle.std.proofs.lemmas.List.{take_all, take-append-drop, drop-drop}
+use Rattle.std.proofs.Common.{◌≡◌, ◌+◌, ◌*◌, ◌/◌, ◌++◌, ℕ, List, [], Result, Ok, Err, length, take, drop, refl, sym, ap, ◌∙◌, arith, append-nil}
+use Rattle.std.proofs.lemmas.List.{take_all}
 use Rattle.std.specs.Prelude.{OnOk}
 use Rattle.device.specs.Disk.{Image, Disk}
-use Rattle.device.specs.Calls.{Agrees, AreSectors, sectors_of, image_of}
+use Rattle.device.specs.Calls.{Agrees, AreSectors, sectors_of}
 use Rattle.layout.specs.Image.{sectors_from}
 use Rattle.device.specs.Moments.{LeavesOnly}
 use Rattle.device.proofs.Moments.{CountsNow, ends}

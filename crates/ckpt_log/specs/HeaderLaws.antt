@@ -4,8 +4,7 @@ use Rattle.layout.specs.declared.directory.Entry.{Entry}
 use Rattle.layout.specs.declared.header.CheckpointHeader.{CheckpointHeader}
 use Rattle.layout.specs.Header.{header_bytes, IsHeader}
 use Rattle.layout.specs.Superblock.{Plan, IsPlan}
-use Rattle.layout.specs.Frame.{frame_length}
-use Rattle.layout.specs.Image.{sequence_in, frame_in, frame_sector, directory_in, slot_sector, sectors_from}
+use Rattle.layout.specs.Image.{sequence_in, frame_in, frame_sector, directory_in}
 use Rattle.device.specs.Disk.{Image}
 use Rattle.device.specs.Calls.{Elsewhere}
 use Rattle.ckpt_log.specs.Commit.{header_sector, Commits, Precedes}

@@ -1,4 +1,5 @@
 pub mod Commit
+pub mod CommitLaws
 pub mod HeaderLaws
 pub mod HeaderSlot
 pub mod Log

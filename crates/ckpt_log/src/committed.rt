@@ -101,7 +101,8 @@ impl Log {
     ) -> Result<CheckpointHeader, ReadFault>
         requires room { self.now.geometry.log ≤ length directory.old }
         requires inside { self.now.total ≤ (D.disk device.old).sectors }
-        ensures found { IfOk result (λ h. HasCommitted (D.disk device.old).seen self.now h directory.new) }
+        ensures found { IfOk result (λ h.
+            HasCommitted (D.disk device.old).seen self.now h directory.new) }
         ensures refused { IfErr result (λ e. HasNoCommitted (D.disk device.old).seen self.now e) }
         ensures length { length directory.new ≡ length directory.old }
         ensures reads { ReadsOnly (D.disk device.old) (D.disk device.new) }

@@ -31,16 +31,20 @@ fn put_entries(entries: &[Entry], into: &mut [u8])
 fn entries_in(bytes: &[u8], geometry: Geometry, into: &mut [Entry]) -> Result<(), BadImage>
     requires room { 16 * length into.old ≤ length bytes.now }
     requires log { geometry.log ≤ 4096 }
-    ensures found { OnOk result (IsDirectory geometry into.new × (take (16 * length into.old) bytes.now ≡ directory_bytes into.new)) }
-    ensures refused { IfErr result (λ e. (e ≡ BadImage.BadDirectory) × ((es : List Entry) → IsDirectory geometry es → take (16 * length into.old) bytes.now ≡ directory_bytes es → ⊥)) }
+    ensures found { OnOk result (IsDirectory geometry into.new
+        × (take (16 * length into.old) bytes.now ≡ directory_bytes into.new)) }
+    ensures refused { IfErr result (λ e. (e ≡ BadImage.BadDirectory)
+        × ((es : List Entry) → IsDirectory geometry es
+        → take (16 * length into.old) bytes.now ≡ directory_bytes es → ⊥)) }
 {
     decode_directory(&bytes[..ENTRY_BYTES * into.len()], geometry, into)
 }
 
 impl Log {
-    /// Writes the directory of the half of a generation, and touches its sectors alone: a crash at any moment leaves
-    /// all other sectors as they could have been left before. It is refused where the device fails, and the sectors
-    /// may then hold any bytes. It takes no memory.
+    /// Writes the directory of the half of a generation, and touches its sectors alone: a crash at
+    /// any moment leaves all other sectors as they could have been left before. It is refused
+    /// exactly where the device fails, and the sectors may then hold any bytes. It takes no memory,
+    /// and where there are no entries it makes no call of the device.
     pub fn write_directory<D: Device>(
         &self,
         device: &mut D,
@@ -49,8 +53,11 @@ impl Log {
     ) -> Result<(), Failed>
         requires few { length entries.now ≤ self.now.geometry.log }
         requires inside { self.now.total ≤ (D.disk device.old).sectors }
-        ensures written { OnOk result (directory_in (D.disk device.new).seen self.now generation (length entries.now) ≡ directory_bytes entries.now) }
-        ensures writes { WritesAt (directory_sector self.now generation) (directory_length (length entries.now)) (D.disk device.old) (D.disk device.new) }
+        ensures written { OnOk result
+            (directory_in (D.disk device.new).seen self.now generation (length entries.now)
+            ≡ directory_bytes entries.now) }
+        ensures writes { WritesAt (directory_sector self.now generation)
+            (directory_length (length entries.now)) (D.disk device.old) (D.disk device.new) }
         ensures untouched { length entries.now ≡ 0 → device.new ≡ device.old }
         ensures cause { Counts (D.disk device.old) (D.disk device.new) result }
     {
@@ -65,10 +72,11 @@ impl Log {
         write_sectors(device, at, sectors, run)
     }
 
-    /// Reads a directory of as many entries as `into` takes from the half of a generation. It takes no memory.
+    /// Reads a directory of as many entries as `into` takes from the half of a generation. It takes
+    /// no memory, and where that is no entry it makes no call of the device.
     ///
-    /// It is refused by `Failed` exactly where the device failed, and by `BadImage::BadDirectory` exactly where the
-    /// sectors spell no directory of so many entries. Either leaves any entries.
+    /// It is refused by `Failed` exactly where the device failed, and by `BadImage::BadDirectory`
+    /// exactly where the sectors spell no directory of so many entries. Either leaves any entries.
     pub fn read_directory<D: Device>(
         &self,
         device: &mut D,
@@ -77,8 +85,11 @@ impl Log {
     ) -> Result<(), ReadFault>
         requires few { length into.old ≤ self.now.geometry.log }
         requires inside { self.now.total ≤ (D.disk device.old).sectors }
-        ensures found { OnOk result (IsDirectory self.now.geometry into.new × (directory_in (D.disk device.new).seen self.now generation (length into.old) ≡ directory_bytes into.new)) }
-        ensures refused { IfErr result (λ e. IsBadDirectory self.now.geometry (directory_in (D.disk device.new).seen self.now generation (length into.old)) e) }
+        ensures found { OnOk result (IsDirectory self.now.geometry into.new
+            × (directory_in (D.disk device.new).seen self.now generation (length into.old)
+            ≡ directory_bytes into.new)) }
+        ensures refused { IfErr result (λ e. IsBadDirectory self.now.geometry
+            (directory_in (D.disk device.new).seen self.now generation (length into.old)) e) }
         ensures reads { ReadsOnly (D.disk device.old) (D.disk device.new) }
         ensures untouched { length into.old ≡ 0 → device.new ≡ device.old }
         ensures cause { CountsFailed (D.disk device.old) (D.disk device.new) result }

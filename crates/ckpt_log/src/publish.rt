@@ -13,20 +13,25 @@ use crate::sector::{put_sector, read_sector};
 use device::{Device, Failed, SECTOR_SIZE};
 use layout::{CheckpointHeader, Gate, decode_gate, encode_gate, encode_header};
 
-// Closes the gate in a sector where it is open. A closed gate isn't written: a torn write could open it.
+// Closes the gate in a sector where it is open. A closed gate isn't written: a torn write could
+// open it.
 fn close_gate<D: Device>(device: &mut D, at: u64) -> Result<(), Failed>
     requires inside { at < (D.disk device.old).sectors }
     requires durable { Only (D.disk device.old).seen (D.disk device.old) }
 
-    ensures closed { OnOk result ((D.disk device.new).seen at ≡ closed_gate ((D.disk device.old).seen at)) }
+    ensures closed { OnOk result
+        ((D.disk device.new).seen at ≡ closed_gate ((D.disk device.old).seen at)) }
     ensures durable { OnOk result (Only (D.disk device.new).seen (D.disk device.new)) }
     ensures size { (D.disk device.new).sectors ≡ (D.disk device.old).sectors }
     ensures elsewhere { Elsewhere at 1 (D.disk device.old).seen (D.disk device.new).seen }
-    ensures closed_before { is_open ((D.disk device.old).seen at) ≡ false → Agrees (D.disk device.new).seen (D.disk device.old).seen }
+    ensures closed_before { is_open ((D.disk device.old).seen at) ≡ false
+        → Agrees (D.disk device.new).seen (D.disk device.old).seen }
 
-    // A crash at any moment leaves every other sector as it was, and this one too where the gate was closed.
+    // A crash at any moment leaves every other sector as it was, and this one too where the gate
+    // was closed.
     ensures any_moment { LeavesOnly (D.disk device.old) (D.disk device.new)
-        (λ c. Elsewhere at 1 (D.disk device.old).seen c × (is_open ((D.disk device.old).seen at) ≡ false → Agrees c (D.disk device.old).seen)) }
+        (λ c. Elsewhere at 1 (D.disk device.old).seen c
+        × (is_open ((D.disk device.old).seen at) ≡ false → Agrees c (D.disk device.old).seen)) }
     ensures cause { Counts (D.disk device.old) (D.disk device.new) result }
 {
     let mut sector = [0; SECTOR_SIZE];
@@ -72,14 +77,15 @@ fn put_open_gate<D: Device>(device: &mut D, at: u64) -> Result<(), Failed>
     put_sector(device, at, &gate)
 }
 
-// Closes the gate of a header where it is open, and writes the header under it. A crash at any moment leaves the
-// committed header that there is.
+// Closes the gate of a header where it is open, and writes the header under it. A crash at any
+// moment leaves the committed header that there is.
 fn prepare<D: Device>(device: &mut D, header: CheckpointHeader) -> Result<(), Failed>
     requires inside { 5 ≤ (D.disk device.old).sectors }
     requires durable { Only (D.disk device.old).seen (D.disk device.old) }
     requires next { Precedes (D.disk device.old).seen header }
 
-    ensures written { OnOk result ((D.disk device.new).seen (header_sector header) ≡ header_bytes header) }
+    ensures written { OnOk result
+        ((D.disk device.new).seen (header_sector header) ≡ header_bytes header) }
     ensures keeps { KeepsHeader header (D.disk device.old).seen (D.disk device.new).seen }
     ensures durable { OnOk result (Only (D.disk device.new).seen (D.disk device.new)) }
     ensures size { (D.disk device.new).sectors ≡ (D.disk device.old).sectors }
@@ -94,16 +100,18 @@ fn prepare<D: Device>(device: &mut D, header: CheckpointHeader) -> Result<(), Fa
     put_header(device, slot.header(), header)
 }
 
-// Opens the gate of a header that is written and durable. A crash at any moment leaves the committed header that
-// there was, or this one.
+// Opens the gate of a header that is written and durable. A crash at any moment leaves the
+// committed header that there was, or this one.
 fn open_gate<D: Device>(device: &mut D, header: CheckpointHeader) -> Result<(), Failed>
     requires inside { 5 ≤ (D.disk device.old).sectors }
     requires durable { Only (D.disk device.old).seen (D.disk device.old) }
     requires next { Precedes (D.disk device.old).seen header }
     requires written { (D.disk device.old).seen (header_sector header) ≡ header_bytes header }
 
-    ensures committed { OnOk result (HasNew header (D.disk device.old).seen (D.disk device.new).seen) }
-    ensures opened { OnOk result ((D.disk device.new).seen (gate_sector header) ≡ gate_bytes Open) }
+    ensures committed { OnOk result
+        (HasNew header (D.disk device.old).seen (D.disk device.new).seen) }
+    ensures opened { OnOk result
+        ((D.disk device.new).seen (gate_sector header) ≡ gate_bytes Open) }
     ensures seen { IsOldOrNew header (D.disk device.old).seen (D.disk device.new).seen }
     ensures durable { OnOk result (Only (D.disk device.new).seen (D.disk device.new)) }
     ensures size { (D.disk device.new).sectors ≡ (D.disk device.old).sectors }
@@ -122,8 +130,10 @@ fn publish_durable<D: Device>(device: &mut D, header: CheckpointHeader) -> Resul
     requires durable { Only (D.disk device.old).seen (D.disk device.old) }
     requires next { Precedes (D.disk device.old).seen header }
 
-    ensures committed { OnOk result (HasNew header (D.disk device.old).seen (D.disk device.new).seen) }
-    ensures opened { OnOk result ((D.disk device.new).seen (gate_sector header) ≡ gate_bytes Open) }
+    ensures committed { OnOk result
+        (HasNew header (D.disk device.old).seen (D.disk device.new).seen) }
+    ensures opened { OnOk result
+        ((D.disk device.new).seen (gate_sector header) ≡ gate_bytes Open) }
     ensures seen { IsOldOrNew header (D.disk device.old).seen (D.disk device.new).seen }
     ensures durable { OnOk result (Only (D.disk device.new).seen (D.disk device.new)) }
     ensures size { (D.disk device.new).sectors ≡ (D.disk device.old).sectors }
@@ -155,19 +165,22 @@ impl Log {
         requires one { CommitsOne (D.disk device.old) }
         requires next { Precedes (D.disk device.old).seen header }
 
-        ensures committed { OnOk result (HasNew header (D.disk device.old).seen (D.disk device.new).seen) }
-        ensures opened { OnOk result ((D.disk device.new).seen (gate_sector header) ≡ gate_bytes Open) }
+        ensures committed { OnOk result
+            (HasNew header (D.disk device.old).seen (D.disk device.new).seen) }
+        ensures opened { OnOk result
+            ((D.disk device.new).seen (gate_sector header) ≡ gate_bytes Open) }
         ensures durable { OnOk result (Only (D.disk device.new).seen (D.disk device.new)) }
         ensures size { (D.disk device.new).sectors ≡ (D.disk device.old).sectors }
-        ensures elsewhere { Elsewhere (header_sector header) 2 (D.disk device.old).seen (D.disk device.new).seen }
+        ensures elsewhere { Elsewhere (header_sector header) 2
+            (D.disk device.old).seen (D.disk device.new).seen }
 
-        // A crash at any moment leaves the header before it committed, or this one; and where it leaves this one,
-        // all that was written before the call.
+        // A crash at any moment leaves the header before it committed, or this one; and where it
+        // leaves this one, all that was written before the call.
         ensures any_moment { LeavesOnly (D.disk device.old) (D.disk device.new)
             (λ c. IsOld header (D.disk device.old) c ⊎ HasNew header (D.disk device.old).seen c) }
 
-        // At each moment its slot has the old header, or a gate that was closed before the header was touched, or
-        // the new header.
+        // At each moment its slot has the old header, or a gate that was closed before the header
+        // was touched, or the new header.
         ensures in_order { LeavesOnly (D.disk device.old) (D.disk device.new)
             (λ c. IsInOrderAfter header (D.disk device.old) c) }
         ensures cause { Counts (D.disk device.old) (D.disk device.new) result }

@@ -18,7 +18,8 @@ pub(crate) fn read_sector<D: Device>(device: &mut D, at: u64, into: &mut [u8]) -
     read_sectors(device, at, 1, into)
 }
 
-/// Writes a sector and makes it durable. At `Failed` it may hold any bytes, and no other is touched.
+/// Writes a sector and makes it durable. At `Failed` it may hold any bytes, and no other is
+/// touched.
 pub(crate) fn put_sector<D: Device>(device: &mut D, at: u64, bytes: &[u8]) -> Result<(), Failed>
     requires one { length bytes.now ≡ 512 }
     requires inside { at < (D.disk device.old).sectors }

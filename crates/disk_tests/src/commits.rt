@@ -1,3 +1,4 @@
+// Commits, and what a crash in their course leaves.
 use crate::rig::{AGE, Rig};
 use device::{Device, Memory, Outcome, SECTOR_SIZE};
 use frame_io::ReadFault;
@@ -31,11 +32,12 @@ fn committed<D: Device>(rig: &mut Rig<D>) -> Result<CheckpointHeader, ReadFault>
     Ok(header)
 }
 
-// The calls that `publish_next` makes before it publishes: a sync, and both headers with their gates. The
-// directory has no entries and isn't read.
+// The calls that `publish_next` makes before it publishes: a sync, and both headers with their
+// gates. The directory has no entries and isn't read.
 const CALLS_BEFORE: u64 = 5;
 
-// Whether a publish that stops after so many calls succeeds, and the sequence number that a power cut then leaves.
+// Whether a publish that stops after so many calls succeeds, and the sequence number that a power
+// cut then leaves.
 fn left_by_stop<D: Device>(rig: Rig<D>, calls: u64) -> Result<(bool, u64), Fail> {
     let mut rig = rig.fused(calls);
     let published = rig.publish_next()?;

@@ -8,7 +8,7 @@ use device::{Device, Failed};
 
 /// Fills `into` with so many sectors from `at` on. After `Failed`, which is told exactly where the
 /// device failed, it may hold any bytes.
-#[tactic(auto, using(crate::proofs::Calls::run_is))]
+#[tactic(auto, using(crate::proofs::Runs::run_is))]
 pub fn read_sectors<D: Device>(
     device: &mut D,
     at: u64,
@@ -27,7 +27,7 @@ pub fn read_sectors<D: Device>(
 
 /// Writes `from` into so many sectors from `at` on. Until a sync a crash may leave any bytes in
 /// them; and they may hold any bytes after `Failed`, which is told exactly where the device failed.
-#[tactic(auto, using(crate::proofs::Calls::run_is))]
+#[tactic(auto, using(crate::proofs::Runs::run_is))]
 pub fn write_sectors<D: Device>(
     device: &mut D,
     at: u64,

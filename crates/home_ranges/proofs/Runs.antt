@@ -1,5 +1,5 @@
 -- Writes apart from a home frame, and frames that no slot of the log has.
-use Rattle.std.proofs.Common.{◌≡◌, ◌<◌, ◌+◌, refl, arith, ⊎_elim}
+use Rattle.std.proofs.Common.{◌+◌, arith, ⊎_elim}
 use Rattle.layout.proofs.Sectors.{same_sectors}
 use Rattle.layout.specs.Frame.{frame_length}
 use Rattle.home_ranges.specs.Home.{home_place}

@@ -9,7 +9,7 @@ ghost use Rattle.home_ranges.specs.Home.{home_place, home_bytes};
 
 use crate::home::Home;
 use device::{Device, Failed};
-use frame_io::ReadFault;
+use frame_io::{ReadFault, read_frame, write_frame};
 use layout::{Body, Room};
 use model::{Cap, Content, ObjectHeader};
 
@@ -36,14 +36,8 @@ impl Home {
         ensures reads { ReadsOnly (D.disk device.old) (D.disk device.new) }
         ensures cause { CountsFailed (D.disk device.old) (D.disk device.new) result }
     {
-        frame_io::read_frame(
-            device,
-            self.place(number),
-            self.geometry(),
-            number,
-            age,
-            room,
-        )
+        let at = self.place(number);
+        read_frame(device, at, self.geometry(), number, age, room)
     }
 
     /// Writes the home frame of an object, and touches its place alone: a crash at any moment
@@ -65,13 +59,7 @@ impl Home {
             (frame_length self.now.geometry number) (D.disk device.old) (D.disk device.new) }
         ensures cause { Counts (D.disk device.old) (D.disk device.new) result }
     {
-        frame_io::write_frame(
-            device,
-            self.place(number),
-            self.geometry(),
-            number,
-            header,
-            content,
-        )
+        let at = self.place(number);
+        write_frame(device, at, self.geometry(), number, header, content)
     }
 }

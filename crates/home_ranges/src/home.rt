@@ -44,7 +44,8 @@ impl Home {
         }
     }
 
-    /// The first sector of the home frame of an object: of 2 sectors for a node and of 9 for a page.
+    /// The first sector of the home frame of an object, which takes 2 sectors for a node and 9 for
+    /// a page.
     pub fn place(&self, number: u64) -> u64
         requires object { IsObject self.now.geometry number }
         ensures value { result ≡ home_place self.now number }

@@ -1,4 +1,3 @@
-use Rattle.std.proofs.Common.{ap, ◌+◌, ◌*◌, ◌∙◌}
 use Rattle.ckpt_log.proofs.Commits.{opening, opened_new, gate_is}
 use Rattle.ckpt_log.proofs.Runs.{opening_run}
 use Rattle.ckpt_log.proofs.Sectors.{on_ok}
