@@ -12,7 +12,7 @@ use Rattle.layout.specs.Image.{committed_bytes, sequence_in}
 use Rattle.layout.proofs.Headers.{six}
 use Rattle.device.specs.Disk.{Image}
 use Rattle.device.specs.Calls.{Agrees, Elsewhere}
-use Rattle.device.proofs.Images.{agrees_is, elsewhere_same, elsewhere_on}
+use Rattle.device.proofs.Images.{agrees_is, elsewhere_on}
 use Rattle.ckpt_log.specs.declared.header_slot.HeaderSlot.{HeaderSlot}
 use Rattle.ckpt_log.specs.HeaderSlot.{slot_number, header_at, gate_at}
 use Rattle.ckpt_log.specs.Commit.{header_sector, gate_sector, closed_gate, Precedes, KeepsHeader, HasNew, IsOldOrNew}
@@ -149,24 +149,3 @@ keeps_on h old mid new first second = record {
   elsewhere = elsewhere_on (header_sector h) 2 old mid new first.elsewhere second.elsewhere;
   committed = second.committed ∙ first.committed;
 }
-
-pub new_on : (h : CheckpointHeader) (old mid new : Image) → KeepsHeader h old mid → HasNew h mid new → HasNew h old new
-new_on h old mid new first second = record {
-  written = second.written;
-  elsewhere = elsewhere_on (header_sector h) 2 old mid new first.elsewhere second.elsewhere;
-  committed = second.committed;
-}
-
-pub keeps_same : (h : CheckpointHeader) (old new : Image) → Agrees new old → KeepsHeader h old new
-keeps_same h old new same = record {
-  elsewhere = elsewhere_same (header_sector h) 2 old new same;
-  committed = ap committed_bytes (agrees_is new old same);
-}
-
-pub old_or_new_on : (h : CheckpointHeader) (old mid new : Image) → KeepsHeader h old mid → IsOldOrNew h mid new → IsOldOrNew h old new
-old_or_new_on h old mid new first (inl kept) = inl (keeps_on h old mid new first kept)
-old_or_new_on h old mid new first (inr next) = inr (new_on h old mid new first next)
-
-pub elsewhere_of : (h : CheckpointHeader) (old new : Image) → IsOldOrNew h old new → Elsewhere (header_sector h) 2 old new
-elsewhere_of h old new (inl kept) = kept.elsewhere
-elsewhere_of h old new (inr next) = next.elsewhere
