@@ -2,20 +2,13 @@
 use Rattle.std.specs.Prelude.{◌≡◌, ℕ, List, ⊤}
 use Rattle.model.specs.declared.frame.Frame.{Frame}
 use Rattle.model.specs.declared.geometry.Geometry.{Geometry}
-use Rattle.device.specs.Disk.{Image}
 use Rattle.layout.specs.declared.bad_image.BadImage.TheVariants.{BadDirectory}
 use Rattle.layout.specs.declared.directory.Entry.{Entry}
 use Rattle.layout.specs.Directory.{directory_bytes, IsDirectory}
-use Rattle.layout.specs.Frame.{IsFrameOf, frame_bytes, frame_length}
-use Rattle.layout.specs.Superblock.{Plan}
-use Rattle.layout.specs.Image.{sectors_from, slot_sector}
+use Rattle.layout.specs.Frame.{IsFrameOf, frame_bytes}
 use Rattle.frame_io.specs.declared.fault.ReadFault.{ReadFault}
 use Rattle.frame_io.specs.declared.fault.ReadFault.TheVariants.{Failed, Bad}
 use Rattle.frame_io.specs.Frames.{IsRefused}
-
--- the bytes of the frame of an object in a slot
-abbrev pub slot_bytes : Image → Plan → ℕ → ℕ → ℕ → List ℕ
-slot_bytes image p generation slot object = sectors_from image (slot_sector p generation slot) (frame_length p.geometry object)
 
 -- bytes are refused where they spell no directory
 abbrev pub IsBadDirectory : Geometry → List ℕ → ReadFault → Type 0

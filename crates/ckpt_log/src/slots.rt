@@ -5,8 +5,7 @@ ghost use Rattle.layout.specs.Frame.{IsFrameOf, frame_bytes, frame_length, frame
 ghost use Rattle.layout.specs.Image.{slot_sector};
 ghost use Rattle.frame_io.specs.Calls.{ReadsOnly, WritesAt};
 ghost use Rattle.frame_io.specs.Fault.{CountsFailed};
-ghost use Rattle.frame_io.specs.Frames.{IsObject, IsRefused};
-ghost use Rattle.ckpt_log.specs.Slot.{slot_bytes};
+ghost use Rattle.frame_io.specs.Frames.{IsObject, IsRefused, bytes_at};
 
 use crate::log::Log;
 use device::{Device, Failed};
@@ -34,10 +33,11 @@ impl Log {
         requires slot { slot < self.now.geometry.log }
         requires inside { self.now.total ≤ (D.disk device.old).sectors }
         ensures found { IfOk result (λ read. IsFrameOf self.now.geometry age number
-            (slot_bytes (D.disk device.new).seen self.now generation slot number)
-            (frame_of read room.new)) }
+            (bytes_at (D.disk device.new).seen (slot_sector self.now generation slot)
+            self.now.geometry number) (frame_of read room.new)) }
         ensures refused { IfErr result (λ e. IsRefused self.now.geometry age number
-            (slot_bytes (D.disk device.new).seen self.now generation slot number) e) }
+            (bytes_at (D.disk device.new).seen (slot_sector self.now generation slot)
+            self.now.geometry number) e) }
         ensures reads { ReadsOnly (D.disk device.old) (D.disk device.new) }
         ensures cause { CountsFailed (D.disk device.old) (D.disk device.new) result }
     {
@@ -59,8 +59,8 @@ impl Log {
     ) -> Result<(), Failed>
         requires slot { slot < self.now.geometry.log }
         requires inside { self.now.total ≤ (D.disk device.old).sectors }
-        ensures written { OnOk result
-            (slot_bytes (D.disk device.new).seen self.now generation slot number
+        ensures written { OnOk result (bytes_at (D.disk device.new).seen
+            (slot_sector self.now generation slot) self.now.geometry number
             ≡ frame_bytes self.now.geometry number
             (record { header = header; content = content.now })) }
         ensures writes { WritesAt (slot_sector self.now generation slot)

@@ -5,7 +5,7 @@ ghost use Rattle.layout.specs.Frame.{IsFrameOf, frame_bytes, frame_length, frame
 ghost use Rattle.layout.specs.Image.{sectors_from};
 ghost use Rattle.frame_io.specs.Calls.{ReadsOnly, WritesAt};
 ghost use Rattle.frame_io.specs.Fault.{CountsFailed};
-ghost use Rattle.frame_io.specs.Frames.{IsObject, IsRefused};
+ghost use Rattle.frame_io.specs.Frames.{IsObject, IsRefused, bytes_at};
 
 use crate::fault::ReadFault;
 use crate::sectors::{read_sectors, write_sectors};
@@ -79,10 +79,9 @@ pub fn read_frame<D: Device>(
     requires object { IsObject geometry number }
     requires inside { at + frame_length geometry number ≤ (D.disk device.old).sectors }
     ensures found { IfOk result (λ read. IsFrameOf geometry age number
-        (sectors_from (D.disk device.new).seen at (frame_length geometry number))
-        (frame_of read room.new)) }
+        (bytes_at (D.disk device.new).seen at geometry number) (frame_of read room.new)) }
     ensures refused { IfErr result (λ e. IsRefused geometry age number
-        (sectors_from (D.disk device.new).seen at (frame_length geometry number)) e) }
+        (bytes_at (D.disk device.new).seen at geometry number) e) }
     ensures reads { ReadsOnly (D.disk device.old) (D.disk device.new) }
     ensures cause { CountsFailed (D.disk device.old) (D.disk device.new) result }
 {
@@ -148,8 +147,7 @@ pub fn write_frame<D: Device>(
     content: &Content<Cap>,
 ) -> Result<(), Failed>
     requires inside { at + frame_length geometry number ≤ (D.disk device.old).sectors }
-    ensures written { OnOk result
-        (sectors_from (D.disk device.new).seen at (frame_length geometry number)
+    ensures written { OnOk result (bytes_at (D.disk device.new).seen at geometry number
         ≡ frame_bytes geometry number (record { header = header; content = content.now })) }
     ensures writes { WritesAt at (frame_length geometry number)
         (D.disk device.old) (D.disk device.new) }

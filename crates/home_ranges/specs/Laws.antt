@@ -7,8 +7,8 @@ use Rattle.layout.specs.declared.extent.Extent.{Extent}
 use Rattle.layout.specs.Frame.{frame_length}
 use Rattle.layout.specs.Superblock.{Plan, IsPlan, IsWithin, IsApart, half_extent}
 use Rattle.layout.specs.Image.{slot_in, frame_in, half_sector}
-use Rattle.frame_io.specs.Frames.{IsObject}
-use Rattle.home_ranges.specs.Home.{home_place, home_bytes}
+use Rattle.frame_io.specs.Frames.{IsObject, bytes_at}
+use Rattle.home_ranges.specs.Home.{home_place}
 
 -- the sectors of the home frame of a number
 abbrev pub home_extent : Plan → ℕ → Extent
@@ -28,8 +28,8 @@ PlacesSpareLog = (p : Plan) (a generation : ℕ) → IsPlan p → IsObject p.geo
 
 -- what is changed apart from the home frame of a number leaves it
 abbrev pub FramesStay : Type 0
-FramesStay = (old new : Image) (p : Plan) (a at n : ℕ) → IsApart (home_extent p a) (record { sector = at; length = n }) → Elsewhere at n old new → home_bytes new p a ≡ home_bytes old p a
+FramesStay = (old new : Image) (p : Plan) (a at n : ℕ) → IsApart (home_extent p a) (record { sector = at; length = n }) → Elsewhere at n old new → bytes_at new (home_place p a) p.geometry a ≡ bytes_at old (home_place p a) p.geometry a
 
 -- the frame of a number that no slot of the log has is the one at home
 abbrev pub FramesAreHome : Type 0
-FramesAreHome = (image : Image) (p : Plan) (generation : ℕ) (es : List Entry) (a : ℕ) → slot_in es a ≡ None → frame_in image p generation es a ≡ home_bytes image p a
+FramesAreHome = (image : Image) (p : Plan) (generation : ℕ) (es : List Entry) (a : ℕ) → slot_in es a ≡ None → frame_in image p generation es a ≡ bytes_at image (home_place p a) p.geometry a

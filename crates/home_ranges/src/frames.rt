@@ -4,8 +4,8 @@ ghost use Rattle.device.specs.Calls.{Counts};
 ghost use Rattle.layout.specs.Frame.{IsFrameOf, frame_bytes, frame_length, frame_of};
 ghost use Rattle.frame_io.specs.Calls.{ReadsOnly, WritesAt};
 ghost use Rattle.frame_io.specs.Fault.{CountsFailed};
-ghost use Rattle.frame_io.specs.Frames.{IsObject, IsRefused};
-ghost use Rattle.home_ranges.specs.Home.{home_place, home_bytes};
+ghost use Rattle.frame_io.specs.Frames.{IsObject, IsRefused, bytes_at};
+ghost use Rattle.home_ranges.specs.Home.{home_place};
 
 use crate::home::Home;
 use device::{Device, Failed};
@@ -30,9 +30,11 @@ impl Home {
         requires object { IsObject self.now.geometry number }
         requires inside { self.now.total ≤ (D.disk device.old).sectors }
         ensures found { IfOk result (λ read. IsFrameOf self.now.geometry age number
-            (home_bytes (D.disk device.new).seen self.now number) (frame_of read room.new)) }
+            (bytes_at (D.disk device.new).seen (home_place self.now number)
+            self.now.geometry number) (frame_of read room.new)) }
         ensures refused { IfErr result (λ e. IsRefused self.now.geometry age number
-            (home_bytes (D.disk device.new).seen self.now number) e) }
+            (bytes_at (D.disk device.new).seen (home_place self.now number)
+            self.now.geometry number) e) }
         ensures reads { ReadsOnly (D.disk device.old) (D.disk device.new) }
         ensures cause { CountsFailed (D.disk device.old) (D.disk device.new) result }
     {
@@ -52,7 +54,8 @@ impl Home {
     ) -> Result<(), Failed>
         requires object { IsObject self.now.geometry number }
         requires inside { self.now.total ≤ (D.disk device.old).sectors }
-        ensures written { OnOk result (home_bytes (D.disk device.new).seen self.now number
+        ensures written { OnOk result (bytes_at (D.disk device.new).seen
+            (home_place self.now number) self.now.geometry number
             ≡ frame_bytes self.now.geometry number
             (record { header = header; content = content.now })) }
         ensures writes { WritesAt (home_place self.now number)
