@@ -212,8 +212,8 @@ impl<D: Device> Rig<D> {
         Ok(found)
     }
 
-    /// Writes a header and then its gate, each of them synced, the header with this byte at its end.
-    /// Slot 0 is of sectors 1 and 2, slot 1 of sectors 3 and 4.
+    /// Writes a header and then its gate, each of them synced, the header with this byte at its
+    /// end. Slot 0 is of sectors 1 and 2, slot 1 of sectors 3 and 4.
     pub(crate) fn put_slot(
         &mut self,
         at: u64,
