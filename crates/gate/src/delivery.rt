@@ -11,11 +11,11 @@ ghost use Rattle.gate.specs.Plan.{FitsCap};
 use capability::{PresentFrames, objects};
 use model::Message;
 
-/// The first of the four registers that a message fills.
+// The first of the four registers that a message fills.
 const FIRST_REGISTER: usize = 28;
 
-/// Delivers a message to a process: words, a key, and capabilities to its last four registers. It is
-/// running.
+/// Delivers a message to a process, whose root and annex are fetched and announced: words, a key,
+/// and capabilities to its last four registers. The process is running from then on.
 pub fn deliver<F: PresentFrames>(store: &mut F, process: u64, message: Message)
     requires process { IsTrue (is_process (objects_of (frames_of (F.parts store.old))) process) }
     requires root_fetched { F.IsFetched store.old process }

@@ -27,7 +27,7 @@ pub struct Gate {
     pub is_resume: bool,
 }
 
-/// What a gate receives: with a call the last register gets the right to answer.
+// What a gate receives: with a call the last register gets the right to answer.
 fn message(invocation: &Invocation, sent: [Capability; 4], key: u16) -> Message
     ensures words { result.words ≡ invocation.now.words }
     ensures key { result.key ≡ key }
@@ -45,7 +45,7 @@ fn message(invocation: &Invocation, sent: [Capability; 4], key: u16) -> Message
     }
 }
 
-/// Announces what an invocation through a gate writes, and fetches it.
+// Announces what an invocation through a gate writes, and fetches it.
 fn announce<F: PresentFrames>(
     alloc: Global,
     store: &mut F,
@@ -79,8 +79,8 @@ fn announce<F: PresentFrames>(
     }
 }
 
-/// The state of the process that invokes changes: one that calls waits, and one that returns is
-/// available.
+// The state of the process that invokes changes: one that calls waits, and one that returns is
+// available.
 fn leave<F: PresentFrames>(store: &mut F, invocation: &Invocation)
     requires process { IsTrue (is_process (objects_of (frames_of (F.parts store.old))) invocation.now.process) }
     requires fetched { F.IsFetched store.old invocation.now.process }
@@ -100,8 +100,8 @@ fn leave<F: PresentFrames>(store: &mut F, invocation: &Invocation)
     }
 }
 
-/// The message goes through the gate. One that works only once is given up at the end, so that a
-/// copy of it that was sent arrives void.
+// The message goes through the gate. One that works only once is given up at the end, so that a
+// copy of it that was sent arrives void.
 fn enter<F: PresentFrames>(
     store: &mut F,
     invocation: &Invocation,
@@ -132,8 +132,8 @@ fn enter<F: PresentFrames>(
     }
 }
 
-/// Whether a gate can be entered: it resumes a process, or that is available, or it returns to
-/// itself.
+// Whether a gate can be entered: it resumes a process, or that is available, or it returns to
+// itself.
 fn can_enter<F: PresentFrames>(store: &F, invocation: &Invocation, gate: Gate) -> bool
     requires fetched { F.IsFetched store.now gate.process }
     requires process { IsTrue (is_process (objects_of (frames_of (F.parts store.now))) gate.process) }

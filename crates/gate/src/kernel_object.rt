@@ -21,7 +21,7 @@ use capability::{PrepareFault, PresentFrames, objects, roots};
 use model::{Arguments, Capability, Invocation, Message, Operation, State};
 use std::alloc::Global;
 
-/// Announces what an invocation writes, and fetches it.
+// Announces what an invocation writes, and fetches it.
 fn announce<F: PresentFrames>(
     alloc: Global,
     store: &mut F,
@@ -63,7 +63,7 @@ fn announce<F: PresentFrames>(
     }
 }
 
-/// Gives a process that called the reply, where it still runs.
+// Gives a process that called the reply, where it still runs.
 fn reply<F: PresentFrames>(store: &mut F, process: u64, plan: OrderPlan)
     requires root_fetched { F.IsFetched store.old process }
     requires root_announced { F.IsAnnounced store.old process }
@@ -93,8 +93,8 @@ fn reply<F: PresentFrames>(store: &mut F, process: u64, plan: OrderPlan)
     deliver(store, process, message);
 }
 
-/// Makes the change of an order. Before it a process that returns becomes available; after it one
-/// that called gets the reply, where it still runs.
+// Makes the change of an order. Before it a process that returns becomes available; after it one
+// that called gets the reply, where it still runs.
 fn finish<F: PresentFrames>(
     store: &mut F,
     operation: Operation,
@@ -132,7 +132,7 @@ fn finish<F: PresentFrames>(
     }
 }
 
-/// Fetches what an order reads, and plans it.
+// Fetches what an order reads, and plans it.
 fn plan_order<F: PresentFrames>(
     alloc: Global,
     store: &mut F,

@@ -33,7 +33,7 @@ pub fn look<F: PresentFrames>(alloc: Global, store: &mut F, number: u64) -> Resu
     objects::fetch(store, alloc, &[number])
 }
 
-/// Fetches a process and its annex.
+/// Fetches a process and its annex, and gives the number of the annex.
 pub fn look_at_process<F: PresentFrames>(
     alloc: Global,
     store: &mut F,
