@@ -16,6 +16,10 @@ use Rattle.script.specs.declared.step.Known.TheVariants.{Calls, Invocations}
 abbrev pub machine_of : PlainState → Saved → ℕ → Machine
 machine_of plain saved to_move = machine_at plain.age (parts_of plain) None saved to_move
 
+-- a store at another age
+abbrev pub aged : PlainState → ℕ → PlainState
+aged s age = record s { age = age }
+
 -- a store of frames that can be kept and stand for a sound world
 abbrev pub IsSoundStore : PlainState → Type 0
 IsSoundStore plain = IsSoundFrames plain.geometry plain.age (frames_of (parts_of plain))

@@ -35,7 +35,7 @@ fn take<W: Write>(
     match line {
         Line::Skip => Ok(()),
         Line::Bad => print_bad_line(writer),
-        Line::Command(command) => match step(alloc, known, plain, *command) {
+        Line::Command(command) => match step(alloc, known, plain, command) {
             Some(answer) => print_answer(&answer, writer),
             None => print_bad_line(writer),
         },

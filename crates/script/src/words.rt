@@ -18,10 +18,9 @@ fn register_of(number: u64) -> Option<Register>
     ensures register { IfSome result (λ r. r ≡ number) }
     ensures some { IsSome result ↔ (number < 32) }
 {
-    if number < 32 {
-        Register::new(number as u8)
-    } else {
-        None
+    match u8::try_from(number) {
+        Ok(number) => Register::new(number),
+        Err(_) => None,
     }
 }
 
