@@ -1,3 +1,4 @@
+// The first words of commands.
 ghost use Rattle.std.specs.Prelude.{◌≡◌, ◌≢◌, IfSome, IfNone};
 ghost use Rattle.script.specs.declared.keyword.Keyword.{Keyword};
 ghost use Rattle.script.specs.Keywords.{keyword_name};
@@ -21,7 +22,7 @@ pub enum Keyword {
 }
 
 impl Keyword {
-    /// Every keyword, the commonest first.
+    // Every keyword, the commonest first.
     const ALL: [Keyword; 13] = [
         Keyword::Invoke(Operation::Call),
         Keyword::Invoke(Operation::Return),
@@ -38,7 +39,7 @@ impl Keyword {
         Keyword::Cut,
     ];
 
-    /// The word that says the keyword.
+    // The word that says the keyword.
     fn name(self) -> &'static [u8]
         ensures { result.now ≡ keyword_name self }
     {

@@ -1,3 +1,4 @@
+// The text of an answer.
 ghost use Rattle.std.specs.Prelude.{◌≡◌, ◌≤◌, [], ◌∷◌, length, decimal};
 ghost use Rattle.model.specs.Text.{refusal_text, printed, bad_line};
 ghost use Rattle.script.specs.Writing.{Writes};
@@ -9,6 +10,7 @@ use crate::writing::write_fully;
 use model::{Answer, Refusal};
 use std::io::Write;
 
+// The line of a refusal.
 fn refusal_line(refusal: Refusal) -> LineText
     ensures text { result ≡ refusal_text refusal }
     ensures short { length result ≤ 41 }

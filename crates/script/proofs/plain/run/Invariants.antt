@@ -2,16 +2,16 @@ use Rattle.std.proofs.Common.{◌≡◌, List, []}
 use Rattle.std.specs.Io.KnownBytes.{Appends}
 use Rattle.model.specs.Machine.{Saved}
 use Rattle.model.specs.Run.{Turn, IsRun, output_of}
-use Rattle.script.specs.First.{machine_of, IsStorageWorld, knows_first}
+use Rattle.script.specs.Plain.{machine_of, IsSoundStore, knows}
 use Rattle.script.specs.Runs.{TakesLines, lines_in}
-use Rattle.script.proofs.first.first_run.Given as goal
+use Rattle.script.proofs.plain.run.Given as goal
 
 abbrev pub invariant-loop : goal.invariant-loop
 invariant-loop g l = record {
   geometry : l.plain.geometry ≡ l.fn.plain.geometry;
-  world : IsStorageWorld l.plain;
+  sound : IsSoundStore l.plain;
   run : (saved : Saved) (to_move : _) → (turns : List Turn)
-      × IsRun l.fn.plain.geometry knows_first (machine_of l.fn.plain saved to_move) turns (machine_of l.plain saved to_move)
+      × IsRun l.fn.plain.geometry (knows l.fn.known) (machine_of l.fn.plain saved to_move) turns (machine_of l.plain saved to_move)
       × TakesLines (g.R.Read.remaining l.fn.reader) (g.R.Read.remaining l.reader) (lines_in turns) []
       × Appends (g.W.Write.contents l.fn.writer) (g.W.Write.contents l.writer) (output_of turns);
 }
