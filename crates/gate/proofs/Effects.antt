@@ -1,5 +1,5 @@
 -- What an invocation comes to, from what each part of it told.
-use Rattle.std.proofs.Common.{◌≡◌, ℕ, ◌+◌, ◌^◌, ◌<◌, ◌≤◌, Bool, true, false, List, length, Option, None, Some, refl, sym, ap, ◌∙◌, subst, arith, if◌then◌else◌}
+use Rattle.std.proofs.Common.{◌≡◌, ℕ, ◌+◌, ◌^◌, ◌<◌, ◌≤◌, Bool, List, Option, None, Some, refl, sym, ap, ◌∙◌, subst, if◌then◌else◌}
 use Rattle.std.specs.Prelude.{IsTrue}
 use Rattle.model.specs.declared.capability.Capability.{Capability}
 use Rattle.model.specs.declared.capability.Capability.TheVariants.{Void, Number, Page, Node, Space, Process, Start, Resume, Bank, Discrim}
@@ -15,9 +15,8 @@ use Rattle.model.specs.Machine.{touching, touched_count}
 use Rattle.model.specs.Revoke.{consume}
 use Rattle.model.specs.Sound.{IsSound}
 use Rattle.model.specs.Text.{Fits}
-use Rattle.model.specs.World.{World, annex_at, is_running_process, register_at}
+use Rattle.model.specs.World.{World, is_running_process, register_at}
 use Rattle.model_laws.proofs.SoundGates.{invocation_keeps}
-use Rattle.capability.specs.Parts.{Parts, frames_of}
 use Rattle.gate.specs.declared.looking.Asked.{Asked}
 use Rattle.gate.specs.declared.plan.OrderPlan.{OrderPlan}
 use Rattle.gate.specs.Invoke.{Invokes, IsAsked, IsKernelObject, IsPlanned, Overfills, finished, written_by}

@@ -1,5 +1,5 @@
 -- Capabilities that may be kept.
-use Rattle.std.proofs.Common.{◌≡◌, ℕ, true, ◌+◌, ◌^◌, ◌<◌, ◌≤◌, List, length, refl, sym, subst, arith}
+use Rattle.std.proofs.Common.{◌≡◌, ℕ, true, ◌^◌, ◌<◌, ◌≤◌, List, length, refl, sym, subst, arith}
 use Rattle.std.specs.Prelude.{IsTrue}
 use Rattle.std.proofs.Math.ListN.{get_or-map}
 use Rattle.model.specs.declared.capability.Cap.{Cap}
@@ -12,7 +12,7 @@ use Rattle.model.specs.declared.object.Content.{Content}
 use Rattle.model.specs.declared.object.Content.TheVariants as content
 use Rattle.model.specs.declared.object.Object.{Object}
 use Rattle.model.specs.Frame.{blank_frame, conveyed, current_count, frame_at, header_at, headers, held_at, objects_of}
-use Rattle.model.specs.Keepable.{AreKeepable, IsCount, IsKept, IsKeepable, IsKeptCap, IsNodeNumber, IsPageNumber}
+use Rattle.model.specs.Keepable.{AreKeepable, IsCount, IsKeptCap, IsNodeNumber}
 use Rattle.model.specs.Object.{is_annex, is_bank, is_node, is_page, is_root, map_content}
 use Rattle.model.specs.Sound.{IsOfKind, MayBeHeld, object_count}
 use Rattle.model.specs.World.{content_at}

@@ -1,5 +1,5 @@
 -- What follows of the numbers that were listed.
-use Rattle.std.proofs.Common.{◌≡◌, ℕ, zero, suc, ◌<◌, List, [], ◌∷◌, Option, None, Some, Result, Ok, Err, refl, sym, ap, ◌∙◌, subst, arith}
+use Rattle.std.proofs.Common.{◌≡◌, ℕ, zero, suc, List, [], ◌∷◌, Option, Some, Result, Ok, Err, refl, sym, ap, ◌∙◌, subst, arith}
 use Rattle.std.specs.Prelude.{IsErrOf, OnOk}
 use Rattle.capability.specs.declared.present.PrepareFault.{PrepareFault}
 use Rattle.std.specs.List.{All, Contains}

@@ -1,5 +1,5 @@
 -- What an order that goes as planned comes to.
-use Rattle.std.proofs.Common.{◌≡◌, ◌⊎◌, ⊎_elim, ℕ, ◌+◌, ◌^◌, ◌<◌, ◌≤◌, Bool, true, false, List, [], ◌∷◌, ◌++◌, length, Option, None, Some, refl, sym, ap, ◌∙◌, subst, arith}
+use Rattle.std.proofs.Common.{◌≡◌, ⊎_elim, ℕ, ◌^◌, ◌<◌, ◌≤◌, true, false, List, [], ◌∷◌, ◌++◌, length, Some, refl, sym, ap, ◌∙◌, subst}
 use Rattle.std.specs.Prelude.{IsTrue, slice_index, slice_index_or, if◌then◌else◌}
 use Rattle.std.proofs.lemmas.Bool.{cases_lt}
 use Rattle.std.proofs.lemmas.List.{get_or_past}
@@ -10,26 +10,23 @@ use Rattle.model.specs.declared.command.Invocation.{Invocation}
 use Rattle.model.specs.declared.command.Operation.{Operation}
 use Rattle.model.specs.declared.command.Operation.TheVariants.{Call, Return, Send}
 use Rattle.model.specs.declared.geometry.Geometry.{Geometry}
-use Rattle.model.specs.declared.object.Content.{Content}
-use Rattle.model.specs.declared.object.Content.TheVariants as content
 use Rattle.model.specs.declared.object.Object.{Object}
 use Rattle.model.specs.declared.object.State.TheVariants.{Available}
 use Rattle.model.specs.declared.order.Arguments.{Arguments}
-use Rattle.model.specs.Capability.{named}
 use Rattle.model.specs.Invoke.{Effect, deliver, on_kernel_object, reply_of, sent_by}
 use Rattle.model.specs.Object.{free, is_annex, is_free, is_node}
 use Rattle.model.specs.Order.{OrderOutcome, order}
-use Rattle.model.specs.Sound.{MayBeHeld, NamesItsKind, object_count}
+use Rattle.model.specs.Sound.{NamesItsKind, object_count}
 use Rattle.model.specs.Text.{Fits}
 use Rattle.model.specs.World.{annex_at, content_at, is_process, is_running_process, register_at, with_state}
 use Rattle.model_laws.proofs.SoundGates.{all_words, held_sent}
 use Rattle.model_laws.proofs.SoundOrders.{IsNow, order_keeps}
-use Rattle.model_laws.proofs.SoundParts.{IsHeld, Waits, held_from, held_to}
+use Rattle.model_laws.proofs.SoundParts.{IsHeld, Waits, held_to}
 use Rattle.gate.specs.declared.looking.Asked.{Asked}
 use Rattle.gate.specs.declared.plan.Change.{Change}
 use Rattle.gate.specs.declared.plan.Change.TheVariants as change
 use Rattle.gate.specs.declared.plan.OrderPlan.{OrderPlan}
-use Rattle.gate.specs.Invoke.{IsAsked, IsPlanned, finished, replied_to, written_by}
+use Rattle.gate.specs.Invoke.{IsAsked, IsPlanned, finished, written_by}
 use Rattle.gate.specs.Plan.{ChangesAs, FitsCap, HaveAnnexesOf, IsFor, IsOfProcess, IsWithinObject, MayHold, changed, node_named, outcome_of, process_named, target_of}
 use Rattle.capability.proofs.Frames.{annex_used, node_used, root_used}
 use Rattle.gate.proofs.Fits.{held_fits}

@@ -1,6 +1,6 @@
 -- What stays of processes while one of them changes.
-use Rattle.std.proofs.Common.{◌≡◌, ℕ, true, Bool, List, refl, sym, ap, ◌∙◌, subst}
-use Rattle.std.specs.Prelude.{IsTrue, slice_index_or, slice_set}
+use Rattle.std.proofs.Common.{◌≡◌, ℕ, true, List, refl, sym, ap, ◌∙◌}
+use Rattle.std.specs.Prelude.{IsTrue, slice_index_or}
 use Rattle.std.proofs.Math.ListN.{get_or-map}
 use Rattle.std.proofs.Math.Seq.{map-set_same}
 use Rattle.model.specs.declared.capability.Capability.{Capability}
@@ -10,12 +10,11 @@ use Rattle.model.specs.declared.command.Operation.TheVariants.{Call, Return, Sen
 use Rattle.model.specs.declared.object.Content.{Content}
 use Rattle.model.specs.declared.object.Content.TheVariants as content
 use Rattle.model.specs.declared.object.Object.{Object}
-use Rattle.model.specs.declared.object.Role.{Role}
 use Rattle.model.specs.declared.object.Root.{Root}
 use Rattle.model.specs.declared.object.State.{State}
 use Rattle.model.specs.declared.object.State.TheVariants.{Available, Waiting}
 use Rattle.model.specs.Invoke.{after_gate}
-use Rattle.model.specs.Object.{free, is_node, is_root, map_content, role_of, root_in, with_slot_in, with_word_in}
+use Rattle.model.specs.Object.{free, is_node, is_root, map_content, root_in, with_slot_in, with_word_in}
 use Rattle.model.specs.Order.{with_root_word, with_space}
 use Rattle.model.specs.Revoke.{consume, resumes, void_where, without}
 use Rattle.model.specs.World.{annex_at, content_at, is_process, root_at, with_content, with_root, with_slot, with_state, with_word}

@@ -1,14 +1,14 @@
 -- What sound frames stand for.
-use Rattle.std.proofs.Common.{◌≡◌, ℕ, ◌+◌, ◌-◌, ◌^◌, ◌<◌, ◌≤◌, Some, List, length, sym, subst, ap, ◌∙◌, arith}
+use Rattle.std.proofs.Common.{◌≡◌, ℕ, ◌+◌, ◌-◌, ◌^◌, ◌<◌, List, length, sym, subst, ap, ◌∙◌, arith}
 use Rattle.std.specs.Prelude.{IsTrue}
 use Rattle.model.specs.declared.capability.Capability.{Capability}
 use Rattle.model.specs.declared.frame.Frame.{Frame}
 use Rattle.model.specs.declared.frame.ObjectHeader.{ObjectHeader}
 use Rattle.model.specs.declared.geometry.Geometry.{Geometry}
-use Rattle.model.specs.Frame.{header_at, headers, objects_of}
+use Rattle.model.specs.Frame.{header_at, objects_of}
 use Rattle.model.specs.Keepable.{AreKeepable, IsSoundFrames, world_at}
 use Rattle.model.specs.Object.{is_annex}
-use Rattle.model.specs.Sound.{MayBeHeld, NamesItsKind, object_count}
+use Rattle.model.specs.Sound.{NamesItsKind, object_count}
 use Rattle.model.specs.World.{annex_at, content_at, is_process, register_at}
 use Rattle.model_laws.proofs.SoundOrders.{IsNow}
 use Rattle.model_laws.proofs.SoundParts.{nearly_from}

@@ -1,4 +1,4 @@
-use Rattle.std.proofs.Common.{ℕ, ◌+◌, arith, subst, sym}
+use Rattle.std.proofs.Common.{◌+◌, arith, subst, sym}
 use Rattle.model.specs.Frame.{objects_of}
 use Rattle.capability.specs.Parts.{frames_of}
 use Rattle.capability.proofs.Keeping.{keepable_later}

@@ -1,4 +1,4 @@
-use Rattle.std.proofs.Common.{ℕ, ◌<◌, ◌≤◌, length, get_or, rules, arith, subst, sym, ◌∙◌}
+use Rattle.std.proofs.Common.{◌<◌, ◌≤◌, length, get_or, rules, arith, subst, sym, ◌∙◌}
 use Rattle.model.specs.declared.capability.Capability.TheVariants.{Void}
 use Rattle.model.specs.declared.geometry.Geometry.{Geometry}
 use Rattle.gate.specs.Plan.{FitsCap}

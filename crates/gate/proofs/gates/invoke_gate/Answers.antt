@@ -1,4 +1,4 @@
-use Rattle.std.proofs.Common.{◌≡◌, ℕ, ◌+◌, ◌<◌, ◌≤◌, Bool, true, false, ◌||◌, List, arith, refl, sym, ap, subst, ◌∙◌}
+use Rattle.std.proofs.Common.{◌≡◌, ℕ, ◌+◌, ◌<◌, ◌≤◌, Bool, true, ◌||◌, List, arith, sym, ap, subst, ◌∙◌}
 use Rattle.std.specs.List.{All}
 use Rattle.std.proofs.lemmas.Result.{err_from_is_err_and}
 use Rattle.model.specs.declared.capability.Capability.{Capability}
@@ -7,7 +7,7 @@ use Rattle.model.specs.declared.object.Object.{Object}
 use Rattle.model.specs.Frame.{objects_of}
 use Rattle.model.specs.Invoke.{can_start}
 use Rattle.model.specs.Machine.{touching, touched_count}
-use Rattle.model.specs.World.{annex_at, is_process}
+use Rattle.model.specs.World.{is_process}
 use Rattle.capability.specs.Parts.{frames_of}
 use Rattle.gate.specs.Invoke.{entered, received, written_through}
 use Rattle.gate.specs.Plan.{FitsCap}

@@ -1,6 +1,3 @@
-use Rattle.std.proofs.Common.{subst, sym}
-use Rattle.model.specs.declared.capability.Capability.{Capability}
-use Rattle.gate.specs.Plan.{IsFor}
 use Rattle.gate.proofs.orders.plan.Goals as goal
 
 pub returns-in-Space-clause-only : goal.returns-in-Space-clause-only
