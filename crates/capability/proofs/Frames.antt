@@ -158,7 +158,7 @@ words_in_map f (content.Root r) = refl
 words_in_map f (content.Annex registers) = refl
 words_in_map f (content.Bank limit) = refl
 
-is_root_map : (f : Cap → Capability) (c : Content Cap) → is_root (map_content f c) ≡ is_root c
+pub is_root_map : (f : Cap → Capability) (c : Content Cap) → is_root (map_content f c) ≡ is_root c
 is_root_map f content.Free = refl
 is_root_map f (content.Page words) = refl
 is_root_map f (content.Node slots) = refl

@@ -14,7 +14,7 @@ use Rattle.model.specs.Frame.{blank_frame, conveyed, frame_at, header_at, header
 use Rattle.model.specs.Object.{is_root, map_content, role_of}
 use Rattle.model.specs.World.{content_at, is_process}
 use Rattle.capability.specs.Parts.{HaveTheirRoles, Parts, frames_of}
-use Rattle.capability.proofs.Frames.{headers_in}
+use Rattle.capability.proofs.Frames.{headers_in, is_root_map}
 
 abbrev pub is_root_role : Role → Bool
 is_root_role role.Root = true
@@ -27,14 +27,6 @@ root_of (content.Node slots) = refl
 root_of (content.Root r) = refl
 root_of (content.Annex slots) = refl
 root_of (content.Bank limit) = refl
-
-root_map : (f : Cap → Capability) (c : Content Cap) → is_root (map_content f c) ≡ is_root c
-root_map f content.Free = refl
-root_map f (content.Page words) = refl
-root_map f (content.Node slots) = refl
-root_map f (content.Root r) = refl
-root_map f (content.Annex slots) = refl
-root_map f (content.Bank limit) = refl
 
 content_there : (fs : List Frame) (n : ℕ) → content_at (objects_of fs) n ≡ map_content (conveyed (headers fs)) (frame_at fs n).content
 unfolding objects_of
@@ -49,7 +41,7 @@ header_there p n =
 pub process_by_role : (p : Parts) (n : ℕ) → HaveTheirRoles (frames_of p) → is_process (objects_of (frames_of p)) n ≡ is_root_role (header_at p.headers n).role
 process_by_role p n roles =
     ap is_root (content_there (frames_of p) n)
-    ∙ root_map (conveyed (headers (frames_of p))) (frame_at (frames_of p) n).content
+    ∙ is_root_map (conveyed (headers (frames_of p))) (frame_at (frames_of p) n).content
     ∙ root_of (frame_at (frames_of p) n).content
     ∙ ap is_root_role (sym (roles n))
     ∙ ap (λ (h : ObjectHeader). is_root_role h.role) (sym (header_there p n))

@@ -10,6 +10,7 @@ use Rattle.model.specs.Object.{free, is_free, slots_in, root_in, map_content}
 use Rattle.model.specs.World.{object_at}
 use Rattle.model.specs.Revoke.{void_where, without, is_member, names_member, resumes, rescind, consume}
 use Rattle.model_laws.specs.Laws.{RescindsAll, ConsumesAll}
+use Rattle.model_laws.proofs.SoundEdits.{object_consume}
 
 module _ (goes : Capability → Bool) (void_stays : goes Void ≡ false) where
   -- a capability that goes is put void
@@ -49,16 +50,10 @@ module _ (goes : Capability → Bool) (void_stays : goes Void ≡ false) where
       cases (content.Bank limit) = void_stays
 
 -- what stands at a number after a consume
-pub at_consume : (p : ℕ) (os : List Object) (n : ℕ) → object_at (consume p os) n ≡ without (resumes p) (object_at os n)
-unfolding consume
-at_consume p [] n = refl
-at_consume p (o ∷ os) zero = refl
-at_consume p (o ∷ os) (suc n) = at_consume p os n
-
 pub consumes_all : ConsumesAll
 consumes_all p os = (
-  λ n i. subst (λ o. resumes p (slice_index_or (slots_in o.content) i Void) ≡ false) (sym (at_consume p os n)) (gone_from_slot (resumes p) refl (object_at os n) i),
-  λ q. subst (λ o. resumes p (root_in o.content).space ≡ false) (sym (at_consume p os q)) (gone_from_space (resumes p) refl (object_at os q)),
+  λ n i. subst (λ o. resumes p (slice_index_or (slots_in o.content) i Void) ≡ false) (sym (object_consume p os n)) (gone_from_slot (resumes p) refl (object_at os n) i),
+  λ q. subst (λ o. resumes p (root_in o.content).space ≡ false) (sym (object_consume p os q)) (gone_from_space (resumes p) refl (object_at os q)),
 )
 
 -- an object with its number, after a rescind
