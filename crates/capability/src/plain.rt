@@ -58,7 +58,7 @@ impl Model for Plain {
 }
 
 impl Plain {
-    /// How often the machine was changed, checkpoints included.
+    /// How many invocations and checkpoints there were.
     pub fn age(&self) -> u64
         ensures { result ≡ self.now.age }
     {

@@ -1,3 +1,4 @@
+// The 32 slots of a node.
 ghost use Rattle.std.specs.Prelude.{◌≡◌, ℕ, ◌<◌, List, length, replicate, IfOk, slice_get, slice_set, Some};
 
 use std::alloc::{AllocError, Global};

@@ -1,3 +1,4 @@
+// The 512 words of a page.
 ghost use Rattle.std.specs.Prelude.{◌≡◌, ℕ, ◌<◌, List, length, replicate, IfOk, slice_index, slice_set};
 
 use std::alloc::{AllocError, Global};

@@ -1,3 +1,4 @@
+// Tests of each device.
 ghost use Rattle.std.specs.Prelude.{◌≡◌, ◌≤◌, ◌+◌, IfOk};
 ghost use Rattle.device.specs.Memory.{memory_disk};
 ghost use Rattle.device.specs.Fuse.{fused};

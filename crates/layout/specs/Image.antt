@@ -158,7 +158,7 @@ pub record SavedState : Type 0 where
   pub directory : List Entry
   pub frames : List Frame
 
--- an image denotes a saved state where none of the reasons holds
+-- an image denotes a saved state of frames where none of reasons 1 to 7 holds
 pub record Denotes (image : Image) (size : ℕ) (s : SavedState) : Type 0 where
   pub plan : HasPlan image size s.plan
   pub header : HasHeader image s.plan s.header

@@ -19,7 +19,7 @@ pub struct CheckpointHeader {
     pub generation: u64,
     /// How many objects lie in the log.
     pub entries: u64,
-    /// How many steps were taken when the checkpoint was made.
+    /// How many invocations and checkpoints there were when it was made.
     pub age: u64,
 }
 

@@ -74,7 +74,7 @@ fn root_from(slots: &[Cap]) -> Root<Cap>
     }
 }
 
-// The slots of a root that may not be void.
+// The slots of a root in which something else than void may stand.
 fn root_slots(root: &Root<Cap>) -> [Cap; 8]
     ensures slots { result ≡ root_slots root.now }
     ensures words { length root.now.words ≡ 4 }

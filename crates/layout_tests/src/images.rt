@@ -1,3 +1,4 @@
+// Tests of what an image says as a whole.
 ghost use Rattle.std.specs.Prelude.{◌≡◌, ℕ, ◌<◌, length};
 
 use layout::{

@@ -16,7 +16,7 @@ pub record Frozen : Type 0 where
   pub left : ℕ
 
 -- a machine that is up. touched tells for each number whether it was written since the last
--- checkpoint or restart; to_move counts the saved objects that aren't home
+-- checkpoint or restart; to_move counts the saved objects that aren't home, which after a restart is taken for all entries again
 pub record Running : Type 0 where
   pub now : World
   pub touched : List Bool

@@ -1,3 +1,4 @@
+// Answers to commands.
 use crate::capability::Capability;
 use crate::object::Object;
 use contents::Slots;
@@ -17,7 +18,8 @@ pub enum MemoryFault {
     ReadOnly = 5,
 }
 
-/// Why a command wasn't carried out. Where several apply, the first here is given.
+/// Why a command wasn't carried out. Where several apply, the first here is given, but for
+/// `NoMemory` and `Fault`, which may stand in place of others.
 #[derive(Clone, Copy, PartialEq, Eq, Debug)]
 pub enum Refusal {
     /// The machine is down: only `restart` and `cut` are taken.
@@ -30,7 +32,7 @@ pub enum Refusal {
     Worn,
     /// The started process isn't available.
     Stalled,
-    /// More objects would be changed since the last checkpoint than half of the log holds.
+    /// More objects would be written since the last checkpoint than half of the log holds.
     LogFull,
     /// There is a frozen state.
     CheckpointRunning,
@@ -55,7 +57,7 @@ pub enum Answer {
     /// The word that a load read.
     Value(u64),
     MemoryFault(MemoryFault),
-    /// A checkpoint began, with so many changed objects.
+    /// A checkpoint began, with so many objects written since the last one.
     Frozen(u64),
     /// So many frozen objects aren't in the log yet, or so many saved ones aren't home.
     Left(u64),

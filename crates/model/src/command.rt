@@ -50,7 +50,8 @@ impl Register {
 /// What an invocation does to the process that makes it.
 #[derive(Clone, Copy, PartialEq, Eq, Debug)]
 pub enum Operation {
-    /// Through a gate it waits for an answer; with a kernel object, which answers at once, it goes on.
+    /// Through a gate it waits for an answer; with a kernel object, which answers at once, it goes
+    /// on.
     Call,
     /// It is available again.
     Return,

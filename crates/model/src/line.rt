@@ -1,3 +1,4 @@
+// What a line of a script says.
 use crate::command::Command;
 
 /// What a line of a script says.

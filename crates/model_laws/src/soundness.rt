@@ -1,3 +1,4 @@
+// The theorem on sound worlds.
 ghost use Rattle.model_laws.specs.Laws.{InvocationKeepsSound};
 
 /// An invocation by a running process keeps a sound world sound.

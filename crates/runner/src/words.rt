@@ -1,3 +1,4 @@
+// The command line.
 use clap::{Arg, Command};
 use std::alloc::{AllocError, Global};
 
