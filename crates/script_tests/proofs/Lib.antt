@@ -1,1 +1,1 @@
-pub mod StorageWorlds
+pub mod MadeWorlds

@@ -1,4 +1,5 @@
-use model::{Command, Invocation, Line, Operation};
+// What lines say, and how they are taken from a reader.
+use model::{Command, Invocation, Line, Operation, Register};
 use script::{RunFault, next_line, parse_line};
 use std::alloc::{AllocError, Global};
 use std::io;
@@ -8,14 +9,27 @@ use std::test::Fail;
 
 // ---- lines
 
+/// The register of a number.
+fn register(rt: &impl Abort, number: u8) -> Register {
+    match Register::new(number) {
+        Some(register) => register,
+        None => panic!(rt; "register {number}"),
+    }
+}
+
 #[test]
 fn each_invocation_is_read(rt: HostRuntime) {
     let called = Invocation {
         operation: Operation::Call,
         process: 1,
-        register: 2,
+        register: register(&rt, 2),
         words: [3, 4, 5, 6],
-        sent: [7, 8, 9, 31],
+        sent: [
+            register(&rt, 7),
+            register(&rt, 8),
+            register(&rt, 9),
+            register(&rt, 31),
+        ],
     };
     let returned = Invocation {
         operation: Operation::Return,
