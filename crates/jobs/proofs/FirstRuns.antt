@@ -5,7 +5,7 @@ use Rattle.model.specs.declared.geometry.Geometry.{Geometry}
 use Rattle.model.specs.Machine.{Saved, Machine, Up, untouched}
 use Rattle.model.specs.World.{World}
 use Rattle.model.specs.Worlds.{small, f0}
-use Rattle.script.specs.First.{machine_of, knows_first}
+use Rattle.script.specs.Plain.{machine_of, knows_first}
 use Rattle.script.specs.Runs.{Runs}
 use Rattle.script.specs.declared.fault.RunFault.{RunFault}
 use Rattle.script.specs.declared.fault.RunFault.TheVariants as run_fault

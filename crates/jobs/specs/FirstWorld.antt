@@ -2,7 +2,7 @@
 use Rattle.std.specs.Prelude.{ℕ, List, Option, None, Result, Ok, Err}
 use Rattle.model.specs.Machine.{Saved, Machine, Up, untouched}
 use Rattle.model.specs.Worlds.{small, f0}
-use Rattle.script.specs.First.{knows_first}
+use Rattle.script.specs.Plain.{knows_first}
 use Rattle.script.specs.Runs.{Runs}
 use Rattle.script.specs.declared.fault.RunFault.TheVariants as run_fault
 use Rattle.jobs.specs.declared.fault.Fault.{Fault}

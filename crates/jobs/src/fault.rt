@@ -1,3 +1,4 @@
+// Why a command of `eros` fails.
 ghost use Rattle.std.specs.Prelude.{◌≡◌};
 
 use script::RunFault;

@@ -1,3 +1,4 @@
+// Runs over the world F0.
 ghost use Rattle.std.specs.Prelude.{ℕ};
 ghost use Rattle.model.specs.Machine.{Saved};
 ghost use Rattle.jobs.specs.FirstWorld.{RunsFirst};

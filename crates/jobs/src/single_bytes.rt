@@ -1,3 +1,4 @@
+// A buffered reader that is read a byte at a time.
 ghost use Rattle.std.specs.Prelude.{◌≡◌, [], ◌∷◌, MatchResult, MatchOption};
 ghost use Rattle.std.specs.Io.KnownBytes.{Consumes, Keeps};
 

@@ -56,3 +56,11 @@ process_by_role p n roles =
 
 pub role_there : (p : Parts) (n : ℕ) (hs : List ObjectHeader) (h : ObjectHeader) → hs ≡ p.headers → h ≡ header_at hs n → is_root_role (header_at p.headers n).role ≡ is_root_role h.role
 role_there p n hs h same is = ap (λ (k : ObjectHeader). is_root_role k.role) (sym (is ∙ ap (λ (ks : List ObjectHeader). header_at ks n) same))
+
+pub no_root_role : (r : Role) → (r ≡ role.Root → ⊥) → is_root_role r ≡ false
+no_root_role role.Free other = refl
+no_root_role role.Page other = refl
+no_root_role role.Node other = refl
+no_root_role role.Root other = absurd (other refl)
+no_root_role role.Annex other = refl
+no_root_role role.Bank other = refl

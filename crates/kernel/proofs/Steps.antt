@@ -67,7 +67,7 @@ module _ (g : Geometry) (s : Running) (i : Invocation) where
   pub no_memory_step : is_process s.now.objects i.process ≡ true → Step g (Up s) (command.Invoke i) (answer.Refused refusal.NoMemory) (Up s)
   no_memory_step process = inr (inl (
     ap gives_way (by true (is_running_process s.now.objects i.process) (nat_lt s.now.age (2 ^ 62)) (invoke s.now.objects i) process refl refl refl)
-    ∙ gives_way_rest (is_running_process s.now.objects i.process) (nat_lt s.now.age (2 ^ 62)) (invoke s.now.objects i),
+        ∙ gives_way_rest (is_running_process s.now.objects i.process) (nat_lt s.now.age (2 ^ 62)) (invoke s.now.objects i),
     refl,
     refl,
   ))

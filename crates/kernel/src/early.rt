@@ -15,10 +15,7 @@ fn is_process<F: PresentFrames>(store: &F, number: u64) -> bool
     requires { HaveTheirRoles (frames_of (F.parts store.now)) }
     ensures { result ≡ is_process (objects_of (frames_of (F.parts store.now))) number }
 {
-    match store.table().header(number).role {
-        Role::Root => true,
-        Role::Free | Role::Page | Role::Node | Role::Annex | Role::Bank => false,
-    }
+    matches!(store.table().header(number).role, Role::Root)
 }
 
 /// The refusal of a command by a process that isn't running, if there is one. Whether there is such

@@ -1,16 +1,18 @@
 // The step of showing an object.
-ghost use Rattle.std.specs.Prelude.{◌≡◌, ◌<◌, ◌≤◌, ◌↔◌, IfOk, IsErrOf, length, if◌then◌else◌};
+ghost use Rattle.std.specs.Prelude.{◌≡◌, ◌<◌, IfOk, IsTrue, length, if◌then◌else◌};
 ghost use Rattle.model.specs.declared.command.Command.TheVariants as command;
 ghost use Rattle.model.specs.Frame.{objects_of};
-ghost use Rattle.model.specs.Keepable.{IsSoundFrames};
+ghost use Rattle.model.specs.Keepable.{AreKeepable, IsSoundFrames};
 ghost use Rattle.model.specs.Step.{shown};
 ghost use Rattle.model.specs.Bank.{usage as usage_of};
-ghost use Rattle.model.specs.Object.{is_bank};
+ghost use Rattle.model.specs.Object.{is_annex, is_bank, slots_in};
+ghost use Rattle.model.specs.World.{content_at};
 ghost use Rattle.capability.specs.Parts.{HaveTheirRoles, LooksUp, frames_of};
+ghost use Rattle.gate.specs.Invoke.{Looks};
 ghost use Rattle.kernel.specs.Machine.{Serves};
 
 use capability::{PrepareFault, PresentFrames, objects, usage, view};
-use model::{Answer, Capability, Content, Refusal};
+use model::{Answer, Capability, Content, Refusal, Slots};
 use std::alloc::Global;
 
 // The usage of an object with that content, which is 0 where it is no bank.
@@ -24,8 +26,26 @@ fn used_by<F: PresentFrames>(store: &F, content: &Content<Capability>, number: u
     }
 }
 
-/// An object with what is shown beside it: the registers of a process, the usage of a bank. Stale
-/// capabilities are void.
+// The registers of a process, by its annex.
+fn registers_of<F: PresentFrames>(
+    alloc: Global,
+    store: &mut F,
+    annex: u64,
+) -> Result<Slots<Capability>, PrepareFault>
+    requires keepable { AreKeepable (F.parts store.old).geometry u64.MAX (frames_of (F.parts store.old)) }
+    requires annex { IsTrue (is_annex (content_at (objects_of (frames_of (F.parts store.old))) annex)) }
+    ensures registers { IfOk result (λ registers. registers ≡ slots_in (content_at (objects_of (frames_of (F.parts store.old))) annex)) }
+    ensures looks { Looks F.parts F.LeadsTo store.old store.new result }
+{
+    objects::fetch(store, alloc, &[annex])?;
+    match view::registers(alloc, store, annex) {
+        Ok(registers) => Ok(registers),
+        Err(_) => Err(PrepareFault::NoMemory),
+    }
+}
+
+// An object with what is shown beside it: the registers of a process, the usage of a bank. Stale
+// capabilities are void.
 fn shown<F: PresentFrames>(
     alloc: Global,
     store: &mut F,
@@ -35,35 +55,23 @@ fn shown<F: PresentFrames>(
     requires sound { IsSoundFrames (F.parts store.old).geometry age (frames_of (F.parts store.old)) }
     requires known { number < length (F.parts store.old).headers }
     ensures answer { IfOk result (λ answer. answer ≡ shown (objects_of (frames_of (F.parts store.old))) number) }
-    ensures aside { LooksUp F.parts F.LeadsTo store.old store.new }
-    ensures room { IsErrOf result PrepareFault.LogFull → ⊥ }
-    ensures later { (F.parts store.old).failures ≤ (F.parts store.new).failures }
-    ensures cause { IsErrOf result PrepareFault.Failed ↔ ((F.parts store.old).failures < (F.parts store.new).failures) }
+    ensures looks { Looks F.parts F.LeadsTo store.old store.new result }
 {
     objects::fetch(store, alloc, &[number])?;
     let Ok(object) = view::object(alloc, store, number) else {
         return Err(PrepareFault::NoMemory);
     };
     let used = used_by(store, &object.content, number);
-    let Content::Root(root) = &object.content else {
-        return Ok(Answer::Shown {
-            number,
-            object,
-            registers: None,
-            used,
-        });
+    let registers = match &object.content {
+        Content::Root(root) => Some(registers_of(alloc, store, root.annex)?),
+        _ => None,
     };
-    let annex = root.annex;
-    objects::fetch(store, alloc, &[annex])?;
-    match view::registers(alloc, store, annex) {
-        Ok(registers) => Ok(Answer::Shown {
-            number,
-            object,
-            registers: Some(registers),
-            used,
-        }),
-        Err(_) => Err(PrepareFault::NoMemory),
-    }
+    Ok(Answer::Shown {
+        number,
+        object,
+        registers,
+        used,
+    })
 }
 
 /// Tells of an object, by its number.
@@ -81,6 +89,7 @@ pub fn show<F: PresentFrames>(alloc: Global, store: &mut F, age: u64, number: u6
     match shown(alloc, store, age, number) {
         Ok(answer) => answer,
         Err(PrepareFault::Failed) => Answer::Refused(Refusal::Fault),
-        Err(_) => Answer::Refused(Refusal::NoMemory),
+        Err(PrepareFault::NoMemory) => Answer::Refused(Refusal::NoMemory),
+        Err(PrepareFault::LogFull) => unreachable!(),
     }
 }

@@ -334,9 +334,3 @@ words_left_over words rest left word k d split named read some c fits whole =
     let other = arguments_are words rest word k c split named fits whole in
     let same : (d, left) ≡ (c, []) = some_is _ _ (sym read ∙ other) in
     some (ap (λ (q : Command × Words). q.1) same)
-
-pub one_command : (c d : Command) → Fits c → Fits d → command_words c ≡ command_words d → c ≡ d
-one_command c d fits_c fits_d same =
-    let again = command_again c fits_c in
-    let read = arguments_are (command_words c) again.0 (keyword_name (keyword_for c)) (keyword_for c) d again.1 refl fits_d same in
-    ap (λ (q : Command × Words). q.0) (some_is _ _ (sym again.2 ∙ read))

@@ -5,7 +5,7 @@ pub mod Keywords
 pub mod Numbers
 pub mod Spellings
 pub mod Split
-pub mod Steps
+pub mod Stores
 pub mod Taken
 pub mod Texts
 pub mod Turns

@@ -1,3 +1,4 @@
+// Why a run stops.
 use thiserror::Error;
 
 /// Why a run of a script stopped early.

@@ -1,3 +1,4 @@
+// The first words of commands.
 ghost use Rattle.std.specs.Prelude.{◌≡◌, ◌≢◌, IfSome, IfNone};
 ghost use Rattle.script.specs.declared.keyword.Keyword.{Keyword};
 ghost use Rattle.script.specs.Keywords.{keyword_name};

@@ -2,12 +2,12 @@
 #![tactic(auto)]
 
 mod fault;
-mod first;
 mod keyword;
 mod line_text;
 mod lines;
 mod number;
 mod parse;
+mod plain;
 mod print;
 mod shown;
 mod step;
@@ -15,7 +15,7 @@ mod words;
 mod writing;
 
 pub use fault::RunFault;
-pub use first::first_run;
 pub use lines::next_line;
 pub use parse::parse_line;
+pub use plain::{first_run, run_plain};
 pub use print::{print_answer, print_bad_line};

@@ -1,3 +1,4 @@
+// Lines that are put together before they are written.
 ghost use Rattle.std.specs.Prelude.{◌≡◌, ◌+◌, ◌*◌, ◌<◌, ◌≤◌, [], ◌∷◌, ◌++◌, length, decimal};
 ghost use Rattle.std.specs.List.{flat_map};
 ghost use Rattle.model.specs.Text.{line_of, spaced};

@@ -1,3 +1,4 @@
+// The lines of a script, taken from a reader.
 ghost use Rattle.std.specs.Prelude.{◌≡◌, ℕ, List, [], ◌∷◌, ◌++◌, length, IfOk, OnErr, IfErr};
 ghost use Rattle.script.specs.Lines.{TakesLine, TakesNoLine, HoldsLine, TakesByte};
 ghost use Rattle.model.specs.Text.{Says};

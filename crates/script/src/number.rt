@@ -1,3 +1,4 @@
+// Numbers in decimal.
 ghost use Rattle.std.specs.Prelude.{◌≡◌, ◌≢◌, ℕ, ◌<◌, ◌≤◌, ◌^◌, IfSome, IfNone, decimal};
 ghost use Rattle.std.specs.Str.Parse.{AllDigits, digits_value};
 

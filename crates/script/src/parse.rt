@@ -1,3 +1,4 @@
+// What a line of a script says.
 ghost use Rattle.std.specs.Prelude.{◌≡◌, ◌≢◌, IsTrue, ◌↔◌, IfSome, IfNone};
 ghost use Rattle.model.specs.declared.command.Command.{Command};
 ghost use Rattle.model.specs.Text.{Says, Fits, IsSkipped, spelling, command_words};

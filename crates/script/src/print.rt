@@ -1,3 +1,4 @@
+// The text of an answer.
 ghost use Rattle.std.specs.Prelude.{◌≡◌, ◌≤◌, [], ◌∷◌, length, decimal};
 ghost use Rattle.model.specs.Text.{refusal_text, printed, bad_line};
 ghost use Rattle.script.specs.Writing.{Writes};

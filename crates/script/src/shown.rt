@@ -1,3 +1,4 @@
+// The text of an object.
 ghost use Rattle.std.specs.Prelude.{◌≡◌, ◌+◌, ◌<◌, ◌≤◌, [], ◌∷◌, ◌++◌, map, length, codes, decimal};
 ghost use Rattle.model.specs.Text.{spaced, headed, access_text, capability_text, state_text, word_line, word_lines, capability_line, capability_lines, registers_of, object_text};
 ghost use Rattle.script.specs.Writing.{Writes};
@@ -178,7 +179,6 @@ fn held_by(registers: &Option<Slots<Capability>>) -> &[Capability]
 }
 
 /// Writes the lines of an object but the last.
-
 pub fn print_object<W: Write>(
     number: u64,
     object: &Object,

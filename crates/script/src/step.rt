@@ -1,112 +1,84 @@
-ghost use Rattle.std.specs.Prelude.{◌≡◌, ℕ, IsTrue, IfSome, IsSome, IfOk, None, length, ◌<◌, ◌+◌, ◌↔◌};
-ghost use Rattle.capability.specs.Plain.{world_of};
-ghost use Rattle.gate.specs.Plan.{HoldOnlyStorage};
+// What a command of a script comes to over a store in memory.
+ghost use Rattle.std.specs.Prelude.{◌≡◌, ◌^◌, ◌<◌, ◌↔◌, ℕ, IsTrue, IfSome, IsSome, None};
+ghost use Rattle.kernel.specs.Machine.{age_after};
+ghost use Rattle.model.specs.declared.answer.Answer.TheVariants.{Done};
 ghost use Rattle.model.specs.declared.command.Command.TheVariants as command;
-ghost use Rattle.model.specs.declared.command.Operation.TheVariants.{Call};
 ghost use Rattle.model.specs.Machine.{Saved};
-ghost use Rattle.model.specs.Step.{Step, shown};
-ghost use Rattle.model.specs.Text.{Fits};
-ghost use Rattle.script.specs.First.{machine_of, IsStorageWorld, early_refusal, knows_first};
+ghost use Rattle.model.specs.Step.{Step};
+ghost use Rattle.script.specs.Plain.{IsSoundStore, aged, knows, machine_of};
 
-use capability::{Plain, objects, usage, view};
-use gate::call::call;
-use model::{
-    Answer, Command, Content, Invocation, Operation, PrepareFault, PresentFrames, Refusal, State,
-};
-use std::alloc::{AllocError, Global};
+use capability::Plain;
+use model::{Answer, Command, Invocation, Operation};
+use std::alloc::Global;
 
-/// The age at which nothing can be invoked any more.
-const MAX_AGE: u64 = 1 << 62;
-
-/// The refusal of an invocation that comes before its capability is looked at, if there is one.
-fn refusal(plain: &Plain, invocation: &Invocation) -> Option<Refusal>
-    ensures { result ≡ early_refusal (world_of plain.now) invocation.now.process }
-{
-    if invocation.process >= plain.count() {
-        return Some(Refusal::NoProcess);
-    }
-    match objects::state(plain, invocation.process) {
-        None => Some(Refusal::NoProcess),
-        Some(State::Running) if plain.age() < MAX_AGE => None,
-        Some(State::Running) => Some(Refusal::Worn),
-        Some(State::Available | State::Waiting) => Some(Refusal::NotRunning),
-    }
+/// The commands that a run knows: `show`, and some of the invocations or all.
+#[derive(Clone, Copy)]
+pub enum Known {
+    /// Calls alone.
+    Calls,
+    /// Calls, returns and sends.
+    Invocations,
 }
 
-/// A call.
-fn invoke(alloc: Global, plain: &mut Plain, invocation: &Invocation) -> Answer
-    requires world { IsStorageWorld plain.old }
-    requires fits { Fits (command.Invoke invocation.now) }
-    requires call { invocation.now.operation ≡ Call }
-    ensures step { (saved : Saved) (to_move : ℕ) → Step plain.old.geometry (machine_of plain.old saved to_move) (command.Invoke invocation.now) result (machine_of plain.new saved to_move) }
-    ensures geometry { plain.new.geometry ≡ plain.old.geometry }
-    ensures world { IsStorageWorld plain.new }
-{
-    if let Some(refusal) = refusal(plain, invocation) {
-        return Answer::Refused(refusal);
-    }
-    match call(alloc, plain, invocation) {
-        Ok(()) => {
-            plain.raise_age();
-            Answer::Done
+impl Known {
+    // Whether the run knows an invocation by its operation.
+    fn has(self, invocation: &Invocation) -> bool
+        ensures { result ≡ knows self (command.Invoke invocation.now) }
+    {
+        match (self, invocation.operation) {
+            (Known::Invocations, _) | (Known::Calls, Operation::Call) => true,
+            (Known::Calls, Operation::Return | Operation::Send) => false,
         }
-        Err(PrepareFault::NoMemory) => Answer::Refused(Refusal::NoMemory),
-        Err(PrepareFault::LogFull) => Answer::Refused(Refusal::LogFull),
-        Err(PrepareFault::Failed) => unreachable!(),
     }
 }
 
-/// An object with what is shown beside it.
-fn shown(alloc: Global, plain: &Plain, number: u64) -> Result<Answer, AllocError>
-    requires world { IsStorageWorld plain.now }
-    requires known { number < length plain.now.frames }
-    requires numbers { length plain.now.frames ≡ plain.now.geometry.nodes + plain.now.geometry.pages }
-    ensures { IfOk result (λ answer. answer ≡ shown (world_of plain.now).objects number) }
+// Raises the age where an invocation was done.
+fn count(plain: &mut Plain, answer: &Answer)
+    requires { answer.now ≡ Done → plain.old.age < 2 ^ 62 }
+    ensures { plain.new ≡ aged plain.old (age_after plain.old.age answer.now) }
 {
-    let object = view::object(alloc, plain, number)?;
-    let registers = match &object.content {
-        Content::Root(root) => Some(view::registers(alloc, plain, root.annex)?),
-        _ => None,
-    };
-    let used = match &object.content {
-        Content::Bank { .. } => usage(plain, number),
-        _ => 0,
-    };
-    Ok(Answer::Shown {
-        number,
-        object,
-        registers,
-        used,
-    })
+    match answer {
+        Answer::Done => plain.raise_age(),
+        _ => {}
+    }
 }
 
-/// The text of an object, asked for by its number.
-fn show(alloc: Global, plain: &Plain, number: u64) -> Answer
-    requires world { IsStorageWorld plain.now }
-    ensures step { (saved : Saved) (to_move : ℕ) → Step plain.now.geometry (machine_of plain.now saved to_move) (command.Show number) result (machine_of plain.now saved to_move) }
+// An invocation.
+fn invoke(alloc: Global, plain: &mut Plain, invocation: Invocation) -> Answer
+    requires { IsSoundStore plain.old }
+    ensures step { (saved : Saved) (to_move : ℕ) → Step plain.old.geometry (machine_of plain.old saved to_move) (command.Invoke invocation) result (machine_of plain.new saved to_move) }
+    ensures geometry { plain.new.geometry ≡ plain.old.geometry }
+    ensures sound { IsSoundStore plain.new }
 {
-    if number >= plain.count() {
-        return Answer::Refused(Refusal::BadNumber);
-    }
-    match shown(alloc, plain, number) {
-        Ok(answer) => answer,
-        Err(_) => Answer::Refused(Refusal::NoMemory),
-    }
+    let age = plain.age();
+    let answer = kernel::invoke(alloc, plain, age, invocation);
+    count(plain, &answer);
+    answer
 }
 
-/// The answer to a call or `show`, and nothing to any other command.
-pub fn first_step(alloc: Global, plain: &mut Plain, command: &Command) -> Option<Answer>
-    requires world { IsStorageWorld plain.old }
-    requires fits { Fits command.now }
-    ensures known { IsSome result ↔ IsTrue (knows_first command.now) }
+// The text of an object.
+fn show(alloc: Global, plain: &mut Plain, number: u64) -> Answer
+    requires { IsSoundStore plain.old }
+    ensures step { (saved : Saved) (to_move : ℕ) → Step plain.old.geometry (machine_of plain.old saved to_move) (command.Show number) result (machine_of plain.new saved to_move) }
+    ensures geometry { plain.new.geometry ≡ plain.old.geometry }
+    ensures sound { IsSoundStore plain.new }
+{
+    let age = plain.age();
+    kernel::show(alloc, plain, age, number)
+}
+
+/// The answer to a command that is known, and nothing to any other, which changes nothing.
+pub fn step(alloc: Global, known: Known, plain: &mut Plain, command: &Command) -> Option<Answer>
+    requires { IsSoundStore plain.old }
+    ensures known { IsSome result ↔ IsTrue (knows known command.now) }
     ensures step { IfSome result (λ answer. (saved : Saved) (to_move : ℕ) → Step plain.old.geometry (machine_of plain.old saved to_move) command.now answer (machine_of plain.new saved to_move)) }
     ensures other { result ≡ None → plain.new ≡ plain.old }
     ensures geometry { plain.new.geometry ≡ plain.old.geometry }
-    ensures world { IsStorageWorld plain.new }
+    ensures sound { IsSoundStore plain.new }
 {
     match command {
-        Command::Invoke(invocation) if matches!(invocation.operation, Operation::Call) => {
-            Some(invoke(alloc, plain, invocation))
+        Command::Invoke(invocation) if known.has(invocation) => {
+            Some(invoke(alloc, plain, *invocation))
         }
         Command::Show { number } => Some(show(alloc, plain, *number)),
         _ => None,

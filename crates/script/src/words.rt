@@ -1,14 +1,27 @@
-ghost use Rattle.std.specs.Prelude.{◌≡◌, ◌==◌, [], ◌∷◌, MatchOption, IsTrue, ◌↔◌};
+// The words of a line.
+ghost use Rattle.std.specs.Prelude.{◌≡◌, ◌==◌, [], ◌∷◌, MatchOption, IfSome, IsSome, IsTrue, ◌↔◌, ◌<◌};
 ghost use Rattle.std.specs.List.{position};
 ghost use Rattle.script.specs.Reading.{words_of, Gives, number_at, register_at, numbers_at, registers_at};
 
 use crate::number::number_of;
+use model::Register;
 use std::marker::Model;
 
 fn first_space(bytes: &[u8]) -> Option<usize>
     ensures { result ≡ position (λ b. b == 32) bytes.now }
 {
     bytes.iter().position(|byte| *byte == b' ')
+}
+
+// The register of a number, where a process has it.
+fn register_of(number: u64) -> Option<Register>
+    ensures register { IfSome result (λ r. r ≡ number) }
+    ensures some { IsSome result ↔ (number < 32) }
+{
+    match u8::try_from(number) {
+        Ok(number) => Register::new(number),
+        Err(_) => None,
+    }
 }
 
 /// The words of a line that are left, with one space between each two.
@@ -68,15 +81,10 @@ impl<'a> Words<'a> {
 
     /// Takes the next word as the number of a register.
     #[tactic(auto, unfolding(crate::specs::Reading::register_at))]
-    pub fn register(&mut self) -> Option<u8>
+    pub fn register(&mut self) -> Option<Register>
         ensures { Gives result self.new (register_at self.old) }
     {
-        let number = self.number()?;
-        if number < 32 {
-            Some(number as u8)
-        } else {
-            None
-        }
+        register_of(self.number()?)
     }
 
     /// Takes four numbers.
@@ -94,7 +102,7 @@ impl<'a> Words<'a> {
 
     /// Takes the numbers of four registers.
     #[tactic(auto, unfolding(crate::specs::Reading::registers_at))]
-    pub fn registers(&mut self) -> Option<[u8; 4]>
+    pub fn registers(&mut self) -> Option<[Register; 4]>
         ensures { Gives result self.new (registers_at self.old) }
     {
         Some([

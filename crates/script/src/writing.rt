@@ -1,3 +1,4 @@
+// Writing to the end.
 ghost use Rattle.script.specs.Writing.{Writes};
 
 use crate::fault::RunFault;

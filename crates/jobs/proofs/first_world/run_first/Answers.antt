@@ -1,11 +1,11 @@
 use Rattle.std.proofs.Common.{Ok}
-use Rattle.script.specs.First.{machine_of}
-use Rattle.script.proofs.Begins.{begins}
+use Rattle.script.specs.Plain.{machine_of}
+use Rattle.script.proofs.Begins.{begins_f0}
 use Rattle.jobs.proofs.FirstRuns.{runs_first, fails_first}
 use Rattle.jobs.proofs.first_world.run_first.Goals as goal
 
 pub first_run-requires : goal.first_run-requires
-first_run-requires g c = begins c.in-Ok.plain c.in-Ok.ensures.world c.in-Ok.ensures.geometry
+first_run-requires g c = begins_f0 c.in-Ok.plain c.in-Ok.ensures.world c.in-Ok.ensures.headers c.in-Ok.ensures.contents c.in-Ok.ensures.geometry
 
 pub returns-in-Ok-first_run : goal.returns-in-Ok-first_run
 returns-in-Ok-first_run g c saved to_move =

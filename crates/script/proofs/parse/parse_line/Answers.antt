@@ -1,17 +1,18 @@
 use Rattle.std.proofs.Common.{ap, inr, arith, subst, length}
 use Rattle.model.specs.Text.{IsSkipped}
 use Rattle.model.specs.declared.line.Line.TheVariants as line
-use Rattle.script.proofs.Spellings.{spelling_of_words, spelling_short, spelling_said, one_spelling, no_spelling}
+use Rattle.model_laws.proofs.Spelling.{length-spelling, spelling_from_words}
+use Rattle.script.proofs.Spellings.{spelling_said, one_spelling, no_spelling}
 use Rattle.script.proofs.parse.parse_line.Goals as goal
 
 pub returns-then-line-gt-LONGEST_LINE-clause-reads : goal.returns-then-line-gt-LONGEST_LINE-clause-reads
-returns-then-line-gt-LONGEST_LINE-clause-reads c = λ d fits spelt. absurd (omega (arith, spelling_short d fits, ap length spelt))
+returns-then-line-gt-LONGEST_LINE-clause-reads c = λ d fits spelt. absurd (omega (arith, length-spelling d fits, ap length spelt))
 
 pub returns-then-is_skipped-clause-reads : goal.returns-then-is_skipped-clause-reads
 returns-then-is_skipped-clause-reads c = λ d fits spelt. let skipped : IsSkipped c.args.line.now = grind arith in absurd (spelling_said d fits (subst IsSkipped spelt skipped))
 
 pub returns-in-Some-clause-says : goal.returns-in-Some-clause-says
-returns-in-Some-clause-says c = (c.in-Some.ensures.found.0, spelling_of_words c.args.line.now c.in-Some.command c.in-Some.ensures.found.1)
+returns-in-Some-clause-says c = (c.in-Some.ensures.found.0, spelling_from_words c.args.line.now c.in-Some.command c.in-Some.ensures.found.1)
 
 pub returns-in-Some-clause-reads : goal.returns-in-Some-clause-reads
 returns-in-Some-clause-reads c = λ d fits spelt.
