@@ -3,6 +3,16 @@
 #![tactic(auto)]
 
 #[cfg(test)]
+mod answers;
+#[cfg(test)]
 mod frames;
+#[cfg(test)]
+mod gates;
+#[cfg(test)]
+mod lines;
+#[cfg(test)]
+mod orders;
+#[cfg(test)]
+mod runs;
 #[cfg(test)]
 mod worlds;
