@@ -1,6 +1,9 @@
 // The store in memory, and the objects in it, through the functions that change and tell them.
-ghost use Rattle.std.specs.Prelude.{◌≡◌, length, IfOk, OnOk};
+ghost use Rattle.std.specs.Prelude.{◌≡◌, ◌≢◌, length, IfOk, OnOk, IsTrue};
+ghost use Rattle.model.specs.declared.object.Role.TheVariants as role;
+ghost use Rattle.model.specs.Frame.{header_at, objects_of};
 ghost use Rattle.model.specs.Keepable.{AreCurrent, AreKeepable};
+ghost use Rattle.model.specs.World.{is_process};
 ghost use Rattle.capability.specs.Parts.{frames_of};
 ghost use Rattle.capability.specs.Plain.{IsThere, HasRoom, parts_of};
 
@@ -17,7 +20,7 @@ use std::alloc::{AllocError, Global};
 use std::process::Abort;
 use std::test::Fail;
 
-/// What stands at a number, or what is free where there is none.
+/x
 fn is_there(rt: &impl Abort, plain: &Plain, number: u64)
     ensures { IsThere plain.now number }
 {
@@ -28,9 +31,18 @@ fn is_there(rt: &impl Abort, plain: &Plain, number: u64)
 fn is_used(rt: &impl Abort, plain: &Plain, number: u64)
     ensures there { IsThere plain.now number }
     ensures room { HasRoom plain.now number }
+    ensures used { (header_at plain.now.headers number).role ≢ role.Free }
 {
     is_there(rt, plain, number);
     assert!(rt; plain.table().header(number).role != Role::Free);
+}
+
+/// A number stands for a process.
+fn is_process(rt: &impl Abort, plain: &Plain, number: u64)
+    ensures { IsTrue (is_process (objects_of (frames_of (parts_of plain.now))) number) }
+{
+    is_there(rt, plain, number);
+    assert!(rt; objects::state(plain, number).is_some());
 }
 
 /// The annex and the state of a process.
@@ -52,7 +64,10 @@ fn hold(rt: &impl Abort, plain: &Plain, number: u64, slots: &[(usize, Capability
 }
 
 /// Puts a capability into a slot of a node or a register of an annex.
-fn put(rt: &impl Abort, plain: &mut Plain, number: u64, index: usize, capability: Capability) {
+fn put(rt: &impl Abort, plain: &mut Plain, number: u64, index: usize, capability: Capability)
+    requires { AreCurrent (frames_of (parts_of plain.old)) }
+    ensures { AreCurrent (frames_of (parts_of plain.new)) }
+{
     is_used(rt, plain, number);
     assert!(rt; index < 32);
     objects::set_slot(plain, number, index, capability);
@@ -113,32 +128,44 @@ fn second_world_is_made(rt: HostRuntime) -> Result<(), Fail> {
     Ok(())
 }
 
-/// Changes the root of the second process, and reads each change.
-fn change_process(rt: &impl Abort, plain: &mut Plain) {
-    is_used(rt, plain, 3);
-    assert!(rt; objects::state(plain, 3).is_some());
-    objects::set_message(plain, 3, [1, 2, 3, 4], 5);
-    assert_eq!(rt; roots::word(plain, 3, 2), 3);
-    assert_eq!(rt; roots::key(plain, 3), 5);
-    assert_eq!(rt; roots::state(plain, 3), State::Running);
-    roots::set_word(plain, 3, 2, 9);
-    assert_eq!(rt; roots::word(plain, 3, 2), 9);
-    roots::set_state(plain, 3, State::Waiting);
-    assert_eq!(rt; roots::state(plain, 3), State::Waiting);
-    assert_eq!(rt; roots::space(plain, 3), Capability::Void);
-    let space = Capability::Space {
-        object: 5,
-        height: 4,
-        access: Access::weak(),
-    };
-    roots::set_space(plain, 3, space);
-    assert_eq!(rt; roots::space(plain, 3), space);
+/// Changes the root of a process, and reads each change.
+fn change_process(rt: &impl Abort, plain: &mut Plain, number: u64) {
+    is_used(rt, plain, number);
+    is_process(rt, plain, number);
+    objects::set_message(plain, number, [1, 2, 3, 4], 5);
+    is_process(rt, plain, number);
+    assert_eq!(rt; roots::word(plain, number, 2), 3);
+    assert_eq!(rt; roots::key(plain, number), 5);
+    assert_eq!(rt; roots::state(plain, number), State::Running);
+    roots::set_word(plain, number, 2, 9);
+    is_process(rt, plain, number);
+    assert_eq!(rt; roots::word(plain, number, 2), 9);
+    roots::set_state(plain, number, State::Waiting);
+    is_process(rt, plain, number);
+    assert_eq!(rt; roots::state(plain, number), State::Waiting);
+    assert_eq!(rt; roots::space(plain, number), Capability::Void);
+}
+
+/// Gives a process an address space.
+fn change_space(rt: &impl Abort, plain: &mut Plain, number: u64, space: Capability) {
+    is_used(rt, plain, number);
+    is_process(rt, plain, number);
+    roots::set_space(plain, number, space);
+    is_there(rt, plain, number);
+    is_process(rt, plain, number);
+    assert_eq!(rt; roots::space(plain, number), space);
 }
 
 #[test]
 fn a_process_is_changed(rt: HostRuntime) -> Result<(), Fail> {
     let mut plain = second_world(rt.alloc())?;
-    change_process(&rt, &mut plain);
+    change_process(&rt, &mut plain, 3);
+    let space = Capability::Space {
+        object: 5,
+        height: 4,
+        access: Access::weak(),
+    };
+    change_space(&rt, &mut plain, 3, space);
     Ok(())
 }
 
@@ -296,12 +323,11 @@ fn usage_goes_up_the_chain(rt: HostRuntime) -> Result<(), Fail> {
     let alloc = rt.alloc();
     let mut plain = first_world(alloc)?;
     account(&rt, &plain, &[(0, 4)]);
-    for bank in [6, 7] {
-        make_bank(&rt, alloc, &mut plain, bank)?;
-    }
-    for (number, bank) in [(7, 6), (5, 7), (16, 7)] {
-        give(&rt, &mut plain, number, bank);
-    }
+    make_bank(&rt, alloc, &mut plain, 6)?;
+    make_bank(&rt, alloc, &mut plain, 7)?;
+    give(&rt, &mut plain, 7, 6);
+    give(&rt, &mut plain, 5, 7);
+    give(&rt, &mut plain, 16, 7);
     account(&rt, &plain, &[(0, 6), (6, 3), (7, 2), (5, 0)]);
     give(&rt, &mut plain, 5, 99);
     account(&rt, &plain, &[(7, 1)]);

@@ -1,15 +1,17 @@
 // The worlds that tests begin with.
 ghost use Rattle.std.specs.Prelude.{IfOk};
-ghost use Rattle.model.specs.Keepable.{IsSoundFrames};
+ghost use Rattle.model.specs.Keepable.{AreKeepable};
 ghost use Rattle.capability.specs.Parts.{frames_of};
 ghost use Rattle.capability.specs.Plain.{parts_of};
+ghost use Rattle.script.specs.Plain.{IsSoundStore};
 
 use capability::Plain;
 use std::alloc::{AllocError, Global};
 
 /// The world of one running process, 1, that holds node 5 in register 5 and page 16 in register 6.
 pub fn first_world(alloc: Global) -> Result<Plain, AllocError>
-    ensures { IfOk result (λ p. IsSoundFrames p.geometry p.age (frames_of (parts_of p))) }
+    ensures sound { IfOk result IsSoundStore }
+    ensures keepable { IfOk result (λ p. AreKeepable p.geometry 0 (frames_of (parts_of p))) }
 {
     Plain::f0(alloc)
 }
@@ -17,7 +19,8 @@ pub fn first_world(alloc: Global) -> Result<Plain, AllocError>
 /// The world of a running process, 1, that holds itself, the prime bank, the right to start process
 /// 3 with key 7 and that process, which is available, in registers 1 to 4.
 pub fn second_world(alloc: Global) -> Result<Plain, AllocError>
-    ensures { IfOk result (λ p. IsSoundFrames p.geometry p.age (frames_of (parts_of p))) }
+    ensures sound { IfOk result IsSoundStore }
+    ensures keepable { IfOk result (λ p. AreKeepable p.geometry 0 (frames_of (parts_of p))) }
 {
     Plain::i0(alloc)
 }
