@@ -1,1 +1,2 @@
+pub mod Discrims
 pub mod MadeWorlds

@@ -20,7 +20,7 @@ use std::alloc::{AllocError, Global};
 use std::process::Abort;
 use std::test::Fail;
 
-/x
+/// There is such a number.
 fn is_there(rt: &impl Abort, plain: &Plain, number: u64)
     ensures { IsThere plain.now number }
 {

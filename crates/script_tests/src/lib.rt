@@ -9,10 +9,14 @@ mod frames;
 #[cfg(test)]
 mod gates;
 #[cfg(test)]
+mod kinds;
+#[cfg(test)]
 mod lines;
 #[cfg(test)]
 mod orders;
 #[cfg(test)]
 mod runs;
+#[cfg(test)]
+mod steps;
 #[cfg(test)]
 mod worlds;

@@ -1,5 +1,6 @@
 // What lines say, and how they are taken from a reader.
-use model::{Command, Invocation, Line, Operation, Register};
+use crate::worlds::register;
+use model::{Command, Invocation, Line, Operation};
 use script::{RunFault, next_line, parse_line};
 use std::alloc::{AllocError, Global};
 use std::io;
@@ -8,14 +9,6 @@ use std::process::Abort;
 use std::test::Fail;
 
 // ---- lines
-
-/// The register of a number.
-fn register(rt: &impl Abort, number: u8) -> Register {
-    match Register::new(number) {
-        Some(register) => register,
-        None => panic!(rt; "register {number}"),
-    }
-}
 
 #[test]
 fn each_invocation_is_read(rt: HostRuntime) {

@@ -1,4 +1,4 @@
-// The worlds that tests begin with.
+// The worlds that tests begin with, and the registers of their processes.
 ghost use Rattle.std.specs.Prelude.{IfOk};
 ghost use Rattle.model.specs.Keepable.{AreKeepable};
 ghost use Rattle.capability.specs.Parts.{frames_of};
@@ -6,7 +6,9 @@ ghost use Rattle.capability.specs.Plain.{parts_of};
 ghost use Rattle.script.specs.Plain.{IsSoundStore};
 
 use capability::Plain;
+use model::Register;
 use std::alloc::{AllocError, Global};
+use std::process::Abort;
 
 /// The world of one running process, 1, that holds node 5 in register 5 and page 16 in register 6.
 pub fn first_world(alloc: Global) -> Result<Plain, AllocError>
@@ -23,4 +25,12 @@ pub fn second_world(alloc: Global) -> Result<Plain, AllocError>
     ensures keepable { IfOk result (λ p. AreKeepable p.geometry 0 (frames_of (parts_of p))) }
 {
     Plain::i0(alloc)
+}
+
+/// The register of a number.
+pub fn register(rt: &impl Abort, number: u8) -> Register {
+    match Register::new(number) {
+        Some(register) => register,
+        None => panic!(rt; "register {number}"),
+    }
 }
