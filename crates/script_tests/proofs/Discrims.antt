@@ -30,8 +30,8 @@ pub store_with : (old new : PlainState) (n i : ℕ) → IsSoundStore old → i �
     objects_of (frames_of (parts_of new)) ≡ with_slot (objects_of (frames_of (parts_of old))) n i Discrim →
     (AreCurrent (frames_of (parts_of old)) → AreCurrent (frames_of (parts_of new))) →
     ((age : ℕ) → IsKeptCap old.geometry age (record { what = Discrim; count = current_count old.headers Discrim }) →
-      (IsTrue (is_annex (held_at old.contents n)) → i ≡ 0 → Discrim ≡ Void) →
-      AreKeepable old.geometry age (frames_of (parts_of old)) → AreKeepable old.geometry age (frames_of (parts_of new))) →
+    (IsTrue (is_annex (held_at old.contents n)) → i ≡ 0 → Discrim ≡ Void) →
+    AreKeepable old.geometry age (frames_of (parts_of old)) → AreKeepable old.geometry age (frames_of (parts_of new))) →
     GoesOn old new → IsSoundStore new
 store_with old new n i sound some objects current keepable goes =
     subst (λ (g : Geometry). IsSoundFrames g new.age (frames_of (parts_of new))) (sym goes.0)

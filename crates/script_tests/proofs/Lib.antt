@@ -1,2 +1,3 @@
 pub mod Discrims
+pub mod KeptStores
 pub mod MadeWorlds

@@ -59,7 +59,11 @@ fn hold(rt: &impl Abort, plain: &Plain, number: u64, slots: &[(usize, Capability
     is_there(rt, plain, number);
     for (index, held) in slots {
         assert!(rt; *index < 32);
-        assert_eq!(rt; objects::slot(plain, number, *index), *held, "slot {index} of {number}");
+        assert_eq!(rt;
+            objects::slot(plain, number, *index),
+            *held,
+            "slot {index} of {number}"
+        );
     }
 }
 
@@ -244,12 +248,7 @@ fn a_page_is_changed(rt: HostRuntime) -> Result<(), Fail> {
 // ---- what the log holds
 
 /// Announces a write of a number, and of the same number again.
-fn touch(
-    rt: &impl Abort,
-    plain: &mut Plain,
-    alloc: Global,
-    number: u64,
-) -> Result<(), PrepareFault>
+fn touch(rt: &impl Abort, plain: &mut Plain, alloc: Global, number: u64) -> Result<(), PrepareFault>
     requires keepable { AreKeepable plain.old.geometry 0 (frames_of (parts_of plain.old)) }
     ensures keepable { AreKeepable plain.new.geometry 0 (frames_of (parts_of plain.new)) }
 {
@@ -295,7 +294,6 @@ fn make_bank(
     is_there(rt, plain, number);
     assert!(rt; number < plain.geometry().nodes);
     assert!(rt; plain.table().header(number).role == Role::Free);
-    objects::fetch(plain, alloc, &[number])?;
     plain.prepare(alloc, &[number], &[number])?;
     objects::claim(plain, number, Fresh::Bank { limit: 9 }, 0);
     Ok(())

@@ -42,7 +42,8 @@ fn storage_numbers_and_void_are_told_apart(rt: HostRuntime) -> Result<(), Fail> 
     let alloc = rt.alloc();
     let mut plain = first_world(alloc)?;
     give_discrim(&rt, &mut plain, 7);
-    let script = b"call 1 7 1 0 0 0 6 0 0 0\nshow 1\ncall 1 6 3 3 0 0 0 0 0 0\ncall 1 7 1 0 0 0 28 0 0 0\n\
+    let script =
+        b"call 1 7 1 0 0 0 6 0 0 0\nshow 1\ncall 1 6 3 3 0 0 0 0 0 0\ncall 1 7 1 0 0 0 28 0 0 0\n\
 show 1\ncall 1 7 1 0 0 0 5 0 0 0\nshow 1\ncall 1 5 3 1 0 0 0 0 0 0\n\
 call 1 7 1 0 0 0 28 0 0 0\nshow 1\ncall 1 5 4 2 0 0 0 0 0 0\ncall 1 7 1 0 0 0 28 0 0 0\n\
 show 1\ncall 1 5 5 2 77 0 0 0 0 0\ncall 1 5 1 2 0 0 0 0 0 0\ncall 1 7 1 0 0 0 28 0 0 0\n\
@@ -92,7 +93,8 @@ fn a_resume_capability_is_one_until_it_is_used(rt: HostRuntime) -> Result<(), Fa
     let alloc = rt.alloc();
     let mut plain = second_world(alloc)?;
     give_discrim(&rt, &mut plain, 5);
-    let script = b"call 1 3 5 0 0 0 5 4 0 0\nsend 3 29 2 5 0 0 31 0 0 0\nsend 3 29 2 6 0 0 28 0 0 0\n\
+    let script =
+        b"call 1 3 5 0 0 0 5 4 0 0\nsend 3 29 2 5 0 0 31 0 0 0\nsend 3 29 2 6 0 0 28 0 0 0\n\
 call 3 6 1 0 0 0 5 0 0 0\nshow 3\nsend 3 5 1 2 3 4 0 0 0 0\ncall 3 6 1 0 0 0 5 0 0 0\n\
 show 3\n";
     let expected = b"done\ndone\ndone\ndone\n\

@@ -77,7 +77,10 @@ fn a_step_of_showing_tells_the_object(rt: HostRuntime) -> Result<(), Fail> {
     let answer = kernel::show(alloc, &mut plain, age, 0);
     let mut text = Vec::new(alloc);
     print_answer(&answer, &mut text)?;
-    assert_eq!(rt; text.as_slice(), b"bank 0 owner 0 limit 1000 used 4\nend\n".as_slice());
+    assert_eq!(rt;
+        text.as_slice(),
+        b"bank 0 owner 0 limit 1000 used 4\nend\n".as_slice()
+    );
     Ok(())
 }
 

@@ -1,3 +1,4 @@
+use Rattle.std.proofs.Common.{◌≢◌, rules}
 use Rattle.script_tests.proofs.Discrims.{store_with}
 use Rattle.script_tests.proofs.kinds.give_discrim.Goals as goal
 
