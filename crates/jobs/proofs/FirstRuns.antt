@@ -1,5 +1,5 @@
 -- Runs over the world F0.
-use Rattle.std.proofs.Common.{◌≡◌, ℕ, Bool, List, Option, None, Result, Ok, Err, refl, sym, ap, ◌∙◌, subst}
+use Rattle.std.proofs.Common.{◌≡◌, ℕ, Bool, List, Option, None, Result, Err, refl, sym, ap, ◌∙◌, subst}
 use Rattle.capability.specs.Plain.{PlainState, world_of}
 use Rattle.model.specs.declared.geometry.Geometry.{Geometry}
 use Rattle.model.specs.Machine.{Saved, Machine, Up, untouched}

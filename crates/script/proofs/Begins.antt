@@ -1,5 +1,5 @@
 -- The stores that are there from the start are sound.
-use Rattle.std.proofs.Common.{◌≡◌, ℕ, ◌<◌, ◌^◌, List, map, refl, sym, ap, subst, arith}
+use Rattle.std.proofs.Common.{◌≡◌, ◌<◌, ◌^◌, map, sym, subst, arith}
 use Rattle.capability.specs.Parts.{frames_of}
 use Rattle.capability.specs.Plain.{PlainState, fresh_header, fresh_held, parts_of, world_of}
 use Rattle.capability.proofs.FreshSound.{fresh_parts_sound}

@@ -1,5 +1,5 @@
 -- A command over a store in memory, which never fails.
-use Rattle.std.proofs.Common.{◌≡◌, ℕ, ◌<◌, None, sym, subst, arith}
+use Rattle.std.proofs.Common.{◌≡◌, ℕ, None, sym, subst, arith}
 use Rattle.capability.specs.Plain.{GoesOn, PlainState, parts_of}
 use Rattle.kernel.specs.Machine.{Serves, machine_at}
 use Rattle.model.specs.declared.answer.Answer.{Answer}

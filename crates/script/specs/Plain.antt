@@ -24,6 +24,7 @@ aged s age = record s { age = age }
 abbrev pub IsSoundStore : PlainState → Type 0
 IsSoundStore plain = IsSoundFrames plain.geometry plain.age (frames_of (parts_of plain))
 
+-- whether it is a call
 abbrev pub is_call : Operation → Bool
 is_call Call = true
 is_call _ = false

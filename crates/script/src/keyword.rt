@@ -22,7 +22,7 @@ pub enum Keyword {
 }
 
 impl Keyword {
-    /// Every keyword, the commonest first.
+    // Every keyword, the commonest first.
     const ALL: [Keyword; 13] = [
         Keyword::Invoke(Operation::Call),
         Keyword::Invoke(Operation::Return),
@@ -39,7 +39,7 @@ impl Keyword {
         Keyword::Cut,
     ];
 
-    /// The word that says the keyword.
+    // The word that says the keyword.
     fn name(self) -> &'static [u8]
         ensures { result.now ≡ keyword_name self }
     {

@@ -8,8 +8,8 @@ use crate::parse::{LONGEST_LINE, parse_line};
 use model::Line;
 use std::io::{ErrorKind, Read};
 
-/// Adds a byte to a line of which so many bytes were read, and tells how many there are then. Those
-/// that have no room aren't kept, and count as one too many.
+// Adds a byte to a line of which so many bytes were read, and tells how many there are then. Those
+// that have no room aren't kept, and count as one too many.
 fn push(text: &mut [u8], count: usize, byte: u8) -> usize
     requires room { length text.old ≡ 256 }
     ensures holds { (line : List ℕ) → HoldsLine text.old count line → HoldsLine text.new result (line ++ byte ∷ []) }
@@ -22,7 +22,7 @@ fn push(text: &mut [u8], count: usize, byte: u8) -> usize
     count + 1
 }
 
-/// What a line says of which so many bytes were read.
+// What a line says of which so many bytes were read.
 fn said(text: &[u8], count: usize) -> Line
     requires room { length text.now ≡ 256 }
     ensures { (line : List ℕ) → HoldsLine text.now count line → Says line result }
@@ -33,7 +33,7 @@ fn said(text: &[u8], count: usize) -> Line
     }
 }
 
-/// What one read of one byte gave.
+// What one read of one byte gave.
 enum Next {
     Byte(u8),
     End,
@@ -41,6 +41,7 @@ enum Next {
     Failed,
 }
 
+// Reads one byte.
 fn next_byte<R: Read>(reader: &mut R) -> Next
     ensures { TakesByte (R.remaining reader.old) (R.remaining reader.new) result }
 {

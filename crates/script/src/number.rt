@@ -2,7 +2,7 @@
 ghost use Rattle.std.specs.Prelude.{◌≡◌, ◌≢◌, ℕ, ◌<◌, ◌≤◌, ◌^◌, IfSome, IfNone, decimal};
 ghost use Rattle.std.specs.Str.Parse.{AllDigits, digits_value};
 
-/// The value of the digits, if they are digits and it is below 2^64.
+// The value of the digits, if they are digits and it is below 2^64.
 fn value_of(digits: &[u8]) -> Option<u64>
     ensures found { IfSome result (λ n.
         (n < 2 ^ 64) × AllDigits 10 digits.now × (n ≡ digits_value 10 digits.now)) }

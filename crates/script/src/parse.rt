@@ -11,6 +11,7 @@ use model::{Command, Invocation, Line, Operation};
 /// The longest line that isn't bad, in bytes.
 pub const LONGEST_LINE: usize = 256;
 
+// Takes the words that follow the name of an operation.
 #[tactic(auto, unfolding(crate::specs::Reading::invocation_at))]
 fn invocation(operation: Operation, words: &mut Words<'_>) -> Option<Command>
     ensures { Gives result words.new (invocation_at operation words.old) }
@@ -24,7 +25,7 @@ fn invocation(operation: Operation, words: &mut Words<'_>) -> Option<Command>
     }))
 }
 
-/// Takes the words that follow a keyword.
+// Takes the words that follow a keyword.
 #[tactic(auto, unfolding(crate::specs::Reading::arguments_at))]
 fn arguments(keyword: Keyword, words: &mut Words<'_>) -> Option<Command>
     ensures { Gives result words.new (arguments_at keyword words.old) }
@@ -59,13 +60,14 @@ fn arguments(keyword: Keyword, words: &mut Words<'_>) -> Option<Command>
     }
 }
 
+// Whether a line says nothing.
 fn is_skipped(line: &[u8]) -> bool
     ensures { IsTrue result ↔ IsSkipped line.now }
 {
     matches!(line, [] | [b'#', ..])
 }
 
-/// The command that the words of the line say.
+// The command that the words of the line say.
 fn command_in(line: &[u8]) -> Option<Command>
     ensures found { IfSome result (λ c. Fits c × (words_of line.now ≡ command_words c)) }
     ensures none { IfNone result ((c : Command) → Fits c → words_of line.now ≢ command_words c) }

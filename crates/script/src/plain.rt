@@ -27,7 +27,8 @@ fn take<W: Write>(
     requires sound { IsSoundStore plain.old }
     requires line { (text : List ℕ) × Says text line.now }
     ensures turn { (saved : Saved) (to_move : ℕ) → (reply : Reply)
-        × Replies plain.old.geometry (understood (knows known) line.now) (machine_of plain.old saved to_move) reply (machine_of plain.new saved to_move)
+        × Replies plain.old.geometry (understood (knows known) line.now)
+        (machine_of plain.old saved to_move) reply (machine_of plain.new saved to_move)
         × Writes (W.contents writer.old) (W.contents writer.new) result (reply_text reply) }
     ensures geometry { plain.new.geometry ≡ plain.old.geometry }
     ensures sound { IsSoundStore plain.new }
@@ -52,8 +53,11 @@ fn run<R: Read, W: Write>(
 ) -> Result<(), RunFault>
     requires { IsSoundStore plain.old }
     ensures run { (saved : Saved) (to_move : ℕ) →
-        Runs plain.old.geometry (knows known) (machine_of plain.old saved to_move) (machine_of plain.new saved to_move)
-        (R.remaining reader.old) (R.remaining reader.new) (W.contents writer.old) (W.contents writer.new) result }
+        Runs plain.old.geometry (knows known)
+        (machine_of plain.old saved to_move) (machine_of plain.new saved to_move)
+        (R.remaining reader.old) (R.remaining reader.new)
+        (W.contents writer.old) (W.contents writer.new) result }
+    ensures geometry { plain.new.geometry ≡ plain.old.geometry }
     ensures sound { IsSoundStore plain.new }
 {
     for _ in 0..u64::MAX {
@@ -78,8 +82,11 @@ pub fn first_run<R: Read, W: Write>(
 ) -> Result<(), RunFault>
     requires { IsSoundStore plain.old }
     ensures run { (saved : Saved) (to_move : ℕ) →
-        Runs plain.old.geometry knows_first (machine_of plain.old saved to_move) (machine_of plain.new saved to_move)
-        (R.remaining reader.old) (R.remaining reader.new) (W.contents writer.old) (W.contents writer.new) result }
+        Runs plain.old.geometry knows_first
+        (machine_of plain.old saved to_move) (machine_of plain.new saved to_move)
+        (R.remaining reader.old) (R.remaining reader.new)
+        (W.contents writer.old) (W.contents writer.new) result }
+    ensures geometry { plain.new.geometry ≡ plain.old.geometry }
     ensures sound { IsSoundStore plain.new }
 {
     run(alloc, Known::Calls, plain, reader, writer)
@@ -98,8 +105,11 @@ pub fn run_plain<R: Read, W: Write>(
 ) -> Result<(), RunFault>
     requires { IsSoundStore plain.old }
     ensures run { (saved : Saved) (to_move : ℕ) →
-        Runs plain.old.geometry knows_plain (machine_of plain.old saved to_move) (machine_of plain.new saved to_move)
-        (R.remaining reader.old) (R.remaining reader.new) (W.contents writer.old) (W.contents writer.new) result }
+        Runs plain.old.geometry knows_plain
+        (machine_of plain.old saved to_move) (machine_of plain.new saved to_move)
+        (R.remaining reader.old) (R.remaining reader.new)
+        (W.contents writer.old) (W.contents writer.new) result }
+    ensures geometry { plain.new.geometry ≡ plain.old.geometry }
     ensures sound { IsSoundStore plain.new }
 {
     run(alloc, Known::Invocations, plain, reader, writer)

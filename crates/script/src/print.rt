@@ -10,6 +10,7 @@ use crate::writing::write_fully;
 use model::{Answer, Refusal};
 use std::io::Write;
 
+// The line of a refusal.
 fn refusal_line(refusal: Refusal) -> LineText
     ensures text { result ≡ refusal_text refusal }
     ensures short { length result ≤ 41 }

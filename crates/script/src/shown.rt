@@ -9,7 +9,7 @@ use bitflags::Flags;
 use model::{Access, Capability, Content, Object, Root, Slots, State};
 use std::io::Write;
 
-/// The line `NAME number owner OWNER`, as far as it is the same for all objects.
+// The line `NAME number owner OWNER`, as far as it is the same for all objects.
 fn heading(name: &[u8], number: u64, owner: u64) -> LineText
     requires { length name.now ≤ 8 }
     ensures text { result ≡ spaced (headed name.now number owner) }
@@ -22,6 +22,7 @@ fn heading(name: &[u8], number: u64, owner: u64) -> LineText
     line
 }
 
+// Adds what a capability is restricted to, where it is.
 fn push_access(line: &mut LineText, access: Access)
     requires { length line.old ≤ 300 }
     ensures text { line.new ≡ line.old ++ access_text access }
@@ -34,7 +35,7 @@ fn push_access(line: &mut LineText, access: Access)
     }
 }
 
-/// Adds a space and the capability.
+// Adds a space and the capability.
 #[tactic(auto, using(std::proofs::Common::append_assoc), unfolding(model::specs::Text::capability_text))]
 fn push_capability(line: &mut LineText, capability: Capability)
     requires { length line.old ≤ 240 }
@@ -72,6 +73,7 @@ fn push_capability(line: &mut LineText, capability: Capability)
     }
 }
 
+// The word of a state.
 fn state_word(state: State) -> &'static [u8]
     ensures word { result.now ≡ state_text state }
     ensures short { length result.now ≤ 9 }
@@ -83,6 +85,7 @@ fn state_word(state: State) -> &'static [u8]
     }
 }
 
+// The first line of a process.
 fn process_line(number: u64, owner: u64, root: &Root<Capability>) -> LineText
     ensures text { result ≡ spaced (headed (codes "process") number owner
         ++ (codes "annex" ∷ decimal root.now.annex ∷ state_text root.now.state
@@ -101,6 +104,7 @@ fn process_line(number: u64, owner: u64, root: &Root<Capability>) -> LineText
     line
 }
 
+// The line of a bank.
 fn bank_line(number: u64, owner: u64, limit: u64, used: u64) -> LineText
     ensures text { result ≡ spaced (headed (codes "bank") number owner
         ++ (codes "limit" ∷ decimal limit ∷ codes "used" ∷ decimal used ∷ [])) }
@@ -112,7 +116,7 @@ fn bank_line(number: u64, owner: u64, limit: u64, used: u64) -> LineText
     line
 }
 
-/// Writes the line of a word that isn't 0.
+// Writes the line of a word that isn't 0.
 fn print_word<W: Write>(index: usize, word: u64, writer: &mut W) -> Result<(), RunFault>
     ensures { Writes (W.contents writer.old) (W.contents writer.new) result (word_line (index, word)) }
 {
@@ -125,6 +129,7 @@ fn print_word<W: Write>(index: usize, word: u64, writer: &mut W) -> Result<(), R
     line.write_to(writer)
 }
 
+// Writes the lines of the words that aren't 0.
 fn print_words<W: Write>(words: &[u64], writer: &mut W) -> Result<(), RunFault>
     ensures { Writes (W.contents writer.old) (W.contents writer.new) result (word_lines words.now) }
 {
@@ -134,7 +139,7 @@ fn print_words<W: Write>(words: &[u64], writer: &mut W) -> Result<(), RunFault>
     Ok(())
 }
 
-/// Writes the line of a capability that isn't void.
+// Writes the line of a capability that isn't void.
 fn print_capability<W: Write>(
     name: &[u8],
     index: usize,
@@ -154,6 +159,7 @@ fn print_capability<W: Write>(
     line.write_to(writer)
 }
 
+// Writes the lines of the capabilities that aren't void.
 fn print_capabilities<W: Write>(
     name: &[u8],
     capabilities: &[Capability],
@@ -169,6 +175,7 @@ fn print_capabilities<W: Write>(
     Ok(())
 }
 
+// The registers, or none where there are none.
 fn held_by(registers: &Option<Slots<Capability>>) -> &[Capability]
     ensures { result.now ≡ registers_of registers.now }
 {

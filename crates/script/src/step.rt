@@ -46,7 +46,9 @@ fn count(plain: &mut Plain, answer: &Answer)
 // An invocation.
 fn invoke(alloc: Global, plain: &mut Plain, invocation: Invocation) -> Answer
     requires { IsSoundStore plain.old }
-    ensures step { (saved : Saved) (to_move : ℕ) → Step plain.old.geometry (machine_of plain.old saved to_move) (command.Invoke invocation) result (machine_of plain.new saved to_move) }
+    ensures step { (saved : Saved) (to_move : ℕ) →
+        Step plain.old.geometry (machine_of plain.old saved to_move) (command.Invoke invocation)
+        result (machine_of plain.new saved to_move) }
     ensures geometry { plain.new.geometry ≡ plain.old.geometry }
     ensures sound { IsSoundStore plain.new }
 {
@@ -59,7 +61,9 @@ fn invoke(alloc: Global, plain: &mut Plain, invocation: Invocation) -> Answer
 // The text of an object.
 fn show(alloc: Global, plain: &mut Plain, number: u64) -> Answer
     requires { IsSoundStore plain.old }
-    ensures step { (saved : Saved) (to_move : ℕ) → Step plain.old.geometry (machine_of plain.old saved to_move) (command.Show number) result (machine_of plain.new saved to_move) }
+    ensures step { (saved : Saved) (to_move : ℕ) →
+        Step plain.old.geometry (machine_of plain.old saved to_move) (command.Show number)
+        result (machine_of plain.new saved to_move) }
     ensures geometry { plain.new.geometry ≡ plain.old.geometry }
     ensures sound { IsSoundStore plain.new }
 {
@@ -71,7 +75,9 @@ fn show(alloc: Global, plain: &mut Plain, number: u64) -> Answer
 pub fn step(alloc: Global, known: Known, plain: &mut Plain, command: &Command) -> Option<Answer>
     requires { IsSoundStore plain.old }
     ensures known { IsSome result ↔ IsTrue (knows known command.now) }
-    ensures step { IfSome result (λ answer. (saved : Saved) (to_move : ℕ) → Step plain.old.geometry (machine_of plain.old saved to_move) command.now answer (machine_of plain.new saved to_move)) }
+    ensures step { IfSome result (λ answer. (saved : Saved) (to_move : ℕ) →
+        Step plain.old.geometry (machine_of plain.old saved to_move) command.now
+        answer (machine_of plain.new saved to_move)) }
     ensures other { result ≡ None → plain.new ≡ plain.old }
     ensures geometry { plain.new.geometry ≡ plain.old.geometry }
     ensures sound { IsSoundStore plain.new }
