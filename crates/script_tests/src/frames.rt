@@ -4,7 +4,7 @@ ghost use Rattle.model.specs.declared.object.Role.TheVariants as role;
 ghost use Rattle.model.specs.Frame.{header_at, objects_of};
 ghost use Rattle.model.specs.Keepable.{AreCurrent, AreKeepable};
 ghost use Rattle.model.specs.World.{is_process};
-ghost use Rattle.capability.specs.Parts.{frames_of};
+ghost use Rattle.capability.specs.Parts.{FreshFits, IsFreshAt, frames_of};
 ghost use Rattle.capability.specs.Plain.{IsThere, HasRoom, parts_of};
 
 use crate::worlds::{first_world, second_world};
@@ -245,6 +245,22 @@ fn a_page_is_changed(rt: HostRuntime) -> Result<(), Fail> {
     Ok(())
 }
 
+/// Fetches an object.
+fn fetch(rt: &impl Abort, alloc: Global, plain: &mut Plain, number: u64) -> Result<(), PrepareFault>
+    requires { AreKeepable plain.old.geometry 0 (frames_of (parts_of plain.old)) }
+{
+    is_there(rt, plain, number);
+    objects::fetch(plain, alloc, &[number])
+}
+
+#[test]
+fn an_object_is_fetched(rt: HostRuntime) -> Result<(), Fail> {
+    let alloc = rt.alloc();
+    let mut plain = first_world(alloc)?;
+    assert_eq!(rt; fetch(&rt, alloc, &mut plain, 23), Ok(()));
+    Ok(())
+}
+
 // ---- what the log holds
 
 /// Announces a write of a number, and of the same number again.
@@ -279,23 +295,67 @@ fn log_is_full(rt: HostRuntime) -> Result<(), Fail> {
     Ok(())
 }
 
-// ---- banks
+// ---- new objects and banks
 
-/// Makes a free number a bank of the prime bank.
-fn make_bank(
+/// A number is one where such an object may be made.
+fn is_place(rt: &impl Abort, plain: &Plain, number: u64, fresh: Fresh)
+    ensures { IsFreshAt plain.now.geometry number fresh }
+{
+    let nodes = plain.geometry().nodes;
+    match fresh {
+        Fresh::Page => assert!(rt; nodes <= number),
+        Fresh::Node => assert!(rt; number < nodes),
+        Fresh::Root { .. } => assert!(rt; number < nodes),
+        Fresh::Annex => assert!(rt; number < nodes),
+        Fresh::Bank { .. } => assert!(rt; number < nodes),
+    }
+}
+
+/// Makes a free number an object of the prime bank.
+fn make(
     rt: &impl Abort,
     alloc: Global,
     plain: &mut Plain,
     number: u64,
+    fresh: Fresh,
 ) -> Result<(), PrepareFault>
+    requires fits { FreshFits fresh }
     requires keepable { AreKeepable plain.old.geometry 0 (frames_of (parts_of plain.old)) }
     ensures keepable { OnOk result (AreKeepable plain.new.geometry 0 (frames_of (parts_of plain.new))) }
 {
     is_there(rt, plain, number);
-    assert!(rt; number < plain.geometry().nodes);
+    is_place(rt, plain, number, fresh);
     assert!(rt; plain.table().header(number).role == Role::Free);
     plain.prepare(alloc, &[number], &[number])?;
-    objects::claim(plain, number, Fresh::Bank { limit: 9 }, 0);
+    objects::claim(plain, number, fresh, 0);
+    Ok(())
+}
+
+#[test]
+fn each_kind_of_object_is_made(rt: HostRuntime) -> Result<(), Fail> {
+    let alloc = rt.alloc();
+    let mut plain = second_world(alloc)?;
+    make(&rt, alloc, &mut plain, 5, Fresh::Node)?;
+    make(&rt, alloc, &mut plain, 6, Fresh::Root { annex: 7 })?;
+    make(&rt, alloc, &mut plain, 7, Fresh::Annex)?;
+    make(&rt, alloc, &mut plain, 8, Fresh::Bank { limit: 2 })?;
+    make(&rt, alloc, &mut plain, 16, Fresh::Page)?;
+    for (number, is) in [
+        (5, Role::Node),
+        (6, Role::Root),
+        (7, Role::Annex),
+        (8, Role::Bank),
+        (16, Role::Page),
+    ] {
+        assert_eq!(rt; role(&plain, number), is, "number {number}");
+    }
+    assert_eq!(rt; process(&rt, &plain, 6), Some((7, State::Available)));
+    hold(
+        &rt,
+        &plain,
+        5,
+        &[(0, Capability::Void), (31, Capability::Void)],
+    );
     Ok(())
 }
 
@@ -321,8 +381,8 @@ fn usage_goes_up_the_chain(rt: HostRuntime) -> Result<(), Fail> {
     let alloc = rt.alloc();
     let mut plain = first_world(alloc)?;
     account(&rt, &plain, &[(0, 4)]);
-    make_bank(&rt, alloc, &mut plain, 6)?;
-    make_bank(&rt, alloc, &mut plain, 7)?;
+    make(&rt, alloc, &mut plain, 6, Fresh::Bank { limit: 9 })?;
+    make(&rt, alloc, &mut plain, 7, Fresh::Bank { limit: 9 })?;
     give(&rt, &mut plain, 7, 6);
     give(&rt, &mut plain, 5, 7);
     give(&rt, &mut plain, 16, 7);

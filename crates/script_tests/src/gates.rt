@@ -197,6 +197,20 @@ register 1 process 1\nregister 2 bank 0\nregister 3 start 3 7\nregister 4 proces
 }
 
 #[test]
+fn a_reply_comes_after_the_order(rt: HostRuntime) -> Result<(), Fail> {
+    let script = b"send 1 1 4 2 77 0 0 0 0 0\nsend 1 1 2 28 0 0 2 0 0 0\nshow 1\n\
+call 1 1 4 2 77 0 0 0 0 0\ncall 1 1 2 28 0 0 2 0 0 0\nshow 1\n";
+    let expected = b"done\ndone\n\
+process 1 owner 0 annex 2 running key 0 words 0 0 77 0 space void\n\
+register 1 process 1\nregister 2 bank 0\nregister 3 start 3 7\nregister 4 process 3\n\
+register 28 bank 0\nend\n\
+done\ndone\n\
+process 1 owner 0 annex 2 running key 0 words 0 0 0 0 space void\n\
+register 1 process 1\nregister 2 bank 0\nregister 3 start 3 7\nregister 4 process 3\nend\n";
+    runs(&rt, rt.alloc(), script, expected)
+}
+
+#[test]
 fn what_is_no_address_space_is_refused_as_one(rt: HostRuntime) -> Result<(), Fail> {
     let script = b"call 1 1 9 0 0 0 2 0 0 0\nshow 1\ncall 1 1 9 0 0 0 0 0 0 0\nshow 1\n\
 call 1 1 10 0 0 0 0 0 0 0\nshow 1\n";
