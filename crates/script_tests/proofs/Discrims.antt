@@ -1,5 +1,5 @@
 -- A sound store stays so where a register gets the capability that tells the kinds apart.
-use Rattle.std.proofs.Common.{◌≡◌, ◌≢◌, ℕ, ◌<◌, List, refl, sym, subst, arith}
+use Rattle.std.proofs.Common.{◌≡◌, ◌≢◌, ℕ, List, refl, sym, subst}
 use Rattle.std.specs.Prelude.{IsTrue}
 use Rattle.capability.specs.Parts.{frames_of}
 use Rattle.capability.specs.Plain.{GoesOn, PlainState, parts_of}

@@ -1,9 +1,8 @@
 -- A store that was made for a world that is there from the start is sound.
-use Rattle.std.proofs.Common.{◌≡◌, ℕ, List, map, ◌∙◌, Result, Ok, Err, ap, subst, sym, arith}
+use Rattle.std.proofs.Common.{◌≡◌, ℕ, map, ◌∙◌, Result, Ok, Err, ap, subst, arith}
 use Rattle.std.specs.Prelude.{IfOk}
 use Rattle.capability.specs.Parts.{frames_of}
 use Rattle.capability.specs.Plain.{PlainState, parts_of, world_of, fresh_header, fresh_held}
-use Rattle.model.specs.declared.geometry.Geometry.{Geometry}
 use Rattle.model.specs.Keepable.{AreKeepable}
 use Rattle.model.specs.Sound.{IsSound}
 use Rattle.model.specs.World.{World}
