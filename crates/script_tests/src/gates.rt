@@ -1,6 +1,5 @@
 // Invocations of processes and through gates, as scripts over the second world.
-use crate::worlds::second_world;
-use script::run_plain;
+use crate::worlds::{is_answered, second_world};
 use std::alloc::Global;
 use std::process::Abort;
 use std::test::Fail;
@@ -8,11 +7,7 @@ use std::test::Fail;
 /// A script over the second world is answered so.
 fn runs(rt: &impl Abort, alloc: Global, script: &[u8], expected: &[u8]) -> Result<(), Fail> {
     let mut plain = second_world(alloc)?;
-    let mut reader = script;
-    let mut answers = Vec::new(alloc);
-    run_plain(alloc, &mut plain, &mut reader, &mut answers)?;
-    assert_eq!(rt; answers.as_slice(), expected);
-    Ok(())
+    is_answered(rt, alloc, &mut plain, script, expected)
 }
 
 // ---- gates

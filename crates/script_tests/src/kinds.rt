@@ -1,11 +1,9 @@
 // What each kind of capability is classified as.
 ghost use Rattle.script.specs.Plain.{IsSoundStore};
 
-use crate::worlds::{first_world, second_world};
+use crate::worlds::{first_world, is_answered, second_world};
 use capability::{Plain, PresentFrames, objects};
 use model::{Capability, Role};
-use script::run_plain;
-use std::alloc::Global;
 use std::process::Abort;
 use std::test::Fail;
 
@@ -18,23 +16,6 @@ fn give_discrim(rt: &impl Abort, plain: &mut Plain, register: usize)
     assert!(rt; plain.table().header(2).role != Role::Free);
     assert!(rt; 0 < register && register < 32);
     objects::set_slot(plain, 2, register, Capability::Discrim);
-}
-
-/// A script over a store is answered so.
-fn runs(
-    rt: &impl Abort,
-    alloc: Global,
-    plain: &mut Plain,
-    script: &[u8],
-    expected: &[u8],
-) -> Result<(), Fail>
-    requires { IsSoundStore plain.old }
-{
-    let mut reader = script;
-    let mut answers = Vec::new(alloc);
-    run_plain(alloc, plain, &mut reader, &mut answers)?;
-    assert_eq!(rt; answers.as_slice(), expected);
-    Ok(())
 }
 
 #[test]
@@ -67,7 +48,7 @@ process 1 owner 0 annex 2 running key 0 words 0 0 0 0 space void\nregister 5 nod
 register 6 page 16\nregister 7 discrim\nend\ndone\n\
 process 1 owner 0 annex 2 running key 0 words 1 0 0 0 space void\nregister 5 node 5\n\
 register 6 page 16\nregister 7 discrim\nend\n";
-    runs(&rt, alloc, &mut plain, script, expected)
+    is_answered(&rt, alloc, &mut plain, script, expected)
 }
 
 #[test]
@@ -85,7 +66,7 @@ register 2 bank 0\nregister 3 start 3 7\nregister 4 process 3\nregister 5 discri
 done\nprocess 1 owner 0 annex 2 running key 0 words 0 8 0 0 space void\n\
 register 1 process 1\nregister 2 bank 0\nregister 3 start 3 7\nregister 4 process 3\n\
 register 5 discrim\nend\n";
-    runs(&rt, alloc, &mut plain, script, expected)
+    is_answered(&rt, alloc, &mut plain, script, expected)
 }
 
 #[test]
@@ -102,5 +83,5 @@ process 3 owner 0 annex 4 running key 0 words 0 7 0 0 space void\nregister 5 res
 register 6 discrim\nend\ndone\ndone\n\
 process 3 owner 0 annex 4 running key 0 words 0 0 0 0 space void\nregister 6 discrim\n\
 end\n";
-    runs(&rt, alloc, &mut plain, script, expected)
+    is_answered(&rt, alloc, &mut plain, script, expected)
 }

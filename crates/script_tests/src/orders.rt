@@ -1,18 +1,13 @@
 // Orders on the objects of the first world.
-use crate::worlds::first_world;
-use script::run_plain;
+use crate::worlds::{first_world, is_answered};
 use std::alloc::Global;
 use std::process::Abort;
 use std::test::Fail;
 
-/// What is written for a script over the first world.
+/// A script over the first world is answered so.
 fn answers(rt: &impl Abort, alloc: Global, script: &[u8], expected: &[u8]) -> Result<(), Fail> {
     let mut plain = first_world(alloc)?;
-    let mut reader = script;
-    let mut answers = Vec::new(alloc);
-    run_plain(alloc, &mut plain, &mut reader, &mut answers)?;
-    assert_eq!(rt; answers.as_slice(), expected);
-    Ok(())
+    is_answered(rt, alloc, &mut plain, script, expected)
 }
 
 #[test]
