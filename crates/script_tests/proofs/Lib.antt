@@ -1,1 +1,3 @@
-pub mod StorageWorlds
+pub mod Discrims
+pub mod KeptStores
+pub mod MadeWorlds

@@ -1,3 +1,4 @@
+// The texts of answers, and writers that take little.
 use model::{
     Access, Answer, Capability, Content, MemoryFault, Object, Refusal, Root, Slots, State, Words,
 };

@@ -1,5 +1,5 @@
 //! The tests of the machine in memory, its orders and its scripts, through the public functions of
-//! the crates `capability`, `gate` and `script`.
+//! the crates `capability`, `gate`, `kernel` and `script`.
 #![tactic(auto)]
 
 #[cfg(test)]
@@ -7,8 +7,16 @@ mod answers;
 #[cfg(test)]
 mod frames;
 #[cfg(test)]
+mod gates;
+#[cfg(test)]
+mod kinds;
+#[cfg(test)]
 mod lines;
 #[cfg(test)]
 mod orders;
 #[cfg(test)]
 mod runs;
+#[cfg(test)]
+mod steps;
+#[cfg(test)]
+mod worlds;

@@ -1,3 +1,5 @@
+// What lines say, and how they are taken from a reader.
+use crate::worlds::register;
 use model::{Command, Invocation, Line, Operation};
 use script::{RunFault, next_line, parse_line};
 use std::alloc::{AllocError, Global};
@@ -13,9 +15,14 @@ fn each_invocation_is_read(rt: HostRuntime) {
     let called = Invocation {
         operation: Operation::Call,
         process: 1,
-        register: 2,
+        register: register(&rt, 2),
         words: [3, 4, 5, 6],
-        sent: [7, 8, 9, 31],
+        sent: [
+            register(&rt, 7),
+            register(&rt, 8),
+            register(&rt, 9),
+            register(&rt, 31),
+        ],
     };
     let returned = Invocation {
         operation: Operation::Return,

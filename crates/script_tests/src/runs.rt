@@ -1,19 +1,10 @@
-ghost use Rattle.std.specs.Prelude.{IfOk};
-ghost use Rattle.script.specs.First.{IsStorageWorld};
-
-use capability::Plain;
+// Runs of scripts, and readers and writers that fail.
+use crate::worlds::first_world;
 use script::{RunFault, first_run};
-use std::alloc::{AllocError, Global};
+use std::alloc::Global;
 use std::io;
 use std::io::{ErrorKind, Read, Write};
 use std::test::Fail;
-
-/// The world F0.
-fn first_world(alloc: Global) -> Result<Plain, AllocError>
-    ensures { IfOk result IsStorageWorld }
-{
-    Plain::f0(alloc)
-}
 
 /// What is written for a script over the world F0.
 fn answers_to(alloc: Global, script: &[u8]) -> Result<Vec<u8>, Fail> {
