@@ -1,5 +1,5 @@
 -- Trees of nodes, level by level.
-use Rattle.std.proofs.Common.{◌≡◌, ◌≢◌, ℕ, zero, suc, ◌+◌, ◌-◌, ◌/◌, ◌%◌, ◌^◌, ◌<◌, ◌≤◌, ◌==◌, Bool, true, false, List, Result, Ok, Err, refl, sym, ap, ◌∙◌, subst, arith}
+use Rattle.std.proofs.Common.{◌≡◌, ◌≢◌, ℕ, zero, suc, ◌+◌, ◌-◌, ◌/◌, ◌%◌, ◌^◌, ◌<◌, ◌≤◌, ◌==◌, true, false, List, Result, Ok, Err, refl, sym, ap, ◌∙◌, arith}
 use Rattle.std.proofs.lemmas.Bool.{eq-eqb, ne_eqb}
 use Rattle.model.specs.declared.access.Access.{Access}
 use Rattle.model.specs.declared.answer.MemoryFault.{MemoryFault}
@@ -51,13 +51,21 @@ module _ (os : List Object) (o h index : ℕ) (a : Access) (s : Capability) (som
       ∙ ap (λ (c : Capability). below (suc k) a c (walk_along os c (path k index))) is
       ∙ rw other refl
 
-  pub at_tree : (n l : ℕ) (b : Access) → s ≡ Space n l b → l ≡ h - 1 → (rest : Result (ℕ × Access) MemoryFault) → rest ≡ walk_along os (Space n l b) (path l index) →
-      walk_along os (Space o h a) (path h index) ≡ restricted a rest
-  at_tree n l b is level rest from =
+  at_tree : (n l : ℕ) (b : Access) → s ≡ Space n l b → l ≡ h - 1 →
+      walk_along os (Space o h a) (path h index) ≡ restricted a (walk_along os (Space n l b) (path l index))
+  at_tree n l b is level =
       let same : (suc k == l + 1) ≡ true = eq-eqb (suc k) (l + 1) (omega (arith, level)) in
       descends
       ∙ ap (λ (c : Capability). below (suc k) a c (walk_along os c (path k index))) is
-      ∙ rw same (ap (λ (m : ℕ). restricted a (walk_along os (Space n l b) (path m index))) (sym level) ∙ ap (restricted a) (sym from))
+      ∙ rw same (ap (λ (m : ℕ). restricted a (walk_along os (Space n l b) (path m index))) (sym level))
+
+  pub at_found : (n l : ℕ) (b : Access) → s ≡ Space n l b → l ≡ h - 1 → (page : ℕ) (c : Access) →
+      Ok (page, c) ≡ walk_along os (Space n l b) (path l index) → walk_along os (Space o h a) (path h index) ≡ Ok (page, union a c.0)
+  at_found n l b is level page c from = at_tree n l b is level ∙ ap (restricted a) (sym from)
+
+  pub at_fault : (n l : ℕ) (b : Access) → s ≡ Space n l b → l ≡ h - 1 → (why : MemoryFault) →
+      Err why ≡ walk_along os (Space n l b) (path l index) → walk_along os (Space o h a) (path h index) ≡ Err why
+  at_fault n l b is level why from = at_tree n l b is level ∙ ap (restricted a) (sym from)
 
   pub at_other_tree : (n l : ℕ) (b : Access) → s ≡ Space n l b → h - 1 ≢ l → walk_along os (Space o h a) (path h index) ≡ Err Malformed
   at_other_tree n l b is differ =

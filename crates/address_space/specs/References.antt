@@ -15,16 +15,16 @@ IsLoaded os p address (Ok word) =
 IsLoaded os p address (Err why) = reached os p address ≡ Err why
 
 -- a store puts a word into a page, which half of the log holds with the numbers written before, or says why it can't
-abbrev pub IsStored : ℕ → ℕ → ℕ → ℕ → List Object → List Bool → List Object → List Bool → Result (Unit {0}) MemoryFault → Type 0
-IsStored log p address word before touched after touched_after (Ok done) =
+abbrev pub IsStored : ℕ → List Object → List Bool → ℕ → ℕ → ℕ → List Object → List Bool → Result (Unit {0}) MemoryFault → Type 0
+IsStored log before touched p address word after touched_after (Ok done) =
     (page : ℕ) × (writable (reached before p address) ≡ Ok page) × (after ≡ with_word before page (address % 512) word)
     × (touched_after ≡ touching touched (page ∷ [])) × (touched_count touched_after ≤ log)
-IsStored log p address word before touched after touched_after (Err why) =
+IsStored log before touched p address word after touched_after (Err why) =
     (writable (reached before p address) ≡ Err why) × (after ≡ before) × (touched_after ≡ touched)
 
 -- a store for which the log has no room
-abbrev pub OverfillsStore : ℕ → ℕ → ℕ → List Object → List Bool → Type 0
-OverfillsStore log p address os touched =
+abbrev pub OverfillsStore : ℕ → List Object → List Bool → ℕ → ℕ → Type 0
+OverfillsStore log os touched p address =
     (page : ℕ) × (writable (reached os p address) ≡ Ok page) × (log < touched_count (touching touched (page ∷ [])))
 
 -- no object and no number written is another

@@ -10,7 +10,7 @@ ghost use Rattle.address_space.specs.Reaches.{Looks};
 use capability::{Capability, PrepareFault, PresentFrames, objects, roots};
 use std::alloc::Global;
 
-// Fetches one object.
+/// Fetches one object.
 pub fn look<F: PresentFrames>(
     alloc: Global,
     frames: &mut F,
@@ -24,7 +24,7 @@ pub fn look<F: PresentFrames>(
     objects::fetch(frames, alloc, &[number])
 }
 
-// The address space of a process: void where it is stale.
+/// The address space of a process: void where it is stale.
 #[tactic(auto, using(crate::proofs::Known::process_known))]
 pub fn space_of<F: PresentFrames>(
     alloc: Global,

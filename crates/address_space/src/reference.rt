@@ -56,14 +56,14 @@ pub fn store<F: PresentFrames>(
 ) -> Result<Result<(), MemoryFault>, PrepareFault>
     requires sound { (age : ℕ) × IsSoundFrames (F.parts frames.old).geometry age (frames_of (F.parts frames.old)) }
     requires process { IsTrue (is_running_process (objects_of (frames_of (F.parts frames.old))) process) }
-    ensures stored { IfOk result (λ stored. IsStored (F.parts frames.old).geometry.log process address word
-        (objects_of (frames_of (F.parts frames.old))) (F.parts frames.old).touched
+    ensures stored { IfOk result (λ stored. IsStored (F.parts frames.old).geometry.log
+        (objects_of (frames_of (F.parts frames.old))) (F.parts frames.old).touched process address word
         (objects_of (frames_of (F.parts frames.new))) (F.parts frames.new).touched stored) }
     ensures sound { (age : ℕ)
         → IsSoundFrames (F.parts frames.old).geometry age (frames_of (F.parts frames.old))
         → IsSoundFrames (F.parts frames.old).geometry age (frames_of (F.parts frames.new)) }
     ensures full { IsErrOf result PrepareFault.LogFull
-        → OverfillsStore (F.parts frames.old).geometry.log process address (objects_of (frames_of (F.parts frames.old))) (F.parts frames.old).touched }
+        → OverfillsStore (F.parts frames.old).geometry.log (objects_of (frames_of (F.parts frames.old))) (F.parts frames.old).touched process address }
     ensures unchanged { OnErr result (IsUnchanged (F.parts frames.old) (F.parts frames.new)) }
     ensures cause { IsErrOf result PrepareFault.Failed ↔ ((F.parts frames.old).failures < (F.parts frames.new).failures) }
     ensures later { (F.parts frames.old).failures ≤ (F.parts frames.new).failures }
@@ -72,7 +72,13 @@ pub fn store<F: PresentFrames>(
 {
     match reach(alloc, frames, process, address, true)? {
         Ok(found) => {
-            put(alloc, frames, found.page, (address % WORDS as u64) as usize, word)?;
+            put(
+                alloc,
+                frames,
+                found.page,
+                (address % WORDS as u64) as usize,
+                word,
+            )?;
             Ok(Ok(()))
         }
         Err(fault) => Ok(Err(fault)),

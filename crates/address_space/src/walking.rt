@@ -126,7 +126,7 @@ fn find<F: PresentFrames>(
 }
 
 // The page with an index in a tree.
-#[tactic(auto, using(crate::proofs::Paths::at_hole, crate::proofs::Paths::at_page, crate::proofs::Paths::at_early_page, crate::proofs::Paths::at_tree, crate::proofs::Paths::at_other_tree, crate::proofs::Paths::at_other))]
+#[tactic(auto, using(crate::proofs::Paths::at_hole, crate::proofs::Paths::at_page, crate::proofs::Paths::at_other))]
 fn descend<F: PresentFrames>(
     alloc: Global,
     frames: &mut F,

@@ -1,11 +1,9 @@
-use Rattle.std.proofs.Common.{rules, ◌≡◌, ◌≢◌, ℕ, ◌-◌, ◌^◌, ◌/◌, ◌%◌, Result, Ok, Err, sym, ap, ◌∙◌, arith}
-use Rattle.model.specs.declared.access.Access.{Access}
-use Rattle.model.specs.declared.answer.MemoryFault.{MemoryFault}
+use Rattle.std.proofs.Common.{rules, ◌≡◌, Ok, Err, sym, arith}
 use Rattle.model.specs.declared.capability.Capability.TheVariants.{Space}
 use Rattle.model.specs.Frame.{objects_of}
 use Rattle.model.specs.Walk.{path, walk_along}
 use Rattle.capability.specs.Parts.{frames_of}
-use Rattle.address_space.proofs.Paths.{at_early_page, at_other_tree, at_tree}
+use Rattle.address_space.proofs.Paths.{at_early_page, at_fault, at_found, at_other_tree}
 use Rattle.address_space.proofs.walking.+descend.Goals as goal
 
 pub returns-then-tree-ne1-clause-reached : goal.returns-then-tree-ne1-clause-reached
@@ -23,16 +21,18 @@ returns-then-tree-height-clause-reached g t c =
 pub returns-in-Ok-clause-reached : goal.returns-in-Ok-clause-reached
 returns-in-Ok-clause-reached g t c =
     let os = objects_of (frames_of (g.F.PresentFrames.parts c.args.frames.now)) in
-    let rest : Result (ℕ × Access) MemoryFault = Ok (c.in-Ok.found.page, c.in-Ok.found.access) in
-    let from : rest ≡ walk_along os (Space c.in-Space.object c.in-Space.height c.in-Space.access) (path c.in-Space.height c.args.index) = search rules in
-    ap (λ r. Ok (r.page, r.access)) c.through-in-Ok.ensures
-    ∙ sym (at_tree os c.args.tree.node c.args.tree.height c.args.index c.args.tree.access c.in_ok-next_slot.field-0 c.requires.held.0.0
-    c.in_ok-next_slot.ensures.slot c.in-Space.object c.in-Space.height c.in-Space.access c.in-Space.is (omega (arith, c.if-tree-height.false)) rest from)
+    let from : Ok (c.in-Ok.found.page, c.in-Ok.found.access)
+    ≡ walk_along os (Space c.in-Space.object c.in-Space.height c.in-Space.access) (path c.in-Space.height c.args.index) = search rules in
+    rw c.through-in-Ok.ensures
+    (sym (at_found os c.args.tree.node c.args.tree.height c.args.index c.args.tree.access c.in_ok-next_slot.field-0 c.requires.held.0.0
+    c.in_ok-next_slot.ensures.slot c.in-Space.object c.in-Space.height c.in-Space.access c.in-Space.is (omega (arith, c.if-tree-height.false))
+    c.in-Ok.found.page c.in-Ok.found.access from))
 
 pub returns-in-Err-clause-reached : goal.returns-in-Err-clause-reached
 returns-in-Err-clause-reached g t c =
     let os = objects_of (frames_of (g.F.PresentFrames.parts c.args.frames.now)) in
-    let rest : Result (ℕ × Access) MemoryFault = Err c.in-Err.fault in
-    let from : rest ≡ walk_along os (Space c.in-Space.object c.in-Space.height c.in-Space.access) (path c.in-Space.height c.args.index) = search rules in
-    sym (at_tree os c.args.tree.node c.args.tree.height c.args.index c.args.tree.access c.in_ok-next_slot.field-0 c.requires.held.0.0
-    c.in_ok-next_slot.ensures.slot c.in-Space.object c.in-Space.height c.in-Space.access c.in-Space.is (omega (arith, c.if-tree-height.false)) rest from)
+    let from : Err c.in-Err.fault
+    ≡ walk_along os (Space c.in-Space.object c.in-Space.height c.in-Space.access) (path c.in-Space.height c.args.index) = search rules in
+    sym (at_fault os c.args.tree.node c.args.tree.height c.args.index c.args.tree.access c.in_ok-next_slot.field-0 c.requires.held.0.0
+    c.in_ok-next_slot.ensures.slot c.in-Space.object c.in-Space.height c.in-Space.access c.in-Space.is (omega (arith, c.if-tree-height.false))
+    c.in-Err.fault from)
