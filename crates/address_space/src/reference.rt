@@ -1,5 +1,5 @@
 // The references of processes to memory: loads and stores.
-ghost use Rattle.std.specs.Prelude.{◌≡◌, ◌↔◌, ℕ, ◌<◌, ◌≤◌, IfOk, OnErr, OnOk, IsErrOf, IsTrue, [], ◌∷◌};
+ghost use Rattle.std.specs.Prelude.{◌≡◌, ◌↔◌, ℕ, ◌%◌, ◌<◌, ◌≤◌, IfOk, OnErr, OnOk, IsErrOf, IsTrue, [], ◌∷◌};
 ghost use Rattle.model.specs.Frame.{objects_of};
 ghost use Rattle.model.specs.Keepable.{IsSoundFrames};
 ghost use Rattle.model.specs.Machine.{touched_count, touching};
@@ -35,7 +35,7 @@ pub fn load<F: PresentFrames>(
     match reach(alloc, frames, process, address, false)? {
         Ok(found) => {
             look(alloc, frames, found.page)?;
-            Ok(Ok(objects::word(frames, found.page, (address % WORDS as u64) as usize)))
+            Ok(Ok(objects::word(frames, found.page, word_index(address))))
         }
         Err(fault) => Ok(Err(fault)),
     }
@@ -72,13 +72,7 @@ pub fn store<F: PresentFrames>(
 {
     match reach(alloc, frames, process, address, true)? {
         Ok(found) => {
-            put(
-                alloc,
-                frames,
-                found.page,
-                (address % WORDS as u64) as usize,
-                word,
-            )?;
+            put(alloc, frames, found.page, word_index(address), word)?;
             Ok(Ok(()))
         }
         Err(fault) => Ok(Err(fault)),
@@ -132,4 +126,11 @@ fn put<F: PresentFrames>(
     frames.prepare(alloc, &[page], &[page])?;
     objects::set_word(frames, page, index, word);
     Ok(())
+}
+
+// The index that a word has in its page.
+fn word_index(address: u64) -> usize
+    ensures { result ≡ address % 512 }
+{
+    (address % WORDS as u64) as usize
 }
