@@ -3,10 +3,11 @@ use Rattle.std.specs.Prelude.{◌≡◌, ℕ, ◌%◌, ◌<◌, ◌≤◌, Bool,
 use Rattle.model.specs.declared.access.Access.{Access}
 use Rattle.model.specs.declared.answer.MemoryFault.{MemoryFault}
 use Rattle.model.specs.declared.object.Object.{Object}
+use Rattle.model.specs.Keepable.{IsSoundFrames}
 use Rattle.model.specs.Machine.{touching, touched_count}
 use Rattle.model.specs.Step.{reached, writable}
 use Rattle.model.specs.World.{word_at, with_word}
-use Rattle.capability.specs.Parts.{Parts}
+use Rattle.capability.specs.Parts.{Parts, frames_of}
 
 -- a load gives a word, or says why there is none
 abbrev pub IsLoaded : List Object → ℕ → ℕ → Result ℕ MemoryFault → Type 0
@@ -32,3 +33,7 @@ pub record IsUnchanged (old new : Parts) : Type 0 where
   pub headers : new.headers ≡ old.headers
   pub contents : new.contents ≡ old.contents
   pub touched : new.touched ≡ old.touched
+
+-- frames that are sound at an age are still sound then
+abbrev pub KeepsSound : Parts → Parts → Type 0
+KeepsSound old new = (age : ℕ) → IsSoundFrames old.geometry age (frames_of old) → IsSoundFrames old.geometry age (frames_of new)

@@ -1,11 +1,8 @@
 // What is fetched before anything is read.
 ghost use Rattle.std.specs.Prelude.{◌≡◌, ℕ, ◌<◌, length, IfOk, OnOk, IsTrue};
-ghost use Rattle.model.specs.Frame.{objects_of};
-ghost use Rattle.model.specs.Keepable.{IsSoundFrames};
 ghost use Rattle.model.specs.Sound.{MayBeHeld};
 ghost use Rattle.model.specs.World.{is_process, root_at};
-ghost use Rattle.capability.specs.Parts.{frames_of};
-ghost use Rattle.address_space.specs.Reaches.{Looks};
+ghost use Rattle.address_space.specs.Reaches.{AreSound, Looks, objects_in};
 
 use capability::{Capability, PrepareFault, PresentFrames, objects, roots};
 use std::alloc::Global;
@@ -17,7 +14,7 @@ pub fn look<F: PresentFrames>(
     number: u64,
 ) -> Result<(), PrepareFault>
     requires known { number < length (F.parts frames.old).headers }
-    requires sound { (age : ℕ) × IsSoundFrames (F.parts frames.old).geometry age (frames_of (F.parts frames.old)) }
+    requires sound { AreSound (F.parts frames.old) }
     ensures fetched { OnOk result (F.IsFetched frames.new number) }
     ensures looks { Looks F.parts F.LeadsTo frames.old frames.new result }
 {
@@ -31,10 +28,11 @@ pub fn space_of<F: PresentFrames>(
     frames: &mut F,
     process: u64,
 ) -> Result<Capability, PrepareFault>
-    requires sound { (age : ℕ) × IsSoundFrames (F.parts frames.old).geometry age (frames_of (F.parts frames.old)) }
-    requires process { IsTrue (is_process (objects_of (frames_of (F.parts frames.old))) process) }
-    ensures held { IfOk result (MayBeHeld (objects_of (frames_of (F.parts frames.old)))) }
-    ensures space { IfOk result (λ space. space ≡ (root_at (objects_of (frames_of (F.parts frames.old))) process).space) }
+    requires sound { AreSound (F.parts frames.old) }
+    requires process { IsTrue (is_process (objects_in (F.parts frames.old)) process) }
+    ensures held { IfOk result (MayBeHeld (objects_in (F.parts frames.old))) }
+    ensures space { IfOk result (λ space.
+        space ≡ (root_at (objects_in (F.parts frames.old)) process).space) }
     ensures looks { Looks F.parts F.LeadsTo frames.old frames.new result }
 {
     look(alloc, frames, process)?;

@@ -1,14 +1,11 @@
 // The references of processes to memory: loads and stores.
 ghost use Rattle.std.specs.Prelude.{◌≡◌, ◌↔◌, ℕ, ◌%◌, ◌<◌, ◌≤◌, IfOk, OnErr, OnOk, IsErrOf, IsTrue, [], ◌∷◌};
-ghost use Rattle.model.specs.Frame.{objects_of};
-ghost use Rattle.model.specs.Keepable.{IsSoundFrames};
 ghost use Rattle.model.specs.Machine.{touched_count, touching};
 ghost use Rattle.model.specs.Object.{is_page};
 ghost use Rattle.model.specs.Step.{reached};
 ghost use Rattle.model.specs.World.{content_at, is_running_process, with_word};
-ghost use Rattle.capability.specs.Parts.{frames_of};
-ghost use Rattle.address_space.specs.Reaches.{Looks, allowed, told};
-ghost use Rattle.address_space.specs.References.{IsLoaded, IsStored, IsUnchanged, OverfillsStore};
+ghost use Rattle.address_space.specs.Reaches.{AreSound, Looks, ReachesPage, allowed, objects_in, told};
+ghost use Rattle.address_space.specs.References.{IsLoaded, IsStored, IsUnchanged, KeepsSound, OverfillsStore};
 
 use crate::looking::{look, space_of};
 use crate::walking::{Reached, walk};
@@ -27,9 +24,10 @@ pub fn load<F: PresentFrames>(
     process: u64,
     address: u64,
 ) -> Result<Result<u64, MemoryFault>, PrepareFault>
-    requires sound { (age : ℕ) × IsSoundFrames (F.parts frames.old).geometry age (frames_of (F.parts frames.old)) }
-    requires process { IsTrue (is_running_process (objects_of (frames_of (F.parts frames.old))) process) }
-    ensures loaded { IfOk result (λ loaded. IsLoaded (objects_of (frames_of (F.parts frames.old))) process address loaded) }
+    requires sound { AreSound (F.parts frames.old) }
+    requires process { IsTrue (is_running_process (objects_in (F.parts frames.old)) process) }
+    ensures loaded { IfOk result (λ loaded.
+        IsLoaded (objects_in (F.parts frames.old)) process address loaded) }
     ensures looks { Looks F.parts F.LeadsTo frames.old frames.new result }
 {
     match reach(alloc, frames, process, address, false)? {
@@ -54,18 +52,18 @@ pub fn store<F: PresentFrames>(
     address: u64,
     word: u64,
 ) -> Result<Result<(), MemoryFault>, PrepareFault>
-    requires sound { (age : ℕ) × IsSoundFrames (F.parts frames.old).geometry age (frames_of (F.parts frames.old)) }
-    requires process { IsTrue (is_running_process (objects_of (frames_of (F.parts frames.old))) process) }
+    requires sound { AreSound (F.parts frames.old) }
+    requires process { IsTrue (is_running_process (objects_in (F.parts frames.old)) process) }
     ensures stored { IfOk result (λ stored. IsStored (F.parts frames.old).geometry.log
-        (objects_of (frames_of (F.parts frames.old))) (F.parts frames.old).touched process address word
-        (objects_of (frames_of (F.parts frames.new))) (F.parts frames.new).touched stored) }
-    ensures sound { (age : ℕ)
-        → IsSoundFrames (F.parts frames.old).geometry age (frames_of (F.parts frames.old))
-        → IsSoundFrames (F.parts frames.old).geometry age (frames_of (F.parts frames.new)) }
+        (objects_in (F.parts frames.old)) (F.parts frames.old).touched process address word
+        (objects_in (F.parts frames.new)) (F.parts frames.new).touched stored) }
+    ensures sound { KeepsSound (F.parts frames.old) (F.parts frames.new) }
     ensures full { IsErrOf result PrepareFault.LogFull
-        → OverfillsStore (F.parts frames.old).geometry.log (objects_of (frames_of (F.parts frames.old))) (F.parts frames.old).touched process address }
+        → OverfillsStore (F.parts frames.old).geometry.log (objects_in (F.parts frames.old))
+        (F.parts frames.old).touched process address }
     ensures unchanged { OnErr result (IsUnchanged (F.parts frames.old) (F.parts frames.new)) }
-    ensures cause { IsErrOf result PrepareFault.Failed ↔ ((F.parts frames.old).failures < (F.parts frames.new).failures) }
+    ensures cause { IsErrOf result PrepareFault.Failed
+        ↔ ((F.parts frames.old).failures < (F.parts frames.new).failures) }
     ensures later { (F.parts frames.old).failures ≤ (F.parts frames.new).failures }
     ensures geometry { (F.parts frames.new).geometry ≡ (F.parts frames.old).geometry }
     ensures leads { F.LeadsTo frames.old frames.new }
@@ -87,10 +85,12 @@ fn reach<F: PresentFrames>(
     address: u64,
     for_write: bool,
 ) -> Result<Result<Reached, MemoryFault>, PrepareFault>
-    requires sound { (age : ℕ) × IsSoundFrames (F.parts frames.old).geometry age (frames_of (F.parts frames.old)) }
-    requires process { IsTrue (is_running_process (objects_of (frames_of (F.parts frames.old))) process) }
-    ensures reached { IfOk result (λ found. told found ≡ allowed for_write (reached (objects_of (frames_of (F.parts frames.old))) process address)) }
-    ensures page { IfOk result (λ found. IfOk found (λ r. IsTrue (is_page (content_at (objects_of (frames_of (F.parts frames.old))) r.page)))) }
+    requires sound { AreSound (F.parts frames.old) }
+    requires process { IsTrue (is_running_process (objects_in (F.parts frames.old)) process) }
+    ensures reached { IfOk result (λ found.
+        told found ≡ allowed for_write
+        (reached (objects_in (F.parts frames.old)) process address)) }
+    ensures page { IfOk result (ReachesPage (objects_in (F.parts frames.old))) }
     ensures looks { Looks F.parts F.LeadsTo frames.old frames.new result }
 {
     let space = space_of(alloc, frames, process)?;
@@ -106,19 +106,22 @@ fn put<F: PresentFrames>(
     index: usize,
     word: u64,
 ) -> Result<(), PrepareFault>
-    requires sound { (age : ℕ) × IsSoundFrames (F.parts frames.old).geometry age (frames_of (F.parts frames.old)) }
-    requires page { IsTrue (is_page (content_at (objects_of (frames_of (F.parts frames.old))) page)) }
+    requires sound { AreSound (F.parts frames.old) }
+    requires page { IsTrue (is_page (content_at (objects_in (F.parts frames.old)) page)) }
     requires within { index < 512 }
-    ensures objects { OnOk result (objects_of (frames_of (F.parts frames.new)) ≡ with_word (objects_of (frames_of (F.parts frames.old))) page index word) }
-    ensures touched { OnOk result ((F.parts frames.new).touched ≡ touching (F.parts frames.old).touched (page ∷ [])) }
-    ensures within { touched_count (F.parts frames.new).touched ≤ (F.parts frames.old).geometry.log }
-    ensures sound { (age : ℕ)
-        → IsSoundFrames (F.parts frames.old).geometry age (frames_of (F.parts frames.old))
-        → IsSoundFrames (F.parts frames.old).geometry age (frames_of (F.parts frames.new)) }
+    ensures objects { OnOk result (objects_in (F.parts frames.new)
+        ≡ with_word (objects_in (F.parts frames.old)) page index word) }
+    ensures touched { OnOk result ((F.parts frames.new).touched
+        ≡ touching (F.parts frames.old).touched (page ∷ [])) }
+    ensures within { touched_count (F.parts frames.new).touched
+        ≤ (F.parts frames.old).geometry.log }
+    ensures sound { KeepsSound (F.parts frames.old) (F.parts frames.new) }
     ensures full { IsErrOf result PrepareFault.LogFull
-        → (F.parts frames.old).geometry.log < touched_count (touching (F.parts frames.old).touched (page ∷ [])) }
+        → (F.parts frames.old).geometry.log
+        < touched_count (touching (F.parts frames.old).touched (page ∷ [])) }
     ensures unchanged { OnErr result (IsUnchanged (F.parts frames.old) (F.parts frames.new)) }
-    ensures cause { IsErrOf result PrepareFault.Failed ↔ ((F.parts frames.old).failures < (F.parts frames.new).failures) }
+    ensures cause { IsErrOf result PrepareFault.Failed
+        ↔ ((F.parts frames.old).failures < (F.parts frames.new).failures) }
     ensures later { (F.parts frames.old).failures ≤ (F.parts frames.new).failures }
     ensures geometry { (F.parts frames.new).geometry ≡ (F.parts frames.old).geometry }
     ensures leads { F.LeadsTo frames.old frames.new }

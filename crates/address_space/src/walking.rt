@@ -1,14 +1,10 @@
 // The walk through an address space.
 ghost use Rattle.std.specs.Prelude.{◌≡◌, ℕ, ◌+◌, ◌-◌, ◌/◌, ◌%◌, ◌^◌, ◌<◌, ◌≤◌, IfOk, IsTrue};
 ghost use Rattle.model.specs.Capability.{union};
-ghost use Rattle.model.specs.Frame.{objects_of};
-ghost use Rattle.model.specs.Keepable.{IsSoundFrames};
-ghost use Rattle.model.specs.Object.{is_page};
 ghost use Rattle.model.specs.Sound.{MayBeHeld};
 ghost use Rattle.model.specs.Walk.{path, walk as walked, walk_along};
-ghost use Rattle.model.specs.World.{content_at, slot_at};
-ghost use Rattle.capability.specs.Parts.{frames_of};
-ghost use Rattle.address_space.specs.Reaches.{Looks, allowed, told};
+ghost use Rattle.model.specs.World.{slot_at};
+ghost use Rattle.address_space.specs.Reaches.{AreSound, Looks, ReachesPage, allowed, objects_in, told};
 
 use crate::looking::look;
 use bitflags::Flags;
@@ -68,11 +64,11 @@ pub fn walk<F: PresentFrames>(
     address: u64,
     for_write: bool,
 ) -> Result<Result<Reached, MemoryFault>, PrepareFault>
-    requires sound { (age : ℕ) × IsSoundFrames (F.parts frames.old).geometry age (frames_of (F.parts frames.old)) }
-    requires held { MayBeHeld (objects_of (frames_of (F.parts frames.old))) capability }
-    ensures reached { IfOk result (λ reached. told reached
-        ≡ allowed for_write (walked (objects_of (frames_of (F.parts frames.old))) capability (address / 512))) }
-    ensures page { IfOk result (λ reached. IfOk reached (λ r. IsTrue (is_page (content_at (objects_of (frames_of (F.parts frames.old))) r.page)))) }
+    requires sound { AreSound (F.parts frames.old) }
+    requires held { MayBeHeld (objects_in (F.parts frames.old)) capability }
+    ensures reached { IfOk result (λ reached. told reached ≡ allowed for_write
+        (walked (objects_in (F.parts frames.old)) capability (address / 512))) }
+    ensures page { IfOk result (ReachesPage (objects_in (F.parts frames.old))) }
     ensures looks { Looks F.parts F.LeadsTo frames.old frames.new result }
 {
     match find(alloc, frames, capability, address / WORDS as u64)? {
@@ -89,10 +85,11 @@ fn find<F: PresentFrames>(
     capability: Capability,
     index: u64,
 ) -> Result<Result<Reached, MemoryFault>, PrepareFault>
-    requires sound { (age : ℕ) × IsSoundFrames (F.parts frames.old).geometry age (frames_of (F.parts frames.old)) }
-    requires held { MayBeHeld (objects_of (frames_of (F.parts frames.old))) capability }
-    ensures reached { IfOk result (λ reached. told reached ≡ walked (objects_of (frames_of (F.parts frames.old))) capability index) }
-    ensures page { IfOk result (λ reached. IfOk reached (λ r. IsTrue (is_page (content_at (objects_of (frames_of (F.parts frames.old))) r.page)))) }
+    requires sound { AreSound (F.parts frames.old) }
+    requires held { MayBeHeld (objects_in (F.parts frames.old)) capability }
+    ensures reached { IfOk result (λ reached.
+        told reached ≡ walked (objects_in (F.parts frames.old)) capability index) }
+    ensures page { IfOk result (ReachesPage (objects_in (F.parts frames.old))) }
     ensures looks { Looks F.parts F.LeadsTo frames.old frames.new result }
 {
     match capability {
@@ -133,11 +130,13 @@ fn descend<F: PresentFrames>(
     tree: Tree,
     index: u64,
 ) -> Result<Result<Reached, MemoryFault>, PrepareFault>
-    requires sound { (age : ℕ) × IsSoundFrames (F.parts frames.old).geometry age (frames_of (F.parts frames.old)) }
-    requires held { MayBeHeld (objects_of (frames_of (F.parts frames.old))) (Capability.Space tree.node tree.height tree.access) }
+    requires sound { AreSound (F.parts frames.old) }
+    requires held { MayBeHeld (objects_in (F.parts frames.old))
+        (Capability.Space tree.node tree.height tree.access) }
     ensures reached { IfOk result (λ reached. told reached
-        ≡ walk_along (objects_of (frames_of (F.parts frames.old))) (Capability.Space tree.node tree.height tree.access) (path tree.height index)) }
-    ensures page { IfOk result (λ reached. IfOk reached (λ r. IsTrue (is_page (content_at (objects_of (frames_of (F.parts frames.old))) r.page)))) }
+        ≡ walk_along (objects_in (F.parts frames.old))
+        (Capability.Space tree.node tree.height tree.access) (path tree.height index)) }
+    ensures page { IfOk result (ReachesPage (objects_in (F.parts frames.old))) }
     ensures looks { Looks F.parts F.LeadsTo frames.old frames.new result }
 {
     match next_slot(alloc, frames, tree, index)? {
@@ -181,11 +180,13 @@ fn next_slot<F: PresentFrames>(
     tree: Tree,
     index: u64,
 ) -> Result<Capability, PrepareFault>
-    requires sound { (age : ℕ) × IsSoundFrames (F.parts frames.old).geometry age (frames_of (F.parts frames.old)) }
-    requires held { MayBeHeld (objects_of (frames_of (F.parts frames.old))) (Capability.Space tree.node tree.height tree.access) }
+    requires sound { AreSound (F.parts frames.old) }
+    requires held { MayBeHeld (objects_in (F.parts frames.old))
+        (Capability.Space tree.node tree.height tree.access) }
     ensures slot { IfOk result (λ slot.
-        slot ≡ slot_at (objects_of (frames_of (F.parts frames.old))) tree.node (index / 32 ^ (tree.height - 1) % 32)) }
-    ensures held { IfOk result (MayBeHeld (objects_of (frames_of (F.parts frames.old)))) }
+        slot ≡ slot_at (objects_in (F.parts frames.old)) tree.node
+        (index / 32 ^ (tree.height - 1) % 32)) }
+    ensures held { IfOk result (MayBeHeld (objects_in (F.parts frames.old))) }
     ensures looks { Looks F.parts F.LeadsTo frames.old frames.new result }
 {
     look(alloc, frames, tree.node)?;
