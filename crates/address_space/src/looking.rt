@@ -1,5 +1,5 @@
 // What is fetched before anything is read.
-ghost use Rattle.std.specs.Prelude.{◌≡◌, ℕ, ◌<◌, length, IfOk, OnOk, IsTrue};
+ghost use Rattle.std.specs.Prelude.{◌≡◌, ◌<◌, length, IfOk, OnOk, IsTrue};
 ghost use Rattle.model.specs.Sound.{MayBeHeld};
 ghost use Rattle.model.specs.World.{is_process, root_at};
 ghost use Rattle.address_space.specs.Reaches.{AreSound, Looks, objects_in};

@@ -1,5 +1,5 @@
 // The references of processes to memory: loads and stores.
-ghost use Rattle.std.specs.Prelude.{◌≡◌, ◌↔◌, ℕ, ◌%◌, ◌<◌, ◌≤◌, IfOk, OnErr, OnOk, IsErrOf, IsTrue, [], ◌∷◌};
+ghost use Rattle.std.specs.Prelude.{◌≡◌, ◌↔◌, ◌%◌, ◌<◌, ◌≤◌, IfOk, OnErr, OnOk, IsErrOf, IsTrue, [], ◌∷◌};
 ghost use Rattle.model.specs.Machine.{touched_count, touching};
 ghost use Rattle.model.specs.Object.{is_page};
 ghost use Rattle.model.specs.Step.{reached};
@@ -42,9 +42,10 @@ pub fn load<F: PresentFrames>(
 /// Writes a word at an address in the address space of a running process, or tells the fault of the
 /// first place where the way to it stops, as `walk` does for a store, and writes nothing.
 ///
-/// The page alone is written. An error changes nothing: `NoMemory` where memory ran out, `LogFull`
-/// exactly where the numbers written since the last checkpoint with the page would be more than
-/// half of the log holds, and `Failed` exactly where the device failed.
+/// The page alone is written, and announced only once it is reached, so a fault comes before want
+/// of room in the log. An error changes nothing: `NoMemory` where memory ran out, `LogFull` where
+/// the numbers written since the last checkpoint with the page would be more than half of the log
+/// holds, and `Failed` exactly where the device failed.
 pub fn store<F: PresentFrames>(
     alloc: Global,
     frames: &mut F,

@@ -1,5 +1,5 @@
 // The walk through an address space.
-ghost use Rattle.std.specs.Prelude.{◌≡◌, ℕ, ◌+◌, ◌-◌, ◌/◌, ◌%◌, ◌^◌, ◌<◌, ◌≤◌, IfOk, IsTrue};
+ghost use Rattle.std.specs.Prelude.{◌≡◌, ◌-◌, ◌/◌, ◌%◌, ◌^◌, ◌<◌, ◌≤◌, IfOk};
 ghost use Rattle.model.specs.Capability.{union};
 ghost use Rattle.model.specs.Sound.{MayBeHeld};
 ghost use Rattle.model.specs.Walk.{path, walk as walked, walk_along};
@@ -49,10 +49,10 @@ struct Tree {
 /// greatest digit first. What is read-only or weak on the way is so for all below it.
 ///
 /// The fault is that of the first place where the way stops: `NoSpace` where the capability is
-/// void, `Beyond` where the space has no page of that index, `Hole` at a void slot, and `Malformed`
-/// at a slot with anything else than the next level: a page at height 1, above it a tree that is
-/// one less high. A stale capability is void, so on the way it is a hole. A store to a page that is
-/// reached with any restriction is `ReadOnly`.
+/// void, `Malformed` where it is no address space, `Beyond` where the space has no page of that
+/// index, `Hole` at a void slot, and `Malformed` at a slot with anything else than the next level: a
+/// page at height 1, above it a tree that is one less high. A stale capability is void, so on the
+/// way it is a hole. A store to a page that is reached with any restriction is `ReadOnly`.
 ///
 /// At most four nodes are fetched, one after the other, and the page isn't. No object is another
 /// than before. An error is `NoMemory` where memory ran out, or `Failed` exactly where the device
