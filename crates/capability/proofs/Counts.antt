@@ -1,5 +1,5 @@
 -- What frames stand for once counts have risen: the capabilities that they were compared with are void.
-use Rattle.std.proofs.Common.{◌≡◌, ℕ, zero, suc, ◌+◌, ◌^◌, ◌<◌, ◌≤◌, ◌==◌, inl, inr, nat_lt, if◌then◌else◌, Bool, true, false, List, [], ◌∷◌, map, length, get_or, slice_index_or, slice_set, refl, sym, ap, ◌∙◌, subst, arith, zero-add}
+use Rattle.std.proofs.Common.{◌≡◌, ℕ, ◌+◌, ◌^◌, ◌<◌, ◌≤◌, ◌==◌, inl, inr, nat_lt, if◌then◌else◌, Bool, true, false, List, [], ◌∷◌, map, length, slice_index_or, slice_set, refl, sym, ap, ◌∙◌, subst, arith, zero-add}
 use Rattle.std.specs.List.{All, enumerate_from}
 use Rattle.std.proofs.lemmas.Bool.{cases_eq, eq-eqb, ne_eqb}
 use Rattle.std.proofs.lemmas.Bool.Decides.{nat_tests}
@@ -8,7 +8,6 @@ use Rattle.std.proofs.lemmas.List.FromFn.{get_or-enumerate_from, length-enumerat
 use Rattle.model.specs.declared.capability.Cap.{Cap}
 use Rattle.model.specs.declared.capability.Capability.{Capability}
 use Rattle.model.specs.declared.capability.Capability.TheVariants.{Void, Number, Page, Node, Space, Process, Start, Resume, Bank, Discrim}
-use Rattle.model.specs.declared.frame.Frame.{Frame}
 use Rattle.model.specs.declared.frame.ObjectHeader.{ObjectHeader}
 use Rattle.model.specs.declared.geometry.Geometry.{Geometry}
 use Rattle.model.specs.declared.object.Content.{Content}
@@ -20,8 +19,8 @@ use Rattle.model.specs.Object.{free, map_content}
 use Rattle.model.specs.Revoke.{consume, is_member, names_member, rescind, resumes, void_where, without}
 use Rattle.model.specs.World.{object_at}
 use Rattle.capability.specs.Parts.{AreGivenUp, Parts, frames_of, with_header}
-use Rattle.capability.proofs.Edits.{content_agree, content_kept, current_from, current_held, field_same}
-use Rattle.capability.proofs.Frames.{length_objects, object_in, objects_by, pair_at, shown_at}
+use Rattle.capability.proofs.Edits.{content_agree, current_from, current_held, field_same}
+use Rattle.capability.proofs.Frames.{length_objects, object_in, objects_by}
 use Rattle.capability.proofs.Keeping.{frame_later, keepable_at, keepable_count, keepable_from}
 
 -- one more where it is raised

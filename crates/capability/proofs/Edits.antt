@@ -1,5 +1,5 @@
 -- What frames stand for once the header or the content at one number is another.
-use Rattle.std.proofs.Common.{rules, ◌≡◌, ℕ, suc, ◌<◌, ◌≤◌, true, inl, inr, nat_lt, if◌then◌else◌, List, [], ◌∷◌, map, replicate, length, slice_index_or, slice_set, refl, sym, ap, ◌∙◌, subst, arith}
+use Rattle.std.proofs.Common.{rules, ◌≡◌, ℕ, suc, ◌<◌, true, inl, inr, nat_lt, if◌then◌else◌, List, [], ◌∷◌, map, length, slice_index_or, slice_set, refl, sym, ap, ◌∙◌, subst, arith}
 use Rattle.std.specs.List.{All}
 use Rattle.std.proofs.Math.ListN.{get_or-map}
 use Rattle.std.proofs.Math.Seq.{map-set_same}
@@ -15,17 +15,16 @@ use Rattle.model.specs.declared.frame.ObjectHeader.{ObjectHeader}
 use Rattle.model.specs.declared.object.Content.{Content}
 use Rattle.model.specs.declared.object.Content.TheVariants as content
 use Rattle.model.specs.declared.object.Object.{Object}
-use Rattle.model.specs.declared.object.Root.{Root}
 use Rattle.model.specs.declared.object.State.TheVariants.{Running}
-use Rattle.model.specs.Frame.{blank_frame, blank_header, conveyed, current_count, frame_at, frames_in, header_at, headers, held_at, object_of, objects_of, void_held, owned_by, claimed}
+use Rattle.model.specs.Frame.{blank_header, conveyed, current_count, frames_in, header_at, headers, held_at, object_of, objects_of, void_held, owned_by, claimed}
 use Rattle.model.specs.Keepable.{AreCurrent, IsCurrent, caps_in}
-use Rattle.model.specs.Object.{all_slots, free, is_root, map_content, role_of, root_in, slots_in, with_slot_in, with_word_in, zero_words}
-use Rattle.model.specs.World.{content_at, is_process, object_at, owner_at, with_content, with_root, with_slot, with_word}
+use Rattle.model.specs.Object.{all_slots, is_root, map_content, role_of, root_in, with_slot_in, with_word_in}
+use Rattle.model.specs.World.{content_at, is_process, with_content, with_root, with_slot, with_word}
 use Rattle.capability.specs.declared.present.Fresh.{Fresh}
 use Rattle.capability.specs.declared.present.Fresh.TheVariants as fresh
 use Rattle.capability.specs.Objects.{with_message, with_message_in}
 use Rattle.capability.specs.Parts.{Parts, frames_of, fresh_content, with_both, with_header, with_held}
-use Rattle.capability.proofs.Frames.{at_set, content_there, frame_in, frame_past, headers_in, no_root_there, object_in, owner_in, set_in}
+use Rattle.capability.proofs.Frames.{at_set, content_there, frame_in, frame_past, headers_in, owner_in, set_in}
 
 -- functions that agree on what a content holds make the same of it
 pub map_agree : {A B : Type 0} (f g : A → B) (xs : List A) → All (λ x. f x ≡ g x) xs → map f xs ≡ map g xs

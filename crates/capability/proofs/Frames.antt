@@ -1,6 +1,5 @@
 -- Frames are headers with contents beside them: what stands at a number.
 use Rattle.std.proofs.Common.{◌≡◌, ℕ, zero, suc, ◌<◌, ◌≤◌, inl, inr, true, false, List, [], ◌∷◌, map, length, slice_get, slice_index, slice_index_or, slice_set, Some, refl, sym, ap, ◌∙◌, subst, arith, ⊎_elim}
-use Rattle.std.specs.List.{All}
 use Rattle.std.proofs.Math.ListN.{get_or-map}
 use Rattle.std.proofs.lemmas.Bool.{cases_eq, cases_lt}
 use Rattle.std.proofs.lemmas.List.{ext_get_or, get_or_past, get_or-set_same, get_or-set_other, set_past, length-map}
@@ -90,10 +89,11 @@ objects_by hs cs os count each =
     ext_get_or free (objects_of (frames_in hs cs)) os (length_objects hs cs ∙ sym count)
     (λ i inside. let known : i < length hs = subst (λ k. i < k) (length_objects hs cs) inside in object_in hs cs i known ∙ each i known)
 
--- past the last header all is free and of no owner
+-- past the last header stands what is free
 pub object_past : (hs : List ObjectHeader) (cs : List (Content Cap)) (n : ℕ) → length hs ≤ n → object_at (objects_of (frames_in hs cs)) n ≡ free
 object_past hs cs n past = get_or_past (objects_of (frames_in hs cs)) n free (rw length_objects past)
 
+-- and so is each number from there on
 pub free_past : (p : Parts) (n : ℕ) → length p.headers ≤ n → is_free (content_at (objects_of (frames_of p)) n) ≡ true
 free_past p n past = ap (λ (o : Object). is_free o.content) (object_past p.headers p.contents n past)
 

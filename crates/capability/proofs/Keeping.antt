@@ -1,9 +1,8 @@
 -- Frames that can be kept stay so through each change.
-use Rattle.std.proofs.Common.{rules, ◌≡◌, ℕ, ◌+◌, ◌*◌, ◌^◌, ◌<◌, ◌≤◌, inl, inr, true, List, length, replicate, slice_index_or, slice_set, refl, sym, ap, ◌∙◌, subst, arith}
+use Rattle.std.proofs.Common.{rules, ◌≡◌, ℕ, ◌+◌, ◌^◌, ◌<◌, ◌≤◌, inl, inr, List, length, slice_index_or, slice_set, refl, sym, ap, ◌∙◌, subst, arith}
 use Rattle.std.specs.Prelude.{IsTrue}
-use Rattle.std.specs.List.{All}
 use Rattle.std.proofs.lemmas.Bool.{cases_lt}
-use Rattle.std.proofs.lemmas.List.{length-set}
+use Rattle.std.proofs.lemmas.List.{get_or_past, length-set}
 use Rattle.std.proofs.lemmas.List.Elements.{All-replicate, All-set, All-weaker}
 use Rattle.model.specs.declared.capability.Cap.{Cap}
 use Rattle.model.specs.declared.capability.Capability.{Capability}
@@ -14,15 +13,15 @@ use Rattle.model.specs.declared.geometry.Geometry.{Geometry}
 use Rattle.model.specs.declared.object.Content.{Content}
 use Rattle.model.specs.declared.object.Content.TheVariants as content
 use Rattle.model.specs.declared.object.Role.TheVariants as role
-use Rattle.model.specs.Frame.{blank_frame, called, claimed, current_count, frame_at, frames_in, header_at, held_at, owned_by, void_held}
-use Rattle.model.specs.Keepable.{AreKeepable, AreKeptSlots, AreKeptWords, Follows, IsCount, IsKept, IsKeepable, IsKeptCap, MayBeKept}
+use Rattle.model.specs.Frame.{blank_frame, blank_header, called, claimed, current_count, frame_at, header_at, held_at, owned_by, void_held}
+use Rattle.model.specs.Keepable.{AreKeepable, AreKeptSlots, AreKeptWords, Follows, IsCount, IsKeepable, IsKeptCap, MayBeKept}
 use Rattle.model.specs.Object.{all_slots, is_annex, role_of, with_slot_in, with_word_in, zero_words}
 use Rattle.model.specs.Sound.{IsOfKind, object_count}
 use Rattle.capability.specs.declared.present.Fresh.{Fresh}
 use Rattle.capability.specs.declared.present.Fresh.TheVariants as fresh
 use Rattle.capability.specs.Objects.{with_message_in}
-use Rattle.capability.specs.Parts.{FreshFits, IsFreshAt, Parts, frames_of, fresh_content, with_both, with_header, with_held}
-use Rattle.capability.proofs.Edits.{content_kept, header_kept}
+use Rattle.capability.specs.Parts.{FreshFits, HaveTheirRoles, IsFreshAt, Parts, frames_of, fresh_content, with_both, with_header, with_held}
+use Rattle.capability.proofs.Edits.{header_kept}
 use Rattle.capability.proofs.Frames.{at_set, frame_in, length_in, pair_at, set_in}
 
 -- what can be kept at an age can be at a later one
@@ -91,6 +90,13 @@ keepable_from g age p count each = record {
       let known : n < length p.headers = subst (λ m. n < m) (sym count) inside in
       subst (λ (f : Frame). IsKeepable g age n f) (sym (frame_in p.headers p.contents n known)) (each n known);
 }
+
+-- frames that can be kept have their roles
+pub keepable_roles : (g : Geometry) (age : ℕ) (fs : List Frame) → AreKeepable g age fs → HaveTheirRoles fs
+keepable_roles g age fs k n = elim (cases_lt n (object_count g)) [
+  | inl known ↦ (k.each n known).kept.role
+  | inr past ↦ subst (λ (f : Frame). f.header.role ≡ role_of f.content) (sym (get_or_past fs n blank_frame (omega (arith, k.count)))) refl
+]
 
 -- one object is another that can be kept
 module _ (g : Geometry) (age later : ℕ) (le : age ≤ later) (p q : Parts) (n : ℕ) (h : ObjectHeader) (c : Content Cap) (inside : n < length p.contents) where
@@ -187,12 +193,24 @@ module _ (g : Geometry) (age : ℕ) (p q : Parts) (n : ℕ) (known : n < length 
       one_keepable g age age (omega arith) p q n (header_at p.headers n) c inside (is ∙ header_kept p n c)
       (with_message_keeps g age n (header_at p.headers n) (held_at p.contents n) words key fit fits (keepable_at g age p n known k)) k
 
+-- one header is another, beside what its object holds
+module _ (g : Geometry) (age later : ℕ) (le : age ≤ later) (p q : Parts) (n : ℕ) (h : ObjectHeader) where
+  header_keepable : q ≡ with_header p n h → IsKeepable g later n (record { header = h; content = held_at p.contents n }) →
+      AreKeepable g age (frames_of p) → AreKeepable g later (frames_of q)
+  header_keepable is new k =
+      subst (λ (r : Parts). AreKeepable g later (frames_of r)) (sym is)
+      (keepable_from g later (with_header p n h) (length-set p.headers n h ∙ keepable_count g age p k)
+      (λ m within.
+      let known : m < length p.headers = omega (arith, length-set p.headers n h) in
+      at_set (λ (i : ℕ) (o : ObjectHeader). IsKeepable g later i (record { header = o; content = held_at p.contents i })) p.headers n m h blank_header new
+      (frame_later g age later m (pair_at p.headers p.contents m) le (keepable_at g age p m known k))))
+
+module _ (g : Geometry) (age : ℕ) (p q : Parts) (n : ℕ) (known : n < length p.headers) where
   pub owner_stays_keepable : (bank : ℕ) → bank < 2 ^ 64 → ((header_at p.headers n).role ≡ role.Free → bank ≡ 0) →
       q ≡ with_header p n (owned_by bank (header_at p.headers n)) → AreKeepable g age (frames_of p) → AreKeepable g age (frames_of q)
   owner_stays_keepable bank fits unowned is k =
-      let h = owned_by bank (header_at p.headers n) in
       let old = keepable_at g age p n known k in
-      one_keepable g age age (omega arith) p q n h (held_at p.contents n) inside (is ∙ content_kept p n h)
+      header_keepable g age age (omega arith) p q n (owned_by bank (header_at p.headers n)) is
       (record {
         kind = old.kind;
         kept = record {
@@ -209,16 +227,15 @@ module _ (g : Geometry) (age : ℕ) (p q : Parts) (n : ℕ) (known : n < length 
   pub call_stays_keepable : age + 1 < 2 ^ 64 → q ≡ with_header p n (called (header_at p.headers n)) →
       AreKeepable g age (frames_of p) → AreKeepable g (age + 1) (frames_of q)
   call_stays_keepable few is k =
-      let h = called (header_at p.headers n) in
-      let old = frame_later g age (age + 1) n (pair_at p.headers p.contents n) (omega arith) (keepable_at g age p n known k) in
-      let counted = (keepable_at g age p n known k).kept.calls in
-      one_keepable g age (age + 1) (omega arith) p q n h (held_at p.contents n) inside (is ∙ content_kept p n h)
+      let before = keepable_at g age p n known k in
+      let old = frame_later g age (age + 1) n (pair_at p.headers p.contents n) (omega arith) before in
+      header_keepable g age (age + 1) (omega arith) p q n (called (header_at p.headers n)) is
       (record {
         kind = old.kind;
         kept = record {
           role = old.kept.role;
           allocations = old.kept.allocations;
-          calls = (omega (arith, counted.0), omega (arith, counted.0));
+          calls = (omega (arith, before.kept.calls.0), omega (arith, before.kept.calls.0));
           owner = old.kept.owner;
           unowned = old.kept.unowned;
           content = old.kept.content;

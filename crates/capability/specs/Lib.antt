@@ -3,9 +3,12 @@ pub use Rattle.model.specs.Object
 pub use Rattle.model.specs.Frame
 pub use Rattle.model.specs.Keepable
 pub use Rattle.model.specs.World
+pub use Rattle.model.specs.Sound
 pub use Rattle.model.specs.Bank
 pub use Rattle.model.specs.Revoke
 pub use Rattle.model.specs.Machine
 pub use Rattle.model.specs.Worlds
 pub mod Parts
 pub mod Objects
+pub mod Plain
+pub mod Laws

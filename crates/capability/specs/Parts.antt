@@ -1,5 +1,5 @@
 -- The parts of a store of present frames, and what goes on beside a change.
-use Rattle.std.specs.Prelude.{◌≡◌, ℕ, ◌+◌, ◌<◌, ◌≤◌, ◌^◌, Bool, false, List, length, replicate, slice_index_or, slice_set, take, if◌then◌else◌}
+use Rattle.std.specs.Prelude.{◌≡◌, ℕ, ◌<◌, ◌≤◌, ◌^◌, Bool, false, List, length, replicate, slice_index_or, slice_set, take, if◌then◌else◌}
 use Rattle.model.specs.declared.capability.Cap.{Cap}
 use Rattle.model.specs.declared.frame.Frame.{Frame}
 use Rattle.model.specs.declared.frame.ObjectHeader.{ObjectHeader}
@@ -7,8 +7,8 @@ use Rattle.model.specs.declared.geometry.Geometry.{Geometry}
 use Rattle.model.specs.declared.object.Content.{Content}
 use Rattle.model.specs.declared.object.Content.TheVariants as content
 use Rattle.model.specs.declared.object.State.TheVariants.{Available}
-use Rattle.model.specs.Frame.{frames_in, header_at, held_at, given_up}
-use Rattle.model.specs.Object.{all_slots, zero_words}
+use Rattle.model.specs.Frame.{frame_at, frames_in, header_at, held_at, given_up}
+use Rattle.model.specs.Object.{all_slots, role_of, zero_words}
 use Rattle.model.specs.Revoke.{is_member}
 use Rattle.capability.specs.declared.present.Fresh.{Fresh}
 use Rattle.capability.specs.declared.present.Fresh.TheVariants as fresh
@@ -57,6 +57,10 @@ abbrev pub FreshFits : Fresh → Type 0
 FreshFits (fresh.Root annex) = annex < 2 ^ 64
 FreshFits (fresh.Bank limit) = limit < 2 ^ 64
 FreshFits _ = Unit {0}
+
+-- each header has the role of what its object holds
+abbrev pub HaveTheirRoles : List Frame → Type 0
+HaveTheirRoles fs = (n : ℕ) → (frame_at fs n).header.role ≡ role_of (frame_at fs n).content
 
 -- A change of present frames: what lies beside them goes on as it was, and what was fetched and announced
 -- stays so. The parameters are the ghost members of a store of present frames.

@@ -1,12 +1,16 @@
 //! Capabilities and the objects that they name, as frames with counts.
 #![tactic(auto)]
 
+pub mod laws;
 pub mod objects;
+pub mod plain;
 pub mod present;
 pub mod roots;
 pub mod table;
 pub mod view;
 
 pub use model::{Access, Cap, Capability};
+pub use plain::Plain;
+pub use plain::usage::usage;
 pub use present::{Fresh, MAX_FETCHED, PrepareFault, PresentFrames};
 pub use table::ObjectTable;

@@ -28,8 +28,10 @@ pub fn word<F: PresentFrames>(store: &F, number: u64, index: usize) -> u64
 /// The state of a process whose root is fetched, or nothing where it is no root.
 pub fn state<F: PresentFrames>(store: &F, process: u64) -> Option<State>
     requires fetched { F.IsFetched store.now process }
-    ensures process { IsSome result ↔ IsTrue (is_process (objects_of (frames_of (F.parts store.now))) process) }
-    ensures state { IfSome result (λ s. s ≡ (root_at (objects_of (frames_of (F.parts store.now))) process).state) }
+    ensures process { IsSome result
+        ↔ IsTrue (is_process (objects_of (frames_of (F.parts store.now))) process) }
+    ensures state { IfSome result
+        (λ s. s ≡ (root_at (objects_of (frames_of (F.parts store.now))) process).state) }
 {
     match store.frame(process) {
         Content::Root(root) => Some(root.state),
@@ -61,14 +63,16 @@ pub fn slot<F: PresentFrames>(store: &F, number: u64, slot: usize) -> Capability
     }
 }
 
-/// Puts a word into a page that is fetched and announced.
+/// Puts a word into a page that is fetched and announced. What is no page stays.
 pub fn set_word<F: PresentFrames>(store: &mut F, number: u64, index: usize, word: u64)
     requires fetched { F.IsFetched store.old number }
     requires announced { F.IsAnnounced store.old number }
     requires within { index < 512 }
     ensures objects { objects_of (frames_of (F.parts store.new))
         ≡ with_word (objects_of (frames_of (F.parts store.old))) number index word }
-    ensures current { AreCurrent (frames_of (F.parts store.old)) → AreCurrent (frames_of (F.parts store.new)) }
+    ensures headers { (F.parts store.new).headers ≡ (F.parts store.old).headers }
+    ensures current { AreCurrent (frames_of (F.parts store.old))
+        → AreCurrent (frames_of (F.parts store.new)) }
     ensures keepable { (age : ℕ)
         → AreKeepable (F.parts store.old).geometry age (frames_of (F.parts store.old))
         → AreKeepable (F.parts store.old).geometry age (frames_of (F.parts store.new)) }
@@ -78,18 +82,21 @@ pub fn set_word<F: PresentFrames>(store: &mut F, number: u64, index: usize, word
 }
 
 /// Puts a capability, live, into a slot of a node or a register of an annex that is fetched and
-/// announced.
+/// announced. What is neither stays.
 pub fn set_slot<F: PresentFrames>(store: &mut F, number: u64, slot: usize, capability: Capability)
     requires fetched { F.IsFetched store.old number }
     requires announced { F.IsAnnounced store.old number }
     requires within { slot < 32 }
     ensures objects { objects_of (frames_of (F.parts store.new))
         ≡ with_slot (objects_of (frames_of (F.parts store.old))) number slot capability }
-    ensures current { AreCurrent (frames_of (F.parts store.old)) → AreCurrent (frames_of (F.parts store.new)) }
+    ensures headers { (F.parts store.new).headers ≡ (F.parts store.old).headers }
+    ensures current { AreCurrent (frames_of (F.parts store.old))
+        → AreCurrent (frames_of (F.parts store.new)) }
     ensures keepable { (age : ℕ)
         → IsKeptCap (F.parts store.old).geometry age
         (record { what = capability; count = current_count (F.parts store.old).headers capability })
-        → (IsTrue (is_annex (held_at (F.parts store.old).contents number)) → slot ≡ 0 → capability ≡ Capability.Void)
+        → (IsTrue (is_annex (held_at (F.parts store.old).contents number)) → slot ≡ 0
+        → capability ≡ Capability.Void)
         → AreKeepable (F.parts store.old).geometry age (frames_of (F.parts store.old))
         → AreKeepable (F.parts store.old).geometry age (frames_of (F.parts store.new)) }
     ensures aside { KeepsAside F.parts F.IsFetched F.IsAnnounced F.LeadsTo store.old store.new }
@@ -108,7 +115,9 @@ pub fn set_message<F: PresentFrames>(store: &mut F, process: u64, words: [u64; 4
     requires process { IsTrue (is_process (objects_of (frames_of (F.parts store.old))) process) }
     ensures objects { objects_of (frames_of (F.parts store.new))
         ≡ with_message (objects_of (frames_of (F.parts store.old))) process words key }
-    ensures current { AreCurrent (frames_of (F.parts store.old)) → AreCurrent (frames_of (F.parts store.new)) }
+    ensures headers { (F.parts store.new).headers ≡ (F.parts store.old).headers }
+    ensures current { AreCurrent (frames_of (F.parts store.old))
+        → AreCurrent (frames_of (F.parts store.new)) }
     ensures keepable { (age : ℕ)
         → AreKeepable (F.parts store.old).geometry age (frames_of (F.parts store.old))
         → AreKeepable (F.parts store.old).geometry age (frames_of (F.parts store.new)) }
@@ -117,7 +126,8 @@ pub fn set_message<F: PresentFrames>(store: &mut F, process: u64, words: [u64; 4
     put_message(store.frame_mut(process), words, key);
 }
 
-/// Makes a free number, fetched and announced, an object of a bank, blank as it is made.
+/// Makes a free number, fetched and announced, a new object of a bank (EROS: a space bank's
+/// allocation). It holds nothing yet, and its number's counts stay.
 pub fn claim<F: PresentFrames>(store: &mut F, number: u64, fresh: Fresh, owner: u64)
     requires fetched { F.IsFetched store.old number }
     requires announced { F.IsAnnounced store.old number }
@@ -126,7 +136,8 @@ pub fn claim<F: PresentFrames>(store: &mut F, number: u64, fresh: Fresh, owner: 
     ensures objects { objects_of (frames_of (F.parts store.new))
         ≡ slice_set (objects_of (frames_of (F.parts store.old))) number
         (record { owner = owner; content = fresh_content Capability.Void fresh }) }
-    ensures current { AreCurrent (frames_of (F.parts store.old)) → AreCurrent (frames_of (F.parts store.new)) }
+    ensures current { AreCurrent (frames_of (F.parts store.old))
+        → AreCurrent (frames_of (F.parts store.new)) }
     ensures keepable { (age : ℕ) → FreshFits fresh
         → AreKeepable (F.parts store.old).geometry age (frames_of (F.parts store.old))
         → AreKeepable (F.parts store.old).geometry age (frames_of (F.parts store.new)) }
@@ -135,13 +146,14 @@ pub fn claim<F: PresentFrames>(store: &mut F, number: u64, fresh: Fresh, owner: 
     store.claim(number, fresh, owner);
 }
 
-/// Gives an object that is announced another owner.
+/// Gives an object that is announced another bank as its owner.
 pub fn set_owner<F: PresentFrames>(store: &mut F, number: u64, bank: u64)
     requires announced { F.IsAnnounced store.old number }
-    ensures objects { objects_of (frames_of (F.parts store.new))
-        ≡ slice_set (objects_of (frames_of (F.parts store.old))) number
-        (record { owner = bank; content = content_at (objects_of (frames_of (F.parts store.old))) number }) }
-    ensures current { AreCurrent (frames_of (F.parts store.old)) → AreCurrent (frames_of (F.parts store.new)) }
+    ensures objects { let objects = objects_of (frames_of (F.parts store.old)) in
+        objects_of (frames_of (F.parts store.new))
+        ≡ slice_set objects number (record { owner = bank; content = content_at objects number }) }
+    ensures current { AreCurrent (frames_of (F.parts store.old))
+        → AreCurrent (frames_of (F.parts store.new)) }
     ensures keepable { (age : ℕ)
         → ((header_at (F.parts store.old).headers number).role ≡ Role.Free → bank ≡ 0)
         → AreKeepable (F.parts store.old).geometry age (frames_of (F.parts store.old))
@@ -151,7 +163,8 @@ pub fn set_owner<F: PresentFrames>(store: &mut F, number: u64, bank: u64)
     store.set_owner(number, bank);
 }
 
-/// Voids all capabilities that resume a process, whose root is announced.
+/// Gives the right to resume a process up, whose root is announced: every capability that resumes
+/// it is void (EROS: a resume capability works at most once).
 pub fn consume<F: PresentFrames>(store: &mut F, process: u64)
     requires announced { F.IsAnnounced store.old process }
     requires calls { (header_at (F.parts store.old).headers process).calls < u64.MAX }
@@ -167,12 +180,15 @@ pub fn consume<F: PresentFrames>(store: &mut F, process: u64)
     store.consume(process);
 }
 
-/// Gives objects that are announced up: they are free, and all capabilities that name one are void.
+/// Gives objects that are announced up, no number twice: they are free, and every capability that
+/// names one is void (EROS: rescind, KeyKOS: sever).
 pub fn rescind<F: PresentFrames>(store: &mut F, numbers: &[u64])
     requires announced { All (F.IsAnnounced store.old) numbers.now }
     requires once { IsOnce numbers.now }
-    requires allocations { All (λ n. (header_at (F.parts store.old).headers n).allocations < u64.MAX) numbers.now }
-    requires calls { All (λ n. (header_at (F.parts store.old).headers n).calls < u64.MAX) numbers.now }
+    requires allocations { All
+        (λ n. (header_at (F.parts store.old).headers n).allocations < u64.MAX) numbers.now }
+    requires calls { All
+        (λ n. (header_at (F.parts store.old).headers n).calls < u64.MAX) numbers.now }
     requires current { AreCurrent (frames_of (F.parts store.old)) }
     ensures objects { objects_of (frames_of (F.parts store.new))
         ≡ rescinded numbers.now (objects_of (frames_of (F.parts store.old))) }
@@ -181,8 +197,10 @@ pub fn rescind<F: PresentFrames>(store: &mut F, numbers: &[u64])
         → AreKeepable (F.parts store.old).geometry age (frames_of (F.parts store.old))
         → AreKeepable (F.parts store.old).geometry (age + 1) (frames_of (F.parts store.new)) }
     ensures given_up { AreGivenUp numbers.now (F.parts store.old) (F.parts store.new) }
-    ensures fetched { (n : ℕ) → is_member numbers.now n ≡ false → F.IsFetched store.old n → F.IsFetched store.new n }
-    ensures announced { (n : ℕ) → is_member numbers.now n ≡ false → F.IsAnnounced store.old n → F.IsAnnounced store.new n }
+    ensures fetched { (n : ℕ) → is_member numbers.now n ≡ false
+        → F.IsFetched store.old n → F.IsFetched store.new n }
+    ensures announced { (n : ℕ) → is_member numbers.now n ≡ false
+        → F.IsAnnounced store.old n → F.IsAnnounced store.new n }
     ensures leads { F.LeadsTo store.old store.new }
 {
     for number in numbers {
@@ -190,8 +208,10 @@ pub fn rescind<F: PresentFrames>(store: &mut F, numbers: &[u64])
     }
 }
 
-/// Fetches objects, at most 8, to be read. Fails where memory runs out, or where the device fails,
-/// and no object is another than before.
+/// Fetches objects, at most 8, to be read. No object is another than before.
+///
+/// `NoMemory` where memory ran out, `Failed` exactly where the device failed, and never `LogFull`,
+/// since nothing is announced.
 pub fn fetch<F: PresentFrames>(
     store: &mut F,
     alloc: Global,
@@ -199,10 +219,12 @@ pub fn fetch<F: PresentFrames>(
 ) -> Result<(), PrepareFault>
     requires few { length numbers.now ≤ MAX_FETCHED }
     requires known { All (λ n. n < length (F.parts store.old).headers) numbers.now }
-    requires keepable { AreKeepable (F.parts store.old).geometry u64.MAX (frames_of (F.parts store.old)) }
+    requires keepable { AreKeepable (F.parts store.old).geometry u64.MAX
+        (frames_of (F.parts store.old)) }
     ensures fetched { OnOk result ((n : ℕ) → Contains numbers.now n → F.IsFetched store.new n) }
     ensures room { IsErrOf result PrepareFault.LogFull → ⊥ }
-    ensures cause { IsErrOf result PrepareFault.Failed ↔ ((F.parts store.old).failures < (F.parts store.new).failures) }
+    ensures cause { IsErrOf result PrepareFault.Failed
+        ↔ ((F.parts store.old).failures < (F.parts store.new).failures) }
     ensures later { (F.parts store.old).failures ≤ (F.parts store.new).failures }
     ensures aside { LooksUp F.parts F.LeadsTo store.old store.new }
 {

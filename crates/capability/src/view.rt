@@ -53,7 +53,8 @@ fn conveyed_content(
 /// runs out.
 pub fn object<F: PresentFrames>(alloc: Global, store: &F, number: u64) -> Result<Object, AllocError>
     requires { F.IsFetched store.now number }
-    ensures { IfOk result (λ object. object ≡ object_at (objects_of (frames_of (F.parts store.now))) number) }
+    ensures { IfOk result (λ object.
+        object ≡ object_at (objects_of (frames_of (F.parts store.now))) number) }
 {
     Ok(Object {
         owner: store.table().header(number).owner,
@@ -69,7 +70,8 @@ pub fn registers<F: PresentFrames>(
     annex: u64,
 ) -> Result<Slots<Capability>, AllocError>
     requires fetched { F.IsFetched store.now annex }
-    requires annex { IsTrue (is_annex (content_at (objects_of (frames_of (F.parts store.now))) annex)) }
+    requires annex { IsTrue
+        (is_annex (content_at (objects_of (frames_of (F.parts store.now))) annex)) }
     ensures { IfOk result (λ registers.
         registers ≡ slots_in (content_at (objects_of (frames_of (F.parts store.now))) annex)) }
 {

@@ -1,10 +1,10 @@
 -- What a torn write of a gate or a header leaves committed.
 use Rattle.std.proofs.Common.{◌≡◌, ◌<◌, ◌≤◌, ◌+◌, ◌*◌, ◌%◌, ◌^◌, ℕ, Bool, true, false, Some, List, ◌++◌, drop, refl, sym, ap, subst, ◌∙◌, inl, inr, arith}
-use Rattle.std.specs.Prelude.{codes, cond, ◌==◌}
+use Rattle.std.specs.Prelude.{codes, cond, ◌==◌, if◌then◌else◌}
 use Rattle.std.specs.Int.{w64, from_le_bytes}
 use Rattle.std.proofs.lemmas.Nat.{from_le_bytes-to_le_bytes_8}
 use Rattle.layout.specs.declared.header.CheckpointHeader.{CheckpointHeader}
-use Rattle.layout.specs.declared.gate.Gate.TheVariants.{Open}
+use Rattle.layout.specs.declared.gate.Gate.TheVariants.{Closed, Open}
 use Rattle.layout.specs.Bytes.{number, number_from, zeros}
 use Rattle.layout.specs.Gate.{is_open, gate_bytes}
 use Rattle.layout.specs.Header.{header_bytes, IsHeader}
@@ -12,8 +12,10 @@ use Rattle.layout.specs.Image.{committed_bytes, sequence_in}
 use Rattle.layout.proofs.Headers.{six}
 use Rattle.device.specs.Disk.{Image}
 use Rattle.device.specs.Calls.{Agrees, Elsewhere}
-use Rattle.device.proofs.Images.{agrees_is, elsewhere_same, elsewhere_on}
-use Rattle.ckpt_log.specs.Commit.{header_sector, gate_sector, Precedes, KeepsHeader, HasNew, IsOldOrNew}
+use Rattle.device.proofs.Images.{agrees_is, elsewhere_on}
+use Rattle.ckpt_log.specs.declared.header_slot.HeaderSlot.{HeaderSlot}
+use Rattle.ckpt_log.specs.HeaderSlot.{slot_number, header_at, gate_at}
+use Rattle.ckpt_log.specs.Commit.{header_sector, gate_sector, closed_gate, Precedes, KeepsHeader, HasNew, IsOldOrNew}
 use Rattle.ckpt_log.proofs.Winners.{CountsNoMore, belongs, opened, counts_if, keeps_at, new_at}
 
 as_le : (xs : List ℕ) → number_from xs ≡ from_le_bytes w64 xs
@@ -26,11 +28,18 @@ unfolding number
 number_back n rest fits = as_le (number n ++ rest) ∙ from_le_bytes-to_le_bytes_8 n fits
 
 -- the sequence number in the bytes of a header
-sequence_of : (h : CheckpointHeader) → h.sequence < 2 ^ 64 → sequence_in (header_bytes h) ≡ h.sequence
+pub sequence_of : (h : CheckpointHeader) → h.sequence < 2 ^ 64 → sequence_in (header_bytes h) ≡ h.sequence
 unfolding header_bytes
 sequence_of h fits =
     ap (λ (b : List ℕ). number_from (drop 8 b)) (six (codes "EROSHEAD") (number h.sequence) (number h.generation) (number h.entries) (number h.age) (zeros 472))
     ∙ number_back h.sequence (number h.generation ++ (number h.entries ++ (number h.age ++ zeros 472))) fits
+
+-- the sectors of the slot that a header belongs in
+pub header_is : (h : CheckpointHeader) (slot : HeaderSlot) {at : ℕ} → slot_number slot ≡ h.sequence % 2 → at ≡ header_at slot → at ≡ header_sector h
+header_is h slot number place = place ∙ ap (λ (n : ℕ). 1 + 2 * n) number
+
+pub gate_is : (h : CheckpointHeader) (slot : HeaderSlot) {at : ℕ} → slot_number slot ≡ h.sequence % 2 → at ≡ gate_at slot → at ≡ gate_sector h
+gate_is h slot number place = place ∙ ap (λ (n : ℕ). 2 + 2 * n) number
 
 -- one sector of a slot is within it
 gate_within : (r : ℕ) (old new : Image) → Elsewhere (2 + 2 * r) 1 old new → Elsewhere (1 + 2 * r) 2 old new
@@ -75,6 +84,17 @@ pub closing_keeps : (h : CheckpointHeader) (old new : Image) → Precedes old h 
     → (is_open (old (gate_sector h)) ≡ false → Agrees new old) → KeepsHeader h old new
 closing_keeps h old new next e same = closing_by (is_open (old (gate_sector h))) h old new refl next e same
 
+shut_by : (b : Bool) (bytes : List ℕ) → is_open bytes ≡ b → is_open (if b then gate_bytes Closed else bytes) ≡ false
+shut_by true bytes is = refl
+shut_by false bytes is = is
+
+-- a gate that is closed is closed
+pub shut : (bytes : List ℕ) → is_open (closed_gate bytes) ≡ false
+shut bytes = shut_by (is_open bytes) bytes refl
+
+pub shut_gate : (old new : Image) (h : CheckpointHeader) → new (gate_sector h) ≡ closed_gate (old (gate_sector h)) → is_open (new (gate_sector h)) ≡ false
+shut_gate old new h closed = ap is_open closed ∙ shut (old (gate_sector h))
+
 -- a header is written under a closed gate
 pub header_keeps : (h : CheckpointHeader) (old new : Image) → Precedes old h → is_open (old (gate_sector h)) ≡ false → Elsewhere (header_sector h) 1 old new → KeepsHeader h old new
 header_keeps h old new next closed e =
@@ -88,6 +108,7 @@ open_new h old new fits next written e gate =
     let within : Elsewhere (header_sector h) 2 old new = gate_within (h.sequence % 2) old new e in
     let header : new (header_sector h) ≡ old (header_sector h) = e.before (header_sector h) (omega arith) in
     record {
+      written = header ∙ written;
       elsewhere = within;
       committed = new_at (h.sequence % 2) h.sequence old new next.0 (header_bytes h) refl next.1 next.2 within (header ∙ written) (sequence_of h fits) gate;
     }
@@ -128,23 +149,3 @@ keeps_on h old mid new first second = record {
   elsewhere = elsewhere_on (header_sector h) 2 old mid new first.elsewhere second.elsewhere;
   committed = second.committed ∙ first.committed;
 }
-
-pub new_on : (h : CheckpointHeader) (old mid new : Image) → KeepsHeader h old mid → HasNew h mid new → HasNew h old new
-new_on h old mid new first second = record {
-  elsewhere = elsewhere_on (header_sector h) 2 old mid new first.elsewhere second.elsewhere;
-  committed = second.committed;
-}
-
-pub keeps_same : (h : CheckpointHeader) (old new : Image) → Agrees new old → KeepsHeader h old new
-keeps_same h old new same = record {
-  elsewhere = elsewhere_same (header_sector h) 2 old new same;
-  committed = ap committed_bytes (agrees_is new old same);
-}
-
-pub old_or_new_on : (h : CheckpointHeader) (old mid new : Image) → KeepsHeader h old mid → IsOldOrNew h mid new → IsOldOrNew h old new
-old_or_new_on h old mid new first (inl kept) = inl (keeps_on h old mid new first kept)
-old_or_new_on h old mid new first (inr next) = inr (new_on h old mid new first next)
-
-pub elsewhere_of : (h : CheckpointHeader) (old new : Image) → IsOldOrNew h old new → Elsewhere (header_sector h) 2 old new
-elsewhere_of h old new (inl kept) = kept.elsewhere
-elsewhere_of h old new (inr next) = next.elsewhere

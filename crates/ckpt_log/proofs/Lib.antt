@@ -1,8 +1,11 @@
+pub mod BesideHeaders
 pub mod Commits
-pub mod Places
-pub mod ReadBack
-pub mod Refusals
+mod Denoted
+mod Directories
+mod Places
+mod ReadBack
+mod Refusals
 pub mod Runs
-pub mod SavedStates
-pub mod Sectors
-pub mod Winners
+mod SavedStates
+mod Sectors
+mod Winners

@@ -8,19 +8,19 @@ use Rattle.layout.specs.Directory.{directory_bytes, IsDirectory}
 use Rattle.device.specs.Disk.{Image}
 use Rattle.layout.specs.Image.{HasHeader, HasDirectory, directory_in}
 use Rattle.layout.specs.Superblock.{Plan}
-use Rattle.ckpt_log.specs.declared.fault.LogFault.{LogFault}
-use Rattle.ckpt_log.specs.declared.fault.LogFault.TheVariants as fault
-use Rattle.ckpt_log.specs.Log.{HasCommitted, IsRefusal}
+use Rattle.frame_io.specs.declared.fault.ReadFault.{ReadFault}
+use Rattle.frame_io.specs.declared.fault.ReadFault.TheVariants as fault
+use Rattle.ckpt_log.specs.Log.{HasCommitted, HasNoCommitted}
 use Rattle.ckpt_log.specs.Slot.{IsBadDirectory}
 
-pub bad_directory : (p : Plan) (image seen : Image) (h : CheckpointHeader) (n : ℕ) (e : LogFault) → seen ≡ image → n ≡ h.entries → HasHeader image p h → IsBadDirectory p (directory_in seen p h.generation n) e → IsRefusal p image e
-bad_directory p image seen h n fault.Failed same all has bad = tt
-bad_directory p image seen h n (fault.Bad reason) same all has bad = subst (λ (r : BadImage). IsRefusal p image (fault.Bad r)) (sym bad.0)
+pub bad_directory : (image seen : Image) (p : Plan) (h : CheckpointHeader) (n : ℕ) (e : ReadFault) → seen ≡ image → n ≡ h.entries → HasHeader image p h → IsBadDirectory p.geometry (directory_in seen p h.generation n) e → HasNoCommitted image p e
+bad_directory image seen p h n fault.Failed same all has bad = tt
+bad_directory image seen p h n (fault.Bad reason) same all has bad = subst (λ (r : BadImage). HasNoCommitted image p (fault.Bad r)) (sym bad.0)
     (h, has, λ es is count spelt. bad.1 es is (ap (λ (i : Image). directory_in i p h.generation n) same ∙ ap (directory_in image p h.generation) all ∙ spelt))
 
-pub has_committed : (p : Plan) (image seen : Image) (h : CheckpointHeader) (n : ℕ) (named rest : List Entry) → seen ≡ image → n ≡ h.entries → length named ≡ n → HasHeader image p h → IsDirectory p.geometry named
+pub has_committed : (image seen : Image) (p : Plan) (h : CheckpointHeader) (n : ℕ) (named rest : List Entry) → seen ≡ image → n ≡ h.entries → length named ≡ n → HasHeader image p h → IsDirectory p.geometry named
     → directory_in seen p h.generation n ≡ directory_bytes named → HasCommitted image p h (named ++ rest)
-has_committed p image seen h n named rest same all size has is spelt =
+has_committed image seen p h n named rest same all size has is spelt =
     let front : take h.entries (named ++ rest) ≡ named = ap (λ (m : ℕ). take m (named ++ rest)) (sym all ∙ sym size) ∙ take-append_seam named rest in (
       has,
       subst (λ (es : List Entry). HasDirectory image p h es) (sym front) (record {

@@ -9,8 +9,8 @@ use Rattle.device.specs.Calls.{Agrees, Elsewhere, Narrows, Only}
 use Rattle.device.specs.Moments.{Elapses, LeavesOnly, Peeks}
 use Rattle.device.proofs.Images.{agrees_is, elsewhere_same}
 use Rattle.device.proofs.Moments.{OnlyNow, CountsNow, in_one_call, leaves_weaker, leaves_on, ends}
-use Rattle.ckpt_log.specs.Commit.{header_sector, gate_sector, CommitsOne, Precedes, KeepsHeader, HasNew, IsOldOrNew, IsOld}
-use Rattle.ckpt_log.proofs.Commits.{closing_keeps, header_keeps, opening, precedes_on, keeps_on, old_or_new_on}
+use Rattle.ckpt_log.specs.Commit.{header_sector, gate_sector, IsInOrder, IsInOrderAfter, CommitsOne, Precedes, KeepsHeader, HasNew, IsOldOrNew, IsOld}
+use Rattle.ckpt_log.proofs.Commits.{closing_keeps, header_keeps, opening, precedes_on, keeps_on}
 
 -- what a crash leaves while a gate is closed where it is open
 abbrev pub IsClosing : ℕ → Image → Image → Type 0
@@ -37,14 +37,6 @@ pub opening_run : (h : CheckpointHeader) (at : ℕ) (image : Image) {old new : D
 opening_run h at image {old} {new} place fits next written run =
     leaves_weaker {old = old} {new = new} {P = λ c. Elsewhere at 1 image c} (λ c. IsOldOrNew h image c)
     (λ c is. opening h image c fits next written (subst (λ (i : ℕ). Elsewhere i 1 image c) place is)) run
-
--- the gate is opened, after a run that keeps the committed header
-pub both_runs : (h : CheckpointHeader) (image mid_image : Image) {old mid new : Disk} → KeepsHeader h image mid_image
-    → LeavesOnly old mid (λ c. KeepsHeader h image c) → LeavesOnly mid new (λ c. IsOldOrNew h mid_image c) → LeavesOnly old new (λ c. IsOldOrNew h image c)
-both_runs h image mid_image {old} {mid} {new} kept first second =
-    leaves_on {old = old} {mid = mid} {new = new} {P = λ c. IsOldOrNew h image c}
-    (leaves_weaker {old = old} {new = mid} {P = λ c. KeepsHeader h image c} (λ c. IsOldOrNew h image c) (λ c is. inl is) first)
-    (leaves_weaker {old = mid} {new = new} {P = λ c. IsOldOrNew h mid_image c} (λ c. IsOldOrNew h image c) (λ c is. old_or_new_on h image mid_image c kept is) second)
 
 -- ---- from a disk whose writes aren't durable
 
@@ -76,3 +68,16 @@ pub one_committed : {old new : Disk} → Only old.seen old → Peeks old new →
 one_committed {old} {new} only peeks counts_now same c left =
     let was : old.may_leave c = ends {old = old} {new = new} peeks counts_now c left in
     ap committed_bytes (agrees_is c old.seen (only c was) ∙ sym (agrees_is new.seen old.seen same))
+
+-- ---- the order of the writes of a slot
+
+pub sync_order : (h : CheckpointHeader) {old new : Disk} → OnlyNow old → Elapses old new → Narrows old new → LeavesOnly old new (λ c. IsInOrderAfter h old c)
+sync_order h {old} {new} only_now time narrows =
+    in_one_call {old = old} {new = new} (λ c. IsInOrderAfter h old c) only_now time (λ c left. (c, left, inl refl)) (λ c left. (c, narrows c left, inl refl))
+
+pub commit_order : (h : CheckpointHeader) {old mid new : Disk} → old.may_leave old.seen → Agrees mid.seen old.seen
+    → LeavesOnly old mid (λ c. IsInOrderAfter h old c) → LeavesOnly mid new (λ c. IsInOrder h mid.seen c) → LeavesOnly old new (λ c. IsInOrderAfter h old c)
+commit_order h {old} {mid} {new} left same first second =
+    leaves_on {old = old} {mid = mid} {new = new} {P = λ c. IsInOrderAfter h old c} first
+    (leaves_weaker {old = mid} {new = new} {P = λ c. IsInOrder h mid.seen c} (λ c. IsInOrderAfter h old c)
+    (λ c is. (old.seen, left, subst (λ (image : Image). IsInOrder h image c) (agrees_is mid.seen old.seen same) is)) second)

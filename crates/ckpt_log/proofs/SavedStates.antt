@@ -1,7 +1,9 @@
 -- Images that agree in the sectors that a saved state is read from.
-use Rattle.std.proofs.Common.{◌≡◌, ◌<◌, ◌+◌, ◌*◌, ◌/◌, ℕ, zero, suc, Option, Some, None, List, ◌++◌, take, refl, sym, ap, subst, ◌∙◌, arith}
+use Rattle.std.proofs.Common.{◌≡◌, ◌<◌, ◌+◌, ◌*◌, ℕ, Option, Some, None, List, take, refl, sym, ap, subst, ◌∙◌, arith}
 use Rattle.device.specs.Disk.{Image}
-use Rattle.layout.specs.Image.{sectors_from, committed_slot, option_at, IsFrameOf, frame_sector, frame_length, directory_sector, directory_length}
+use Rattle.layout.specs.Frame.{frame_length}
+use Rattle.layout.specs.Frame.{IsFrameOf}
+use Rattle.layout.specs.Image.{committed_slot, option_at, frame_sector, directory_sector, directory_length}
 use Rattle.layout.proofs.Sectors.{same_sectors}
 use Rattle.ckpt_log.specs.SavedSectors.{SameFrom, SameHeader, SameDirectory, SameFrames, SameSaved}
 use Rattle.ckpt_log.proofs.Winners.{slot_of_image}
@@ -29,21 +31,21 @@ same_header old new same = (
 )
 
 pub same_directory : SameDirectory
-same_directory p h es old new same is = record {
+same_directory old new p h es same is = record {
   count = is.count;
   fits = is.fits;
   spelt = ap (λ (b : List ℕ). take (16 * h.entries) b) (same_sectors (directory_sector p h.generation) (directory_length h.entries) old new same) ∙ is.spelt;
 }
 
 pub same_frames : SameFrames
-same_frames p h es object old new same = same_sectors (frame_sector p h.generation es object) (frame_length p object) old new same
+same_frames old new p h es object same = same_sectors (frame_sector p h.generation es object) (frame_length p.geometry object) old new same
 
 pub same_saved : SameSaved
-same_saved size s old new superblock same is = record {
+same_saved old new size s superblock same is = record {
   plan = record { least = is.plan.least; whole = is.plan.whole; fits = is.plan.fits; spelt = superblock 0 (omega arith) ∙ is.plan.spelt };
   header = record { fits = is.header.fits; spelt = (same_header old new same.headers).1 ∙ is.header.spelt };
-  directory = same_directory s.plan s.header s.directory old new same.directory is.directory;
+  directory = same_directory old new s.plan s.header s.directory same.directory is.directory;
   count = is.count;
   each = λ object lt. subst (λ (b : List ℕ). IsFrameOf s.plan.geometry s.header.age object b (frame_at s.frames object))
-      (sym (same_frames s.plan s.header s.directory object old new (same.frames object lt))) (is.each object lt);
+      (sym (same_frames old new s.plan s.header s.directory object (same.frames object lt))) (is.each object lt);
 }

@@ -1,9 +1,9 @@
 -- One sector of a device.
-use Rattle.std.proofs.Common.{◌≡◌, ◌<◌, ◌+◌, ◌*◌, ◌/◌, ◌%◌, ◌++◌, ℕ, zero, suc, List, [], ◌∷◌, Result, Ok, Err, length, take, drop, refl, sym, ap, ◌∙◌, arith, length-drop}
-use Rattle.std.proofs.lemmas.List.{take_all, take-append-drop, drop-drop}
+use Rattle.std.proofs.Common.{◌≡◌, ◌+◌, ◌*◌, ◌/◌, ◌++◌, ℕ, List, [], Result, Ok, Err, length, take, drop, refl, sym, ap, ◌∙◌, arith, append-nil}
+use Rattle.std.proofs.lemmas.List.{take_all}
 use Rattle.std.specs.Prelude.{OnOk}
 use Rattle.device.specs.Disk.{Image, Disk}
-use Rattle.device.specs.Calls.{AreSectors, sectors_of, image_of}
+use Rattle.device.specs.Calls.{Agrees, AreSectors, sectors_of}
 use Rattle.layout.specs.Image.{sectors_from}
 use Rattle.device.specs.Moments.{LeavesOnly}
 use Rattle.device.proofs.Moments.{CountsNow, ends}
@@ -27,5 +27,10 @@ pub on_ok : {T E : Type 0} (result : Result T E) {P Q : Type 0} → (P → Q) �
 on_ok (Ok value) {P} {Q} follows is = follows is
 on_ok (Err error) {P} {Q} follows is = tt
 
-pub sectors_are_of : (n : ℕ) (bytes : List ℕ) → length bytes ≡ 512 * n → sectors_of bytes ≡ n
-sectors_are_of n bytes size = omega (arith, size)
+one_from : (image : Image) (at : ℕ) → sectors_from image at 1 ≡ image at ++ []
+unfolding sectors_from
+one_from image at = refl
+
+-- the bytes of one sector, where a read leaves the image
+pub read_is : (old new : Image) (at : ℕ) (bytes : List ℕ) → Agrees new old → sectors_from new at 1 ≡ bytes → bytes ≡ old at
+read_is old new at bytes same is = sym is ∙ one_from new at ∙ append-nil (new at) ∙ same at

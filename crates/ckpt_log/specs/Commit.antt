@@ -1,21 +1,35 @@
 -- What a commit writes, and what a crash in its course leaves.
-use Rattle.std.specs.Prelude.{◌≡◌, ◌⊎◌, ℕ, ◌+◌, ◌*◌, ◌%◌, Some, List}
+use Rattle.std.specs.Prelude.{◌≡◌, ◌⊎◌, ℕ, ◌+◌, ◌*◌, ◌%◌, if◌then◌else◌, Some, List}
 use Rattle.layout.specs.declared.header.CheckpointHeader.{CheckpointHeader}
+use Rattle.layout.specs.declared.gate.Gate.TheVariants.{Closed}
+use Rattle.layout.specs.Gate.{gate_bytes, is_open}
 use Rattle.layout.specs.Header.{header_bytes}
 use Rattle.layout.specs.Image.{committed_bytes, sequence_in}
 use Rattle.device.specs.Disk.{Image, Disk}
 use Rattle.device.specs.Calls.{Elsewhere}
 
--- the sector of a header; its gate is the next one
+-- the sector of a header, in the slot of its sequence number; its gate is the next one
 abbrev pub header_sector : CheckpointHeader → ℕ
 header_sector h = 1 + 2 * (h.sequence % 2)
 
 abbrev pub gate_sector : CheckpointHeader → ℕ
 gate_sector h = 2 + 2 * (h.sequence % 2)
 
+-- a gate once it is closed: 0 and zeros, or as it was where it was closed
+abbrev pub closed_gate : List ℕ → List ℕ
+closed_gate bytes = if is_open bytes then gate_bytes Closed else bytes
+
+-- the slot of h in the course of its commit: the old header, or a gate that was closed first, or h
+abbrev pub IsInOrder : CheckpointHeader → Image → Image → Type 0
+IsInOrder h old new = (new (header_sector h) ≡ old (header_sector h)) ⊎ ((new (gate_sector h) ≡ closed_gate (old (gate_sector h))) ⊎ (new (header_sector h) ≡ header_bytes h))
+
+-- the same, after what a crash could have left before
+abbrev pub IsInOrderAfter : CheckpointHeader → Disk → Image → Type 0
+IsInOrderAfter h disk c = (d : Image) × disk.may_leave d × IsInOrder h d c
+
 -- the committed header of an image is h
-abbrev pub Commits : CheckpointHeader → Image → Type 0
-Commits h image = committed_bytes image ≡ Some (header_bytes h)
+abbrev pub Commits : Image → CheckpointHeader → Type 0
+Commits image h = committed_bytes image ≡ Some (header_bytes h)
 
 -- a crash leaves the committed header that a read gives
 abbrev pub CommitsOne : Disk → Type 0
@@ -30,10 +44,11 @@ pub record KeepsHeader (h : CheckpointHeader) (old new : Image) : Type 0 where
   pub elsewhere : Elsewhere (header_sector h) 2 old new
   pub committed : committed_bytes new ≡ committed_bytes old
 
--- nothing is touched but the slot of h, and h is the committed header
+-- nothing is touched but the slot of h, where h stands, and h is the committed header
 pub record HasNew (h : CheckpointHeader) (old new : Image) : Type 0 where
+  pub written : new (header_sector h) ≡ header_bytes h
   pub elsewhere : Elsewhere (header_sector h) 2 old new
-  pub committed : Commits h new
+  pub committed : Commits new h
 
 abbrev pub IsOldOrNew : CheckpointHeader → Image → Image → Type 0
 IsOldOrNew h old new = KeepsHeader h old new ⊎ HasNew h old new

@@ -1,4 +1,7 @@
 pub mod Commit
+pub mod CommitLaws
+pub mod HeaderLaws
+pub mod HeaderSlot
 pub mod Log
 pub mod Places
 pub mod SavedSectors

@@ -1,5 +1,5 @@
 -- Which header in the log is committed, and which objects its directory names.
-use Rattle.std.specs.Prelude.{◌≡◌, ℕ, zero, suc, Option, Some, None, List, take, ⊤}
+use Rattle.std.specs.Prelude.{◌≡◌, ℕ, Option, Some, None, List, take, ⊤}
 use Rattle.layout.specs.declared.bad_image.BadImage.{BadImage}
 use Rattle.layout.specs.declared.bad_image.BadImage.TheVariants as bad
 use Rattle.layout.specs.declared.directory.Entry.{Entry}
@@ -8,14 +8,16 @@ use Rattle.layout.specs.Header.{header_bytes, IsHeader}
 use Rattle.device.specs.Disk.{Image}
 use Rattle.layout.specs.Image.{HasHeader, HasDirectory, HasNoHeader, HasBadHeader, HasBadDirectory}
 use Rattle.layout.specs.Superblock.{Plan}
-use Rattle.ckpt_log.specs.declared.fault.LogFault.{LogFault}
-use Rattle.ckpt_log.specs.declared.fault.LogFault.TheVariants as fault
+use Rattle.ckpt_log.specs.declared.header_slot.HeaderSlot.{HeaderSlot}
+use Rattle.ckpt_log.specs.declared.header_slot.HeaderSlot.TheVariants.{First, Second}
+use Rattle.frame_io.specs.declared.fault.ReadFault.{ReadFault}
+use Rattle.frame_io.specs.declared.fault.ReadFault.TheVariants as fault
 
 -- of the bytes of two headers those in this slot
-abbrev pub chosen : Option ℕ → List ℕ → List ℕ → Option (List ℕ)
+abbrev pub chosen : Option HeaderSlot → List ℕ → List ℕ → Option (List ℕ)
 chosen None first second = None
-chosen (Some zero) first second = Some first
-chosen (Some (suc slot)) first second = Some second
+chosen (Some First) first second = Some first
+chosen (Some Second) first second = Some second
 
 -- the bytes are those of a header
 abbrev pub IsHeaderIn : ℕ → Option (List ℕ) → CheckpointHeader → Type 0
@@ -28,17 +30,17 @@ IsRefusedBy room bytes bad.BadHeader = (bytes ≡ None → ⊥) × ((h : Checkpo
 IsRefusedBy room bytes _ = ⊥
 
 -- why an image has no committed header, where the device didn't fail
-abbrev pub HasNone : Plan → Image → LogFault → Type 0
-HasNone p image fault.Failed = ⊤
-HasNone p image (fault.Bad bad.NoHeader) = HasNoHeader image
-HasNone p image (fault.Bad bad.BadHeader) = (HasNoHeader image → ⊥) × HasBadHeader p image
-HasNone p image _ = ⊥
+abbrev pub HasNone : Image → Plan → ReadFault → Type 0
+HasNone image p fault.Failed = ⊤
+HasNone image p (fault.Bad bad.NoHeader) = HasNoHeader image
+HasNone image p (fault.Bad bad.BadHeader) = (HasNoHeader image → ⊥) × HasBadHeader image p
+HasNone image p _ = ⊥
 
 -- the committed header, and its directory at the front of the entries
 abbrev pub HasCommitted : Image → Plan → CheckpointHeader → List Entry → Type 0
 HasCommitted image p h entries = HasHeader image p h × HasDirectory image p h (take h.entries entries)
 
 -- why an image has no committed header with a directory: the least reason, where the device didn't fail
-abbrev pub IsRefusal : Plan → Image → LogFault → Type 0
-IsRefusal p image (fault.Bad bad.BadDirectory) = (h : CheckpointHeader) × HasHeader image p h × HasBadDirectory p h image
-IsRefusal p image e = HasNone p image e
+abbrev pub HasNoCommitted : Image → Plan → ReadFault → Type 0
+HasNoCommitted image p (fault.Bad bad.BadDirectory) = (h : CheckpointHeader) × HasHeader image p h × HasBadDirectory image p h
+HasNoCommitted image p e = HasNone image p e

@@ -2,11 +2,16 @@
 use Rattle.std.specs.Prelude.{◌≡◌, ℕ, ◌%◌, ◌<◌, ◌≤◌}
 use Rattle.layout.specs.declared.extent.Extent.{Extent}
 use Rattle.layout.specs.Superblock.{Plan, IsPlan, IsWithin, IsApart, IsInside, half_extent}
+use Rattle.layout.specs.Frame.{frame_length}
 use Rattle.layout.specs.Image.{half_sector, slot_sector, directory_sector, directory_length}
 
 -- the sectors of a slot in the half of a generation
 abbrev pub slot_extent : Plan → ℕ → ℕ → Extent
 slot_extent p generation slot = record { sector = slot_sector p generation slot; length = 9 }
+
+-- those of the frame of an object in a slot
+abbrev pub place_extent : Plan → ℕ → ℕ → ℕ → Extent
+place_extent p generation slot object = record { sector = slot_sector p generation slot; length = frame_length p.geometry object }
 
 -- the sectors of a directory of n entries
 abbrev pub directory_extent : Plan → ℕ → ℕ → Extent
@@ -15,6 +20,9 @@ directory_extent p generation n = record { sector = directory_sector p generatio
 -- they are among those of the half
 abbrev pub SlotsAreInside : Type 0
 SlotsAreInside = (p : Plan) (generation slot : ℕ) → slot < p.geometry.log → IsInside (slot_extent p generation slot) (half_extent p.geometry (half_sector p generation))
+
+abbrev pub FramesAreInSlots : Type 0
+FramesAreInSlots = (p : Plan) (generation slot object : ℕ) → IsInside (place_extent p generation slot object) (slot_extent p generation slot)
 
 abbrev pub DirectoriesAreInside : Type 0
 DirectoriesAreInside = (p : Plan) (generation n : ℕ) → n ≤ p.geometry.log → IsInside (directory_extent p generation n) (half_extent p.geometry (half_sector p generation))

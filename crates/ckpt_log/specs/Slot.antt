@@ -1,42 +1,28 @@
 -- What the slots of the log and its directories hold.
-use Rattle.std.specs.Prelude.{◌≡◌, ℕ, ◌<◌, ◌≤◌, ◌↔◌, List, Result, IsErrOf, ⊤}
+use Rattle.std.specs.Prelude.{◌≡◌, ℕ, List, ⊤}
 use Rattle.model.specs.declared.frame.Frame.{Frame}
-use Rattle.device.specs.Disk.{Image, Disk}
-use Rattle.layout.specs.declared.bad_image.BadImage.TheVariants.{BadFrame, BadDirectory}
+use Rattle.model.specs.declared.geometry.Geometry.{Geometry}
+use Rattle.layout.specs.declared.bad_image.BadImage.TheVariants.{BadDirectory}
 use Rattle.layout.specs.declared.directory.Entry.{Entry}
 use Rattle.layout.specs.Directory.{directory_bytes, IsDirectory}
-use Rattle.layout.specs.Superblock.{Plan}
-use Rattle.layout.specs.Image.{sectors_from, slot_sector, frame_length, frame_bytes, IsFrameOf}
-use Rattle.ckpt_log.specs.declared.fault.LogFault.{LogFault}
-use Rattle.ckpt_log.specs.declared.fault.LogFault.TheVariants.{Failed, Bad}
-
--- the bytes of the frame of an object in a slot
-abbrev pub slot_bytes : Image → Plan → ℕ → ℕ → ℕ → List ℕ
-slot_bytes image p generation slot object = sectors_from image (slot_sector p generation slot) (frame_length p object)
-
--- bytes are refused where they spell no frame of the object
-abbrev pub IsBadSlot : Plan → ℕ → ℕ → List ℕ → LogFault → Type 0
-IsBadSlot p age object bytes Failed = ⊤
-IsBadSlot p age object bytes (Bad reason) = (reason ≡ BadFrame) × ((f : Frame) → IsFrameOf p.geometry age object bytes f → ⊥)
+use Rattle.layout.specs.Frame.{IsFrameOf, frame_bytes}
+use Rattle.frame_io.specs.declared.fault.ReadFault.{ReadFault}
+use Rattle.frame_io.specs.declared.fault.ReadFault.TheVariants.{Failed, Bad}
+use Rattle.frame_io.specs.Frames.{IsRefused}
 
 -- bytes are refused where they spell no directory
-abbrev pub IsBadDirectory : Plan → List ℕ → LogFault → Type 0
-IsBadDirectory p bytes Failed = ⊤
-IsBadDirectory p bytes (Bad reason) = (reason ≡ BadDirectory) × ((es : List Entry) → IsDirectory p.geometry es → bytes ≡ directory_bytes es → ⊥)
-
--- the count of failures rises exactly where the device failed, and never falls
-pub record CountsFailed {T : Type 0} (old new : Disk) (result : Result T LogFault) : Type 0 where
-  pub never_falls : old.failures ≤ new.failures
-  pub cause : IsErrOf result Failed ↔ (old.failures < new.failures)
+abbrev pub IsBadDirectory : Geometry → List ℕ → ReadFault → Type 0
+IsBadDirectory g bytes Failed = ⊤
+IsBadDirectory g bytes (Bad reason) = (reason ≡ BadDirectory) × ((es : List Entry) → IsDirectory g es → bytes ≡ directory_bytes es → ⊥)
 
 -- a frame that was written is read, and nothing else, and it isn't refused
 abbrev pub SlotsAreReadBack : Type 0
-SlotsAreReadBack = (p : Plan) (age object : ℕ) (f : Frame) → IsFrameOf p.geometry age object (frame_bytes p object f) f →
-    ((read : Frame) → IsFrameOf p.geometry age object (frame_bytes p object f) read → read ≡ f)
-    × ((e : LogFault) → IsBadSlot p age object (frame_bytes p object f) e → e ≡ Failed)
+SlotsAreReadBack = (g : Geometry) (age object : ℕ) (f : Frame) → IsFrameOf g age object (frame_bytes g object f) f →
+    ((read : Frame) → IsFrameOf g age object (frame_bytes g object f) read → read ≡ f)
+    × ((e : ReadFault) → IsRefused g age object (frame_bytes g object f) e → e ≡ Failed)
 
 -- and so is a directory
 abbrev pub DirectoriesAreReadBack : Type 0
-DirectoriesAreReadBack = (p : Plan) (es : List Entry) → IsDirectory p.geometry es →
-    ((read : List Entry) → IsDirectory p.geometry read → directory_bytes es ≡ directory_bytes read → read ≡ es)
-    × ((e : LogFault) → IsBadDirectory p (directory_bytes es) e → e ≡ Failed)
+DirectoriesAreReadBack = (g : Geometry) (es : List Entry) → IsDirectory g es →
+    ((read : List Entry) → IsDirectory g read → directory_bytes es ≡ directory_bytes read → read ≡ es)
+    × ((e : ReadFault) → IsBadDirectory g (directory_bytes es) e → e ≡ Failed)

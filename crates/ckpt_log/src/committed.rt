@@ -1,50 +1,53 @@
 // Which header is the committed one, and its directory.
-ghost use Rattle.std.specs.Prelude.{◌≡◌, ◌≤◌, ◌<◌, ◌+◌, ◌*◌, ℕ, length, IfOk, IfErr, OnOk};
-ghost use Rattle.layout.specs.Image.{does_count, committed_of, sequence_in, HasHeader};
-ghost use Rattle.device.specs.Calls.{Agrees, Counts};
-ghost use Rattle.device.specs.Moments.{Peeks};
-ghost use Rattle.ckpt_log.specs.Log.{chosen, IsHeaderIn, IsRefusedBy, HasNone, HasCommitted, IsRefusal};
-ghost use Rattle.ckpt_log.specs.Slot.{CountsFailed};
+ghost use Rattle.std.specs.Prelude.{◌≡◌, ◌≤◌, length, option_map, IfOk, IfErr, OnOk};
+ghost use Rattle.layout.specs.Image.{does_count, committed_of, HasHeader};
+ghost use Rattle.device.specs.Calls.{Counts};
+ghost use Rattle.frame_io.specs.Calls.{ReadsOnly};
+ghost use Rattle.frame_io.specs.Fault.{CountsFailed};
+ghost use Rattle.ckpt_log.specs.HeaderSlot.{slot_number, header_at, gate_at};
+ghost use Rattle.ckpt_log.specs.Log.{chosen, IsHeaderIn, IsRefusedBy, HasNone, HasCommitted, HasNoCommitted};
 
-use crate::fault::LogFault;
+use crate::header_slot::HeaderSlot;
 use crate::log::Log;
 use crate::sector::read_sector;
 use device::{Device, Failed, SECTOR_SIZE};
+use frame_io::ReadFault;
 use layout::{BadImage, CheckpointHeader, Entry, Gate, decode_gate, decode_header, sequence_in};
 
-// Reads the header of a slot, and answers whether it counts: its gate is open, and it belongs in this slot.
-fn read_header<D: Device>(device: &mut D, slot: u64, into: &mut [u8]) -> Result<bool, Failed>
-    requires slot { slot < 2 }
+// Reads the header of a slot, and answers whether it counts: its gate is open, and it belongs in
+// this slot.
+fn read_header<D: Device>(device: &mut D, slot: HeaderSlot, into: &mut [u8]) -> Result<bool, Failed>
     requires inside { 5 ≤ (D.disk device.old).sectors }
     requires one { length into.old ≡ 512 }
-    ensures counts { IfOk result (λ counts. counts ≡ does_count ((D.disk device.old).seen (1 + 2 * slot)) ((D.disk device.old).seen (2 + 2 * slot)) slot) }
-    ensures bytes { OnOk result (into.new ≡ (D.disk device.old).seen (1 + 2 * slot)) }
-    ensures size { (D.disk device.new).sectors ≡ (D.disk device.old).sectors }
-    ensures seen { Agrees (D.disk device.new).seen (D.disk device.old).seen }
-    ensures any_moment { Peeks (D.disk device.old) (D.disk device.new) }
+    ensures counts { IfOk result (λ counts. counts
+        ≡ does_count ((D.disk device.old).seen (header_at slot))
+        ((D.disk device.old).seen (gate_at slot)) (slot_number slot)) }
+    ensures bytes { OnOk result (into.new ≡ (D.disk device.old).seen (header_at slot)) }
+    ensures reads { ReadsOnly (D.disk device.old) (D.disk device.new) }
     ensures cause { Counts (D.disk device.old) (D.disk device.new) result }
 {
     let mut gate = [0; SECTOR_SIZE];
-    read_sector(device, 1 + 2 * slot, into)?;
-    read_sector(device, 2 + 2 * slot, &mut gate)?;
-    Ok(decode_gate(&gate) == Gate::Open && sequence_in(into) % 2 == slot)
+    read_sector(device, slot.header(), into)?;
+    read_sector(device, slot.gate(), &mut gate)?;
+    Ok(decode_gate(&gate) == Gate::Open && sequence_in(into) % 2 == slot.number())
 }
 
 // Of two headers that count the one with the greater sequence number is committed.
-fn committed_of(first: bool, m: u64, second: bool, n: u64) -> Option<u64>
-    ensures { result ≡ committed_of first m second n }
+fn committed_of(first: bool, m: u64, second: bool, n: u64) -> Option<HeaderSlot>
+    ensures { option_map slot_number result ≡ committed_of first m second n }
 {
     match (first, second) {
-        (true, true) => Some(if m < n { 1 } else { 0 }),
-        (true, false) => Some(0),
-        (false, true) => Some(1),
+        (true, true) if m < n => Some(HeaderSlot::Second),
+        (true, _) => Some(HeaderSlot::First),
+        (false, true) => Some(HeaderSlot::Second),
         (false, false) => None,
     }
 }
 
-// Reads the header of a slot from the bytes of both. A greater one that is malformed is not passed over.
+// Reads the header of a slot from the bytes of both. A greater one that is malformed is not passed
+// over.
 fn choose(
-    slot: Option<u64>,
+    slot: Option<HeaderSlot>,
     first: &[u8],
     second: &[u8],
     room: u64,
@@ -56,27 +59,25 @@ fn choose(
 {
     match slot {
         None => Err(BadImage::NoHeader),
-        Some(0) => decode_header(first, room),
-        Some(_) => decode_header(second, room),
+        Some(HeaderSlot::First) => decode_header(first, room),
+        Some(HeaderSlot::Second) => decode_header(second, room),
     }
 }
 
 impl Log {
     // The committed header.
-    fn find_header<D: Device>(&self, device: &mut D) -> Result<CheckpointHeader, LogFault>
+    fn find_header<D: Device>(&self, device: &mut D) -> Result<CheckpointHeader, ReadFault>
         requires inside { self.now.total ≤ (D.disk device.old).sectors }
         ensures found { IfOk result (λ h. HasHeader (D.disk device.old).seen self.now h) }
-        ensures refused { IfErr result (λ e. HasNone self.now (D.disk device.old).seen e) }
-        ensures size { (D.disk device.new).sectors ≡ (D.disk device.old).sectors }
-        ensures seen { Agrees (D.disk device.new).seen (D.disk device.old).seen }
-        ensures any_moment { Peeks (D.disk device.old) (D.disk device.new) }
+        ensures refused { IfErr result (λ e. HasNone (D.disk device.old).seen self.now e) }
+        ensures reads { ReadsOnly (D.disk device.old) (D.disk device.new) }
         ensures cause { CountsFailed (D.disk device.old) (D.disk device.new) result }
     {
         let room = self.geometry().log;
         let mut first = [0; SECTOR_SIZE];
         let mut second = [0; SECTOR_SIZE];
-        let first_counts = read_header(device, 0, &mut first)?;
-        let second_counts = read_header(device, 1, &mut second)?;
+        let first_counts = read_header(device, HeaderSlot::First, &mut first)?;
+        let second_counts = read_header(device, HeaderSlot::Second, &mut second)?;
         let slot = committed_of(
             first_counts,
             sequence_in(&first),
@@ -86,24 +87,25 @@ impl Log {
         Ok(choose(slot, &first, &second, room)?)
     }
 
-    /// The committed header, with its directory in the first of the entries. It takes no memory and writes nothing.
+    /// The committed header, with its directory in the first of the entries. It takes no memory and
+    /// writes nothing.
     ///
-    /// `Failed` is told exactly where the device failed; `BadImage::NoHeader` where no header counts,
-    /// `BadImage::BadHeader` where the committed one is malformed, though another may count too, and
-    /// `BadImage::BadDirectory` where its directory is malformed. A refusal leaves any entries.
+    /// `Failed` is told exactly where the device failed; `BadImage::NoHeader` where no header
+    /// counts, `BadImage::BadHeader` where the committed one is malformed, though another may count
+    /// too, and `BadImage::BadDirectory` where its directory is malformed. A refusal leaves any
+    /// entries.
     pub fn find_committed<D: Device>(
         &self,
         device: &mut D,
         directory: &mut [Entry],
-    ) -> Result<CheckpointHeader, LogFault>
+    ) -> Result<CheckpointHeader, ReadFault>
         requires room { self.now.geometry.log ≤ length directory.old }
         requires inside { self.now.total ≤ (D.disk device.old).sectors }
-        ensures found { IfOk result (λ h. HasCommitted (D.disk device.old).seen self.now h directory.new) }
-        ensures refused { IfErr result (λ e. IsRefusal self.now (D.disk device.old).seen e) }
+        ensures found { IfOk result (λ h.
+            HasCommitted (D.disk device.old).seen self.now h directory.new) }
+        ensures refused { IfErr result (λ e. HasNoCommitted (D.disk device.old).seen self.now e) }
         ensures length { length directory.new ≡ length directory.old }
-        ensures size { (D.disk device.new).sectors ≡ (D.disk device.old).sectors }
-        ensures seen { Agrees (D.disk device.new).seen (D.disk device.old).seen }
-        ensures any_moment { Peeks (D.disk device.old) (D.disk device.new) }
+        ensures reads { ReadsOnly (D.disk device.old) (D.disk device.new) }
         ensures cause { CountsFailed (D.disk device.old) (D.disk device.new) result }
     {
         let header = self.find_header(device)?;

@@ -1,15 +1,15 @@
 // The directories of the log.
 ghost use Rattle.std.specs.Prelude.{◌≡◌, ◌+◌, ◌*◌, ◌^◌, ◌<◌, ◌≤◌, List, length, take, IfErr, OnOk};
 ghost use Rattle.layout.specs.Directory.{directory_bytes, IsDirectory};
-ghost use Rattle.layout.specs.Image.{sectors_from, directory_sector, directory_length, directory_in};
-ghost use Rattle.device.specs.Calls.{Agrees, Elsewhere, Tears, IsTorn, Counts};
-ghost use Rattle.device.specs.Moments.{Elapses, LeavesOnly, Peeks};
-ghost use Rattle.ckpt_log.specs.Slot.{IsBadDirectory, CountsFailed};
+ghost use Rattle.layout.specs.Image.{directory_sector, directory_length, directory_in};
+ghost use Rattle.device.specs.Calls.{Counts};
+ghost use Rattle.frame_io.specs.Calls.{ReadsOnly, WritesAt};
+ghost use Rattle.frame_io.specs.Fault.{CountsFailed};
+ghost use Rattle.ckpt_log.specs.Slot.{IsBadDirectory};
 
-use crate::fault::LogFault;
 use crate::log::Log;
-use crate::sector::{read_sectors, write_sectors};
 use device::{Device, Failed, SECTOR_SIZE};
+use frame_io::{ReadFault, read_sectors, write_sectors};
 use layout::{BadImage, ENTRY_BYTES, Entry, decode_directory, encode_directory};
 use model::Geometry;
 
@@ -27,53 +27,24 @@ fn put_entries(entries: &[Entry], into: &mut [u8])
     encode_directory(entries, &mut into[..ENTRY_BYTES * entries.len()]);
 }
 
-// Writes so many sectors.
-fn write_run<D: Device>(device: &mut D, at: u64, sectors: usize, from: &[u8]) -> Result<(), Failed>
-    requires size { length from.now ≡ 512 * sectors }
-    requires inside { at + sectors ≤ (D.disk device.old).sectors }
-    ensures written { OnOk result (sectors_from (D.disk device.new).seen at sectors ≡ from.now) }
-    ensures size { (D.disk device.new).sectors ≡ (D.disk device.old).sectors }
-    ensures elsewhere { Elsewhere at sectors (D.disk device.old).seen (D.disk device.new).seen }
-    ensures crash { Tears at sectors (D.disk device.old) (D.disk device.new) }
-    ensures any_moment { LeavesOnly (D.disk device.old) (D.disk device.new) (λ c. IsTorn at sectors (D.disk device.old) c) }
-    ensures time { Elapses (D.disk device.old) (D.disk device.new) }
-    ensures cause { Counts (D.disk device.old) (D.disk device.new) result }
-{
-    write_sectors(device, at, from)
-}
-
 // Reads a directory of as many entries as `into` takes from the first of the bytes.
 fn entries_in(bytes: &[u8], geometry: Geometry, into: &mut [Entry]) -> Result<(), BadImage>
     requires room { 16 * length into.old ≤ length bytes.now }
     requires log { geometry.log ≤ 4096 }
-    ensures found { OnOk result (IsDirectory geometry into.new × (take (16 * length into.old) bytes.now ≡ directory_bytes into.new)) }
-    ensures refused { IfErr result (λ e. (e ≡ BadImage.BadDirectory) × ((es : List Entry) → IsDirectory geometry es → take (16 * length into.old) bytes.now ≡ directory_bytes es → ⊥)) }
+    ensures found { OnOk result (IsDirectory geometry into.new
+        × (take (16 * length into.old) bytes.now ≡ directory_bytes into.new)) }
+    ensures refused { IfErr result (λ e. (e ≡ BadImage.BadDirectory)
+        × ((es : List Entry) → IsDirectory geometry es
+        → take (16 * length into.old) bytes.now ≡ directory_bytes es → ⊥)) }
 {
     decode_directory(&bytes[..ENTRY_BYTES * into.len()], geometry, into)
 }
 
-// Reads so many sectors.
-fn read_run<D: Device>(
-    device: &mut D,
-    at: u64,
-    sectors: usize,
-    into: &mut [u8],
-) -> Result<(), Failed>
-    requires size { length into.old ≡ 512 * sectors }
-    requires inside { at + sectors ≤ (D.disk device.old).sectors }
-    ensures bytes { OnOk result (sectors_from (D.disk device.new).seen at sectors ≡ into.new) }
-    ensures size { (D.disk device.new).sectors ≡ (D.disk device.old).sectors }
-    ensures seen { Agrees (D.disk device.new).seen (D.disk device.old).seen }
-    ensures any_moment { Peeks (D.disk device.old) (D.disk device.new) }
-    ensures cause { Counts (D.disk device.old) (D.disk device.new) result }
-{
-    read_sectors(device, at, into)
-}
-
 impl Log {
-    /// Writes the directory of the half of a generation, and touches its sectors alone: a crash at any moment leaves
-    /// all other sectors as they could have been left before. It is refused where the device fails, and the sectors
-    /// may then hold any bytes. It takes no memory.
+    /// Writes the directory of the half of a generation, and touches its sectors alone: a crash at
+    /// any moment leaves all other sectors as they could have been left before. It is refused
+    /// exactly where the device fails, and the sectors may then hold any bytes. It takes no memory,
+    /// and where there are no entries it makes no call of the device.
     pub fn write_directory<D: Device>(
         &self,
         device: &mut D,
@@ -82,46 +53,55 @@ impl Log {
     ) -> Result<(), Failed>
         requires few { length entries.now ≤ self.now.geometry.log }
         requires inside { self.now.total ≤ (D.disk device.old).sectors }
-        ensures written { OnOk result (directory_in (D.disk device.new).seen self.now generation (length entries.now) ≡ directory_bytes entries.now) }
-        ensures size { (D.disk device.new).sectors ≡ (D.disk device.old).sectors }
-        ensures elsewhere { Elsewhere (directory_sector self.now generation) (directory_length (length entries.now)) (D.disk device.old).seen (D.disk device.new).seen }
-        ensures crash { Tears (directory_sector self.now generation) (directory_length (length entries.now)) (D.disk device.old) (D.disk device.new) }
-        ensures any_moment { LeavesOnly (D.disk device.old) (D.disk device.new) (λ c. IsTorn (directory_sector self.now generation) (directory_length (length entries.now)) (D.disk device.old) c) }
-        ensures time { Elapses (D.disk device.old) (D.disk device.new) }
+        ensures written { OnOk result
+            (directory_in (D.disk device.new).seen self.now generation (length entries.now)
+            ≡ directory_bytes entries.now) }
+        ensures writes { WritesAt (directory_sector self.now generation)
+            (directory_length (length entries.now)) (D.disk device.old) (D.disk device.new) }
+        ensures untouched { length entries.now ≡ 0 → device.new ≡ device.old }
         ensures cause { Counts (D.disk device.old) (D.disk device.new) result }
     {
+        if entries.is_empty() {
+            return Ok(());
+        }
         let at = self.directory_sector(generation);
         let mut bytes = [0; MAX_BYTES];
         let sectors = (entries.len() + ENTRIES_IN_SECTOR - 1) / ENTRIES_IN_SECTOR;
         let run = &mut bytes[..SECTOR_SIZE * sectors];
         put_entries(entries, run);
-        write_run(device, at, sectors, run)
+        write_sectors(device, at, sectors, run)
     }
 
-    /// Reads a directory of as many entries as `into` takes from the half of a generation. It takes no memory.
+    /// Reads a directory of as many entries as `into` takes from the half of a generation. It takes
+    /// no memory, and where that is no entry it makes no call of the device.
     ///
-    /// It is refused by `Failed` exactly where the device failed, and by `BadImage::BadDirectory` exactly where the
-    /// sectors spell no directory of so many entries. Either leaves any entries.
+    /// It is refused by `Failed` exactly where the device failed, and by `BadImage::BadDirectory`
+    /// exactly where the sectors spell no directory of so many entries. Either leaves any entries.
     pub fn read_directory<D: Device>(
         &self,
         device: &mut D,
         generation: u64,
         into: &mut [Entry],
-    ) -> Result<(), LogFault>
+    ) -> Result<(), ReadFault>
         requires few { length into.old ≤ self.now.geometry.log }
         requires inside { self.now.total ≤ (D.disk device.old).sectors }
-        ensures found { OnOk result (IsDirectory self.now.geometry into.new × (directory_in (D.disk device.new).seen self.now generation (length into.old) ≡ directory_bytes into.new)) }
-        ensures refused { IfErr result (λ e. IsBadDirectory self.now (directory_in (D.disk device.new).seen self.now generation (length into.old)) e) }
-        ensures size { (D.disk device.new).sectors ≡ (D.disk device.old).sectors }
-        ensures seen { Agrees (D.disk device.new).seen (D.disk device.old).seen }
-        ensures any_moment { Peeks (D.disk device.old) (D.disk device.new) }
+        ensures found { OnOk result (IsDirectory self.now.geometry into.new
+            × (directory_in (D.disk device.new).seen self.now generation (length into.old)
+            ≡ directory_bytes into.new)) }
+        ensures refused { IfErr result (λ e. IsBadDirectory self.now.geometry
+            (directory_in (D.disk device.new).seen self.now generation (length into.old)) e) }
+        ensures reads { ReadsOnly (D.disk device.old) (D.disk device.new) }
+        ensures untouched { length into.old ≡ 0 → device.new ≡ device.old }
         ensures cause { CountsFailed (D.disk device.old) (D.disk device.new) result }
     {
+        if into.is_empty() {
+            return Ok(());
+        }
         let at = self.directory_sector(generation);
         let mut bytes = [0; MAX_BYTES];
         let sectors = (into.len() + ENTRIES_IN_SECTOR - 1) / ENTRIES_IN_SECTOR;
         let run = &mut bytes[..SECTOR_SIZE * sectors];
-        read_run(device, at, sectors, run)?;
+        read_sectors(device, at, sectors, run)?;
         entries_in(run, self.geometry(), into)?;
         Ok(())
     }

@@ -1,12 +1,14 @@
-ghost use Rattle.std.specs.Prelude.{◌≡◌, ◌+◌, ◌*◌, ◌<◌, ◌≤◌};
+// Where the log lies.
+ghost use Rattle.std.specs.Prelude.{◌≡◌, ◌+◌, ◌<◌, ◌≤◌};
 ghost use Rattle.layout.specs.Superblock.{IsWithin, half_extent};
 ghost use Rattle.layout.specs.Image.{half_sector, slot_sector, directory_sector, directory_length};
 
-use layout::Superblock;
+use layout::{Half, Superblock};
 use model::Geometry;
 use std::marker::Model;
 
-/// Where the log of a device lies, and for how many objects it has room. The device is lent to it in each call.
+/// Where the log of a device lies, and for how many objects it has room. The device is lent to it
+/// in each call.
 #[derive(Drop)]
 pub struct Log {
     superblock: Superblock,
@@ -42,14 +44,11 @@ impl Log {
     // The first sector of the half of a generation.
     fn half_sector(&self, generation: u64) -> u64
         ensures value { result ≡ half_sector self.now generation }
-        ensures within { IsWithin self.now.total (half_extent self.now.geometry (half_sector self.now generation)) }
+        ensures within { IsWithin self.now.total
+            (half_extent self.now.geometry (half_sector self.now generation)) }
         ensures total { self.now.total ≤ 131072 }
     {
-        if generation % 2 == 0 {
-            self.superblock.half(false)
-        } else {
-            self.superblock.half(true)
-        }
+        self.superblock.half(Half::of(generation))
     }
 
     // The first sector of a slot.

@@ -1,31 +1,37 @@
 // The commit of a header.
-ghost use Rattle.std.specs.Prelude.{◌≡◌, ◌⊎◌, ◌≤◌, ◌<◌, ◌+◌, ◌^◌, false, length, OnOk};
+ghost use Rattle.std.specs.Prelude.{◌≡◌, ◌⊎◌, ◌≤◌, ◌<◌, ◌^◌, false, OnOk};
 ghost use Rattle.layout.specs.Gate.{gate_bytes, is_open};
-ghost use Rattle.layout.specs.Header.{header_bytes};
+ghost use Rattle.layout.specs.Header.{header_bytes, IsHeader};
 ghost use Rattle.layout.specs.declared.gate.Gate.TheVariants.{Open};
 ghost use Rattle.device.specs.Calls.{Agrees, Elsewhere, Only, Counts};
 ghost use Rattle.device.specs.Moments.{LeavesOnly};
-ghost use Rattle.ckpt_log.specs.Commit.{header_sector, gate_sector, CommitsOne, Precedes, KeepsHeader, HasNew, IsOldOrNew, IsOld};
+ghost use Rattle.ckpt_log.specs.Commit.{header_sector, gate_sector, closed_gate, IsInOrder, IsInOrderAfter, CommitsOne, Precedes, KeepsHeader, HasNew, IsOldOrNew, IsOld};
 
+use crate::header_slot::HeaderSlot;
 use crate::log::Log;
 use crate::sector::{put_sector, read_sector};
 use device::{Device, Failed, SECTOR_SIZE};
 use layout::{CheckpointHeader, Gate, decode_gate, encode_gate, encode_header};
 
-// Closes the gate in a sector where it is open. A closed gate isn't written: a torn write could open it.
+// Closes the gate in a sector where it is open. A closed gate isn't written: a torn write could
+// open it.
 fn close_gate<D: Device>(device: &mut D, at: u64) -> Result<(), Failed>
     requires inside { at < (D.disk device.old).sectors }
     requires durable { Only (D.disk device.old).seen (D.disk device.old) }
 
-    ensures closed { OnOk result (is_open ((D.disk device.new).seen at) ≡ false) }
+    ensures closed { OnOk result
+        ((D.disk device.new).seen at ≡ closed_gate ((D.disk device.old).seen at)) }
     ensures durable { OnOk result (Only (D.disk device.new).seen (D.disk device.new)) }
     ensures size { (D.disk device.new).sectors ≡ (D.disk device.old).sectors }
     ensures elsewhere { Elsewhere at 1 (D.disk device.old).seen (D.disk device.new).seen }
-    ensures closed_before { is_open ((D.disk device.old).seen at) ≡ false → Agrees (D.disk device.new).seen (D.disk device.old).seen }
+    ensures closed_before { is_open ((D.disk device.old).seen at) ≡ false
+        → Agrees (D.disk device.new).seen (D.disk device.old).seen }
 
-    // A crash at any moment leaves every other sector as it was, and this one too where the gate was closed.
+    // A crash at any moment leaves every other sector as it was, and this one too where the gate
+    // was closed.
     ensures any_moment { LeavesOnly (D.disk device.old) (D.disk device.new)
-        (λ c. Elsewhere at 1 (D.disk device.old).seen c × (is_open ((D.disk device.old).seen at) ≡ false → Agrees c (D.disk device.old).seen)) }
+        (λ c. Elsewhere at 1 (D.disk device.old).seen c
+        × (is_open ((D.disk device.old).seen at) ≡ false → Agrees c (D.disk device.old).seen)) }
     ensures cause { Counts (D.disk device.old) (D.disk device.new) result }
 {
     let mut sector = [0; SECTOR_SIZE];
@@ -71,57 +77,51 @@ fn put_open_gate<D: Device>(device: &mut D, at: u64) -> Result<(), Failed>
     put_sector(device, at, &gate)
 }
 
-// The sector of a header, in the slot of its sequence number.
-fn header_sector(header: CheckpointHeader) -> u64
-    ensures { result ≡ header_sector header }
-{
-    1 + 2 * (header.sequence % 2)
-}
-
-// The sector of its gate.
-fn gate_sector(header: CheckpointHeader) -> u64
-    ensures value { result ≡ gate_sector header }
-    ensures fits { header.sequence < 2 ^ 64 }
-{
-    2 + 2 * (header.sequence % 2)
-}
-
-// Closes the gate of a header where it is open, and writes the header under it. A crash at any moment leaves the
-// committed header that there is.
+// Closes the gate of a header where it is open, and writes the header under it. A crash at any
+// moment leaves the committed header that there is.
 fn prepare<D: Device>(device: &mut D, header: CheckpointHeader) -> Result<(), Failed>
     requires inside { 5 ≤ (D.disk device.old).sectors }
     requires durable { Only (D.disk device.old).seen (D.disk device.old) }
     requires next { Precedes (D.disk device.old).seen header }
 
-    ensures written { OnOk result ((D.disk device.new).seen (header_sector header) ≡ header_bytes header) }
+    ensures written { OnOk result
+        ((D.disk device.new).seen (header_sector header) ≡ header_bytes header) }
     ensures keeps { KeepsHeader header (D.disk device.old).seen (D.disk device.new).seen }
     ensures durable { OnOk result (Only (D.disk device.new).seen (D.disk device.new)) }
     ensures size { (D.disk device.new).sectors ≡ (D.disk device.old).sectors }
     ensures any_moment { LeavesOnly (D.disk device.old) (D.disk device.new)
         (λ c. KeepsHeader header (D.disk device.old).seen c) }
+    ensures in_order { LeavesOnly (D.disk device.old) (D.disk device.new)
+        (λ c. IsInOrder header (D.disk device.old).seen c) }
     ensures cause { Counts (D.disk device.old) (D.disk device.new) result }
 {
-    close_gate(device, gate_sector(header))?;
-    put_header(device, header_sector(header), header)
+    let slot = HeaderSlot::of(header);
+    close_gate(device, slot.gate())?;
+    put_header(device, slot.header(), header)
 }
 
-// Opens the gate of a header that is written and durable. A crash at any moment leaves the committed header that
-// there was, or this one.
+// Opens the gate of a header that is written and durable. A crash at any moment leaves the
+// committed header that there was, or this one.
 fn open_gate<D: Device>(device: &mut D, header: CheckpointHeader) -> Result<(), Failed>
     requires inside { 5 ≤ (D.disk device.old).sectors }
     requires durable { Only (D.disk device.old).seen (D.disk device.old) }
     requires next { Precedes (D.disk device.old).seen header }
     requires written { (D.disk device.old).seen (header_sector header) ≡ header_bytes header }
 
-    ensures committed { OnOk result (HasNew header (D.disk device.old).seen (D.disk device.new).seen) }
+    ensures committed { OnOk result
+        (HasNew header (D.disk device.old).seen (D.disk device.new).seen) }
+    ensures opened { OnOk result
+        ((D.disk device.new).seen (gate_sector header) ≡ gate_bytes Open) }
     ensures seen { IsOldOrNew header (D.disk device.old).seen (D.disk device.new).seen }
     ensures durable { OnOk result (Only (D.disk device.new).seen (D.disk device.new)) }
     ensures size { (D.disk device.new).sectors ≡ (D.disk device.old).sectors }
     ensures any_moment { LeavesOnly (D.disk device.old) (D.disk device.new)
         (λ c. IsOldOrNew header (D.disk device.old).seen c) }
+    ensures in_order { LeavesOnly (D.disk device.old) (D.disk device.new)
+        (λ c. c (header_sector header) ≡ header_bytes header) }
     ensures cause { Counts (D.disk device.old) (D.disk device.new) result }
 {
-    put_open_gate(device, gate_sector(header))
+    put_open_gate(device, HeaderSlot::of(header).gate())
 }
 
 // Commits a header where all is durable that was written before it.
@@ -130,12 +130,17 @@ fn publish_durable<D: Device>(device: &mut D, header: CheckpointHeader) -> Resul
     requires durable { Only (D.disk device.old).seen (D.disk device.old) }
     requires next { Precedes (D.disk device.old).seen header }
 
-    ensures committed { OnOk result (HasNew header (D.disk device.old).seen (D.disk device.new).seen) }
+    ensures committed { OnOk result
+        (HasNew header (D.disk device.old).seen (D.disk device.new).seen) }
+    ensures opened { OnOk result
+        ((D.disk device.new).seen (gate_sector header) ≡ gate_bytes Open) }
     ensures seen { IsOldOrNew header (D.disk device.old).seen (D.disk device.new).seen }
     ensures durable { OnOk result (Only (D.disk device.new).seen (D.disk device.new)) }
     ensures size { (D.disk device.new).sectors ≡ (D.disk device.old).sectors }
     ensures any_moment { LeavesOnly (D.disk device.old) (D.disk device.new)
         (λ c. IsOldOrNew header (D.disk device.old).seen c) }
+    ensures in_order { LeavesOnly (D.disk device.old) (D.disk device.new)
+        (λ c. IsInOrder header (D.disk device.old).seen c) }
     ensures cause { Counts (D.disk device.old) (D.disk device.new) result }
 {
     prepare(device, header)?;
@@ -143,27 +148,41 @@ fn publish_durable<D: Device>(device: &mut D, header: CheckpointHeader) -> Resul
 }
 
 impl Log {
-    /// Commits a header: from `Ok` on each crash leaves it the committed one, and all that was written before the
-    /// call is then durable. After `Failed`, which is told exactly where the device failed, the header before it is
-    /// the committed one, or this one is.
+    /// Commits a header: from `Ok` on each crash leaves it the committed one, and all that was
+    /// written before the call is then durable. After `Failed`, which is told exactly where the
+    /// device failed, the header before it is the committed one, or this one is.
     ///
-    /// Its sequence number is the next after that of the committed header, and each crash now would leave that
-    /// one. Only the header's own slot is written: its gate, where it is open, then the header and then the gate,
-    /// each durable before the next.
+    /// The header is one that can be read again: at most as many entries as a half of the log has
+    /// slots, an age of at most `MAX_AGE`, and a generation and a sequence number of at most twice
+    /// the age (the sequence number of one without entries may be one more). Its sequence number
+    /// is the next after that of the committed header, and each crash now would leave that one.
+    ///
+    /// Only the header's own slot is written: its gate with 0 and zeros, where it is open, then the
+    /// header, and then the gate with 1 and zeros, each durable before the next.
     pub fn publish<D: Device>(&self, device: &mut D, header: CheckpointHeader) -> Result<(), Failed>
+        requires spelt { IsHeader self.now.geometry.log header }
         requires inside { 5 ≤ (D.disk device.old).sectors }
         requires one { CommitsOne (D.disk device.old) }
         requires next { Precedes (D.disk device.old).seen header }
 
-        ensures committed { OnOk result (HasNew header (D.disk device.old).seen (D.disk device.new).seen) }
+        ensures committed { OnOk result
+            (HasNew header (D.disk device.old).seen (D.disk device.new).seen) }
+        ensures opened { OnOk result
+            ((D.disk device.new).seen (gate_sector header) ≡ gate_bytes Open) }
         ensures durable { OnOk result (Only (D.disk device.new).seen (D.disk device.new)) }
         ensures size { (D.disk device.new).sectors ≡ (D.disk device.old).sectors }
-        ensures elsewhere { Elsewhere (header_sector header) 2 (D.disk device.old).seen (D.disk device.new).seen }
+        ensures elsewhere { Elsewhere (header_sector header) 2
+            (D.disk device.old).seen (D.disk device.new).seen }
 
-        // A crash at any moment leaves the header before it committed, or this one; and where it leaves this one,
-        // all that was written before the call.
+        // A crash at any moment leaves the header before it committed, or this one; and where it
+        // leaves this one, all that was written before the call.
         ensures any_moment { LeavesOnly (D.disk device.old) (D.disk device.new)
             (λ c. IsOld header (D.disk device.old) c ⊎ HasNew header (D.disk device.old).seen c) }
+
+        // At each moment its slot has the old header, or a gate that was closed before the header
+        // was touched, or the new header.
+        ensures in_order { LeavesOnly (D.disk device.old) (D.disk device.new)
+            (λ c. IsInOrderAfter header (D.disk device.old) c) }
         ensures cause { Counts (D.disk device.old) (D.disk device.new) result }
     {
         device.sync()?;

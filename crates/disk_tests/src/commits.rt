@@ -1,6 +1,7 @@
+// Commits, and what a crash in their course leaves.
 use crate::rig::{AGE, Rig};
-use ckpt_log::LogFault;
 use device::{Device, Memory, Outcome, SECTOR_SIZE};
+use frame_io::ReadFault;
 use layout::{BadImage, CheckpointHeader, Gate};
 use std::alloc::Global;
 use std::test::Fail;
@@ -26,15 +27,17 @@ fn built(alloc: Global, outcome: Outcome) -> Result<Rig<Memory>, Fail> {
 }
 
 // The committed header, without its directory.
-fn committed<D: Device>(rig: &mut Rig<D>) -> Result<CheckpointHeader, LogFault> {
+fn committed<D: Device>(rig: &mut Rig<D>) -> Result<CheckpointHeader, ReadFault> {
     let (header, _) = rig.committed()?;
     Ok(header)
 }
 
-// The calls that `publish_next` makes before it publishes: a sync, both headers with their gates, the directory.
-const CALLS_BEFORE: u64 = 6;
+// The calls that `publish_next` makes before it publishes: a sync, and both headers with their
+// gates. The directory has no entries and isn't read.
+const CALLS_BEFORE: u64 = 5;
 
-// Whether a publish that stops after so many calls succeeds, and the sequence number that a power cut then leaves.
+// Whether a publish that stops after so many calls succeeds, and the sequence number that a power
+// cut then leaves.
 fn left_by_stop<D: Device>(rig: Rig<D>, calls: u64) -> Result<(bool, u64), Fail> {
     let mut rig = rig.fused(calls);
     let published = rig.publish_next()?;
@@ -89,7 +92,7 @@ fn a_stop_leaves_the_second_header_or_the_next(rt: HostRuntime) -> Result<(), Fa
 #[test]
 fn a_device_without_an_open_header_has_none(rt: HostRuntime) -> Result<(), Fail> {
     let mut rig = blank(rt.alloc(), Outcome::Drop)?;
-    let none = LogFault::Bad(BadImage::NoHeader);
+    let none = ReadFault::Bad(BadImage::NoHeader);
     assert_eq!(rt; committed(&mut rig), Err(none));
     rig.put_slot(1, header(4), 0, Gate::Closed)?;
     rig.put_slot(3, header(4), 0, Gate::Open)?;
@@ -101,7 +104,7 @@ fn a_device_without_an_open_header_has_none(rt: HostRuntime) -> Result<(), Fail>
 fn a_greater_malformed_header_is_not_passed_over(rt: HostRuntime) -> Result<(), Fail> {
     let mut rig = built(rt.alloc(), Outcome::Drop)?;
     rig.put_slot(3, header(1), 1, Gate::Open)?;
-    let bad = LogFault::Bad(BadImage::BadHeader);
+    let bad = ReadFault::Bad(BadImage::BadHeader);
     assert_eq!(rt; committed(&mut rig), Err(bad));
     rig.put_slot(1, header(2), 0, Gate::Open)?;
     assert_eq!(rt; committed(&mut rig), Ok(header(2)));
@@ -135,9 +138,9 @@ fn a_gate_over_a_header_of_the_other_slot_is_closed(rt: HostRuntime) -> Result<(
 
 #[test]
 fn a_device_that_fails_has_no_header(rt: HostRuntime) -> Result<(), Fail> {
-    for calls in 0..5 {
+    for calls in 0..4 {
         let mut rig = built(rt.alloc(), Outcome::Drop)?.fused(calls);
-        assert_eq!(rt; committed(&mut rig), Err(LogFault::Failed));
+        assert_eq!(rt; committed(&mut rig), Err(ReadFault::Failed));
         rig.power_cut();
         assert_eq!(rt; committed(&mut rig), Ok(header(0)));
     }

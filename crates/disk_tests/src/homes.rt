@@ -1,10 +1,12 @@
+// Homes of objects.
 ghost use Rattle.std.specs.Prelude.{◌≡◌, IfOk};
 
-use crate::rig::{FRONT, Rig};
+use crate::rig::{Rig, front, room};
 use device::{Device, Memory, Outcome};
-use home_ranges::{Home, HomeFault};
-use layout::{BadImage, HomeRange, NodeBody, PageBody, Superblock, VOID};
-use model::{Cap, Capability, Content, Geometry, ObjectHeader, Slots, Words};
+use frame_io::ReadFault;
+use home_ranges::Home;
+use layout::{BadImage, Body, HomeRange, Room, Superblock};
+use model::{Cap, Capability, Content, Geometry, ObjectHeader, Role, Slots, Words};
 use std::alloc::Global;
 use std::test::Fail;
 
@@ -80,27 +82,32 @@ fn rig(alloc: Global) -> Result<Rig<Memory>, Fail> {
 
 // Writes a node whose slot 31 has a number to the home of object 3.
 fn write_node_3(alloc: Global, rig: &mut Rig<Memory>) -> Result<(), Fail> {
-    let mut slots = Slots::new(alloc, VOID)?;
+    let mut slots = Slots::new(alloc, Cap::void())?;
     slots.set(31, NUMBER);
     rig.write_home(3, Content::Node(slots))?;
     Ok(())
 }
 
-fn node_3(alloc: Global, rig: &mut Rig<Memory>) -> Result<(ObjectHeader, NodeBody, Slots<Cap>), Fail> {
-    let mut slots = Slots::new(alloc, VOID)?;
-    let (header, body) = rig.read_node(3, &mut slots).ok().ok_or("a frame")?;
-    Ok((header, body, slots))
+// The home frame of an object, with the room that its body is left in.
+fn home_frame(
+    alloc: Global,
+    rig: &mut Rig<Memory>,
+    number: u64,
+) -> Result<(ObjectHeader, Body, Room), Fail> {
+    let mut room = room(alloc)?;
+    let (header, body) = rig.read_home(number, &mut room).ok().ok_or("a frame")?;
+    Ok((header, body, room))
 }
 
 #[test]
 fn a_node_is_read_back(rt: HostRuntime) -> Result<(), Fail> {
     let mut rig = rig(rt.alloc())?;
     write_node_3(rt.alloc(), &mut rig)?;
-    let (header, body, slots) = node_3(rt.alloc(), &mut rig)?;
-    assert_eq!(rt; header, FRONT);
-    assert!(rt; matches!(body, NodeBody::Node));
-    assert_eq!(rt; slots.get(31), NUMBER);
-    assert_eq!(rt; slots.get(30), VOID);
+    let (header, body, room) = home_frame(rt.alloc(), &mut rig, 3)?;
+    assert_eq!(rt; header, front(Role::Node));
+    assert!(rt; matches!(body, Body::Node));
+    assert_eq!(rt; room.slots.get(31), NUMBER);
+    assert_eq!(rt; room.slots.get(30), Cap::void());
     Ok(())
 }
 
@@ -121,10 +128,10 @@ fn a_node_has_two_sectors(rt: HostRuntime) -> Result<(), Fail> {
 #[test]
 fn a_malformed_node_is_refused(rt: HostRuntime) -> Result<(), Fail> {
     let mut rig = rig(rt.alloc())?;
-    let mut slots = Slots::new(rt.alloc(), VOID)?;
+    let mut room = room(rt.alloc())?;
     rig.put_sector(13, &[9; 512])?;
-    let refused = rig.read_node(4, &mut slots).err();
-    assert_eq!(rt; refused, Some(HomeFault::Bad(BadImage::BadFrame)));
+    let refused = rig.read_home(4, &mut room).err();
+    assert_eq!(rt; refused, Some(ReadFault::Bad(BadImage::BadFrame)));
     Ok(())
 }
 
@@ -140,10 +147,11 @@ fn write_page_17(alloc: Global, rig: &mut Rig<Memory>) -> Result<(), Fail> {
 fn a_page_is_read_back(rt: HostRuntime) -> Result<(), Fail> {
     let mut rig = rig(rt.alloc())?;
     write_page_17(rt.alloc(), &mut rig)?;
-    let mut words = Words::new(rt.alloc())?;
-    assert_eq!(rt; rig.read_page(17, &mut words), Ok((FRONT, PageBody::Page)));
-    assert_eq!(rt; words.get(511), 600);
-    assert_eq!(rt; words.get(510), 0);
+    let (header, body, room) = home_frame(rt.alloc(), &mut rig, 17)?;
+    assert_eq!(rt; header, front(Role::Page));
+    assert!(rt; matches!(body, Body::Page));
+    assert_eq!(rt; room.words.get(511), 600);
+    assert_eq!(rt; room.words.get(510), 0);
     Ok(())
 }
 
@@ -163,24 +171,24 @@ fn a_page_has_nine_sectors(rt: HostRuntime) -> Result<(), Fail> {
 #[test]
 fn a_malformed_page_is_refused(rt: HostRuntime) -> Result<(), Fail> {
     let mut rig = rig(rt.alloc())?;
-    let mut words = Words::new(rt.alloc())?;
+    let mut room = room(rt.alloc())?;
     let mut sector = [0; 512];
     sector[1] = 1;
     rig.put_sector(55, &sector)?;
-    let refused = rig.read_page(18, &mut words);
-    assert_eq!(rt; refused, Err(HomeFault::Bad(BadImage::BadFrame)));
+    let refused = rig.read_home(18, &mut room).err();
+    assert_eq!(rt; refused, Some(ReadFault::Bad(BadImage::BadFrame)));
     Ok(())
 }
 
-// A write, two reads and a write on a device that stops after so many calls: whether each is stopped.
+// A write, two reads and a write on a device that stops after so many calls: whether each is
+// stopped.
 fn stopped_after(alloc: Global, calls: u64) -> Result<[bool; 4], Fail> {
     let mut rig = rig(alloc)?.fused(calls);
-    let mut slots = Slots::new(alloc, VOID)?;
-    let mut words = Words::new(alloc)?;
+    let mut room = room(alloc)?;
     Ok([
         rig.write_home(15, Content::Bank { limit: 8 }).is_err(),
-        rig.read_node(15, &mut slots).err() == Some(HomeFault::Failed),
-        rig.read_page(16, &mut words).err() == Some(HomeFault::Failed),
+        rig.read_home(15, &mut room).err() == Some(ReadFault::Failed),
+        rig.read_home(16, &mut room).err() == Some(ReadFault::Failed),
         rig.write_home(16, Content::Bank { limit: 8 }).is_err(),
     ])
 }

@@ -7,5 +7,8 @@ mod commits;
 mod homes;
 #[cfg(test)]
 mod logs;
+mod next;
 #[cfg(test)]
 mod rig;
+
+pub use next::{NO_ENTRY, publish_next};

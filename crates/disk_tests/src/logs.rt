@@ -1,8 +1,10 @@
-use crate::rig::{AGE, FRONT, NO_ENTRY, Rig};
-use ckpt_log::LogFault;
+// Slots and directories of the log.
+use crate::next::NO_ENTRY;
+use crate::rig::{AGE, Rig, front, room};
 use device::{Memory, Outcome, SECTOR_SIZE};
-use layout::{BadImage, CheckpointHeader, Entry, Gate, NodeBody, PageBody, VOID};
-use model::{Content, Slots, Words};
+use frame_io::ReadFault;
+use layout::{BadImage, Body, CheckpointHeader, Entry, Gate};
+use model::{Content, Role, Words};
 use std::alloc::Global;
 use std::test::Fail;
 
@@ -20,10 +22,10 @@ fn with_a_bank(alloc: Global) -> Result<Rig<Memory>, Fail> {
 #[test]
 fn a_node_is_read_back_from_its_slot(rt: HostRuntime) -> Result<(), Fail> {
     let mut rig = with_a_bank(rt.alloc())?;
-    let mut slots = Slots::new(rt.alloc(), VOID)?;
-    let (header, body) = rig.read_node_slot(3, 2, &mut slots).ok().ok_or("a frame")?;
-    assert_eq!(rt; header, FRONT);
-    assert!(rt; matches!(body, NodeBody::Bank { limit: 8 }));
+    let mut room = room(rt.alloc())?;
+    let (header, body) = rig.read_slot(3, 2, 5, &mut room).ok().ok_or("a frame")?;
+    assert_eq!(rt; header, front(Role::Bank));
+    assert!(rt; matches!(body, Body::Bank { limit: 8 }));
     Ok(())
 }
 
@@ -41,9 +43,9 @@ fn a_malformed_node_in_a_slot_is_refused(rt: HostRuntime) -> Result<(), Fail> {
     let mut sector = [0; SECTOR_SIZE];
     sector[0] = 6;
     rig.put_sector(272, &sector)?;
-    let mut slots = Slots::new(rt.alloc(), VOID)?;
-    let refused = rig.read_node_slot(3, 2, &mut slots).err();
-    assert_eq!(rt; refused, Some(LogFault::Bad(BadImage::BadFrame)));
+    let mut room = room(rt.alloc())?;
+    let refused = rig.read_slot(3, 2, 5, &mut room).err();
+    assert_eq!(rt; refused, Some(ReadFault::Bad(BadImage::BadFrame)));
     Ok(())
 }
 
@@ -59,12 +61,11 @@ fn with_a_page(alloc: Global) -> Result<Rig<Memory>, Fail> {
 #[test]
 fn a_page_is_read_back_from_its_slot(rt: HostRuntime) -> Result<(), Fail> {
     let mut rig = with_a_page(rt.alloc())?;
-    let mut words = Words::new(rt.alloc())?;
-    assert_eq!(rt;
-        rig.read_page_slot(0, 1, &mut words),
-        Ok((FRONT, PageBody::Page))
-    );
-    assert_eq!(rt; words.get(511), 600);
+    let mut room = room(rt.alloc())?;
+    let (header, body) = rig.read_slot(0, 1, 16, &mut room).ok().ok_or("a frame")?;
+    assert_eq!(rt; header, front(Role::Page));
+    assert!(rt; matches!(body, Body::Page));
+    assert_eq!(rt; room.words.get(511), 600);
     Ok(())
 }
 
@@ -84,9 +85,9 @@ fn a_page_in_a_slot_has_nine_sectors(rt: HostRuntime) -> Result<(), Fail> {
 fn a_malformed_page_in_a_slot_is_refused(rt: HostRuntime) -> Result<(), Fail> {
     let mut rig = with_a_page(rt.alloc())?;
     rig.put_sector(118, &[9; SECTOR_SIZE])?;
-    let mut words = Words::new(rt.alloc())?;
-    let refused = rig.read_page_slot(0, 1, &mut words);
-    assert_eq!(rt; refused, Err(LogFault::Bad(BadImage::BadFrame)));
+    let mut room = room(rt.alloc())?;
+    let refused = rig.read_slot(0, 1, 16, &mut room).err();
+    assert_eq!(rt; refused, Some(ReadFault::Bad(BadImage::BadFrame)));
     Ok(())
 }
 
@@ -110,7 +111,7 @@ fn a_directory_is_read_back(rt: HostRuntime) -> Result<(), Fail> {
     rig.put_sector(398, &sector)?;
     assert_eq!(rt;
         rig.read_directory(),
-        Err(LogFault::Bad(BadImage::BadDirectory))
+        Err(ReadFault::Bad(BadImage::BadDirectory))
     );
     Ok(())
 }
@@ -158,6 +159,15 @@ fn a_malformed_directory_is_refused(rt: HostRuntime) -> Result<(), Fail> {
     let mut rig = with_a_directory(rt.alloc())?;
     rig.put_sector(398, &[1; SECTOR_SIZE])?;
     let refused = rig.committed().err();
-    assert_eq!(rt; refused, Some(LogFault::Bad(BadImage::BadDirectory)));
+    assert_eq!(rt; refused, Some(ReadFault::Bad(BadImage::BadDirectory)));
+    Ok(())
+}
+
+#[test]
+fn a_device_that_fails_has_no_directory(rt: HostRuntime) -> Result<(), Fail> {
+    for calls in 0..5 {
+        let mut rig = with_a_directory(rt.alloc())?.fused(calls);
+        assert_eq!(rt; rig.committed().err(), Some(ReadFault::Failed));
+    }
     Ok(())
 }

@@ -1,30 +1,42 @@
+// A device with homes and a log, over which the tests run.
 ghost use Rattle.std.specs.Prelude.{◌≡◌, ◌≤◌, IfOk};
 
-use ckpt_log::{Log, LogFault};
+use crate::next::{NO_ENTRY, publish_next};
+use ckpt_log::Log;
 use device::{Device, Failed, Fuse, Memory, Outcome, SECTOR_SIZE};
-use home_ranges::{Home, HomeFault};
+use frame_io::ReadFault;
+use home_ranges::Home;
 use layout::{
-    CheckpointHeader, Entry, Gate, HomeRange, NodeBody, PageBody, Superblock, VOID, encode_gate,
-    encode_header,
+    Body, CheckpointHeader, Entry, Gate, HomeRange, Room, Superblock, encode_gate, encode_header,
 };
-use model::{Cap, Content, Frame, Geometry, ObjectHeader, Slots, Words};
-use std::alloc::Global;
+use model::{Cap, Content, Geometry, ObjectHeader, Role, Slots, Words};
+use std::alloc::{AllocError, Global};
 use std::marker::Model;
 use std::test::Fail;
 
 pub(crate) const AGE: u64 = 10;
 
-/// The header of every frame that is written.
-pub(crate) const FRONT: ObjectHeader = ObjectHeader {
-    allocations: 1,
-    calls: 2,
-    owner: 3,
-};
+/// The header of each frame that is written.
+pub(crate) fn front(role: Role) -> ObjectHeader {
+    ObjectHeader {
+        role,
+        allocations: 1,
+        calls: 2,
+        owner: 3,
+    }
+}
 
-pub(crate) const NO_ENTRY: Entry = Entry { object: 0, slot: 0 };
+/// Room for the body of a frame, with void slots and words of 0.
+pub(crate) fn room(alloc: Global) -> Result<Room, AllocError> {
+    Ok(Room {
+        slots: Slots::new(alloc, Cap::void())?,
+        words: Words::new(alloc)?,
+    })
+}
 
-/// A device with homes and a log: 16 nodes from sector 5 on, 8 pages from sector 37 on, and the halves of a log of
-/// 16 slots from sectors 109 and 254 on. A call for an object, a slot or a sector that isn't there fails.
+/// A device with homes and a log: 16 nodes from sector 5 on, 8 pages from sector 37 on, and the
+/// halves of a log of 16 slots from sectors 109 and 254 on. A call for an object, a slot or a
+/// sector that isn't there fails.
 #[derive(Drop)]
 pub(crate) struct Rig<D: Device> {
     device: D,
@@ -132,57 +144,24 @@ impl<D: Device> Rig<Fuse<D>> {
 impl<D: Device> Rig<D> {
     /// Writes the home frame of an object.
     pub(crate) fn write_home(&mut self, number: u64, content: Content<Cap>) -> Result<(), Failed> {
-        let frame = Frame {
-            header: FRONT,
-            content,
-        };
         if number >= 24 {
             return Err(Failed);
         }
-        Home::new(&self.superblock).write_frame(&mut self.device, number, &frame)
+        let home = Home::new(&self.superblock);
+        home.write_frame(&mut self.device, number, front(content.role()), &content)
     }
 
-    /// Reads the home frame of a node.
-    pub(crate) fn read_node(
+    /// Reads the home frame of an object.
+    pub(crate) fn read_home(
         &mut self,
         number: u64,
-        slots: &mut Slots<Cap>,
-    ) -> Result<(ObjectHeader, NodeBody), HomeFault> {
-        if number >= 16 {
-            return Err(HomeFault::Failed);
+        room: &mut Room,
+    ) -> Result<(ObjectHeader, Body), ReadFault> {
+        if number >= 24 {
+            return Err(ReadFault::Failed);
         }
-        Home::new(&self.superblock).read_node_frame(&mut self.device, number, AGE, slots)
+        Home::new(&self.superblock).read_frame(&mut self.device, number, AGE, room)
     }
-
-    /// Reads the home frame of a page.
-    pub(crate) fn read_page(
-        &mut self,
-        number: u64,
-        words: &mut Words,
-    ) -> Result<(ObjectHeader, PageBody), HomeFault> {
-        if number < 16 || number >= 24 {
-            return Err(HomeFault::Failed);
-        }
-        Home::new(&self.superblock).read_page_frame(&mut self.device, number, AGE, words)
-    }
-}
-
-fn publish_next<D: Device>(device: &mut D, log: &Log) -> Result<bool, Fail>
-    requires slots { log.now.geometry.log ≡ 16 }
-    requires inside { log.now.total ≤ (D.disk device.old).sectors }
-    requires headers { 5 ≤ (D.disk device.old).sectors }
-    ensures { (D.disk device.new).sectors ≡ (D.disk device.old).sectors }
-{
-    let mut directory = [NO_ENTRY; 16];
-    device.sync()?;
-    let committed = log.find_committed(device, &mut directory)?;
-    let next = CheckpointHeader {
-        sequence: committed.sequence + 1,
-        generation: committed.generation,
-        entries: committed.entries,
-        age: committed.age,
-    };
-    Ok(log.publish(device, next).is_ok())
 }
 
 // The log.
@@ -192,45 +171,30 @@ impl<D: Device> Rig<D> {
         &mut self,
         generation: u64,
         slot: u64,
-        object: u64,
+        number: u64,
         content: Content<Cap>,
     ) -> Result<(), Failed> {
-        let frame = Frame {
-            header: FRONT,
-            content,
-        };
         if slot >= 16 {
             return Err(Failed);
         }
-        Log::new(&self.superblock).write_slot(&mut self.device, generation, slot, object, &frame)
+        let log = Log::new(&self.superblock);
+        let header = front(content.role());
+        log.write_slot(&mut self.device, generation, slot, number, header, &content)
     }
 
-    /// Reads the frame of node 5 in a slot of the half of a generation.
-    pub(crate) fn read_node_slot(
+    /// Reads the frame of an object in a slot of the half of a generation.
+    pub(crate) fn read_slot(
         &mut self,
         generation: u64,
         slot: u64,
-        slots: &mut Slots<Cap>,
-    ) -> Result<(ObjectHeader, NodeBody), LogFault> {
-        if slot >= 16 {
-            return Err(LogFault::Failed);
+        number: u64,
+        room: &mut Room,
+    ) -> Result<(ObjectHeader, Body), ReadFault> {
+        if slot >= 16 || number >= 24 {
+            return Err(ReadFault::Failed);
         }
         let log = Log::new(&self.superblock);
-        log.read_node_slot(&mut self.device, generation, slot, 5, AGE, slots)
-    }
-
-    /// Reads the frame of page 16 in a slot of the half of a generation.
-    pub(crate) fn read_page_slot(
-        &mut self,
-        generation: u64,
-        slot: u64,
-        words: &mut Words,
-    ) -> Result<(ObjectHeader, PageBody), LogFault> {
-        if slot >= 16 {
-            return Err(LogFault::Failed);
-        }
-        let log = Log::new(&self.superblock);
-        log.read_page_slot(&mut self.device, generation, slot, 16, AGE, words)
+        log.read_slot(&mut self.device, generation, slot, number, AGE, room)
     }
 
     /// Writes the directory of half 1.
@@ -242,14 +206,14 @@ impl<D: Device> Rig<D> {
     }
 
     /// Reads a directory of two entries of half 1.
-    pub(crate) fn read_directory(&mut self) -> Result<[Entry; 2], LogFault> {
+    pub(crate) fn read_directory(&mut self) -> Result<[Entry; 2], ReadFault> {
         let mut found = [NO_ENTRY; 2];
         Log::new(&self.superblock).read_directory(&mut self.device, 1, &mut found)?;
         Ok(found)
     }
 
-    /// Writes a header and then its gate, each of them synced, the header with this byte at its end. Slot 0 is of
-    /// sectors 1 and 2, slot 1 of sectors 3 and 4.
+    /// Writes a header and then its gate, each of them synced, the header with this byte at its
+    /// end. Slot 0 is of sectors 1 and 2, slot 1 of sectors 3 and 4.
     pub(crate) fn put_slot(
         &mut self,
         at: u64,
@@ -268,14 +232,15 @@ impl<D: Device> Rig<D> {
     }
 
     /// The committed header and its directory.
-    pub(crate) fn committed(&mut self) -> Result<(CheckpointHeader, [Entry; 16]), LogFault> {
+    pub(crate) fn committed(&mut self) -> Result<(CheckpointHeader, [Entry; 16]), ReadFault> {
         let mut directory = [NO_ENTRY; 16];
         let header = Log::new(&self.superblock).find_committed(&mut self.device, &mut directory)?;
         Ok((header, directory))
     }
 
-    /// Syncs the device, publishes the header after the committed one, and answers whether that succeeded.
+    /// Syncs the device, publishes the header after the committed one, and answers whether that
+    /// succeeded.
     pub(crate) fn publish_next(&mut self) -> Result<bool, Fail> {
-        publish_next(&mut self.device, &Log::new(&self.superblock))
+        Ok(publish_next(&mut self.device, &Log::new(&self.superblock))?)
     }
 }

@@ -1,7 +1,8 @@
 -- Capabilities that may be kept.
-use Rattle.std.proofs.Common.{◌≡◌, ℕ, ◌+◌, ◌^◌, ◌<◌, ◌≤◌, List, length, refl, sym, subst, arith}
+use Rattle.std.proofs.Common.{◌≡◌, ℕ, true, ◌+◌, ◌^◌, ◌<◌, ◌≤◌, List, length, refl, sym, subst, arith}
 use Rattle.std.specs.Prelude.{IsTrue}
 use Rattle.std.proofs.Math.ListN.{get_or-map}
+use Rattle.model.specs.declared.capability.Cap.{Cap}
 use Rattle.model.specs.declared.capability.Capability.{Capability}
 use Rattle.model.specs.declared.capability.Capability.TheVariants.{Void, Number, Page, Node, Space, Process, Start, Resume, Bank, Discrim}
 use Rattle.model.specs.declared.frame.Frame.{Frame}
@@ -10,11 +11,14 @@ use Rattle.model.specs.declared.geometry.Geometry.{Geometry}
 use Rattle.model.specs.declared.object.Content.{Content}
 use Rattle.model.specs.declared.object.Content.TheVariants as content
 use Rattle.model.specs.declared.object.Object.{Object}
-use Rattle.model.specs.Frame.{blank_frame, current_count, frame_at, header_at, headers}
+use Rattle.model.specs.Frame.{blank_frame, conveyed, current_count, frame_at, header_at, headers, held_at, objects_of}
 use Rattle.model.specs.Keepable.{AreKeepable, IsCount, IsKept, IsKeepable, IsKeptCap, IsNodeNumber, IsPageNumber}
-use Rattle.model.specs.Object.{is_bank, is_node, is_page, is_root}
+use Rattle.model.specs.Object.{is_annex, is_bank, is_node, is_page, is_root, map_content}
 use Rattle.model.specs.Sound.{IsOfKind, MayBeHeld, object_count}
 use Rattle.model.specs.World.{content_at}
+use Rattle.capability.specs.Parts.{Parts, frames_of}
+use Rattle.capability.proofs.Frames.{content_there, headers_in, known_used, node_used}
+use Rattle.capability.proofs.Keeping.{keepable_count}
 use Rattle.gate.specs.Plan.{FitsCap}
 
 header_there : (fs : List Frame) (n : ℕ) → header_at (headers fs) n ≡ (frame_at fs n).header
@@ -96,3 +100,35 @@ module _ (g : Geometry) (os : List Object) (kinds : (n : ℕ) → IsOfKind g n (
   -- and so does the right to resume a process
   pub resume_fits : (p : ℕ) → IsTrue (is_root (content_at os p)) → FitsCap g (Resume p)
   resume_fits p is = (node_number p (root_place g p (content_at os p) is (kinds p)), zero_count)
+
+-- what fits is kept in a store with the count that its object has
+pub fits_kept : (g : Geometry) (age : ℕ) (p : Parts) → AreKeepable g age (frames_of p) → (c : Capability) → FitsCap g c →
+    IsKeptCap g age (record { what = c; count = current_count p.headers c })
+fits_kept g age p keepable c fits =
+    subst (λ (hs : List ObjectHeader). IsKeptCap g age (record { what = c; count = current_count hs c })) (headers_in p.headers p.contents)
+    (live_is_kept g age (frames_of p) keepable c fits)
+
+-- frames that can be kept in a geometry can be in the same one
+pub in_geometry : (f g : Geometry) (age : ℕ) (fs : List Frame) → f ≡ g → AreKeepable g age fs → AreKeepable f age fs
+in_geometry f g age fs same k = subst (λ (h : Geometry). AreKeepable h age fs) (sym same) k
+
+-- what is a node isn't an annex
+no_annex_map : (f : Cap → Capability) (c : Content Cap) → is_node (map_content f c) ≡ true → is_annex c ≡ true → ⊥
+no_annex_map f content.Free node annex = cc
+no_annex_map f (content.Page words) node annex = cc
+no_annex_map f (content.Node slots) node annex = cc
+no_annex_map f (content.Root r) node annex = cc
+no_annex_map f (content.Annex registers) node annex = cc
+no_annex_map f (content.Bank limit) node annex = cc
+
+pub node_is_no_annex : (p : Parts) (n : ℕ) → IsTrue (is_node (content_at (objects_of (frames_of p)) n)) → IsTrue (is_annex (held_at p.contents n)) → ⊥
+node_is_no_annex p n node annex =
+    let known = known_used p n (node_used (content_at (objects_of (frames_of p)) n) node) in
+    no_annex_map (conveyed p.headers) (held_at p.contents n)
+    (subst (λ (c : Content Capability). is_node c ≡ true) (content_there p n known (held_at p.contents n) refl) node) annex
+
+-- the call count of an object is at most the age
+pub calls_kept : (g : Geometry) (age : ℕ) (p : Parts) → AreKeepable g age (frames_of p) → (n : ℕ) → n < length p.headers → (header_at p.headers n).calls ≤ age
+calls_kept g age p keepable n known =
+    let inside : n < object_count g = subst (λ (m : ℕ). n < m) (keepable_count g age p keepable) known in
+    subst (λ (hs : List ObjectHeader). (header_at hs n).calls ≤ age) (headers_in p.headers p.contents) (calls_fit g age (frames_of p) keepable n inside).0

@@ -1,2 +1,9 @@
+mod Effects
+mod Entering
 mod Fits
+pub mod Known
+mod Listed
 mod Messages
+mod Plans
+mod Roles
+pub mod Standing

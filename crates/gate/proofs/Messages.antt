@@ -3,6 +3,7 @@ use Rattle.std.proofs.Common.{◌≡◌, ℕ, ◌+◌, ◌<◌, ◌≤◌, List,
 use Rattle.std.proofs.lemmas.List.{take_more, take_all, length-take}
 use Rattle.model.specs.declared.capability.Capability.{Capability}
 use Rattle.model.specs.declared.capability.Capability.TheVariants.{Void}
+use Rattle.model.specs.declared.command.Message.{Message}
 use Rattle.model.specs.declared.object.Object.{Object}
 use Rattle.model.specs.Invoke.{deliver}
 use Rattle.model.specs.World.{with_slot, with_slots_from, annex_at}
@@ -24,10 +25,9 @@ with_slots_more os n k cs i within =
     ∙ ap (λ (j : ℕ). with_slot (with_slots_from os n k (take i cs)) n (k + j) (get_or cs i Void)) (omega (arith, length-take i cs))
 
 -- a message is delivered to the root, and then to the registers
-pub deliver_by_parts : (os : List Object) (p : ℕ) (words : List ℕ) (key : ℕ) (cs : List Capability) →
-    deliver os p (record { words = words; key = key; capabilities = cs }) ≡ with_slots_from (with_message os p words key) (annex_at os p) 28 cs
+pub deliver_by_parts : (os : List Object) (p : ℕ) (m : Message) → deliver os p m ≡ with_slots_from (with_message os p m.words m.key) (annex_at os p) 28 m.capabilities
 unfolding deliver with_message
-deliver_by_parts os p words key cs = refl
+deliver_by_parts os p m = refl
 
 -- a step of the delivery, and its end
 pub delivered_more : (before now after : List Object) (n i : ℕ) (cs : List Capability) → now ≡ with_slots_from before n 28 (take i cs) →
@@ -35,11 +35,10 @@ pub delivered_more : (before now after : List Object) (n i : ℕ) (cs : List Cap
 delivered_more before now after n i cs so_far step within =
     step ∙ ap (λ (os : List Object). with_slot os n (28 + i) (get_or cs i Void)) so_far ∙ sym (with_slots_more before n 28 cs i within)
 
-pub delivered_all : (os now : List Object) (p : ℕ) (words : List ℕ) (key : ℕ) (cs : List Capability) (n i : ℕ) →
-    now ≡ with_slots_from (with_message os p words key) n 28 (take i cs) → n ≡ annex_at os p → length cs ≤ i →
-    now ≡ deliver os p (record { words = words; key = key; capabilities = cs })
-delivered_all os now p words key cs n i so_far is all =
+pub delivered_all : (os now : List Object) (p : ℕ) (m : Message) (n i : ℕ) →
+    now ≡ with_slots_from (with_message os p m.words m.key) n 28 (take i m.capabilities) → n ≡ annex_at os p → length m.capabilities ≤ i → now ≡ deliver os p m
+delivered_all os now p m n i so_far is all =
     so_far
-    ∙ ap (with_slots_from (with_message os p words key) n 28) (take_all i cs all)
-    ∙ ap (λ (a : ℕ). with_slots_from (with_message os p words key) a 28 cs) is
-    ∙ sym (deliver_by_parts os p words key cs)
+    ∙ ap (with_slots_from (with_message os p m.words m.key) n 28) (take_all i m.capabilities all)
+    ∙ ap (λ (a : ℕ). with_slots_from (with_message os p m.words m.key) a 28 m.capabilities) is
+    ∙ sym (deliver_by_parts os p m)

@@ -1,14 +1,15 @@
 -- What an invocation comes to over a store of present frames.
-use Rattle.std.specs.Prelude.{◌≡◌, ◌↔◌, ℕ, ◌+◌, ◌^◌, ◌<◌, ◌≤◌, Bool, List, [], ◌∷◌, ◌++◌, None, Some, Result, IsErrOf, if◌then◌else◌, slice_set}
+use Rattle.std.specs.Prelude.{◌≡◌, ◌↔◌, ℕ, ◌+◌, ◌^◌, ◌<◌, ◌≤◌, Bool, List, [], ◌∷◌, ◌++◌, length, None, Some, Result, IsErrOf, if◌then◌else◌, slice_set}
 use Rattle.std.specs.Option.{option_to_list}
 use Rattle.model.specs.declared.capability.Capability.{Capability}
 use Rattle.model.specs.declared.capability.Capability.TheVariants.{Start, Resume}
 use Rattle.model.specs.declared.command.Invocation.{Invocation}
 use Rattle.model.specs.declared.command.Operation.{Operation}
 use Rattle.model.specs.declared.command.Operation.TheVariants.{Call, Return, Send}
+use Rattle.model.specs.declared.geometry.Geometry.{Geometry}
 use Rattle.model.specs.declared.object.Object.{Object}
 use Rattle.model.specs.declared.object.State.TheVariants.{Available}
-use Rattle.model.specs.Invoke.{Effect, invoke, after_gate, reply_of, deliver, sent_by}
+use Rattle.model.specs.Invoke.{Effect, invoke, on_kernel_object, after_gate, reply_of, deliver, sent_by}
 use Rattle.model.specs.Keepable.{IsSoundFrames}
 use Rattle.model.specs.Machine.{touching, touched_count}
 use Rattle.model.specs.Revoke.{consume}
@@ -22,7 +23,7 @@ use Rattle.gate.specs.declared.gates.Gate.{Gate}
 use Rattle.gate.specs.declared.looking.Asked.{Asked}
 use Rattle.gate.specs.declared.plan.Change.{Change}
 use Rattle.gate.specs.declared.plan.OrderPlan.{OrderPlan}
-use Rattle.gate.specs.Plan.{changed, outcome_of, target_of}
+use Rattle.gate.specs.Plan.{changed, outcome_of, target_of, FitsCap, IsOfProcess, IsWithinObject, MayHold}
 
 -- why an invocation wasn't carried out, where it is that objects weren't prepared
 abbrev pub fault_of : PrepareFault → InvokeFault
@@ -68,8 +69,8 @@ written_through operation process q annex = q ∷ annex ∷ (elim operation [ Se
 -- what an invocation writes is announced
 pub record AreAnnounced {S : Type 0} (Announced : S → ℕ → Type 0) (store : S) (operation : Operation) (process annex : ℕ) (change : Change) : Type 0 where
   pub target : (n : ℕ) → target_of change ≡ Some n → Announced store n
-  pub process : (operation ≡ Send → ⊥) → Announced store process
-  pub annex : operation ≡ Call → Announced store annex
+  pub invoker : (operation ≡ Send → ⊥) → Announced store process
+  pub registers : operation ≡ Call → Announced store annex
 
 -- the objects after the reply to a process that called, which is dropped where it doesn't run any more
 abbrev pub replied_to : List Object → ℕ → OrderPlan → List Object
@@ -86,6 +87,18 @@ pub record IsAsked (os : List Object) (i : Invocation) (asked : Asked) : Type 0 
   pub annex : asked.annex ≡ annex_at os i.process
   pub invoked : asked.invoked ≡ register_at os i.process i.register
   pub sent : asked.sent ≡ sent_by os i
+
+-- an order that is planned comes to what the definitions say, in objects that there are, and puts only what may be kept
+pub record IsPlanned (g : Geometry) (os : List Object) (i : Invocation) (plan : OrderPlan) : Type 0 where
+  pub effect : on_kernel_object os i ≡ record {
+    objects = finished os i.operation i.process plan;
+    written = written_by i.operation i.process (annex_at os i.process) plan.change;
+  }
+  pub within : IsWithinObject plan.change
+  pub process : IsOfProcess os plan.change
+  pub target : (n : ℕ) → target_of plan.change ≡ Some n → n < length os
+  pub holds : MayHold g os plan.change
+  pub fits : FitsCap g plan.capability
 
 -- frames that are sound at an age are sound at the next
 abbrev pub KeepsSoundFrames : Parts → Parts → Type 0

@@ -2,7 +2,7 @@
 use Rattle.std.specs.Prelude.{◌≡◌, ◌⊎◌, ℕ, ◌<◌, ◌≤◌, Option, None, Some, List, IsTrue}
 use Rattle.std.specs.Option.{option_to_list}
 use Rattle.model.specs.declared.capability.Capability.{Capability}
-use Rattle.model.specs.declared.capability.Capability.TheVariants.{Number, Page, Node, Process}
+use Rattle.model.specs.declared.capability.Capability.TheVariants.{Number, Page, Node, Space, Process}
 use Rattle.model.specs.declared.geometry.Geometry.{Geometry}
 use Rattle.model.specs.declared.object.Object.{Object}
 use Rattle.model.specs.declared.order.Arguments.{Arguments}
@@ -77,10 +77,11 @@ IsFor os c args (change.RootWord process index word) = (index < 4) × (process_n
 IsFor os c args (change.SetState process state) = process_named c ≡ Some process
 IsFor os c args (change.Space process held) = (process_named c ≡ Some process) × (held ≡ args.capability) × IsSpace held
 
--- a capability whose orders need no object: none of a page, a node or a process
+-- a capability whose orders need no object, and no access
 abbrev pub IsPlain : Capability → Type 0
 IsPlain (Page o a) = ⊥
 IsPlain (Node o a) = ⊥
+IsPlain (Space o h a) = ⊥
 IsPlain (Process p) = ⊥
 IsPlain _ = Unit {0}
 

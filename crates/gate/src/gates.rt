@@ -1,9 +1,11 @@
 // Invocations through gates: start and resume capabilities.
-ghost use Rattle.std.specs.Prelude.{◌≡◌, ◌↔◌, ◌+◌, ◌<◌, ◌≤◌, ◌^◌, ℕ, [], ◌∷◌, length, None, Some, OnOk, OnErr, IsErrOf, IsTrue};
+ghost use Rattle.std.specs.Prelude.{◌≡◌, ◌↔◌, ◌+◌, ◌<◌, ◌≤◌, ◌^◌, ℕ, [], ◌∷◌, length, None, true, ◌||◌, OnOk, OnErr, IsErrOf, IsTrue};
+ghost use Rattle.model.specs.declared.command.Command.TheVariants as command;
 ghost use Rattle.model.specs.Frame.{header_at, objects_of};
 ghost use Rattle.model.specs.Invoke.{after_gate, can_start, invoke};
 ghost use Rattle.model.specs.Keepable.{AreCurrent, AreKeepable, IsSoundFrames};
 ghost use Rattle.model.specs.Machine.{touching, touched_count};
+ghost use Rattle.model.specs.Text.{Fits};
 ghost use Rattle.model.specs.World.{annex_at, is_process, is_running_process};
 ghost use Rattle.capability.specs.Parts.{KeepsAside, frames_of};
 ghost use Rattle.std.specs.List.{All};
@@ -25,44 +27,45 @@ pub struct Gate {
     pub is_resume: bool,
 }
 
-/// What a gate receives: with a call the last register gets the right to answer.
-fn message(invocation: Invocation, sent: [Capability; 4], key: u16) -> Message
-    ensures words { result.words ≡ invocation.words }
+// What a gate receives: with a call the last register gets the right to answer.
+fn message(invocation: &Invocation, sent: [Capability; 4], key: u16) -> Message
+    ensures words { result.words ≡ invocation.now.words }
     ensures key { result.key ≡ key }
-    ensures capabilities { result.capabilities ≡ received invocation sent }
+    ensures capabilities { result.capabilities ≡ received invocation.now sent }
 {
+    let words = invocation.words;
     let mut capabilities = sent;
     if let Operation::Call = invocation.operation {
         capabilities[3] = Capability::Resume(invocation.process);
     }
     Message {
-        words: invocation.words,
+        words,
         key,
         capabilities,
     }
 }
 
-/// Announces what an invocation through a gate writes, and fetches it.
+// Announces what an invocation through a gate writes, and fetches it.
 fn announce<F: PresentFrames>(
     alloc: Global,
     store: &mut F,
-    invocation: Invocation,
+    invocation: &Invocation,
     receiver: u64,
     annex: u64,
 ) -> Result<(), PrepareFault>
     requires keepable { AreKeepable (F.parts store.old).geometry u64.MAX (frames_of (F.parts store.old)) }
-    requires process { invocation.process < length (F.parts store.old).headers }
+    requires process { invocation.now.process < length (F.parts store.old).headers }
     requires receiver { receiver < length (F.parts store.old).headers }
     requires annex { annex < length (F.parts store.old).headers }
-    ensures fetched { OnOk result (F.IsFetched store.new invocation.process × F.IsFetched store.new receiver × F.IsFetched store.new annex) }
-    ensures announced { OnOk result (F.IsAnnounced store.new receiver × F.IsAnnounced store.new annex × ((invocation.operation ≡ Operation.Send → ⊥) → F.IsAnnounced store.new invocation.process)) }
-    ensures touched { OnOk result ((F.parts store.new).touched ≡ touching (F.parts store.old).touched (written_through invocation.operation invocation.process receiver annex)) }
+    ensures fetched { OnOk result (F.IsFetched store.new invocation.now.process × F.IsFetched store.new receiver × F.IsFetched store.new annex) }
+    ensures announced { OnOk result (F.IsAnnounced store.new receiver × F.IsAnnounced store.new annex × ((invocation.now.operation ≡ Operation.Send → ⊥) → F.IsAnnounced store.new invocation.now.process)) }
+    ensures touched { OnOk result ((F.parts store.new).touched ≡ touching (F.parts store.old).touched (written_through invocation.now.operation invocation.now.process receiver annex)) }
     ensures within { touched_count (F.parts store.new).touched ≤ (F.parts store.new).geometry.log }
     ensures headers { (F.parts store.new).headers ≡ (F.parts store.old).headers }
     ensures contents { (F.parts store.new).contents ≡ (F.parts store.old).contents }
     ensures geometry { (F.parts store.new).geometry ≡ (F.parts store.old).geometry }
     ensures untouched { OnErr result ((F.parts store.new).touched ≡ (F.parts store.old).touched) }
-    ensures full { IsErrOf result PrepareFault.LogFull → (F.parts store.old).geometry.log < touched_count (touching (F.parts store.old).touched (written_through invocation.operation invocation.process receiver annex)) }
+    ensures full { IsErrOf result PrepareFault.LogFull → (F.parts store.old).geometry.log < touched_count (touching (F.parts store.old).touched (written_through invocation.now.operation invocation.now.process receiver annex)) }
     ensures cause { IsErrOf result PrepareFault.Failed ↔ ((F.parts store.old).failures < (F.parts store.new).failures) }
     ensures later { (F.parts store.old).failures ≤ (F.parts store.new).failures }
     ensures leads { F.LeadsTo store.old store.new }
@@ -71,19 +74,18 @@ fn announce<F: PresentFrames>(
     let fetched = [process, receiver, annex];
     match invocation.operation {
         Operation::Send => store.prepare(alloc, &fetched, &[receiver, annex]),
-        Operation::Call | Operation::Return => {
-            store.prepare(alloc, &fetched, &[receiver, annex, process])
-        }
+        Operation::Call => store.prepare(alloc, &fetched, &[receiver, annex, process]),
+        Operation::Return => store.prepare(alloc, &fetched, &[receiver, annex, process]),
     }
 }
 
-/// The state of the process that invokes changes: one that calls waits, and one that returns is
-/// available.
-fn leave<F: PresentFrames>(store: &mut F, invocation: Invocation)
-    requires process { IsTrue (is_process (objects_of (frames_of (F.parts store.old))) invocation.process) }
-    requires fetched { F.IsFetched store.old invocation.process }
-    requires announced { (invocation.operation ≡ Operation.Send → ⊥) → F.IsAnnounced store.old invocation.process }
-    ensures objects { objects_of (frames_of (F.parts store.new)) ≡ after_gate (objects_of (frames_of (F.parts store.old))) invocation }
+// The state of the process that invokes changes: one that calls waits, and one that returns is
+// available.
+fn leave<F: PresentFrames>(store: &mut F, invocation: &Invocation)
+    requires process { IsTrue (is_process (objects_of (frames_of (F.parts store.old))) invocation.now.process) }
+    requires fetched { F.IsFetched store.old invocation.now.process }
+    requires announced { (invocation.now.operation ≡ Operation.Send → ⊥) → F.IsAnnounced store.old invocation.now.process }
+    ensures objects { objects_of (frames_of (F.parts store.new)) ≡ after_gate (objects_of (frames_of (F.parts store.old))) invocation.now }
     ensures current { AreCurrent (frames_of (F.parts store.old)) → AreCurrent (frames_of (F.parts store.new)) }
     ensures keepable { (age : ℕ)
         → AreKeepable (F.parts store.old).geometry age (frames_of (F.parts store.old))
@@ -98,29 +100,49 @@ fn leave<F: PresentFrames>(store: &mut F, invocation: Invocation)
     }
 }
 
-/// The message goes through the gate. One that works only once is given up at the end, so that a
-/// copy of it that was sent arrives void.
-fn enter<F: PresentFrames>(store: &mut F, invocation: Invocation, gate: Gate, annex: u64, sent: [Capability; 4])
-    requires process { IsTrue (is_process (objects_of (frames_of (F.parts store.old))) invocation.process) }
+// The message goes through the gate. One that works only once is given up at the end, so that a
+// copy of it that was sent arrives void.
+fn enter<F: PresentFrames>(
+    store: &mut F,
+    invocation: &Invocation,
+    gate: Gate,
+    annex: u64,
+    sent: [Capability; 4],
+)
+    requires process { IsTrue (is_process (objects_of (frames_of (F.parts store.old))) invocation.now.process) }
     requires receiver { IsTrue (is_process (objects_of (frames_of (F.parts store.old))) gate.process) }
     requires annex { annex ≡ annex_at (objects_of (frames_of (F.parts store.old))) gate.process }
     requires calls { (header_at (F.parts store.old).headers gate.process).calls < u64.MAX }
     requires current { AreCurrent (frames_of (F.parts store.old)) }
-    requires fetched { F.IsFetched store.old invocation.process × F.IsFetched store.old gate.process × F.IsFetched store.old annex }
-    requires announced { F.IsAnnounced store.old gate.process × F.IsAnnounced store.old annex × ((invocation.operation ≡ Operation.Send → ⊥) → F.IsAnnounced store.old invocation.process) }
-    ensures objects { objects_of (frames_of (F.parts store.new)) ≡ entered (objects_of (frames_of (F.parts store.old))) invocation gate sent }
+    requires fetched { F.IsFetched store.old invocation.now.process × F.IsFetched store.old gate.process × F.IsFetched store.old annex }
+    requires announced { F.IsAnnounced store.old gate.process × F.IsAnnounced store.old annex × ((invocation.now.operation ≡ Operation.Send → ⊥) → F.IsAnnounced store.old invocation.now.process) }
+    ensures objects { objects_of (frames_of (F.parts store.new)) ≡ entered (objects_of (frames_of (F.parts store.old))) invocation.now gate sent }
     ensures current { AreCurrent (frames_of (F.parts store.new)) }
     ensures keepable { (age : ℕ) → age + 1 < 2 ^ 64
-        → All (FitsCap (F.parts store.old).geometry) (received invocation sent)
+        → All (FitsCap (F.parts store.old).geometry) (received invocation.now sent)
         → AreKeepable (F.parts store.old).geometry age (frames_of (F.parts store.old))
         → AreKeepable (F.parts store.old).geometry (age + 1) (frames_of (F.parts store.new)) }
     ensures aside { KeepsAside F.parts F.IsFetched F.IsAnnounced F.LeadsTo store.old store.new }
 {
     leave(store, invocation);
-    deliver(store, gate.process, message(invocation, sent, gate.key));
+    let message = message(invocation, sent, gate.key);
+    deliver(store, gate.process, message);
     if gate.is_resume {
         objects::consume(store, gate.process);
     }
+}
+
+// Whether a gate can be entered: it resumes a process, or that is available, or it returns to
+// itself.
+fn can_enter<F: PresentFrames>(store: &F, invocation: &Invocation, gate: Gate) -> bool
+    requires fetched { F.IsFetched store.now gate.process }
+    requires process { IsTrue (is_process (objects_of (frames_of (F.parts store.now))) gate.process) }
+    ensures { result ≡ (gate.is_resume || can_start (objects_of (frames_of (F.parts store.now))) invocation.now gate.process) }
+{
+    let is_available = roots::state(store, gate.process) == State::Available;
+    let is_return = invocation.operation == Operation::Return;
+    let is_own = is_return && invocation.process == gate.process;
+    gate.is_resume || is_available || is_own
 }
 
 /// An invocation by a running process through a gate. A start capability needs an available
@@ -128,17 +150,20 @@ fn enter<F: PresentFrames>(store: &mut F, invocation: Invocation, gate: Gate, an
 pub fn invoke_gate<F: PresentFrames>(
     alloc: Global,
     store: &mut F,
-    invocation: Invocation,
+    invocation: &Invocation,
     asked: Asked,
     gate: Gate,
 ) -> Result<(), InvokeFault>
     requires sound { (age : ℕ) × IsSoundFrames (F.parts store.old).geometry age (frames_of (F.parts store.old)) }
-    requires running { IsTrue (is_running_process (objects_of (frames_of (F.parts store.old))) invocation.process) }
-    requires asked { IsAsked (objects_of (frames_of (F.parts store.old))) invocation asked }
+    requires running { IsTrue (is_running_process (objects_of (frames_of (F.parts store.old))) invocation.now.process) }
+    requires fits { Fits (command.Invoke invocation.now) }
+    requires few { length (F.parts store.old).headers < 2 ^ 64 }
+    requires asked { IsAsked (objects_of (frames_of (F.parts store.old))) invocation.now asked }
     requires gate { asked.invoked ≡ gate_capability gate }
-    ensures done { OnOk result (Invokes invocation (F.parts store.old).geometry.log (objects_of (frames_of (F.parts store.old))) (F.parts store.old).touched (objects_of (frames_of (F.parts store.new))) (F.parts store.new).touched) }
-    ensures stalled { IsErrOf result InvokeFault.Stalled → invoke (objects_of (frames_of (F.parts store.old))) invocation ≡ None }
-    ensures full { IsErrOf result InvokeFault.LogFull → Overfills invocation (F.parts store.old).geometry.log (objects_of (frames_of (F.parts store.old))) (F.parts store.old).touched }
+    requires key { gate.is_resume ≡ true → gate.key ≡ 0 }
+    ensures done { OnOk result (Invokes invocation.now (F.parts store.old).geometry.log (objects_of (frames_of (F.parts store.old))) (F.parts store.old).touched (objects_of (frames_of (F.parts store.new))) (F.parts store.new).touched) }
+    ensures stalled { IsErrOf result InvokeFault.Stalled → invoke (objects_of (frames_of (F.parts store.old))) invocation.now ≡ None }
+    ensures full { IsErrOf result InvokeFault.LogFull → Overfills invocation.now (F.parts store.old).geometry.log (objects_of (frames_of (F.parts store.old))) (F.parts store.old).touched }
     ensures sound { OnOk result (KeepsSoundFrames (F.parts store.old) (F.parts store.new)) }
     ensures unchanged { OnErr result (IsUnchanged (F.parts store.old) (F.parts store.new)) }
     ensures cause { IsErrOf result InvokeFault.Failed ↔ ((F.parts store.old).failures < (F.parts store.new).failures) }
@@ -147,20 +172,11 @@ pub fn invoke_gate<F: PresentFrames>(
     ensures leads { F.LeadsTo store.old store.new }
 {
     let annex = look_at_process(alloc, store, gate.process)?;
-    if !gate.is_resume && !can_start(store, invocation, gate.process) {
+    if !can_enter(store, invocation, gate) {
         return Err(InvokeFault::Stalled);
     }
     announce(alloc, store, invocation, gate.process, annex)?;
-    enter(store, invocation, gate, annex, asked.sent);
+    let sent = asked.sent;
+    enter(store, invocation, gate, annex, sent);
     Ok(())
-}
-
-/// Whether a process, which is fetched, can be started: it is available, or returns to itself.
-fn can_start<F: PresentFrames>(store: &F, invocation: Invocation, process: u64) -> bool
-    requires fetched { F.IsFetched store.now process }
-    ensures { result ≡ can_start (objects_of (frames_of (F.parts store.now))) invocation process }
-{
-    let is_available = roots::state(store, process) == State::Available;
-    let is_return = invocation.operation == Operation::Return;
-    is_available || (is_return && invocation.process == process)
 }

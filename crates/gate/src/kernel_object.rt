@@ -1,12 +1,14 @@
 // Invocations of kernel objects.
 ghost use Rattle.std.specs.Prelude.{◌≡◌, ◌↔◌, ◌+◌, ◌<◌, ◌≤◌, ◌^◌, ℕ, [], ◌∷◌, length, Some, IfOk, OnOk, OnErr, IsErrOf, IsTrue};
+ghost use Rattle.model.specs.declared.command.Command.TheVariants as command;
 ghost use Rattle.model.specs.Frame.{header_at, objects_of};
 ghost use Rattle.model.specs.Invoke.{deliver, ordered, reply_of, sent_by};
 ghost use Rattle.model.specs.Keepable.{AreCurrent, AreKeepable, IsSoundFrames};
 ghost use Rattle.model.specs.Machine.{touching, touched_count};
+ghost use Rattle.model.specs.Text.{Fits};
 ghost use Rattle.model.specs.World.{annex_at, is_process, is_running_process, register_at};
 ghost use Rattle.capability.specs.Parts.{KeepsAside, frames_of};
-ghost use Rattle.gate.specs.Invoke.{finished, replied_to, written_by, AreAnnounced, Invokes, IsAsked, IsKernelObject, IsUnchanged, KeepsSoundFrames, Overfills};
+ghost use Rattle.gate.specs.Invoke.{finished, replied_to, written_by, AreAnnounced, Invokes, IsAsked, IsKernelObject, IsPlanned, IsUnchanged, KeepsSoundFrames, Looks, Overfills};
 ghost use Rattle.gate.specs.Plan.{changed, outcome_of, target_of, FitsCap, IsOfProcess, IsWithinObject, MayHold};
 
 use crate::change::make;
@@ -19,7 +21,7 @@ use capability::{PrepareFault, PresentFrames, objects, roots};
 use model::{Arguments, Capability, Invocation, Message, Operation, State};
 use std::alloc::Global;
 
-/// Announces what an invocation writes, and fetches it.
+// Announces what an invocation writes, and fetches it.
 fn announce<F: PresentFrames>(
     alloc: Global,
     store: &mut F,
@@ -61,7 +63,7 @@ fn announce<F: PresentFrames>(
     }
 }
 
-/// Gives a process that called the reply, where it still runs.
+// Gives a process that called the reply, where it still runs.
 fn reply<F: PresentFrames>(store: &mut F, process: u64, plan: OrderPlan)
     requires root_fetched { F.IsFetched store.old process }
     requires root_announced { F.IsAnnounced store.old process }
@@ -91,8 +93,8 @@ fn reply<F: PresentFrames>(store: &mut F, process: u64, plan: OrderPlan)
     deliver(store, process, message);
 }
 
-/// Makes the change of an order. Before it a process that returns becomes available; after it one
-/// that called gets the reply, where it still runs.
+// Makes the change of an order. Before it a process that returns becomes available; after it one
+// that called gets the reply, where it still runs.
 fn finish<F: PresentFrames>(
     store: &mut F,
     operation: Operation,
@@ -130,26 +132,19 @@ fn finish<F: PresentFrames>(
     }
 }
 
-/// An invocation of a kernel object by a running process: the order is carried out and, where it
-/// was called, its reply delivered.
-pub fn invoke_object<F: PresentFrames>(
+// Fetches what an order reads, and plans it.
+fn plan_order<F: PresentFrames>(
     alloc: Global,
     store: &mut F,
-    invocation: Invocation,
+    invocation: &Invocation,
     asked: Asked,
-) -> Result<(), PrepareFault>
+) -> Result<OrderPlan, PrepareFault>
     requires sound { (age : ℕ) × IsSoundFrames (F.parts store.old).geometry age (frames_of (F.parts store.old)) }
-    requires running { IsTrue (is_running_process (objects_of (frames_of (F.parts store.old))) invocation.process) }
-    requires asked { IsAsked (objects_of (frames_of (F.parts store.old))) invocation asked }
-    requires object { IsKernelObject asked.invoked }
-    ensures done { OnOk result (Invokes invocation (F.parts store.old).geometry.log (objects_of (frames_of (F.parts store.old))) (F.parts store.old).touched (objects_of (frames_of (F.parts store.new))) (F.parts store.new).touched) }
-    ensures full { IsErrOf result PrepareFault.LogFull → Overfills invocation (F.parts store.old).geometry.log (objects_of (frames_of (F.parts store.old))) (F.parts store.old).touched }
-    ensures sound { OnOk result (KeepsSoundFrames (F.parts store.old) (F.parts store.new)) }
-    ensures unchanged { OnErr result (IsUnchanged (F.parts store.old) (F.parts store.new)) }
-    ensures cause { IsErrOf result PrepareFault.Failed ↔ ((F.parts store.old).failures < (F.parts store.new).failures) }
-    ensures later { (F.parts store.old).failures ≤ (F.parts store.new).failures }
-    ensures geometry { (F.parts store.new).geometry ≡ (F.parts store.old).geometry }
-    ensures leads { F.LeadsTo store.old store.new }
+    requires fits { Fits (command.Invoke invocation.now) }
+    requires few { length (F.parts store.old).headers < 2 ^ 64 }
+    requires asked { IsAsked (objects_of (frames_of (F.parts store.old))) invocation.now asked }
+    ensures planned { IfOk result (λ plan. IsPlanned (F.parts store.old).geometry (objects_of (frames_of (F.parts store.old))) invocation.now plan) }
+    ensures looks { Looks F.parts F.LeadsTo store.old store.new result }
 {
     look_at_named(alloc, store, asked.invoked)?;
     let arguments = Arguments {
@@ -157,11 +152,39 @@ pub fn invoke_object<F: PresentFrames>(
         second: invocation.words[2],
         capability: asked.sent[0],
     };
-    let plan = plan(store, asked.invoked, invocation.words[0], arguments);
-    let Invocation {
-        operation, process, ..
-    } = invocation;
-    announce(alloc, store, operation, process, asked.annex, plan.change)?;
-    finish(store, operation, process, asked.annex, plan);
+    let order = invocation.words[0];
+    Ok(plan(store, asked.invoked, order, arguments))
+}
+
+/// An invocation of a kernel object by a running process: the order is carried out and, where it
+/// was called, its reply delivered.
+pub fn invoke_object<F: PresentFrames>(
+    alloc: Global,
+    store: &mut F,
+    invocation: &Invocation,
+    asked: Asked,
+) -> Result<(), InvokeFault>
+    requires sound { (age : ℕ) × IsSoundFrames (F.parts store.old).geometry age (frames_of (F.parts store.old)) }
+    requires running { IsTrue (is_running_process (objects_of (frames_of (F.parts store.old))) invocation.now.process) }
+    requires fits { Fits (command.Invoke invocation.now) }
+    requires few { length (F.parts store.old).headers < 2 ^ 64 }
+    requires asked { IsAsked (objects_of (frames_of (F.parts store.old))) invocation.now asked }
+    requires object { IsKernelObject asked.invoked }
+    ensures done { OnOk result (Invokes invocation.now (F.parts store.old).geometry.log (objects_of (frames_of (F.parts store.old))) (F.parts store.old).touched (objects_of (frames_of (F.parts store.new))) (F.parts store.new).touched) }
+    ensures stalled { IsErrOf result InvokeFault.Stalled → ⊥ }
+    ensures full { IsErrOf result InvokeFault.LogFull → Overfills invocation.now (F.parts store.old).geometry.log (objects_of (frames_of (F.parts store.old))) (F.parts store.old).touched }
+    ensures sound { OnOk result (KeepsSoundFrames (F.parts store.old) (F.parts store.new)) }
+    ensures unchanged { OnErr result (IsUnchanged (F.parts store.old) (F.parts store.new)) }
+    ensures cause { IsErrOf result InvokeFault.Failed ↔ ((F.parts store.old).failures < (F.parts store.new).failures) }
+    ensures later { (F.parts store.old).failures ≤ (F.parts store.new).failures }
+    ensures geometry { (F.parts store.new).geometry ≡ (F.parts store.old).geometry }
+    ensures leads { F.LeadsTo store.old store.new }
+{
+    let operation = invocation.operation;
+    let process = invocation.process;
+    let annex = asked.annex;
+    let plan = plan_order(alloc, store, invocation, asked)?;
+    announce(alloc, store, operation, process, annex, plan.change)?;
+    finish(store, operation, process, annex, plan);
     Ok(())
 }

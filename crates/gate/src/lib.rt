@@ -5,7 +5,7 @@ mod change;
 mod delivery;
 mod fault;
 mod gates;
-mod invoke;
+mod invocation;
 mod kernel_object;
 mod looking;
 mod node;
@@ -15,4 +15,4 @@ mod plan;
 mod process;
 
 pub use fault::InvokeFault;
-pub use invoke::invoke;
+pub use invocation::invoke;

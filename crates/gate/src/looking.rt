@@ -1,5 +1,5 @@
 // What an invocation reads before anything changes.
-ghost use Rattle.std.specs.Prelude.{◌≡◌, ℕ, ◌<◌, length, Some, IfOk, OnOk, IsTrue};
+ghost use Rattle.std.specs.Prelude.{◌≡◌, ℕ, ◌<◌, ◌^◌, length, Some, IfOk, OnOk, IsTrue};
 ghost use Rattle.model.specs.Capability.{named};
 ghost use Rattle.model.specs.Frame.{objects_of};
 ghost use Rattle.model.specs.Keepable.{AreKeepable};
@@ -24,11 +24,7 @@ pub struct Asked {
 }
 
 /// Fetches one object.
-pub fn look<F: PresentFrames>(
-    alloc: Global,
-    store: &mut F,
-    number: u64,
-) -> Result<(), PrepareFault>
+pub fn look<F: PresentFrames>(alloc: Global, store: &mut F, number: u64) -> Result<(), PrepareFault>
     requires known { number < length (F.parts store.old).headers }
     requires keepable { AreKeepable (F.parts store.old).geometry u64.MAX (frames_of (F.parts store.old)) }
     ensures fetched { OnOk result (F.IsFetched store.new number) }
@@ -37,7 +33,7 @@ pub fn look<F: PresentFrames>(
     objects::fetch(store, alloc, &[number])
 }
 
-/// Fetches a process and its annex.
+/// Fetches a process and its annex, and gives the number of the annex.
 pub fn look_at_process<F: PresentFrames>(
     alloc: Global,
     store: &mut F,
@@ -85,12 +81,12 @@ pub fn look_at_named<F: PresentFrames>(
 pub fn ask<F: PresentFrames>(
     alloc: Global,
     store: &mut F,
-    invocation: Invocation,
+    invocation: &Invocation,
 ) -> Result<Asked, PrepareFault>
     requires keepable { AreKeepable (F.parts store.old).geometry u64.MAX (frames_of (F.parts store.old)) }
-    requires process { IsTrue (is_process (objects_of (frames_of (F.parts store.old))) invocation.process) }
-    requires annex { IsTrue (is_annex (content_at (objects_of (frames_of (F.parts store.old))) (annex_at (objects_of (frames_of (F.parts store.old))) invocation.process))) }
-    ensures asked { IfOk result (λ asked. IsAsked (objects_of (frames_of (F.parts store.old))) invocation asked) }
+    requires process { IsTrue (is_process (objects_of (frames_of (F.parts store.old))) invocation.now.process) }
+    requires annex { IsTrue (is_annex (content_at (objects_of (frames_of (F.parts store.old))) (annex_at (objects_of (frames_of (F.parts store.old))) invocation.now.process))) }
+    ensures asked { IfOk result (λ asked. IsAsked (objects_of (frames_of (F.parts store.old))) invocation.now asked) }
     ensures looks { Looks F.parts F.LeadsTo store.old store.new result }
 {
     let annex = look_at_process(alloc, store, invocation.process)?;
@@ -104,4 +100,11 @@ pub fn ask<F: PresentFrames>(
             objects::slot(store, annex, invocation.sent[3].index()),
         ],
     })
+}
+
+/// The numbers of objects have 64 bits. This does nothing; its contract is the fact.
+pub fn numbers_fit<F: PresentFrames>(store: &F)
+    ensures { length (F.parts store.now).headers < 2 ^ 64 }
+{
+    let _count = store.table().count();
 }

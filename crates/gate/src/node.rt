@@ -13,7 +13,7 @@ use bitflags::Flags;
 use capability::{PresentFrames, objects};
 use model::{Access, Arguments, Capability, NodeOrder, ResultCode, SLOTS};
 
-/// The height of the highest address space.
+// The height of the highest address space.
 const MAX_HEIGHT: u64 = 4;
 
 /// The order that a word asks of a node.
@@ -30,7 +30,8 @@ pub fn node_order(word: u64) -> Option<NodeOrder>
     }
 }
 
-/// What is fetched through a capability with that access: weakly, what is left once it is diminished.
+// What is fetched through a capability with that access: weakly, what is left once it is
+// diminished.
 fn fetched(access: Access, capability: Capability) -> Capability
     ensures { result ≡ fetched access capability }
 {
@@ -41,13 +42,8 @@ fn fetched(access: Access, capability: Capability) -> Capability
     }
 }
 
-/// What a store into a slot of a node comes to, of the capability that was sent or of a number.
-fn stored(
-    object: u64,
-    access: Access,
-    arguments: Arguments,
-    capability: Capability,
-) -> OrderPlan
+// What a store into a slot of a node comes to, of the capability that was sent or of a number.
+fn stored(object: u64, access: Access, arguments: Arguments, capability: Capability) -> OrderPlan
     requires { (capability ≡ arguments.capability) ⊎ (capability ≡ Capability.Number arguments.second) }
     ensures only { (os : List Object) → IsFor os (Capability.Node object access) arguments result.change }
     ensures outcome { (os : List Object) → outcome_of os result ≡ stored os object access arguments.first capability }

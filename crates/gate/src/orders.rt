@@ -16,16 +16,16 @@ use bitflags::Flags;
 use capability::PresentFrames;
 use model::{Access, Arguments, Capability, ResultCode};
 
-/// The order that reads a number.
+// The order that reads a number.
 const READ_NUMBER: u64 = 1;
 
-/// The order that reduces an address space.
+// The order that reduces an address space.
 const REDUCE_SPACE: u64 = 3;
 
-/// The order that tells the kind of a capability.
+// The order that tells the kind of a capability.
 const CLASSIFY: u64 = 1;
 
-/// What an order on an address space comes to.
+// What an order on an address space comes to.
 #[tactic(auto, unfolding(model::specs::Order::order))]
 fn on_space(object: u64, height: u8, access: Access, word: u64, arguments: Arguments) -> OrderPlan
     ensures only { (os : List Object) → IsFor os (Capability.Space object height access) arguments result.change }
@@ -45,7 +45,7 @@ fn on_space(object: u64, height: u8, access: Access, word: u64, arguments: Argum
     }
 }
 
-/// The tag of a capability, as the order that classifies tells it.
+// The tag of a capability, as the order that classifies tells it.
 fn tag_of(capability: Capability) -> u64
     ensures { result ≡ tag_of capability }
 {
@@ -63,7 +63,7 @@ fn tag_of(capability: Capability) -> u64
     }
 }
 
-/// The access of a capability, or 0 where it has none.
+// The access of a capability, or 0 where it has none.
 fn access_bits(capability: Capability) -> u64
     ensures { result ≡ access_bits capability }
 {
@@ -75,7 +75,7 @@ fn access_bits(capability: Capability) -> u64
     }
 }
 
-/// What an order on a capability comes to that needs no object for it.
+// What an order on a capability comes to that needs no object for it.
 #[tactic(auto, unfolding(model::specs::Order::order))]
 fn on_plain(word: u64, capability: Capability, arguments: Arguments) -> OrderPlan
     requires { IsPlain capability }
@@ -89,11 +89,6 @@ fn on_plain(word: u64, capability: Capability, arguments: Arguments) -> OrderPla
             let sent = arguments.capability;
             OrderPlan::told(tag_of(sent), access_bits(sent))
         }
-        Capability::Space {
-            object,
-            height,
-            access,
-        } => on_space(object, height, access, word, arguments),
         Capability::Void => OrderPlan::refused(ResultCode::VoidCapability),
         _ => OrderPlan::refused(ResultCode::NoOrder),
     }
@@ -130,6 +125,11 @@ pub fn plan<F: PresentFrames>(
             Some(order) => on_process(store, process, order, arguments),
             None => OrderPlan::refused(ResultCode::NoOrder),
         },
+        Capability::Space {
+            object,
+            height,
+            access,
+        } => on_space(object, height, access, word, arguments),
         _ => on_plain(word, capability, arguments),
     }
 }

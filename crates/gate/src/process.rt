@@ -12,10 +12,10 @@ use crate::plan::{Change, OrderPlan};
 use capability::{PresentFrames, objects, roots};
 use model::{Arguments, Capability, ProcessOrder, REGISTERS, ResultCode, State};
 
-/// How many words a process is delivered.
+// How many words a process is delivered.
 const ROOT_WORDS: u64 = 4;
 
-/// The greatest key of a start capability.
+// The greatest key of a start capability.
 const MAX_KEY: u64 = 65535;
 
 /// The order that a word asks of a process.
@@ -36,7 +36,7 @@ pub fn process_order(word: u64) -> Option<ProcessOrder>
     }
 }
 
-/// Whether a capability may be an address space.
+// Whether a capability may be an address space.
 fn may_be_space(capability: Capability) -> bool
     ensures value { result ≡ is_space capability }
     ensures space { IsTrue result → IsSpace capability }

@@ -1,2 +1,2 @@
-pub mod Places
-pub mod Runs
+mod Places
+mod Runs

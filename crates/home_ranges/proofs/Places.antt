@@ -1,16 +1,21 @@
 -- Places of numbers in ranges that cover them.
-use Rattle.std.proofs.Common.{◌≡◌, ℕ, suc, ◌+◌, ◌-◌, ◌<◌, ◌≤◌, List, [], ◌∷◌, length, get_or, map, drop, sym, ap, subst, ◌∙◌, inl, inr, arith, length-append, Bool, true, false, nat_lt, nat_le, ◌&&◌, ⊎_elim}
+use Rattle.std.proofs.Common.{◌≡◌, ℕ, suc, ◌+◌, ◌-◌, ◌<◌, ◌≤◌, List, [], ◌∷◌, length, get_or, map, drop, sym, ap, subst, ◌∙◌, inl, inr, arith, Bool, true, false, nat_lt, nat_le, ◌&&◌}
 use Rattle.std.specs.Prelude.{if◌then◌else◌}
 use Rattle.std.proofs.lemmas.Bool.{cases_lt}
-use Rattle.std.proofs.lemmas.List.{length-map, get_or_append_left, get_or-append_right, get_or-map, drop_more, drop_all}
+use Rattle.std.proofs.lemmas.List.{length-map, get_or_append_left, get_or-map, drop_more, drop_all}
 use Rattle.std.proofs.lemmas.Bool.Decides.{nat_tests}
 use Rattle.model.specs.declared.geometry.Geometry.{Geometry}
 use Rattle.layout.specs.declared.extent.Extent.{Extent}
 use Rattle.layout.specs.declared.extent.HomeRange.{HomeRange}
-use Rattle.layout.specs.Superblock.{Plan, IsPlan, Cover, IsOfOneKind, IsWithin, IsApart, IsInside, extent_at, extents, range_extent, half_extent}
-use Rattle.layout.specs.Image.{home_sector, frame_length}
+use Rattle.layout.specs.Superblock.{Plan, IsPlan, Cover, IsOfOneKind, IsWithin, IsApart, IsInside, extent_at, extents, range_extent, half_extent, half_start}
+use Rattle.layout.specs.declared.half.Half.{Half}
+use Rattle.layout.specs.declared.half.Half.TheVariants.{First, Second}
+use Rattle.layout.specs.Frame.{frame_length}
+use Rattle.layout.specs.Half.{half_of}
+use Rattle.layout.specs.Image.{home_sector}
 use Rattle.layout.proofs.Halves.{itself, apart_inside, apart_turned, many, half_at}
-use Rattle.home_ranges.specs.Home.{IsObject, home_place, place_in}
+use Rattle.frame_io.specs.Frames.{IsObject}
+use Rattle.home_ranges.specs.Home.{home_place, place_in}
 use Rattle.home_ranges.specs.Laws.{home_extent, PlacesAreWithin, PlacesAreApart, PlacesSpareLog}
 
 abbrev range_at : List HomeRange → ℕ → HomeRange
@@ -83,7 +88,7 @@ find_in g n number (r ∷ rs) c low high = elim (cases_lt number (n + r.count)) 
       )
 ]
 
-found : (p : Plan) (number : ℕ) → IsPlan p → IsObject p number → (i : ℕ) × IsFound p.geometry p.ranges number i
+found : (p : Plan) (number : ℕ) → IsPlan p → IsObject p.geometry number → (i : ℕ) × IsFound p.geometry p.ranges number i
 found p number fits is = find_in p.geometry 0 number p.ranges fits.cover (omega arith) is
 
 -- how many sectors the frame of a number takes
@@ -154,7 +159,7 @@ range_spares_half p i k fits lt few =
 
 -- the sectors of a number are those in its range
 home_is : (p : Plan) (number i : ℕ) → IsFound p.geometry p.ranges number i → home_extent p number ≡ extent_in p.geometry (range_at p.ranges i) number
-home_is p number i at = ap (λ (sector : ℕ). extent_of sector (frame_length p number)) at.place
+home_is p number i at = ap (λ (sector : ℕ). extent_of sector (frame_length p.geometry number)) at.place
 
 home_inside : (p : Plan) (number i : ℕ) → IsFound p.geometry p.ranges number i → IsInside (home_extent p number) (range_extent p.geometry (range_at p.ranges i))
 home_inside p number i at = subst (λ (e : Extent). IsInside e (range_extent p.geometry (range_at p.ranges i))) (sym (home_is p number i at)) (inside_range p.geometry (range_at p.ranges i) number at.has)
@@ -186,19 +191,23 @@ places_apart p a b fits is_a is_b differ =
       ]
     ]
 
-pub places_spare_log : PlacesSpareLog
-places_spare_log p a fits is =
+spares_half : (p : Plan) (a : ℕ) (h : Half) → IsPlan p → IsObject p.geometry a → IsApart (home_extent p a) (half_extent p.geometry (half_start p h))
+spares_half p a First fits is =
     let at = found p a fits is in
-    let range = range_extent p.geometry (range_at p.ranges at.0) in
-    let inside = home_inside p a at.0 at.1 in (
-      apart_inside (home_extent p a) (half_extent p.geometry p.half_0) range (half_extent p.geometry p.half_0) inside (itself (half_extent p.geometry p.half_0)) (range_spares_half p at.0 0 fits at.1.within (omega arith)),
-      apart_inside (home_extent p a) (half_extent p.geometry p.half_1) range (half_extent p.geometry p.half_1) inside (itself (half_extent p.geometry p.half_1)) (range_spares_half p at.0 1 fits at.1.within (omega arith)),
-    )
+    apart_inside (home_extent p a) (half_extent p.geometry p.half_0) (range_extent p.geometry (range_at p.ranges at.0)) (half_extent p.geometry p.half_0)
+    (home_inside p a at.0 at.1) (itself (half_extent p.geometry p.half_0)) (range_spares_half p at.0 0 fits at.1.within (omega arith))
+spares_half p a Second fits is =
+    let at = found p a fits is in
+    apart_inside (home_extent p a) (half_extent p.geometry p.half_1) (range_extent p.geometry (range_at p.ranges at.0)) (half_extent p.geometry p.half_1)
+    (home_inside p a at.0 at.1) (itself (half_extent p.geometry p.half_1)) (range_spares_half p at.0 1 fits at.1.within (omega arith))
+
+pub places_spare_log : PlacesSpareLog
+places_spare_log p a generation fits is = spares_half p a (half_of generation) fits is
 
 -- ---- the search for the range
 
 -- the ranges before the i-th don't have the number
-pub search_ends : (p : Plan) (number i : ℕ) → IsPlan p → IsObject p number → length p.ranges ≤ i → home_sector p.geometry (drop i p.ranges) number ≡ home_place p number → ⊥
+pub search_ends : (p : Plan) (number i : ℕ) → IsPlan p → IsObject p.geometry number → length p.ranges ≤ i → home_sector p.geometry (drop i p.ranges) number ≡ home_place p number → ⊥
 search_ends p number i fits is done same =
     let within = places_within p number fits is in
     let none : home_sector p.geometry (drop i p.ranges) number ≡ 0 = ap (λ (rs : List HomeRange). home_sector p.geometry rs number) (drop_all i p.ranges done) in
@@ -229,9 +238,9 @@ sector_fits p i fits lt = let within = range_within p i fits lt in omega (arith,
 pub record IsPlace (p : Plan) (number place : ℕ) : Type 0 where
   pub value : place ≡ home_place p number
   pub behind : 5 ≤ place
-  pub inside : place + frame_length p number ≤ p.total
+  pub inside : place + frame_length p.geometry number ≤ p.total
 
-place_is : (p : Plan) (number place : ℕ) → IsPlan p → IsObject p number → place ≡ home_place p number → IsPlace p number place
+place_is : (p : Plan) (number place : ℕ) → IsPlan p → IsObject p.geometry number → place ≡ home_place p number → IsPlace p number place
 place_is p number place fits is same =
     let within = places_within p number fits is in
     record { value = same; behind = omega (arith, within.0, same); inside = omega (arith, within.1, same) }
@@ -240,19 +249,19 @@ place_is p number place fits is same =
 pub range_fits : (p : Plan) (rs : List HomeRange) (i : ℕ) → rs ≡ p.ranges → IsPlan p → i < length rs → (range_at rs i).sector ≤ 131072
 range_fits p rs i same fits lt = subst (λ (xs : List HomeRange). (range_at xs i).sector ≤ 131072) (sym same) (sector_fits p i fits (subst (λ (xs : List HomeRange). i < length xs) same lt))
 
-found_here : (p q : Plan) (number i place : ℕ) → p ≡ q → IsPlan p → IsObject q number → i < length p.ranges → home_sector q.geometry (drop i q.ranges) number ≡ home_place q number
+found_here : (p q : Plan) (number i place : ℕ) → p ≡ q → IsPlan p → IsObject q.geometry number → i < length p.ranges → home_sector q.geometry (drop i q.ranges) number ≡ home_place q number
     → (range_at p.ranges i).first ≤ number → number - (range_at p.ranges i).first < (range_at p.ranges i).count → place ≡ place_in p.geometry (range_at p.ranges i) number → IsPlace q number place
 found_here p q number i place e fits is lt same low high made =
-    subst (λ (x : Plan). IsObject x number → home_sector x.geometry (drop i x.ranges) number ≡ home_place x number → IsPlace x number place) e
+    subst (λ (x : Plan). IsObject x.geometry number → home_sector x.geometry (drop i x.ranges) number ≡ home_place x number → IsPlace x number place) e
     (λ is_p same_p. place_is p number place fits is_p (made ∙ search_found p number i lt same_p low (omega arith))) is same
 
-pub place_found : (p q : Plan) (rs : List HomeRange) (g : Geometry) (number i place : ℕ) → rs ≡ p.ranges → g ≡ p.geometry → p ≡ q → IsPlan p → IsObject q number → i < length rs → home_sector q.geometry (drop i q.ranges) number ≡ home_place q number
+pub place_found : (p q : Plan) (rs : List HomeRange) (g : Geometry) (number i place : ℕ) → rs ≡ p.ranges → g ≡ p.geometry → p ≡ q → IsPlan p → IsObject q.geometry number → i < length rs → home_sector q.geometry (drop i q.ranges) number ≡ home_place q number
     → (range_at rs i).first ≤ number → number - (range_at rs i).first < (range_at rs i).count → place ≡ place_in g (range_at rs i) number → IsPlace q number place
 place_found p q rs g number i place ranges geometry e fits is lt same low high made =
     subst (λ (xs : List HomeRange). i < length xs → (range_at xs i).first ≤ number → number - (range_at xs i).first < (range_at xs i).count → place ≡ place_in g (range_at xs i) number → IsPlace q number place) (sym ranges)
     (λ lt low high made. found_here p q number i place e fits is lt same low high (made ∙ ap (λ (h : Geometry). place_in h (range_at p.ranges i) number) geometry)) lt low high made
 
-pub place_missed : (p q : Plan) (rs : List HomeRange) (number i : ℕ) → rs ≡ p.ranges → p ≡ q → IsPlan p → IsObject q number → length rs ≤ i → home_sector q.geometry (drop i q.ranges) number ≡ home_place q number → ⊥
+pub place_missed : (p q : Plan) (rs : List HomeRange) (number i : ℕ) → rs ≡ p.ranges → p ≡ q → IsPlan p → IsObject q.geometry number → length rs ≤ i → home_sector q.geometry (drop i q.ranges) number ≡ home_place q number → ⊥
 place_missed p q rs number i ranges e fits is done same =
-    subst (λ (x : Plan). IsObject x number → home_sector x.geometry (drop i x.ranges) number ≡ home_place x number → ⊥) e
+    subst (λ (x : Plan). IsObject x.geometry number → home_sector x.geometry (drop i x.ranges) number ≡ home_place x number → ⊥) e
     (λ is_p same_p. search_ends p number i fits is_p (subst (λ (xs : List HomeRange). length xs ≤ i) ranges done) same_p) is same

@@ -1,22 +1,9 @@
--- Where the frame of a number lies at home, and its bytes.
-use Rattle.std.specs.Prelude.{ℕ, ◌+◌, ◌-◌, ◌*◌, ◌<◌, ◌≤◌, nat_lt, if◌then◌else◌, List}
+-- Where the frame of a number lies at home.
+use Rattle.std.specs.Prelude.{ℕ, ◌+◌, ◌-◌, ◌*◌, nat_lt, if◌then◌else◌}
 use Rattle.model.specs.declared.geometry.Geometry.{Geometry}
-use Rattle.device.specs.Disk.{Image}
 use Rattle.layout.specs.declared.extent.HomeRange.{HomeRange}
 use Rattle.layout.specs.Superblock.{Plan}
-use Rattle.layout.specs.Image.{home_sector, sectors_from, frame_length}
-
--- a number of an object: nodes have the first numbers, pages the next
-abbrev pub IsObject : Plan → ℕ → Type 0
-IsObject p number = number < p.geometry.nodes + p.geometry.pages
-
--- a number of a node
-abbrev pub IsNode : Plan → ℕ → Type 0
-IsNode p number = number < p.geometry.nodes
-
--- a number of a page
-abbrev pub IsPage : Plan → ℕ → Type 0
-IsPage p number = (p.geometry.nodes ≤ number) × IsObject p number
+use Rattle.layout.specs.Image.{home_sector}
 
 -- the place of a number in a range that has it
 abbrev pub place_in : Geometry → HomeRange → ℕ → ℕ
@@ -25,7 +12,3 @@ place_in g r number = r.sector + (if nat_lt number g.nodes then 2 else 9) * (num
 -- the first of them at home
 abbrev pub home_place : Plan → ℕ → ℕ
 home_place p number = home_sector p.geometry p.ranges number
-
--- the bytes of the home frame of a number
-abbrev pub home_bytes : Image → Plan → ℕ → List ℕ
-home_bytes image p number = sectors_from image (home_place p number) (frame_length p number)

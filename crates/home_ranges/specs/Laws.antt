@@ -4,31 +4,32 @@ use Rattle.device.specs.Disk.{Image}
 use Rattle.device.specs.Calls.{Elsewhere}
 use Rattle.layout.specs.declared.directory.Entry.{Entry}
 use Rattle.layout.specs.declared.extent.Extent.{Extent}
+use Rattle.layout.specs.Frame.{frame_length}
 use Rattle.layout.specs.Superblock.{Plan, IsPlan, IsWithin, IsApart, half_extent}
-use Rattle.layout.specs.Image.{slot_in, frame_in, frame_length}
-use Rattle.home_ranges.specs.Home.{IsObject, home_place, home_bytes}
+use Rattle.layout.specs.Image.{slot_in, frame_in, half_sector}
+use Rattle.frame_io.specs.Frames.{IsObject, bytes_at}
+use Rattle.home_ranges.specs.Home.{home_place}
 
 -- the sectors of the home frame of a number
 abbrev pub home_extent : Plan → ℕ → Extent
-home_extent p number = record { sector = home_place p number; length = frame_length p number }
+home_extent p number = record { sector = home_place p number; length = frame_length p.geometry number }
 
 -- they lie behind the headers and before the end
 abbrev pub PlacesAreWithin : Type 0
-PlacesAreWithin = (p : Plan) (a : ℕ) → IsPlan p → IsObject p a → IsWithin p.total (home_extent p a)
+PlacesAreWithin = (p : Plan) (a : ℕ) → IsPlan p → IsObject p.geometry a → IsWithin p.total (home_extent p a)
 
 -- no sector is one of two numbers
 abbrev pub PlacesAreApart : Type 0
-PlacesAreApart = (p : Plan) (a b : ℕ) → IsPlan p → IsObject p a → IsObject p b → (a ≡ b → ⊥) → IsApart (home_extent p a) (home_extent p b)
+PlacesAreApart = (p : Plan) (a b : ℕ) → IsPlan p → IsObject p.geometry a → IsObject p.geometry b → (a ≡ b → ⊥) → IsApart (home_extent p a) (home_extent p b)
 
--- no sector of a home frame is one of the log
+-- no sector of a home frame is one of the log, in the half of any generation
 abbrev pub PlacesSpareLog : Type 0
-PlacesSpareLog = (p : Plan) (a : ℕ) → IsPlan p → IsObject p a →
-    IsApart (home_extent p a) (half_extent p.geometry p.half_0) × IsApart (home_extent p a) (half_extent p.geometry p.half_1)
+PlacesSpareLog = (p : Plan) (a generation : ℕ) → IsPlan p → IsObject p.geometry a → IsApart (home_extent p a) (half_extent p.geometry (half_sector p generation))
 
 -- what is changed apart from the home frame of a number leaves it
 abbrev pub FramesStay : Type 0
-FramesStay = (p : Plan) (a at n : ℕ) (old new : Image) → IsApart (home_extent p a) (record { sector = at; length = n }) → Elsewhere at n old new → home_bytes new p a ≡ home_bytes old p a
+FramesStay = (old new : Image) (p : Plan) (a at n : ℕ) → IsApart (home_extent p a) (record { sector = at; length = n }) → Elsewhere at n old new → bytes_at new (home_place p a) p.geometry a ≡ bytes_at old (home_place p a) p.geometry a
 
 -- the frame of a number that no slot of the log has is the one at home
 abbrev pub FramesAreHome : Type 0
-FramesAreHome = (image : Image) (p : Plan) (generation : ℕ) (es : List Entry) (a : ℕ) → slot_in es a ≡ None → frame_in image p generation es a ≡ home_bytes image p a
+FramesAreHome = (image : Image) (p : Plan) (generation : ℕ) (es : List Entry) (a : ℕ) → slot_in es a ≡ None → frame_in image p generation es a ≡ bytes_at image (home_place p a) p.geometry a

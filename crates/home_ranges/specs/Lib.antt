@@ -1,3 +1,2 @@
 pub mod Home
-pub mod Fault
 pub mod Laws

@@ -1,7 +1,9 @@
-ghost use Rattle.std.specs.Prelude.{◌≡◌, ℕ, ◌+◌, ◌<◌, ◌≤◌};
+// Where frames lie at home.
+ghost use Rattle.std.specs.Prelude.{◌≡◌, ◌+◌, ◌≤◌};
+ghost use Rattle.layout.specs.Frame.{frame_length};
 ghost use Rattle.layout.specs.Superblock.{IsPlan};
-ghost use Rattle.layout.specs.Image.{frame_length};
-ghost use Rattle.home_ranges.specs.Home.{IsObject, home_place, place_in};
+ghost use Rattle.frame_io.specs.Frames.{IsObject};
+ghost use Rattle.home_ranges.specs.Home.{home_place, place_in};
 
 use layout::{HomeRange, Superblock};
 use model::Geometry;
@@ -42,12 +44,13 @@ impl Home {
         }
     }
 
-    /// The first sector of the home frame of an object: of 2 sectors for a node and of 9 for a page.
+    /// The first sector of the home frame of an object, which takes 2 sectors for a node and 9 for
+    /// a page.
     pub fn place(&self, number: u64) -> u64
-        requires object { IsObject self.now number }
+        requires object { IsObject self.now.geometry number }
         ensures value { result ≡ home_place self.now number }
         ensures behind { 5 ≤ result }
-        ensures inside { result + frame_length self.now number ≤ self.now.total }
+        ensures inside { result + frame_length self.now.geometry number ≤ self.now.total }
     {
         for range in self.superblock.ranges() {
             if range.first <= number && number - range.first < range.count {

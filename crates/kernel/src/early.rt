@@ -1,13 +1,22 @@
 // Why a process can't act.
-ghost use Rattle.std.specs.Prelude.{◌≡◌, ◌↔◌, ◌<◌, ◌≤◌, ℕ, None, Some};
+ghost use Rattle.std.specs.Prelude.{◌≡◌, ◌↔◌, ◌<◌, ◌≤◌, Some};
 ghost use Rattle.model.specs.Frame.{objects_of};
 ghost use Rattle.model.specs.Keepable.{IsSoundFrames};
-ghost use Rattle.capability.specs.Parts.{LooksUp, frames_of};
+ghost use Rattle.model.specs.World.{is_process};
+ghost use Rattle.capability.specs.Parts.{HaveTheirRoles, LooksUp, frames_of};
 ghost use Rattle.kernel.specs.Machine.{IsEarly};
 
-use capability::{PrepareFault, PresentFrames, objects};
+use capability::{PrepareFault, PresentFrames, objects, roots};
 use model::{Refusal, Role, State};
 use std::alloc::Global;
+
+// Whether a number is that of a process, by its role: it needn't be fetched.
+fn is_process<F: PresentFrames>(store: &F, number: u64) -> bool
+    requires { HaveTheirRoles (frames_of (F.parts store.now)) }
+    ensures { result ≡ is_process (objects_of (frames_of (F.parts store.now))) number }
+{
+    matches!(store.table().header(number).role, Role::Root)
+}
 
 /// The refusal of a command by a process that isn't running, if there is one. Whether there is such
 /// a process is told before memory is wanted.
@@ -23,16 +32,16 @@ pub fn early<F: PresentFrames>(
     ensures later { (F.parts store.old).failures ≤ (F.parts store.new).failures }
     ensures cause { (result ≡ Some Refusal.Fault) ↔ ((F.parts store.old).failures < (F.parts store.new).failures) }
 {
-    if store.table().header(process).role != Role::Root {
+    if !is_process(store, process) {
         return Some(Refusal::NoProcess);
     }
     match objects::fetch(store, alloc, &[process]) {
         Ok(()) => {}
         Err(PrepareFault::Failed) => return Some(Refusal::Fault),
-        Err(_) => return Some(Refusal::NoMemory),
+        Err(PrepareFault::NoMemory | PrepareFault::LogFull) => return Some(Refusal::NoMemory),
     }
-    match objects::state(store, process) {
-        Some(State::Running) => None,
-        _ => Some(Refusal::NotRunning),
+    match roots::state(store, process) {
+        State::Running => None,
+        State::Available | State::Waiting => Some(Refusal::NotRunning),
     }
 }

@@ -3,7 +3,7 @@
 
 mod early;
 mod invocation;
-mod show;
+mod showing;
 
 pub use invocation::invoke;
-pub use show::show;
+pub use showing::show;

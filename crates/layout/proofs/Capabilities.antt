@@ -8,8 +8,9 @@ use Rattle.model.specs.declared.capability.Capability.{Capability}
 use Rattle.model.specs.declared.capability.Capability.TheVariants.{Void, Number, Page, Node, Space, Process, Start, Resume, Bank, Discrim}
 use Rattle.model.specs.declared.geometry.Geometry.{Geometry}
 use Rattle.model.specs.Capability.{tag_of, access_bits, IsAccess}
+use Rattle.model.specs.Keepable.{Follows, IsKeptCap}
 use Rattle.layout.specs.Bytes.{number, short_number}
-use Rattle.layout.specs.Capability.{key_of, height_of, number_of, head_bytes, capability_bytes, head_number, HeadFits, assembled, Follows, IsCapability}
+use Rattle.layout.specs.Capability.{key_of, height_of, number_of, head_bytes, capability_bytes, head_number, HeadFits, assembled}
 use Rattle.layout.proofs.Numbers.{number_splits}
 
 pub small_8 : (a b c d e f g h : ℕ) → a < 256 → b < 256 → c < 256 → d < 256 → e < 256 → f < 256 → g < 256 → h < 256
@@ -139,17 +140,17 @@ three_written new mid first old a b c len ec eb ea =
 pub none_spelt : (g : Geometry) (age : ℕ) (bytes : List ℕ) (head object count bits : ℕ) (what : Capability) → head < 2 ^ 64 → object < 2 ^ 64 → count < 2 ^ 64
     → bytes ≡ number head ++ (number object ++ number count)
     → bits ≡ head / 256 % 256 → what ≡ assembled (head % 256) (record { 0 = bits }) (head / 65536 % 65536) (head / 4294967296 % 256) object
-    → (head_number what ≡ head → number_of what ≡ object → IsCapability g age (record { what = what; count = count }) → ⊥)
-    → (c : Cap) → IsCapability g age c → bytes ≡ capability_bytes c → ⊥
+    → (head_number what ≡ head → number_of what ≡ object → IsKeptCap g age (record { what = what; count = count }) → ⊥)
+    → (c : Cap) → IsKeptCap g age c → bytes ≡ capability_bytes c → ⊥
 none_spelt g age bytes head object count bits what fh fo fc is eb made hold c fits e =
     let all = follows_fits g age c.count c.what fits in
     let n = spelt_numbers c head object count all fh fo fc (sym is ∙ e) in
     let same : what ≡ c.what = made ∙ made_again c.what head bits object all.head n.head_is n.object_is eb in
     hold (ap head_number same ∙ sym n.head_is) (ap number_of same ∙ sym n.object_is)
-    (subst (λ (k : Capability). IsCapability g age (record { what = k; count = count })) (sym same) (subst (λ (m : ℕ). IsCapability g age (record { what = c.what; count = m })) (sym n.count_is) fits))
+    (subst (λ (k : Capability). IsKeptCap g age (record { what = k; count = count })) (sym same) (subst (λ (m : ℕ). IsKeptCap g age (record { what = c.what; count = m })) (sym n.count_is) fits))
 
 -- given bytes spell at most one capability
-pub one_capability : (g : Geometry) (age : ℕ) (b c : Cap) → IsCapability g age b → IsCapability g age c → capability_bytes b ≡ capability_bytes c → b ≡ c
+pub one_capability : (g : Geometry) (age : ℕ) (b c : Cap) → IsKeptCap g age b → IsKeptCap g age c → capability_bytes b ≡ capability_bytes c → b ≡ c
 one_capability g age b c fb fc e =
     let all = follows_fits g age b.count b.what fb in
     let all' = follows_fits g age c.count c.what fc in

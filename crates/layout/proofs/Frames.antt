@@ -15,10 +15,14 @@ use Rattle.model.specs.declared.object.Role.TheVariants as role
 use Rattle.model.specs.declared.object.Root.{Root}
 use Rattle.model.specs.declared.object.State.{State}
 use Rattle.model.specs.declared.object.State.TheVariants.{Available, Running, Waiting}
-use Rattle.model.specs.Object.{role_of, state_number}
+use Rattle.model.specs.Frame.{void_held}
+use Rattle.model.specs.Keepable.{IsCount, AreKeptSlots}
+use Rattle.model.specs.Object.{role_of, role_number, state_number}
 use Rattle.layout.specs.Bytes.{number, short_number, zeros}
-use Rattle.layout.specs.Capability.{capability_bytes, head_bytes, IsCount}
-use Rattle.layout.specs.Frame.{front_numbers, front_bytes, role_number, void_cap, number_cap, slots_of, slots_bytes, node_frame_bytes, root_slots, root_from, state_in, body_in, with_slots, FollowsRole, IsFront, AreSlots, IsBody, IsNodeFrame}
+use Rattle.layout.specs.declared.body.Body.{Body}
+use Rattle.layout.specs.declared.body.Body.TheVariants as body
+use Rattle.layout.specs.Capability.{capability_bytes, head_bytes}
+use Rattle.layout.specs.Frame.{front_numbers, front_bytes, number_cap, slots_of, slots_bytes, node_frame_bytes, root_slots, root_from, role_in, state_in, body_in, content_of, FollowsRole, IsFront, IsBody, IsNodeFrame}
 use Rattle.layout.proofs.Numbers.{stream, AllFit, stream_splits, IsWritten}
 use Rattle.layout.proofs.SlotLists.{slots_bytes-nil, slots_bytes-cons, slots_bytes-append, length-slots, slots_split}
 
@@ -39,17 +43,17 @@ pub front_is : (role : ℕ) (h : ObjectHeader) → ([] ++ number role) ++ number
 unfolding front_numbers
 front_is role h = refl
 
-pub front_written : (old new : List ℕ) (role : Role) (n : ℕ) (h : ObjectHeader) → n ≡ role_number role
+pub front_written : (old new : List ℕ) (n : ℕ) (h : ObjectHeader) → n ≡ role_number h.role
     → IsWritten old (number n ++ number h.allocations ++ number h.calls ++ number h.owner) new 32
-    → record { before : take 32 new ≡ front_numbers (role_number role) h; after : drop 32 new ≡ drop 32 old }
-front_written old new role n h is was = record {
+    → record { before : take 32 new ≡ front_numbers (role_number h.role) h; after : drop 32 new ≡ drop 32 old }
+front_written old new n h is was = record {
   before = was.before ∙ front_is n h ∙ ap (λ (r : ℕ). front_numbers r h) is;
   after = was.after;
 }
 
 -- ---- void slots as bytes
 
-void_bytes : capability_bytes void_cap ≡ zeros 24
+void_bytes : capability_bytes void_held ≡ zeros 24
 unfolding capability_bytes head_bytes short_number number zeros
 void_bytes = refl
 
@@ -65,11 +69,11 @@ pub drop_zeros : (m n : ℕ) → drop m (zeros n) ≡ zeros (n - m)
 unfolding zeros
 drop_zeros m n = drop-replicate m n 0
 
-voids_bytes : (k : ℕ) → slots_bytes (replicate k void_cap) ≡ zeros (24 * k)
+voids_bytes : (k : ℕ) → slots_bytes (replicate k void_held) ≡ zeros (24 * k)
 voids_bytes zero = slots_bytes-nil ∙ sym zeros_none
 voids_bytes (suc k) =
     let size : 24 + 24 * k ≡ 24 * suc k = omega arith in
-    slots_bytes-cons void_cap (replicate k void_cap) ∙ ap (λ (r : List ℕ). r ++ slots_bytes (replicate k void_cap)) void_bytes
+    slots_bytes-cons void_held (replicate k void_held) ∙ ap (λ (r : List ℕ). r ++ slots_bytes (replicate k void_held)) void_bytes
     ∙ ap (λ (r : List ℕ). zeros 24 ++ r) (voids_bytes k) ∙ zeros_add 24 (24 * k) ∙ ap zeros size
 
 -- ---- writing
@@ -86,9 +90,9 @@ role_bytes role.Root = refl
 role_bytes role.Annex = refl
 role_bytes role.Bank = refl
 
-pub front_bytes_are : (f : Frame) → front_bytes f ≡ front_numbers (role_number (role_of f.content)) f.header
+pub front_bytes_are : (h : ObjectHeader) → front_bytes h ≡ front_numbers (role_number h.role) h
 unfolding front_bytes front_numbers
-front_bytes_are f = ap (λ (r : List ℕ). r ++ number f.header.allocations ++ number f.header.calls ++ number f.header.owner) (role_bytes (role_of f.content))
+front_bytes_are h = ap (λ (r : List ℕ). r ++ number h.allocations ++ number h.calls ++ number h.owner) (role_bytes h.role)
 
 rest_size : (n k : ℕ) → n + k ≡ 32 → 992 - 24 * n ≡ 24 * k + 224
 rest_size n k e = omega arith
@@ -97,19 +101,19 @@ regroup : (a b c d : List ℕ) → a ++ b ++ (c ++ d) ≡ a ++ (b ++ c) ++ d
 regroup a b c d = simp append_assoc
 
 pub node_written : (f : Frame) (fronted new : List ℕ) (caps : List Cap) (k : ℕ)
-    → take 32 fronted ≡ front_numbers (role_number (role_of f.content)) f.header
-    → slots_of f.content ≡ caps ++ replicate k void_cap → length caps + k ≡ 32
+    → take 32 fronted ≡ front_numbers (role_number f.header.role) f.header
+    → slots_of f.content ≡ caps ++ replicate k void_held → length caps + k ≡ 32
     → new ≡ take 32 fronted ++ slots_bytes caps ++ zeros (992 - 24 * length caps) → new ≡ node_frame_bytes f
 unfolding node_frame_bytes
 node_written f fronted new caps k before slots all is =
     let n : ℕ = length caps in
     let rest : zeros (992 - 24 * n) ≡ zeros (24 * k) ++ zeros 224 = ap zeros (rest_size n k all) ∙ sym (zeros_add (24 * k) 224) in
     let spelt : slots_bytes (slots_of f.content) ≡ slots_bytes caps ++ zeros (24 * k) =
-    ap slots_bytes slots ∙ slots_bytes-append caps (replicate k void_cap) ∙ ap (λ (r : List ℕ). slots_bytes caps ++ r) (voids_bytes k) in
-    is ∙ ap (λ (r : List ℕ). r ++ slots_bytes caps ++ zeros (992 - 24 * n)) (before ∙ sym (front_bytes_are f))
-    ∙ ap (λ (r : List ℕ). front_bytes f ++ slots_bytes caps ++ r) rest
-    ∙ regroup (front_bytes f) (slots_bytes caps) (zeros (24 * k)) (zeros 224)
-    ∙ ap (λ (r : List ℕ). front_bytes f ++ r ++ zeros 224) (sym spelt)
+    ap slots_bytes slots ∙ slots_bytes-append caps (replicate k void_held) ∙ ap (λ (r : List ℕ). slots_bytes caps ++ r) (voids_bytes k) in
+    is ∙ ap (λ (r : List ℕ). r ++ slots_bytes caps ++ zeros (992 - 24 * n)) (before ∙ sym (front_bytes_are f.header))
+    ∙ ap (λ (r : List ℕ). front_bytes f.header ++ slots_bytes caps ++ r) rest
+    ∙ regroup (front_bytes f.header) (slots_bytes caps) (zeros (24 * k)) (zeros 224)
+    ∙ ap (λ (r : List ℕ). front_bytes f.header ++ r ++ zeros 224) (sym spelt)
 
 -- slots that were put into a frame
 pub slots_put : (old mid new : List ℕ) (caps : List Cap) (k : ℕ) → length caps ≤ 32 → length old ≡ 1024 → k ≡ 24 * length caps → mid ≡ put_mid 32 k old (slots_bytes caps)
@@ -143,7 +147,7 @@ root_again s (a ∷ b ∷ c ∷ d ∷ []) key annex space len fits =
     ap (λ (t : State). root_of t (a ∷ b ∷ c ∷ d ∷ []) (key % 65536) annex space) (state_again s) ∙ ap (λ (k : ℕ). root_of s (a ∷ b ∷ c ∷ d ∷ []) k annex space) small
 root_again s (a ∷ b ∷ c ∷ d ∷ e ∷ ws) key annex space len fits = absurd (omega (arith, len))
 
-content_again : (c : Content Cap) → FollowsRole c → with_slots (body_in (role_number (role_of c)) (slots_of c)) (slots_of c) ≡ c
+content_again : (c : Content Cap) → FollowsRole c → content_of (body_in (role_number (role_of c)) (slots_of c)) (slots_of c) [] ≡ c
 content_again content.Free f = refl
 content_again (content.Page words) f = absurd f
 content_again (content.Node slots) f = refl
@@ -151,11 +155,19 @@ content_again (content.Root r) f = ap (λ (x : Root Cap). content.Root x) (root_
 content_again (content.Annex registers) f = refl
 content_again (content.Bank limit) f = refl
 
+pub role_again : (r : Role) → role_in (role_number r) ≡ r
+role_again role.Free = refl
+role_again role.Page = refl
+role_again role.Node = refl
+role_again role.Root = refl
+role_again role.Annex = refl
+role_again role.Bank = refl
+
 -- ---- reading
 
 -- what the bytes of a frame are by their places
 pub record HasParts (f : Frame) (bytes : List ℕ) : Type 0 where
-  pub whole : bytes ≡ front_numbers (role_number (role_of f.content)) f.header ++ (slots_bytes (slots_of f.content) ++ zeros 224)
+  pub whole : bytes ≡ front_numbers (role_number f.header.role) f.header ++ (slots_bytes (slots_of f.content) ++ zeros 224)
   pub middle : between 32 800 bytes ≡ slots_bytes (slots_of f.content)
   pub last : drop 800 bytes ≡ zeros 224
 
@@ -166,10 +178,10 @@ length-front role h = refl
 pub node_parts : (g : Geometry) (age : ℕ) (f : Frame) (bytes : List ℕ) → IsNodeFrame g age f → bytes ≡ node_frame_bytes f → HasParts f bytes
 unfolding node_frame_bytes
 node_parts g age f bytes fits e =
-    let front : List ℕ = front_numbers (role_number (role_of f.content)) f.header in
+    let front : List ℕ = front_numbers (role_number f.header.role) f.header in
     let slots : List ℕ = slots_bytes (slots_of f.content) in
     let size : length slots ≡ 768 = length-slots (slots_of f.content) ∙ ap (λ (n : ℕ). 24 * n) fits.slots.count in
-    let whole : bytes ≡ front ++ (slots ++ zeros 224) = e ∙ ap (λ (r : List ℕ). r ++ slots ++ zeros 224) (front_bytes_are f) ∙ append_assoc front slots (zeros 224) in
+    let whole : bytes ≡ front ++ (slots ++ zeros 224) = e ∙ ap (λ (r : List ℕ). r ++ slots ++ zeros 224) (front_bytes_are f.header) ∙ append_assoc front slots (zeros 224) in
     let behind : drop 32 bytes ≡ slots ++ zeros 224 = ap (drop 32) whole ∙ drop_at front (slots ++ zeros 224) 32 (length-front _ f.header) in
     record {
       whole = whole;
@@ -186,15 +198,18 @@ pub record IsReadOf (f : Frame) (role : ℕ) (h : ObjectHeader) (slots : List Ca
 abbrev pub front_list : ℕ → ObjectHeader → List ℕ
 front_list role h = role ∷ h.allocations ∷ h.calls ∷ h.owner ∷ []
 
-abbrev header_of : ℕ → ℕ → ℕ → ObjectHeader
-header_of a c o = record { allocations = a; calls = c; owner = o }
+abbrev header_of : Role → ℕ → ℕ → ℕ → ObjectHeader
+header_of r a c o = record { role = r; allocations = a; calls = c; owner = o }
 
-same_front : (role a c o role' a' c' o' : ℕ) → role ∷ a ∷ c ∷ o ∷ [] ≡ role' ∷ a' ∷ c' ∷ o' ∷ [] → (role ≡ role') × (header_of a c o ≡ header_of a' c' o')
-same_front role a c o role' a' c' o' e =
+same_front : (r r' : Role) (n a c o n' a' c' o' : ℕ) → n ∷ a ∷ c ∷ o ∷ [] ≡ n' ∷ a' ∷ c' ∷ o' ∷ [] → r ≡ role_in n → role_in n' ≡ r'
+    → (n ≡ n') × (header_of r a c o ≡ header_of r' a' c' o')
+same_front r r' n a c o n' a' c' o' e is is' =
+    let en : n ≡ n' = cc in
+    let er : r ≡ r' = is ∙ ap role_in en ∙ is' in
     let ea : a ≡ a' = cc in
     let ec : c ≡ c' = cc in
     let eo : o ≡ o' = cc in
-    (cc, rw (ea, ec, eo) refl)
+    (en, rw (er, ea, ec, eo) refl)
 
 pub role_fits : (r : Role) → role_number r < 2 ^ 64
 role_fits role.Free = omega arith
@@ -204,69 +219,83 @@ role_fits role.Root = omega arith
 role_fits role.Annex = omega arith
 role_fits role.Bank = omega arith
 
-pub front_told : (age role : ℕ) (h : ObjectHeader) (f : Frame) (x y : List ℕ) → AllFit (front_list role h) → IsFront age f
-    → front_numbers role h ++ x ≡ front_numbers (role_number (role_of f.content)) f.header ++ y → (role ≡ role_number (role_of f.content)) × (h ≡ f.header)
-front_told age role h f x y fits front e =
-    let s = stream_splits (front_list role h) (front_list (role_number (role_of f.content)) f.header) x y fits
-    (role_fits (role_of f.content), (front.allocations.1, (front.calls.1, (front.owner, tt)))) refl
-    (sym (front_stream role h x) ∙ e ∙ front_stream (role_number (role_of f.content)) f.header y) in
-    same_front role h.allocations h.calls h.owner (role_number (role_of f.content)) f.header.allocations f.header.calls f.header.owner s.0
+pub front_told : (age role : ℕ) (h : ObjectHeader) (f : Frame) (x y : List ℕ) → AllFit (front_list role h) → h.role ≡ role_in role → IsFront age f
+    → front_numbers role h ++ x ≡ front_numbers (role_number f.header.role) f.header ++ y → (role ≡ role_number (role_of f.content)) × (h ≡ f.header)
+front_told age role h f x y fits is front e =
+    let n : ℕ = role_number f.header.role in
+    let s = stream_splits (front_list role h) (front_list n f.header) x y fits (role_fits f.header.role, (front.allocations.1, (front.calls.1, (front.owner, tt)))) refl
+    (sym (front_stream role h x) ∙ e ∙ front_stream n f.header y) in
+    let same = same_front h.role f.header.role role h.allocations h.calls h.owner n f.header.allocations f.header.calls f.header.owner s.0 is (role_again f.header.role) in
+    (same.0 ∙ ap role_number front.role, same.1)
 
-pub node_told : (g : Geometry) (age role : ℕ) (h : ObjectHeader) (slots : List Cap) (f : Frame) (bytes rest : List ℕ) → AllFit (front_list role h) → AreSlots g age slots
+pub node_told : (g : Geometry) (age role : ℕ) (h : ObjectHeader) (slots : List Cap) (f : Frame) (bytes rest : List ℕ) → AllFit (front_list role h) → h.role ≡ role_in role → AreKeptSlots g age slots
     → bytes ≡ front_numbers role h ++ rest → between 32 800 bytes ≡ slots_bytes slots → IsNodeFrame g age f → bytes ≡ node_frame_bytes f → IsReadOf f role h slots
-node_told g age role h slots f bytes rest fits are front middle is e =
+node_told g age role h slots f bytes rest fits role_is are front middle is e =
     let parts = node_parts g age f bytes is e in
-    let told = front_told age role h f rest (slots_bytes (slots_of f.content) ++ zeros 224) fits is.front (sym front ∙ parts.whole) in
+    let told = front_told age role h f rest (slots_bytes (slots_of f.content) ++ zeros 224) fits role_is is.front (sym front ∙ parts.whole) in
     let same = slots_split g age slots (slots_of f.content) [] [] are.each is.slots.each (are.count ∙ sym is.slots.count) (ap (λ (r : List ℕ). r ++ []) (sym middle ∙ parts.middle)) in
     record { role_is = told.0; header_is = told.1; slots_are = same.0 }
 
 -- the body that is read is that of the frame
 pub body_told : (f : Frame) (role : ℕ) (h : ObjectHeader) (slots : List Cap) (age : ℕ) → IsReadOf f role h slots → FollowsRole f.content → IsFront age f
-    → IsBody role h.owner slots (with_slots (body_in role slots) slots)
+    → IsBody role h.owner slots (content_of (body_in role slots) slots [])
 body_told f role h slots age read follows front =
-    let same : with_slots (body_in role slots) slots ≡ f.content =
-    ap (λ (r : ℕ). with_slots (body_in r slots) slots) read.role_is ∙ ap (λ (s : List Cap). with_slots (body_in (role_number (role_of f.content)) s) s) read.slots_are ∙ content_again f.content follows in
+    let same : content_of (body_in role slots) slots [] ≡ f.content =
+    ap (λ (r : ℕ). content_of (body_in r slots) slots []) read.role_is ∙ ap (λ (s : List Cap). content_of (body_in (role_number (role_of f.content)) s) s []) read.slots_are ∙ content_again f.content follows in
     subst (IsBody role h.owner slots) (sym same)
     (record { role_is = read.role_is; slots_are = read.slots_are; follows = follows; unowned = λ t. ap (λ (x : ObjectHeader). x.owner) read.header_is ∙ front.unowned t })
 
+-- of a body at a node's number the words don't matter
+same_content : (b : Body) (slots : List Cap) (words : List ℕ) → FollowsRole (content_of b slots []) → content_of b slots [] ≡ content_of b slots words
+same_content body.Free slots words f = refl
+same_content body.Page slots words f = absurd f
+same_content body.Node slots words f = refl
+same_content (body.Root root) slots words f = refl
+same_content body.Annex slots words f = refl
+same_content (body.Bank limit) slots words f = refl
+
+pub any_words : (role owner : ℕ) (b : Body) (slots : List Cap) (words : List ℕ) → IsBody role owner slots (content_of b slots []) → IsBody role owner slots (content_of b slots words)
+any_words role owner b slots words is = subst (IsBody role owner slots) (same_content b slots words is.follows) is
+
 -- the frame that is read
-pub node_found : (g : Geometry) (age role : ℕ) (h : ObjectHeader) (slots : List Cap) (c : Content Cap) (bytes : List ℕ) → AllFit (front_list role h)
-    → IsCount age h.allocations × IsCount age h.calls → AreSlots g age slots → IsBody role h.owner slots c
+pub node_found : (g : Geometry) (age role : ℕ) (h : ObjectHeader) (slots : List Cap) (c : Content Cap) (bytes : List ℕ) → AllFit (front_list role h) → h.role ≡ role_in role
+    → IsCount age h.allocations × IsCount age h.calls → AreKeptSlots g age slots → IsBody role h.owner slots c
     → bytes ≡ front_numbers role h ++ drop 32 bytes → between 32 800 bytes ≡ slots_bytes slots → drop 800 bytes ≡ zeros 224
     → IsNodeFrame g age (record { header = h; content = c }) × (bytes ≡ node_frame_bytes (record { header = h; content = c }))
 unfolding node_frame_bytes
-node_found g age role h slots c bytes fits counts are is front middle last =
+node_found g age role h slots c bytes fits role_is counts are is front middle last =
     let f : Frame = record { header = h; content = c } in
     let behind : drop 32 bytes ≡ slots_bytes slots ++ zeros 224 = sym (take-append-drop 768 (drop 32 bytes)) ∙ ap (λ (r : List ℕ). r ++ drop 768 (drop 32 bytes)) middle
     ∙ ap (λ (r : List ℕ). slots_bytes slots ++ r) (drop-drop 768 32 bytes ∙ last) in
-    let spelt : bytes ≡ front_bytes f ++ (slots_bytes (slots_of c) ++ zeros 224) =
+    let same_role : h.role ≡ role_of c = role_is ∙ ap role_in is.role_is ∙ role_again (role_of c) in
+    let spelt : bytes ≡ front_bytes h ++ (slots_bytes (slots_of c) ++ zeros 224) =
     front ∙ ap (λ (r : List ℕ). front_numbers role h ++ r) (behind ∙ ap (λ (s : List Cap). slots_bytes s ++ zeros 224) is.slots_are)
-    ∙ ap (λ (r : ℕ). front_numbers r h ++ (slots_bytes (slots_of c) ++ zeros 224)) is.role_is
-    ∙ ap (λ (r : List ℕ). r ++ (slots_bytes (slots_of c) ++ zeros 224)) (sym (front_bytes_are f)) in (
+    ∙ ap (λ (r : ℕ). front_numbers r h ++ (slots_bytes (slots_of c) ++ zeros 224)) (is.role_is ∙ ap role_number (sym same_role))
+    ∙ ap (λ (r : List ℕ). r ++ (slots_bytes (slots_of c) ++ zeros 224)) (sym (front_bytes_are h)) in (
       record {
-        front = record { allocations = counts.0; calls = counts.1; owner = fits.1.1.1.0; unowned = is.unowned };
-        slots = subst (AreSlots g age) is.slots_are are;
-        role = is.follows;
+        front = record { role = same_role; allocations = counts.0; calls = counts.1; owner = fits.1.1.1.0; unowned = is.unowned };
+        slots = subst (AreKeptSlots g age) is.slots_are are;
+        follows = is.follows;
       },
-      spelt ∙ sym (append_assoc (front_bytes f) (slots_bytes (slots_of c)) (zeros 224)),
+      spelt ∙ sym (append_assoc (front_bytes h) (slots_bytes (slots_of c)) (zeros 224)),
     )
 
 -- given bytes spell at most one frame
 pub one_node_frame : (g : Geometry) (age : ℕ) (e f : Frame) → IsNodeFrame g age e → IsNodeFrame g age f → node_frame_bytes e ≡ node_frame_bytes f → e ≡ f
 one_node_frame g age e f ie if same =
     let parts = node_parts g age e (node_frame_bytes e) ie refl in
-    let read = node_told g age (role_number (role_of e.content)) e.header (slots_of e.content) f (node_frame_bytes e) (slots_bytes (slots_of e.content) ++ zeros 224)
-    (role_fits (role_of e.content), (ie.front.allocations.1, (ie.front.calls.1, (ie.front.owner, tt)))) ie.slots parts.whole parts.middle if same in
-    let contents : e.content ≡ f.content = sym (content_again e.content ie.role)
-    ∙ ap (λ (r : ℕ). with_slots (body_in r (slots_of e.content)) (slots_of e.content)) read.role_is
-    ∙ ap (λ (s : List Cap). with_slots (body_in (role_number (role_of f.content)) s) s) read.slots_are ∙ content_again f.content if.role in
+    let read = node_told g age (role_number e.header.role) e.header (slots_of e.content) f (node_frame_bytes e) (slots_bytes (slots_of e.content) ++ zeros 224)
+    (role_fits e.header.role, (ie.front.allocations.1, (ie.front.calls.1, (ie.front.owner, tt)))) (sym (role_again e.header.role)) ie.slots parts.whole parts.middle if same in
+    let contents : e.content ≡ f.content = sym (content_again e.content ie.follows)
+    ∙ ap (λ (r : ℕ). content_of (body_in r (slots_of e.content)) (slots_of e.content) []) (ap role_number (sym ie.front.role) ∙ read.role_is)
+    ∙ ap (λ (s : List Cap). content_of (body_in (role_number (role_of f.content)) s) s []) read.slots_are ∙ content_again f.content if.follows in
     ap (λ (h : ObjectHeader). record { header = h; content = e.content }) read.header_is ∙ ap (λ (c : Content Cap). record { header = f.header; content = c }) contents
 
 pub root_count : (r : Root Cap) (held : List Cap) → held ≡ root_slots r → length r.words ≡ 4 → length held + 24 ≡ 32
 root_count r held e len =
     omega (arith, ap length e, length-append (map number_cap r.words) (number_cap r.key ∷ r.space ∷ []), length-map r.words number_cap, len)
 
-pub root_tail : (r : Root Cap) (held : List Cap) → held ≡ root_slots r → length r.words ≡ 4 → held ++ replicate (32 - length held) void_cap ≡ slots_of (content.Root r)
+pub root_tail : (r : Root Cap) (held : List Cap) → held ≡ root_slots r → length r.words ≡ 4 → held ++ replicate (32 - length held) void_held ≡ slots_of (content.Root r)
 root_tail r held e len =
     let rest : 32 - length held ≡ 24 = omega (arith, root_count r held e len) in
-    ap (λ (n : ℕ). held ++ replicate n void_cap) rest ∙ ap (λ (s : List Cap). s ++ replicate 24 void_cap) e
+    ap (λ (n : ℕ). held ++ replicate n void_held) rest ∙ ap (λ (s : List Cap). s ++ replicate 24 void_held) e

@@ -1,10 +1,13 @@
 -- The halves of the log among the extents of a plan.
-use Rattle.std.proofs.Common.{◌≡◌, ℕ, ◌+◌, ◌-◌, ◌%◌, ◌<◌, ◌≤◌, List, [], ◌∷◌, length, get_or, map, Bool, true, false, refl, subst, ap, ◌∙◌, inl, inr, arith, length-append, ⊎_elim}
+use Rattle.std.proofs.Common.{◌≡◌, ℕ, ◌+◌, ◌-◌, ◌%◌, ◌<◌, [], ◌∷◌, length, map, Bool, true, false, refl, subst, ap, ◌∙◌, inl, inr, arith, length-append, ⊎_elim}
 use Rattle.std.specs.Prelude.{◌==◌, if◌then◌else◌}
 use Rattle.std.proofs.lemmas.Bool.Decides.{nat_tests}
 use Rattle.std.proofs.lemmas.List.{length-map, get_or-append_right}
 use Rattle.layout.specs.declared.extent.Extent.{Extent}
-use Rattle.layout.specs.Superblock.{Plan, IsPlan, IsWithin, IsApart, IsInside, extent_at, extents, range_extent, half_extent}
+use Rattle.layout.specs.declared.half.Half.{Half}
+use Rattle.layout.specs.declared.half.Half.TheVariants.{First, Second}
+use Rattle.layout.specs.Half.{half_of}
+use Rattle.layout.specs.Superblock.{Plan, IsPlan, IsWithin, IsApart, IsInside, extent_at, extents, range_extent, half_extent, half_start}
 use Rattle.layout.specs.Image.{half_sector}
 
 pub itself : (e : Extent) → IsInside e e
@@ -33,28 +36,37 @@ half_at p k =
 within_at : (p : Plan) (k : ℕ) → IsPlan p → k < 2 → IsWithin p.total (extent_at (half_extent p.geometry p.half_0 ∷ half_extent p.geometry p.half_1 ∷ []) k)
 within_at p k fits few = subst (IsWithin p.total) (half_at p k) (fits.within (length p.ranges + k) (record { sector = 0; length = 0 }) (omega (arith, many p)))
 
-within_by : (p : Plan) (even : Bool) → IsPlan p → IsWithin p.total (half_extent p.geometry (if even then p.half_0 else p.half_1))
-within_by p true fits = within_at p 0 fits (omega arith)
-within_by p false fits = within_at p 1 fits (omega arith)
+within_by : (p : Plan) (h : Half) → IsPlan p → IsWithin p.total (half_extent p.geometry (half_start p h))
+within_by p First fits = within_at p 0 fits (omega arith)
+within_by p Second fits = within_at p 1 fits (omega arith)
 
 halves_apart : (p : Plan) → IsPlan p → IsApart (half_extent p.geometry p.half_0) (half_extent p.geometry p.half_1)
 halves_apart p fits =
     let apart = fits.apart (length p.ranges + 0) (length p.ranges + 1) (omega arith) (omega (arith, many p)) in
     subst (λ (e : Extent). IsApart e (half_extent p.geometry p.half_1)) (half_at p 0) (subst (IsApart (extent_at (extents p) (length p.ranges + 0))) (half_at p 1) apart)
 
-apart_by : (p : Plan) (even other : Bool) → IsPlan p → (even ≡ other → ⊥) → IsApart (half_extent p.geometry (if even then p.half_0 else p.half_1)) (half_extent p.geometry (if other then p.half_0 else p.half_1))
-apart_by p true true fits differ = absurd (differ refl)
-apart_by p true false fits differ = halves_apart p fits
-apart_by p false true fits differ = apart_turned (half_extent p.geometry p.half_0) (half_extent p.geometry p.half_1) (halves_apart p fits)
-apart_by p false false fits differ = absurd (differ refl)
+apart_by : (p : Plan) (h other : Half) → IsPlan p → (h ≡ other → ⊥) → IsApart (half_extent p.geometry (half_start p h)) (half_extent p.geometry (half_start p other))
+apart_by p First First fits differ = absurd (differ refl)
+apart_by p First Second fits differ = halves_apart p fits
+apart_by p Second First fits differ = apart_turned (half_extent p.geometry p.half_0) (half_extent p.geometry p.half_1) (halves_apart p fits)
+apart_by p Second Second fits differ = absurd (differ refl)
 
-same_parity : (a b : ℕ) → (a % 2 == 0) ≡ (b % 2 == 0) → a % 2 ≡ b % 2
-same_parity a b same = grind (arith, nat_tests)
+same_test : (b c : Bool) → (if b then First else Second) ≡ (if c then First else Second) → b ≡ c
+same_test true true e = refl
+same_test true false e = absurd cc
+same_test false true e = absurd cc
+same_test false false e = refl
+
+even_same : (a b : ℕ) → (a % 2 == 0) ≡ (b % 2 == 0) → a % 2 ≡ b % 2
+even_same a b same = grind (arith, nat_tests)
+
+same_parity : (a b : ℕ) → half_of a ≡ half_of b → a % 2 ≡ b % 2
+same_parity a b same = even_same a b (same_test (a % 2 == 0) (b % 2 == 0) same)
 
 -- the half of a generation lies behind the headers and before the end
 pub half_within : (p : Plan) (generation : ℕ) → IsPlan p → IsWithin p.total (half_extent p.geometry (half_sector p generation))
-half_within p generation fits = within_by p (generation % 2 == 0) fits
+half_within p generation fits = within_by p (half_of generation) fits
 
 -- and apart from that of the next generation
 pub half_apart : (p : Plan) (a b : ℕ) → IsPlan p → (a % 2 ≡ b % 2 → ⊥) → IsApart (half_extent p.geometry (half_sector p a)) (half_extent p.geometry (half_sector p b))
-half_apart p a b fits differ = apart_by p (a % 2 == 0) (b % 2 == 0) fits (λ same. differ (same_parity a b same))
+half_apart p a b fits differ = apart_by p (half_of a) (half_of b) fits (λ same. differ (same_parity a b same))

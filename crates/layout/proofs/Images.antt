@@ -1,6 +1,6 @@
 -- An image denotes at most one saved state.
-use Rattle.std.proofs.Common.{◌≡◌, ℕ, ◌+◌, ◌<◌, Bool, true, false, Some, List, length, sym, ap, subst, ◌∙◌, arith}
-use Rattle.std.specs.Prelude.{nat_lt}
+use Rattle.std.proofs.Common.{◌≡◌, ℕ, ◌+◌, ◌<◌, Some, List, length, sym, ap, subst, ◌∙◌, inl, inr, arith}
+use Rattle.std.proofs.lemmas.Bool.{cases_lt}
 use Rattle.std.proofs.lemmas.List.{same_lists, get_or_default}
 use Rattle.model.specs.declared.frame.Frame.{Frame}
 use Rattle.model.specs.declared.geometry.Geometry.{Geometry}
@@ -10,22 +10,33 @@ use Rattle.layout.specs.declared.header.CheckpointHeader.{CheckpointHeader}
 use Rattle.layout.specs.Header.{header_bytes}
 use Rattle.layout.specs.Superblock.{Plan}
 use Rattle.device.specs.Disk.{Image}
-use Rattle.layout.specs.Image.{HasPlan, HasHeader, HasDirectory, IsFrameOf, IsFrameIf, frame_in, SavedState, Denotes}
+use Rattle.layout.specs.Frame.{IsFrameOf}
+use Rattle.layout.specs.Image.{HasPlan, HasHeader, HasDirectory, frame_in, SavedState, Denotes}
 use Rattle.layout.proofs.Headers.{one_header}
 use Rattle.layout.proofs.Directories.{one_directory, directory_fits}
 use Rattle.layout.proofs.Frames.{one_node_frame}
 use Rattle.layout.proofs.Pages.{one_page_frame}
+use Rattle.layout.proofs.Keepables.{node_of_frame, page_of_frame}
 use Rattle.layout.proofs.Superblocks.{one_plan}
 
-pub one_frame : (b : Bool) (g : Geometry) (age : ℕ) (bytes : List ℕ) (e f : Frame) → IsFrameIf b g age bytes e → IsFrameIf b g age bytes f → e ≡ f
-one_frame true g age bytes e f ie if = one_node_frame g age e f ie.0 if.0 (sym ie.1 ∙ if.1)
-one_frame false g age bytes e f ie if = one_page_frame age e f ie.0 if.0 (sym ie.1 ∙ if.1)
+pub one_frame : (g : Geometry) (age object : ℕ) (bytes : List ℕ) (e f : Frame) → IsFrameOf g age object bytes e → IsFrameOf g age object bytes f → e ≡ f
+one_frame g age object bytes e f ie if =
+    elim (cases_lt object g.nodes) [
+      | inl lt ↦
+          let ne = node_of_frame g age object bytes e lt ie in
+          let nf = node_of_frame g age object bytes f lt if in
+          one_node_frame g age e f ne.0 nf.0 (sym ne.1 ∙ nf.1)
+      | inr le ↦
+          let pe = page_of_frame g age object bytes e le ie in
+          let pf = page_of_frame g age object bytes f le if in
+          one_page_frame age e f pe.0 pf.0 (sym pe.1 ∙ pf.1)
+    ]
 
 same_some : (x y : List ℕ) → Some x ≡ Some y → x ≡ y
 same_some x y e = cc
 
-pub same_plan : (size : ℕ) (image : Image) (p q : Plan) → HasPlan size image p → HasPlan size image q → p ≡ q
-same_plan size image p q hp hq = one_plan p q hp.fits hq.fits (sym hp.spelt ∙ hq.spelt)
+pub same_plan : (image : Image) (size : ℕ) (p q : Plan) → HasPlan image size p → HasPlan image size q → p ≡ q
+same_plan image size p q hp hq = one_plan p q hp.fits hq.fits (sym hp.spelt ∙ hq.spelt)
 
 pub same_header : (image : Image) (p : Plan) (g h : CheckpointHeader) → HasHeader image p g → HasHeader image p h → g ≡ h
 same_header image p g h hg hh = one_header p.geometry.log g h hg.fits hh.fits (same_some (header_bytes g) (header_bytes h) (sym hg.spelt ∙ hh.spelt))
@@ -42,24 +53,24 @@ same_frames image p h es fs gs lf lg ef eg = same_lists fs gs (lf ∙ sym lg) (�
     let within : o < p.geometry.nodes + p.geometry.pages = omega arith in
     let in' : o < length gs = omega arith in
     get_or_default fs o d blank_frame lt
-    ∙ one_frame (nat_lt o p.geometry.nodes) p.geometry h.age (frame_in image p h.generation es o) (frame_at fs o) (frame_at gs o) (ef o within) (eg o within)
+    ∙ one_frame p.geometry h.age o (frame_in image p h.generation es o) (frame_at fs o) (frame_at gs o) (ef o within) (eg o within)
     ∙ get_or_default gs o blank_frame d in')
 
 abbrev state : Plan → CheckpointHeader → List Entry → List Frame → SavedState
 state p h es fs = record { plan = p; header = h; directory = es; frames = fs }
 
-frames_equal : (size : ℕ) (image : Image) (p : Plan) (h : CheckpointHeader) (es : List Entry) (fs gs : List Frame) → Denotes size image (state p h es fs) → Denotes size image (state p h es gs) → state p h es fs ≡ state p h es gs
-frames_equal size image p h es fs gs s t = ap (state p h es) (same_frames image p h es fs gs s.count t.count s.each t.each)
+frames_equal : (image : Image) (size : ℕ) (p : Plan) (h : CheckpointHeader) (es : List Entry) (fs gs : List Frame) → Denotes image size (state p h es fs) → Denotes image size (state p h es gs) → state p h es fs ≡ state p h es gs
+frames_equal image size p h es fs gs s t = ap (state p h es) (same_frames image p h es fs gs s.count t.count s.each t.each)
 
-pub one_state : (size : ℕ) (image : Image) (s t : SavedState) → Denotes size image s → Denotes size image t → s ≡ t
-one_state size image s t ds dt =
-    let ep : t.plan ≡ s.plan = same_plan size image t.plan s.plan dt.plan ds.plan in
-    let dt1 : Denotes size image (state s.plan t.header t.directory t.frames) = subst (λ (p : Plan). Denotes size image (state p t.header t.directory t.frames)) ep dt in
+pub one_state : (image : Image) (size : ℕ) (s t : SavedState) → Denotes image size s → Denotes image size t → s ≡ t
+one_state image size s t ds dt =
+    let ep : t.plan ≡ s.plan = same_plan image size t.plan s.plan dt.plan ds.plan in
+    let dt1 : Denotes image size (state s.plan t.header t.directory t.frames) = subst (λ (p : Plan). Denotes image size (state p t.header t.directory t.frames)) ep dt in
     let eh : t.header ≡ s.header = same_header image s.plan t.header s.header dt1.header ds.header in
-    let dt2 : Denotes size image (state s.plan s.header t.directory t.frames) = subst (λ (h : CheckpointHeader). Denotes size image (state s.plan h t.directory t.frames)) eh dt1 in
+    let dt2 : Denotes image size (state s.plan s.header t.directory t.frames) = subst (λ (h : CheckpointHeader). Denotes image size (state s.plan h t.directory t.frames)) eh dt1 in
     let ed : t.directory ≡ s.directory = same_directory image s.plan s.header t.directory s.directory dt2.directory ds.directory in
-    let dt3 : Denotes size image (state s.plan s.header s.directory t.frames) = subst (λ (es : List Entry). Denotes size image (state s.plan s.header es t.frames)) ed dt2 in
-    frames_equal size image s.plan s.header s.directory s.frames t.frames ds dt3
+    let dt3 : Denotes image size (state s.plan s.header s.directory t.frames) = subst (λ (es : List Entry). Denotes image size (state s.plan s.header es t.frames)) ed dt2 in
+    frames_equal image size s.plan s.header s.directory s.frames t.frames ds dt3
     ∙ ap (λ (p : Plan). state p s.header s.directory t.frames) (sym ep)
     ∙ ap (λ (h : CheckpointHeader). state t.plan h s.directory t.frames) (sym eh)
     ∙ ap (λ (es : List Entry). state t.plan t.header es t.frames) (sym ed)

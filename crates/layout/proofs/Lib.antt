@@ -1,12 +1,13 @@
-pub mod Numbers
-pub mod Capabilities
+mod Numbers
+mod Capabilities
 pub mod Headers
-pub mod SlotLists
-pub mod Frames
-pub mod Pages
+mod SlotLists
+mod Frames
+mod Pages
+mod Keepables
 pub mod Directories
-pub mod Extents
-pub mod Superblocks
+mod Extents
+mod Superblocks
 pub mod Images
 pub mod Sectors
 pub mod Halves

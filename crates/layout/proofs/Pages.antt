@@ -1,6 +1,7 @@
 -- Frames of pages read back from their bytes.
-use Rattle.std.proofs.Common.{◌≡◌, ℕ, suc, ◌+◌, ◌-◌, ◌*◌, ◌^◌, ◌<◌, ◌≤◌, List, [], ◌∷◌, ◌++◌, length, set, take, drop, refl, sym, ap, subst, ◌∙◌, append_assoc, arith}
-use Rattle.std.specs.Prelude.{replicate}
+use Rattle.std.proofs.Common.{◌≡◌, ℕ, suc, ◌+◌, ◌-◌, ◌*◌, ◌^◌, ◌<◌, ◌≤◌, List, [], ◌∷◌, ◌++◌, length, set, take, drop, refl, sym, ap, subst, ◌∙◌, append_assoc, inl, inr, arith}
+use Rattle.std.specs.Prelude.{replicate, IsTrue}
+use Rattle.std.proofs.lemmas.Bool.{false≢true}
 use Rattle.std.specs.List.{All, flat_map}
 use borrow.Rule.Slice.PartMut.{put_mid}
 use Rattle.std.proofs.lemmas.List.{same_lists, length-replicate, get_or-replicate, drop-drop, take_at, drop_at, take_all, take-append-drop, append-nil, take_more_set, length-set, length-append, length-drop, length-take-le, drop-take, drop_all}
@@ -12,14 +13,13 @@ use Rattle.model.specs.declared.frame.Frame.{Frame}
 use Rattle.model.specs.declared.frame.ObjectHeader.{ObjectHeader}
 use Rattle.model.specs.declared.object.Content.{Content}
 use Rattle.model.specs.declared.object.Content.TheVariants as content
-use Rattle.model.specs.Object.{role_of, zero_words}
+use Rattle.model.specs.Keepable.{IsCount, AreKeptWords}
+use Rattle.model.specs.Object.{role_of, role_number, is_free, zero_words}
 use Rattle.layout.specs.Bytes.{number, zeros}
-use Rattle.layout.specs.Capability.{IsCount}
-use Rattle.layout.specs.declared.page_frame.PageBody.{PageBody}
-use Rattle.layout.specs.declared.page_frame.PageBody.TheVariants as page_body
-use Rattle.layout.specs.Frame.{front_numbers, front_bytes, role_number, page_words, words_bytes, page_frame_bytes, page_body_in, with_words, IsFront, AreWords, HoldsPage, IsPageFrame, IsPageBody}
+use Rattle.layout.specs.declared.body.Body.{Body}
+use Rattle.layout.specs.Frame.{front_numbers, front_bytes, page_words, words_bytes, page_frame_bytes, role_in, page_body_in, content_of, IsFront, HoldsPage, IsPageFrame, IsPageBody}
 use Rattle.layout.proofs.Numbers.{length-number, stream, AllFit, stream_splits}
-use Rattle.layout.proofs.Frames.{length-front, front_list, front_told, front_bytes_are, role_fits, drop_zeros}
+use Rattle.layout.proofs.Frames.{length-front, front_list, front_told, front_bytes_are, role_again, role_fits, drop_zeros}
 
 pub words_bytes-nil : words_bytes [] ≡ []
 unfolding words_bytes
@@ -66,10 +66,10 @@ word_read bytes into i n lt before fits is =
       count = length-set into i n ∙ before.count;
     }
 
-pub words_read : (bytes into : List ℕ) (i : ℕ) → 512 ≤ i → length bytes ≡ 4096 → WordsRead bytes into i → AreWords into × (bytes ≡ words_bytes into)
+pub words_read : (bytes into : List ℕ) (i : ℕ) → 512 ≤ i → length bytes ≡ 4096 → WordsRead bytes into i → AreKeptWords 512 into × (bytes ≡ words_bytes into)
 words_read bytes into i done len was =
     let whole : take i into ≡ into = take_all i into (omega (arith, was.count)) in (
-      record { count = was.count; each = All-same (λ (w : ℕ). w < 2 ^ 64) into (take i into) (sym whole) was.each },
+      record { count_is = was.count; each = All-same (λ (w : ℕ). w < 2 ^ 64) into (take i into) (sym whole) was.each },
       sym (take_all (8 * i) bytes (omega arith)) ∙ was.bytes_are ∙ ap words_bytes whole,
     )
 
@@ -84,9 +84,9 @@ pub are_zero_words : (ws : List ℕ) → ws ≡ zero_words → All (λ w. w ≡ 
 unfolding zero_words
 are_zero_words ws e = All-same (λ (w : ℕ). w ≡ 0) ws (replicate 512 0) e (All-replicate (λ (w : ℕ). w ≡ 0) 512 0 refl)
 
-zero_words_fit : AreWords zero_words
+zero_words_fit : AreKeptWords 512 zero_words
 unfolding zero_words
-zero_words_fit = record { count = length-replicate {A = ℕ} 512 0; each = All-replicate (λ (w : ℕ). w < 2 ^ 64) 512 0 (omega arith) }
+zero_words_fit = record { count_is = length-replicate {A = ℕ} 512 0; each = All-replicate (λ (w : ℕ). w < 2 ^ 64) 512 0 (omega arith) }
 
 pub zero_words_bytes : words_bytes zero_words ≡ zeros 4096
 unfolding words_bytes zero_words zeros number
@@ -94,7 +94,7 @@ zero_words_bytes = refl
 
 -- ---- frames
 
-words_fit : (c : Content Cap) → HoldsPage c → AreWords (page_words c)
+words_fit : (c : Content Cap) → HoldsPage c → AreKeptWords 512 (page_words c)
 words_fit content.Free h = zero_words_fit
 words_fit (content.Page words) h = h
 words_fit (content.Node slots) h = absurd h
@@ -102,7 +102,7 @@ words_fit (content.Root root) h = absurd h
 words_fit (content.Annex registers) h = absurd h
 words_fit (content.Bank limit) h = absurd h
 
-content_again : (c : Content Cap) → HoldsPage c → with_words (page_body_in (role_number (role_of c))) (page_words c) ≡ c
+content_again : (c : Content Cap) → HoldsPage c → content_of (page_body_in (role_number (role_of c))) [] (page_words c) ≡ c
 content_again content.Free h = refl
 content_again (content.Page words) h = refl
 content_again (content.Node slots) h = absurd h
@@ -111,7 +111,7 @@ content_again (content.Annex registers) h = absurd h
 content_again (content.Bank limit) h = absurd h
 
 pub record HasPageParts (f : Frame) (bytes : List ℕ) : Type 0 where
-  pub whole : bytes ≡ front_numbers (role_number (role_of f.content)) f.header ++ (zeros 480 ++ words_bytes (page_words f.content))
+  pub whole : bytes ≡ front_numbers (role_number f.header.role) f.header ++ (zeros 480 ++ words_bytes (page_words f.content))
   pub gap : take 480 (drop 32 bytes) ≡ zeros 480
   pub last : drop 512 bytes ≡ words_bytes (page_words f.content)
 
@@ -122,9 +122,9 @@ length-zeros n = length-replicate {A = ℕ} n 0
 pub page_parts : (f : Frame) (bytes : List ℕ) → bytes ≡ page_frame_bytes f → HasPageParts f bytes
 unfolding page_frame_bytes
 page_parts f bytes e =
-    let front : List ℕ = front_numbers (role_number (role_of f.content)) f.header in
+    let front : List ℕ = front_numbers (role_number f.header.role) f.header in
     let words : List ℕ = words_bytes (page_words f.content) in
-    let whole : bytes ≡ front ++ (zeros 480 ++ words) = e ∙ ap (λ (r : List ℕ). r ++ zeros 480 ++ words) (front_bytes_are f) ∙ append_assoc front (zeros 480) words in
+    let whole : bytes ≡ front ++ (zeros 480 ++ words) = e ∙ ap (λ (r : List ℕ). r ++ zeros 480 ++ words) (front_bytes_are f.header) ∙ append_assoc front (zeros 480) words in
     let behind : drop 32 bytes ≡ zeros 480 ++ words = ap (drop 32) whole ∙ drop_at front (zeros 480 ++ words) 32 (length-front _ f.header) in
     record {
       whole = whole;
@@ -137,58 +137,73 @@ pub record IsPageReadOf (f : Frame) (role : ℕ) (h : ObjectHeader) (words : Lis
   pub header_is : h ≡ f.header
   pub words_are : words ≡ page_words f.content
 
-pub page_told : (age role : ℕ) (h : ObjectHeader) (words : List ℕ) (f : Frame) (bytes rest : List ℕ) → AllFit (front_list role h) → AreWords words
+pub page_told : (age role : ℕ) (h : ObjectHeader) (words : List ℕ) (f : Frame) (bytes rest : List ℕ) → AllFit (front_list role h) → h.role ≡ role_in role → AreKeptWords 512 words
     → bytes ≡ front_numbers role h ++ rest → drop 512 bytes ≡ words_bytes words → IsPageFrame age f → bytes ≡ page_frame_bytes f → IsPageReadOf f role h words
-page_told age role h words f bytes rest fits are front last is e =
+page_told age role h words f bytes rest fits role_is are front last is e =
     let parts = page_parts f bytes e in
-    let told = front_told age role h f rest (zeros 480 ++ words_bytes (page_words f.content)) fits is.front (sym front ∙ parts.whole) in
+    let told = front_told age role h f rest (zeros 480 ++ words_bytes (page_words f.content)) fits role_is is.front (sym front ∙ parts.whole) in
     let held = words_fit f.content is.holds in
-    let same = stream_splits words (page_words f.content) [] [] (all_fit words are.each) (all_fit (page_words f.content) held.each) (are.count ∙ sym held.count)
+    let same = stream_splits words (page_words f.content) [] [] (all_fit words are.each) (all_fit (page_words f.content) held.each) (are.count_is ∙ sym held.count_is)
     (sym (words_stream words) ∙ sym last ∙ parts.last ∙ words_stream (page_words f.content)) in
     record { role_is = told.0; header_is = told.1; words_are = same.0 }
 
-pub page_body_told : (f : Frame) (role : ℕ) (h : ObjectHeader) (words : List ℕ) (age : ℕ) → IsPageReadOf f role h words → HoldsPage f.content → IsFront age f
-    → IsPageBody role h.owner words (with_words (page_body_in role) words)
+body_told : (role owner : ℕ) (words : List ℕ) (c : Content Cap) → role ≡ role_number (role_of c) → words ≡ page_words c → HoldsPage c → (IsTrue (is_free c) → owner ≡ 0) → IsPageBody role owner words
+body_told role owner words content.Free r w h unowned = inr (r, unowned refl, w)
+body_told role owner words (content.Page _) r w h unowned = inl r
+body_told role owner words (content.Node slots) r w h unowned = absurd h
+body_told role owner words (content.Root root) r w h unowned = absurd h
+body_told role owner words (content.Annex registers) r w h unowned = absurd h
+body_told role owner words (content.Bank limit) r w h unowned = absurd h
+
+pub page_body_told : (f : Frame) (role : ℕ) (h : ObjectHeader) (words : List ℕ) (age : ℕ) → IsPageReadOf f role h words → HoldsPage f.content → IsFront age f → IsPageBody role h.owner words
 page_body_told f role h words age read holds front =
-    let same : with_words (page_body_in role) words ≡ f.content =
-    ap (λ (r : ℕ). with_words (page_body_in r) words) read.role_is ∙ ap (λ (w : List ℕ). with_words (page_body_in (role_number (role_of f.content))) w) read.words_are ∙ content_again f.content holds in
-    subst (IsPageBody role h.owner words) (sym same)
-    (record { role_is = read.role_is; words_are = read.words_are; unowned = λ t. ap (λ (x : ObjectHeader). x.owner) read.header_is ∙ front.unowned t })
+    body_told role h.owner words f.content read.role_is read.words_are holds (λ t. ap (λ (x : ObjectHeader). x.owner) read.header_is ∙ front.unowned t)
 
-holds_words : (b : PageBody) (words : List ℕ) → AreWords words → HoldsPage (with_words b words)
-holds_words page_body.Free words are = tt
-holds_words page_body.Page words are = are
+-- what a role's number and 512 words are as a content
+record IsPageContent (role owner : ℕ) (words : List ℕ) (c : Content Cap) : Type 0 where
+  pub role_is : role ≡ role_number (role_of c)
+  pub words_are : words ≡ page_words c
+  pub holds : HoldsPage c
+  pub unowned : IsTrue (is_free c) → owner ≡ 0
 
-pub page_found : (age role : ℕ) (h : ObjectHeader) (words : List ℕ) (b : PageBody) (bytes : List ℕ) → AllFit (front_list role h)
-    → IsCount age h.allocations × IsCount age h.calls → AreWords words → IsPageBody role h.owner words (with_words b words)
+page_content : (role owner : ℕ) (slots : List Cap) (words : List ℕ) → AreKeptWords 512 words → IsPageBody role owner words → IsPageContent role owner words (content_of (page_body_in role) slots words)
+page_content role owner slots words are (inl r) =
+    subst (λ (n : ℕ). IsPageContent n owner words (content_of (page_body_in n) slots words)) (sym r) (record { role_is = refl; words_are = refl; holds = are; unowned = λ t. absurd (false≢true t) })
+page_content role owner slots words are (inr is) =
+    subst (λ (n : ℕ). IsPageContent n owner words (content_of (page_body_in n) slots words)) (sym is.0) (record { role_is = refl; words_are = is.2; holds = tt; unowned = λ _. is.1 })
+
+pub page_found : (age role : ℕ) (h : ObjectHeader) (slots : List Cap) (words : List ℕ) (b : Body) (bytes : List ℕ) → AllFit (front_list role h) → h.role ≡ role_in role → b ≡ page_body_in role
+    → IsCount age h.allocations × IsCount age h.calls → AreKeptWords 512 words → IsPageBody role h.owner words
     → bytes ≡ front_numbers role h ++ drop 32 bytes → take 480 (drop 32 bytes) ≡ zeros 480 → drop 512 bytes ≡ words_bytes words
-    → IsPageFrame age (record { header = h; content = with_words b words }) × (bytes ≡ page_frame_bytes (record { header = h; content = with_words b words }))
+    → IsPageFrame age (record { header = h; content = content_of b slots words }) × (bytes ≡ page_frame_bytes (record { header = h; content = content_of b slots words }))
 unfolding page_frame_bytes
-page_found age role h words b bytes fits counts are is front gap last =
-    let c : Content Cap = with_words b words in
+page_found age role h slots words b bytes fits role_is body_is counts are was front gap last =
+    let c : Content Cap = content_of b slots words in
     let f : Frame = record { header = h; content = c } in
+    let is : IsPageContent role h.owner words c = subst (λ (d : Body). IsPageContent role h.owner words (content_of d slots words)) (sym body_is) (page_content role h.owner slots words are was) in
+    let same_role : h.role ≡ role_of c = role_is ∙ ap role_in is.role_is ∙ role_again (role_of c) in
     let behind : drop 32 bytes ≡ zeros 480 ++ words_bytes words = sym (take-append-drop 480 (drop 32 bytes)) ∙ ap (λ (r : List ℕ). r ++ drop 480 (drop 32 bytes)) gap
     ∙ ap (λ (r : List ℕ). zeros 480 ++ r) (drop-drop 480 32 bytes ∙ last) in
-    let spelt : bytes ≡ front_bytes f ++ (zeros 480 ++ words_bytes (page_words c)) =
+    let spelt : bytes ≡ front_bytes h ++ (zeros 480 ++ words_bytes (page_words c)) =
     front ∙ ap (λ (r : List ℕ). front_numbers role h ++ r) (behind ∙ ap (λ (w : List ℕ). zeros 480 ++ words_bytes w) is.words_are)
-    ∙ ap (λ (r : ℕ). front_numbers r h ++ (zeros 480 ++ words_bytes (page_words c))) is.role_is
-    ∙ ap (λ (r : List ℕ). r ++ (zeros 480 ++ words_bytes (page_words c))) (sym (front_bytes_are f)) in (
+    ∙ ap (λ (r : ℕ). front_numbers r h ++ (zeros 480 ++ words_bytes (page_words c))) (is.role_is ∙ ap role_number (sym same_role))
+    ∙ ap (λ (r : List ℕ). r ++ (zeros 480 ++ words_bytes (page_words c))) (sym (front_bytes_are h)) in (
       record {
-        front = record { allocations = counts.0; calls = counts.1; owner = fits.1.1.1.0; unowned = is.unowned };
-        holds = holds_words b words are;
+        front = record { role = same_role; allocations = counts.0; calls = counts.1; owner = fits.1.1.1.0; unowned = is.unowned };
+        holds = is.holds;
       },
-      spelt ∙ sym (append_assoc (front_bytes f) (zeros 480) (words_bytes (page_words c))),
+      spelt ∙ sym (append_assoc (front_bytes h) (zeros 480) (words_bytes (page_words c))),
     )
 
 -- given bytes spell at most one frame of a page's number
 pub one_page_frame : (age : ℕ) (e f : Frame) → IsPageFrame age e → IsPageFrame age f → page_frame_bytes e ≡ page_frame_bytes f → e ≡ f
 one_page_frame age e f ie if same =
     let parts = page_parts e (page_frame_bytes e) refl in
-    let read = page_told age (role_number (role_of e.content)) e.header (page_words e.content) f (page_frame_bytes e) (zeros 480 ++ words_bytes (page_words e.content))
-    (role_fits (role_of e.content), (ie.front.allocations.1, (ie.front.calls.1, (ie.front.owner, tt)))) (words_fit e.content ie.holds) parts.whole parts.last if same in
+    let read = page_told age (role_number e.header.role) e.header (page_words e.content) f (page_frame_bytes e) (zeros 480 ++ words_bytes (page_words e.content))
+    (role_fits e.header.role, (ie.front.allocations.1, (ie.front.calls.1, (ie.front.owner, tt)))) (sym (role_again e.header.role)) (words_fit e.content ie.holds) parts.whole parts.last if same in
     let contents : e.content ≡ f.content = sym (content_again e.content ie.holds)
-    ∙ ap (λ (r : ℕ). with_words (page_body_in r) (page_words e.content)) read.role_is
-    ∙ ap (λ (w : List ℕ). with_words (page_body_in (role_number (role_of f.content))) w) read.words_are ∙ content_again f.content if.holds in
+    ∙ ap (λ (r : ℕ). content_of (page_body_in r) [] (page_words e.content)) (ap role_number (sym ie.front.role) ∙ read.role_is)
+    ∙ ap (λ (w : List ℕ). content_of (page_body_in (role_number (role_of f.content))) [] w) read.words_are ∙ content_again f.content if.holds in
     ap (λ (h : ObjectHeader). record { header = h; content = e.content }) read.header_is ∙ ap (λ (c : Content Cap). record { header = f.header; content = c }) contents
 
 -- ---- writing
@@ -197,13 +212,13 @@ take_gap : (xs : List ℕ) → take 480 (drop 32 xs) ≡ drop 32 (take 512 xs)
 take_gap xs = sym (drop-take 32 480 xs)
 
 pub page_written : (f : Frame) (blanked fronted new body : List ℕ) → take 512 blanked ≡ zeros 512
-    → take 32 fronted ≡ front_numbers (role_number (role_of f.content)) f.header → drop 32 fronted ≡ drop 32 blanked
+    → take 32 fronted ≡ front_numbers (role_number f.header.role) f.header → drop 32 fronted ≡ drop 32 blanked
     → body ≡ words_bytes (page_words f.content) → new ≡ take 512 fronted ++ body → new ≡ page_frame_bytes f
 unfolding page_frame_bytes
 page_written f blanked fronted new body blank before after spelt is =
     let gap : take 480 (drop 32 fronted) ≡ zeros 480 = ap (take 480) after ∙ take_gap blanked ∙ ap (drop 32) blank ∙ drop_zeros 32 512 in
-    let front : take 512 fronted ≡ front_bytes f ++ zeros 480 = take-add 32 480 fronted ∙ ap (λ (r : List ℕ). r ++ take 480 (drop 32 fronted)) (before ∙ sym (front_bytes_are f)) ∙ ap (λ (r : List ℕ). front_bytes f ++ r) gap in
-    is ∙ ap (λ (r : List ℕ). r ++ body) front ∙ ap (λ (r : List ℕ). front_bytes f ++ zeros 480 ++ r) spelt
+    let front : take 512 fronted ≡ front_bytes f.header ++ zeros 480 = take-add 32 480 fronted ∙ ap (λ (r : List ℕ). r ++ take 480 (drop 32 fronted)) (before ∙ sym (front_bytes_are f.header)) ∙ ap (λ (r : List ℕ). front_bytes f.header ++ r) gap in
+    is ∙ ap (λ (r : List ℕ). r ++ body) front ∙ ap (λ (r : List ℕ). front_bytes f.header ++ zeros 480 ++ r) spelt
 
 pub put_last : (xs ys : List ℕ) (at : ℕ) → put_mid at (length xs - at) xs ys ≡ take at xs ++ ys
 put_last xs ys at =
@@ -211,7 +226,7 @@ put_last xs ys at =
     rw (past, append-nil) refl
 
 pub default_written : (f : Frame) (blanked fronted new : List ℕ) → take 512 blanked ≡ zeros 512
-    → take 32 fronted ≡ front_numbers (role_number (role_of f.content)) f.header → drop 32 fronted ≡ drop 32 blanked
+    → take 32 fronted ≡ front_numbers (role_number f.header.role) f.header → drop 32 fronted ≡ drop 32 blanked
     → page_words f.content ≡ zero_words → new ≡ take 512 fronted ++ zeros 4096 → new ≡ page_frame_bytes f
 default_written f blanked fronted new blank before after words is =
     page_written f blanked fronted new (zeros 4096) blank before after (sym zero_words_bytes ∙ ap words_bytes (sym words)) is
@@ -229,12 +244,3 @@ not_page (content.Node slots) h = refl
 not_page (content.Root root) h = refl
 not_page (content.Annex registers) h = refl
 not_page (content.Bank limit) h = refl
-
-pub free_body : (role owner : ℕ) (words : List ℕ) (b : PageBody) → b ≡ page_body.Free → role ≡ 0 → owner ≡ 0 → length words ≡ 512 → All (λ w. w ≡ 0) words → IsPageBody role owner words (with_words b words)
-free_body role owner words b is r o len all =
-    subst (λ (d : PageBody). IsPageBody role owner words (with_words d words)) (sym is) (record { role_is = r; words_are = zero_words_are words len all; unowned = λ _. o })
-
-pub free_words : (role owner : ℕ) (words : List ℕ) (b : PageBody) → b ≡ page_body.Free → IsPageBody role owner words (with_words b words) → All (λ w. w ≡ 0) words
-free_words role owner words b is body =
-    let f : IsPageBody role owner words content.Free = subst (λ (d : PageBody). IsPageBody role owner words (with_words d words)) is body in
-    are_zero_words words f.words_are

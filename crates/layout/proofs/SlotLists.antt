@@ -10,9 +10,11 @@ use Rattle.std.proofs.lemmas.List.Elements.{All-push, All-replicate, All-nil, Al
 use Rattle.std.proofs.lemmas.Slice.{take-put_mid}
 use Rattle.model.specs.declared.capability.Cap.{Cap}
 use Rattle.model.specs.declared.geometry.Geometry.{Geometry}
+use Rattle.model.specs.Frame.{void_held}
+use Rattle.model.specs.Keepable.{IsKeptCap, AreKeptSlots}
 use Rattle.layout.specs.Bytes.{number, short_number}
-use Rattle.layout.specs.Capability.{capability_bytes, head_bytes, IsCapability}
-use Rattle.layout.specs.Frame.{slots_bytes, AreSlots, void_cap}
+use Rattle.layout.specs.Capability.{capability_bytes, head_bytes}
+use Rattle.layout.specs.Frame.{slots_bytes}
 use Rattle.layout.proofs.Capabilities.{one_capability}
 
 pub length-capability : (c : Cap) → length (capability_bytes c) ≡ 24
@@ -51,7 +53,7 @@ slot_written caps into buf i k d lt len _ before is =
 -- the first i capabilities are those of the first bytes
 pub record AreRead (g : Geometry) (age : ℕ) (bytes : List ℕ) (into : List Cap) (i : ℕ) : Type 0 where
   pub bytes_are : take (24 * i) bytes ≡ slots_bytes (take i into)
-  pub each : All (IsCapability g age) (take i into)
+  pub each : All (IsKeptCap g age) (take i into)
   pub count : length into ≡ 32
 
 take_bytes : (bytes : List ℕ) (i : ℕ) → take (24 * (i + 1)) bytes ≡ take (24 * i) bytes ++ take 24 (drop (24 * i) bytes)
@@ -60,23 +62,23 @@ take_bytes bytes i =
     ap (λ (n : ℕ). take n bytes) next ∙ take-add (24 * i) 24 bytes
 
 pub slot_read : (g : Geometry) (age : ℕ) (bytes : List ℕ) (into : List Cap) (i : ℕ) (c : Cap) → i < 32
-    → AreRead g age bytes into i → IsCapability g age c → take 24 (drop (24 * i) bytes) ≡ capability_bytes c → AreRead g age bytes (set into i c) (i + 1)
+    → AreRead g age bytes into i → IsKeptCap g age c → take 24 (drop (24 * i) bytes) ≡ capability_bytes c → AreRead g age bytes (set into i c) (i + 1)
 slot_read g age bytes into i c lt before fits is =
     let more : take (i + 1) (set into i c) ≡ take i into ++ c ∷ [] = take_more_set into i c (omega (arith, before.count)) in
     record {
       bytes_are = take_bytes bytes i ∙ ap (λ (r : List ℕ). r ++ take 24 (drop (24 * i) bytes)) before.bytes_are ∙ ap (λ (r : List ℕ). slots_bytes (take i into) ++ r) is
           ∙ sym (slots_bytes-push (take i into) c) ∙ ap slots_bytes (sym more);
-      each = All-same (IsCapability g age) (take (i + 1) (set into i c)) (take i into ++ c ∷ []) more (All-push (IsCapability g age) (take i into) c before.each fits);
+      each = All-same (IsKeptCap g age) (take (i + 1) (set into i c)) (take i into ++ c ∷ []) more (All-push (IsKeptCap g age) (take i into) c before.each fits);
       count = length-set into i c ∙ before.count;
     }
 
 pub none_read : (g : Geometry) (age : ℕ) (bytes : List ℕ) (into : List Cap) → length into ≡ 32 → AreRead g age bytes into 0
-none_read g age bytes into len = record { bytes_are = sym slots_bytes-nil; each = All-nil (IsCapability g age); count = len }
+none_read g age bytes into len = record { bytes_are = sym slots_bytes-nil; each = All-nil (IsKeptCap g age); count = len }
 
-pub all_read : (g : Geometry) (age : ℕ) (bytes : List ℕ) (into : List Cap) (i : ℕ) → 32 ≤ i → length bytes ≡ 768 → AreRead g age bytes into i → AreSlots g age into × (bytes ≡ slots_bytes into)
+pub all_read : (g : Geometry) (age : ℕ) (bytes : List ℕ) (into : List Cap) (i : ℕ) → 32 ≤ i → length bytes ≡ 768 → AreRead g age bytes into i → AreKeptSlots g age into × (bytes ≡ slots_bytes into)
 all_read g age bytes into i done len was =
     let whole : take i into ≡ into = take_all i into (omega (arith, was.count)) in (
-      record { count = was.count; each = All-same (IsCapability g age) into (take i into) (sym whole) was.each },
+      record { count = was.count; each = All-same (IsKeptCap g age) into (take i into) (sym whole) was.each },
       sym (take_all (24 * i) bytes (omega arith)) ∙ was.bytes_are ∙ ap slots_bytes whole,
     )
 
@@ -96,14 +98,14 @@ piece_of cs i d lt =
     ∙ take_at (capability_bytes c) (slots_bytes (drop (i + 1) cs)) 24 (length-capability c)
 
 pub none_spelt : (g : Geometry) (age : ℕ) (bytes : List ℕ) (i : ℕ) → i < 32
-    → ((c : Cap) → IsCapability g age c → take 24 (drop (24 * i) bytes) ≡ capability_bytes c → ⊥)
-    → (slots : List Cap) → AreSlots g age slots → bytes ≡ slots_bytes slots → ⊥
+    → ((c : Cap) → IsKeptCap g age c → take 24 (drop (24 * i) bytes) ≡ capability_bytes c → ⊥)
+    → (slots : List Cap) → AreKeptSlots g age slots → bytes ≡ slots_bytes slots → ⊥
 none_spelt g age bytes i lt hold slots fits e =
-    hold (get_or slots i void_cap) (fits.each i void_cap (omega (arith, fits.count)))
-    (ap (λ (bs : List ℕ). take 24 (drop (24 * i) bs)) e ∙ piece_of slots i void_cap (omega (arith, fits.count)))
+    hold (get_or slots i void_held) (fits.each i void_held (omega (arith, fits.count)))
+    (ap (λ (bs : List ℕ). take 24 (drop (24 * i) bs)) e ∙ piece_of slots i void_held (omega (arith, fits.count)))
 
 -- given bytes spell at most one list of capabilities, whatever follows
-pub slots_split : (g : Geometry) (age : ℕ) (bs cs : List Cap) (x y : List ℕ) → All (IsCapability g age) bs → All (IsCapability g age) cs → length bs ≡ length cs
+pub slots_split : (g : Geometry) (age : ℕ) (bs cs : List Cap) (x y : List ℕ) → All (IsKeptCap g age) bs → All (IsKeptCap g age) cs → length bs ≡ length cs
     → slots_bytes bs ++ x ≡ slots_bytes cs ++ y → (bs ≡ cs) × (x ≡ y)
 slots_split g age [] [] x y fb fc len e = (refl, ap (λ (r : List ℕ). r ++ x) (sym slots_bytes-nil) ∙ e ∙ ap (λ (r : List ℕ). r ++ y) slots_bytes-nil)
 slots_split g age [] (c ∷ cs) x y fb fc len e = absurd (omega (arith, len))
@@ -112,36 +114,36 @@ slots_split g age (b ∷ bs) (c ∷ cs) x y fb fc len e =
     let left : slots_bytes (b ∷ bs) ++ x ≡ capability_bytes b ++ (slots_bytes bs ++ x) = ap (λ (r : List ℕ). r ++ x) (slots_bytes-cons b bs) ∙ append_assoc (capability_bytes b) (slots_bytes bs) x in
     let right : slots_bytes (c ∷ cs) ++ y ≡ capability_bytes c ++ (slots_bytes cs ++ y) = ap (λ (r : List ℕ). r ++ y) (slots_bytes-cons c cs) ∙ append_assoc (capability_bytes c) (slots_bytes cs) y in
     let whole : capability_bytes b ++ (slots_bytes bs ++ x) ≡ capability_bytes c ++ (slots_bytes cs ++ y) = sym left ∙ e ∙ right in
-    let first : b ≡ c = one_capability g age b c (All-head (IsCapability g age) b bs fb) (All-head (IsCapability g age) c cs fc)
+    let first : b ≡ c = one_capability g age b c (All-head (IsKeptCap g age) b bs fb) (All-head (IsKeptCap g age) c cs fc)
     (sym (take_at (capability_bytes b) (slots_bytes bs ++ x) 24 (length-capability b)) ∙ ap (take 24) whole ∙ take_at (capability_bytes c) (slots_bytes cs ++ y) 24 (length-capability c)) in
-    let others = slots_split g age bs cs x y (All-tail (IsCapability g age) b bs fb) (All-tail (IsCapability g age) c cs fc) (omega (arith, len))
+    let others = slots_split g age bs cs x y (All-tail (IsKeptCap g age) b bs fb) (All-tail (IsKeptCap g age) c cs fc) (omega (arith, len))
     (sym (drop_at (capability_bytes b) (slots_bytes bs ++ x) 24 (length-capability b)) ∙ ap (drop 24) whole ∙ drop_at (capability_bytes c) (slots_bytes cs ++ y) 24 (length-capability c)) in
     (ap (λ (d : Cap). d ∷ bs) first ∙ ap (λ (ds : List Cap). c ∷ ds) others.0, others.1)
 
 -- ---- slots that are void
 
-voids_are : (xs : List Cap) (n : ℕ) → length xs ≡ n → All (λ c. c ≡ void_cap) xs → xs ≡ replicate n void_cap
+voids_are : (xs : List Cap) (n : ℕ) → length xs ≡ n → All (λ c. c ≡ void_held) xs → xs ≡ replicate n void_held
 voids_are xs n len all =
-    same_lists xs (replicate n void_cap) (len ∙ sym (length-replicate n void_cap)) (λ k d lt. all k d lt ∙ sym (get_or-replicate n k void_cap d (omega arith)))
+    same_lists xs (replicate n void_held) (len ∙ sym (length-replicate n void_held)) (λ k d lt. all k d lt ∙ sym (get_or-replicate n k void_held d (omega arith)))
 
-are_voids : (xs : List Cap) (n : ℕ) → xs ≡ replicate n void_cap → All (λ c. c ≡ void_cap) xs
-are_voids xs n e = All-same (λ (c : Cap). c ≡ void_cap) xs (replicate n void_cap) e (All-replicate (λ (c : Cap). c ≡ void_cap) n void_cap refl)
+are_voids : (xs : List Cap) (n : ℕ) → xs ≡ replicate n void_held → All (λ c. c ≡ void_held) xs
+are_voids xs n e = All-same (λ (c : Cap). c ≡ void_held) xs (replicate n void_held) e (All-replicate (λ (c : Cap). c ≡ void_held) n void_held refl)
 
 pub front_part : (slots : List Cap) (n : ℕ) → between 0 n slots ≡ take n slots
 front_part slots n = let e : n - 0 ≡ n = omega arith in ap (λ (m : ℕ). take m slots) e
 
 pub held_from : (slots caps : List Cap) → length slots ≡ 32 → length caps ≤ 32 → between 0 (length caps) slots ≡ caps
-    → All (λ c. c ≡ void_cap) (between (length caps) (length slots) slots) → slots ≡ caps ++ replicate (32 - length caps) void_cap
+    → All (λ c. c ≡ void_held) (between (length caps) (length slots) slots) → slots ≡ caps ++ replicate (32 - length caps) void_held
 held_from slots caps len few front rest =
     let n : ℕ = length caps in
-    let behind : drop n slots ≡ replicate (32 - n) void_cap =
-    voids_are (drop n slots) (32 - n) (omega (arith, length-drop n slots)) (All-same (λ (c : Cap). c ≡ void_cap) (drop n slots) (between n (length slots) slots) (sym (take_rest slots n)) rest) in
+    let behind : drop n slots ≡ replicate (32 - n) void_held =
+    voids_are (drop n slots) (32 - n) (omega (arith, length-drop n slots)) (All-same (λ (c : Cap). c ≡ void_held) (drop n slots) (between n (length slots) slots) (sym (take_rest slots n)) rest) in
     sym (take-append-drop n slots) ∙ ap (λ (r : List Cap). r ++ drop n slots) (sym (front_part slots n) ∙ front) ∙ ap (λ (r : List Cap). caps ++ r) behind
 
-pub held_front : (slots caps : List Cap) → slots ≡ caps ++ replicate (32 - length caps) void_cap → between 0 (length caps) slots ≡ caps
-held_front slots caps e = front_part slots (length caps) ∙ ap (take (length caps)) e ∙ take_at caps (replicate (32 - length caps) void_cap) (length caps) refl
+pub held_front : (slots caps : List Cap) → slots ≡ caps ++ replicate (32 - length caps) void_held → between 0 (length caps) slots ≡ caps
+held_front slots caps e = front_part slots (length caps) ∙ ap (take (length caps)) e ∙ take_at caps (replicate (32 - length caps) void_held) (length caps) refl
 
-pub held_rest : (slots caps : List Cap) → slots ≡ caps ++ replicate (32 - length caps) void_cap → All (λ c. c ≡ void_cap) (between (length caps) (length slots) slots)
+pub held_rest : (slots caps : List Cap) → slots ≡ caps ++ replicate (32 - length caps) void_held → All (λ c. c ≡ void_held) (between (length caps) (length slots) slots)
 held_rest slots caps e =
     are_voids (between (length caps) (length slots) slots) (32 - length caps)
-    (take_rest slots (length caps) ∙ ap (drop (length caps)) e ∙ drop_at caps (replicate (32 - length caps) void_cap) (length caps) refl)
+    (take_rest slots (length caps) ∙ ap (drop (length caps)) e ∙ drop_at caps (replicate (32 - length caps) void_held) (length caps) refl)

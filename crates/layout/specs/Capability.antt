@@ -1,11 +1,10 @@
 -- Capabilities as bytes.
-use Rattle.std.specs.Prelude.{◌≡◌, ℕ, ◌+◌, ◌*◌, ◌^◌, ◌<◌, ◌≤◌, ◌==◌, if◌then◌else◌, List, [], ◌∷◌, ◌++◌}
+use Rattle.std.specs.Prelude.{ℕ, ◌+◌, ◌*◌, ◌<◌, ◌==◌, if◌then◌else◌, List, [], ◌∷◌, ◌++◌}
 use Rattle.model.specs.declared.access.Access.{Access}
 use Rattle.model.specs.declared.capability.Cap.{Cap}
 use Rattle.model.specs.declared.capability.Capability.{Capability}
 use Rattle.model.specs.declared.capability.Capability.TheVariants.{Void, Number, Page, Node, Space, Process, Start, Resume, Bank, Discrim}
-use Rattle.model.specs.declared.geometry.Geometry.{Geometry}
-use Rattle.model.specs.Capability.{tag_of, access_bits, IsAccess}
+use Rattle.model.specs.Capability.{tag_of, access_bits}
 use Rattle.layout.specs.Bytes.{number, short_number}
 
 -- the fields of a capability, and 0 for those that it hasn't
@@ -59,30 +58,3 @@ assembled tag access key height n =
     if tag == 6 then Start n key else
     if tag == 7 then Resume n else
     if tag == 8 then Bank n else Discrim
-
--- a number of a node, of a page, and a count, each in eight bytes
-abbrev pub IsNodeNumber : Geometry → ℕ → Type 0
-IsNodeNumber g n = (n < g.nodes) × (n < 2 ^ 64)
-
-abbrev pub IsPageNumber : Geometry → ℕ → Type 0
-IsPageNumber g n = (g.nodes ≤ n) × (n < g.nodes + g.pages) × (n < 2 ^ 64)
-
-abbrev pub IsCount : ℕ → ℕ → Type 0
-IsCount age n = (n ≤ age) × (n < 2 ^ 64)
-
--- what each kind of capability needs, a line for each tag
-abbrev pub Follows : Geometry → ℕ → ℕ → Capability → Type 0
-Follows g age count Void = count ≡ 0
-Follows g age count (Number n) = (n < 2 ^ 64) × (count ≡ 0)
-Follows g age count (Page o a) = IsAccess a × IsPageNumber g o × IsCount age count
-Follows g age count (Node o a) = IsAccess a × IsNodeNumber g o × IsCount age count
-Follows g age count (Space o h a) = IsAccess a × (1 ≤ h) × (h ≤ 4) × IsNodeNumber g o × IsCount age count
-Follows g age count (Process p) = IsNodeNumber g p × IsCount age count
-Follows g age count (Start p key) = (key < 2 ^ 16) × IsNodeNumber g p × IsCount age count
-Follows g age count (Resume p) = IsNodeNumber g p × IsCount age count
-Follows g age count (Bank b) = IsNodeNumber g b × IsCount age count
-Follows g age count Discrim = count ≡ 0
-
--- a capability that has a spelling
-abbrev pub IsCapability : Geometry → ℕ → Cap → Type 0
-IsCapability g age c = Follows g age c.count c.what

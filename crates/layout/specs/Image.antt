@@ -1,5 +1,5 @@
 -- What the sectors of a device denote, as far as frames go.
-use Rattle.std.specs.Prelude.{◌≡◌, ◌⊎◌, ℕ, zero, suc, ◌+◌, ◌-◌, ◌*◌, ◌/◌, ◌%◌, ◌<◌, ◌≤◌, ◌==◌, nat_lt, nat_le, ◌&&◌, if◌then◌else◌, Bool, true, false, Option, Some, None, List, [], ◌∷◌, ◌++◌, length, take, drop}
+use Rattle.std.specs.Prelude.{◌≡◌, ◌⊎◌, ℕ, zero, suc, ◌+◌, ◌-◌, ◌*◌, ◌/◌, ◌%◌, ◌<◌, ◌≤◌, ◌==◌, nat_lt, nat_le, ◌&&◌, if◌then◌else◌, Bool, Option, Some, None, List, [], ◌∷◌, ◌++◌, length, take, drop}
 use Rattle.model.specs.declared.frame.Frame.{Frame}
 use Rattle.model.specs.declared.geometry.Geometry.{Geometry}
 use Rattle.model.specs.Frame.{frame_at}
@@ -13,8 +13,9 @@ use Rattle.layout.specs.Bytes.{number_from}
 use Rattle.layout.specs.Gate.{is_open}
 use Rattle.layout.specs.Header.{header_bytes, IsHeader}
 use Rattle.layout.specs.Directory.{directory_bytes, IsDirectory}
-use Rattle.layout.specs.Frame.{node_frame_bytes, page_frame_bytes, IsNodeFrame, IsPageFrame}
-use Rattle.layout.specs.Superblock.{Plan, superblock_bytes, HasMark, IsPlan}
+use Rattle.layout.specs.Frame.{frame_length, IsFrameOf}
+use Rattle.layout.specs.Half.{half_of}
+use Rattle.layout.specs.Superblock.{Plan, superblock_bytes, HasMark, IsPlan, half_start}
 
 -- the bytes of n sectors from one on
 unfoldable pub sectors_from : Image → ℕ → ℕ → List ℕ
@@ -57,7 +58,7 @@ committed_bytes image = option_at image (committed_slot image)
 
 -- the first sector of the log half of a generation, of a slot in it, and of its directory
 abbrev pub half_sector : Plan → ℕ → ℕ
-half_sector p generation = if generation % 2 == 0 then p.half_0 else p.half_1
+half_sector p generation = half_start p (half_of generation)
 
 abbrev pub slot_sector : Plan → ℕ → ℕ → ℕ
 slot_sector p generation slot = half_sector p generation + 9 * slot
@@ -94,31 +95,15 @@ sector_or (Some slot) in_log home = in_log slot
 abbrev pub frame_sector : Plan → ℕ → List Entry → ℕ → ℕ
 frame_sector p generation es object = sector_or (slot_in es object) (slot_sector p generation) (home_sector p.geometry p.ranges object)
 
--- how many sectors the frame of an object takes
-abbrev pub frame_length : Plan → ℕ → ℕ
-frame_length p object = if nat_lt object p.geometry.nodes then 2 else 9
-
 -- the bytes of the frame of an object
 abbrev pub frame_in : Image → Plan → ℕ → List Entry → ℕ → List ℕ
-frame_in image p generation es object = sectors_from image (frame_sector p generation es object) (frame_length p object)
-
--- the bytes that spell a frame of an object
-abbrev pub frame_bytes : Plan → ℕ → Frame → List ℕ
-frame_bytes p object f = if nat_lt object p.geometry.nodes then node_frame_bytes f else page_frame_bytes f
-
-abbrev pub IsFrameIf : Bool → Geometry → ℕ → List ℕ → Frame → Type 0
-IsFrameIf true g age bytes f = IsNodeFrame g age f × (bytes ≡ node_frame_bytes f)
-IsFrameIf false g age bytes f = IsPageFrame age f × (bytes ≡ page_frame_bytes f)
-
--- the frame of an object is spelt by bytes
-abbrev pub IsFrameOf : Geometry → ℕ → ℕ → List ℕ → Frame → Type 0
-IsFrameOf g age object bytes f = IsFrameIf (nat_lt object g.nodes) g age bytes f
+frame_in image p generation es object = sectors_from image (frame_sector p generation es object) (frame_length p.geometry object)
 
 -- ---- reasons to refuse an image
 
 -- 1: fewer than 5 sectors, or fewer than the total
-abbrev pub IsTooSmall : ℕ → Image → Type 0
-IsTooSmall size image = (size < 5) ⊎ (size < total_in (image 0))
+abbrev pub IsTooSmall : Image → ℕ → Type 0
+IsTooSmall image size = (size < 5) ⊎ (size < total_in (image 0))
 
 -- 2: another magic or version, or a byte behind the ranges that isn't 0
 abbrev pub IsNoSuperblock : Image → Type 0
@@ -133,23 +118,23 @@ abbrev pub HasNoHeader : Image → Type 0
 HasNoHeader image = committed_slot image ≡ None
 
 -- 5: the committed header is no spelling of one
-abbrev pub HasBadHeader : Plan → Image → Type 0
-HasBadHeader p image = (h : CheckpointHeader) → IsHeader p.geometry.log h → committed_bytes image ≡ Some (header_bytes h) → ⊥
+abbrev pub HasBadHeader : Image → Plan → Type 0
+HasBadHeader image p = (h : CheckpointHeader) → IsHeader p.geometry.log h → committed_bytes image ≡ Some (header_bytes h) → ⊥
 
 -- 6: its directory is no spelling of one
-abbrev pub HasBadDirectory : Plan → CheckpointHeader → Image → Type 0
-HasBadDirectory p h image = (es : List Entry) → IsDirectory p.geometry es → length es ≡ h.entries → directory_in image p h.generation h.entries ≡ directory_bytes es → ⊥
+abbrev pub HasBadDirectory : Image → Plan → CheckpointHeader → Type 0
+HasBadDirectory image p h = (es : List Entry) → IsDirectory p.geometry es → length es ≡ h.entries → directory_in image p h.generation h.entries ≡ directory_bytes es → ⊥
 
 -- 7: the frame of some object is no spelling of one
-abbrev pub HasBadFrame : Plan → CheckpointHeader → List Entry → Image → Type 0
-HasBadFrame p h es image =
+abbrev pub HasBadFrame : Image → Plan → CheckpointHeader → List Entry → Type 0
+HasBadFrame image p h es =
     (object : ℕ) × (object < p.geometry.nodes + p.geometry.pages)
     × ((f : Frame) → IsFrameOf p.geometry h.age object (frame_in image p h.generation es object) f → ⊥)
 
 -- ---- what an image denotes
 
 -- the superblock of an image
-pub record HasPlan (size : ℕ) (image : Image) (p : Plan) : Type 0 where
+pub record HasPlan (image : Image) (size : ℕ) (p : Plan) : Type 0 where
   pub least : 5 ≤ size
   pub whole : p.total ≤ size
   pub fits : IsPlan p
@@ -174,8 +159,8 @@ pub record SavedState : Type 0 where
   pub frames : List Frame
 
 -- an image denotes a saved state where none of the reasons holds
-pub record Denotes (size : ℕ) (image : Image) (s : SavedState) : Type 0 where
-  pub plan : HasPlan size image s.plan
+pub record Denotes (image : Image) (size : ℕ) (s : SavedState) : Type 0 where
+  pub plan : HasPlan image size s.plan
   pub header : HasHeader image s.plan s.header
   pub directory : HasDirectory image s.plan s.header s.directory
   pub count : length s.frames ≡ s.plan.geometry.nodes + s.plan.geometry.pages
@@ -183,13 +168,13 @@ pub record Denotes (size : ℕ) (image : Image) (s : SavedState) : Type 0 where
       IsFrameOf s.plan.geometry s.header.age object (frame_in image s.plan s.header.generation s.directory object) (frame_at s.frames object)
 
 -- the least reason that holds, where it is one of the first seven
-abbrev pub IsBadBy : ℕ → Image → BadImage → Type 0
-IsBadBy size image bad.Small = IsTooSmall size image
-IsBadBy size image bad.NotASuperblock = (IsTooSmall size image → ⊥) × IsNoSuperblock image
-IsBadBy size image bad.BadGeometry = (IsTooSmall size image → ⊥) × HasMark (image 0) × HasBadGeometry image
-IsBadBy size image bad.NoHeader = (p : Plan) × HasPlan size image p × HasNoHeader image
-IsBadBy size image bad.BadHeader = (p : Plan) × HasPlan size image p × (HasNoHeader image → ⊥) × HasBadHeader p image
-IsBadBy size image bad.BadDirectory = (p : Plan) × (h : CheckpointHeader) × HasPlan size image p × HasHeader image p h × HasBadDirectory p h image
-IsBadBy size image bad.BadFrame =
-    (p : Plan) × (h : CheckpointHeader) × (es : List Entry) × HasPlan size image p × HasHeader image p h × HasDirectory image p h es × HasBadFrame p h es image
-IsBadBy size image _ = ⊥
+abbrev pub IsBadBy : Image → ℕ → BadImage → Type 0
+IsBadBy image size bad.Small = IsTooSmall image size
+IsBadBy image size bad.NotASuperblock = (IsTooSmall image size → ⊥) × IsNoSuperblock image
+IsBadBy image size bad.BadGeometry = (IsTooSmall image size → ⊥) × HasMark (image 0) × HasBadGeometry image
+IsBadBy image size bad.NoHeader = (p : Plan) × HasPlan image size p × HasNoHeader image
+IsBadBy image size bad.BadHeader = (p : Plan) × HasPlan image size p × (HasNoHeader image → ⊥) × HasBadHeader image p
+IsBadBy image size bad.BadDirectory = (p : Plan) × (h : CheckpointHeader) × HasPlan image size p × HasHeader image p h × HasBadDirectory image p h
+IsBadBy image size bad.BadFrame =
+    (p : Plan) × (h : CheckpointHeader) × (es : List Entry) × HasPlan image size p × HasHeader image p h × HasDirectory image p h es × HasBadFrame image p h es
+IsBadBy image size _ = ⊥

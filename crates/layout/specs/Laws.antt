@@ -3,20 +3,21 @@ use Rattle.std.specs.Prelude.{◌≡◌, ℕ, List}
 use Rattle.model.specs.declared.capability.Cap.{Cap}
 use Rattle.model.specs.declared.frame.Frame.{Frame}
 use Rattle.model.specs.declared.geometry.Geometry.{Geometry}
+use Rattle.model.specs.Keepable.{IsKeptCap}
 use Rattle.layout.specs.declared.directory.Entry.{Entry}
 use Rattle.layout.specs.declared.gate.Gate.{Gate}
 use Rattle.layout.specs.declared.header.CheckpointHeader.{CheckpointHeader}
-use Rattle.layout.specs.Capability.{capability_bytes, IsCapability}
+use Rattle.layout.specs.Capability.{capability_bytes}
 use Rattle.layout.specs.Gate.{gate_bytes, gate_of}
 use Rattle.layout.specs.Header.{header_bytes, IsHeader}
 use Rattle.layout.specs.Directory.{directory_bytes, IsDirectory}
-use Rattle.layout.specs.Frame.{node_frame_bytes, page_frame_bytes, IsNodeFrame, IsPageFrame}
+use Rattle.layout.specs.Frame.{IsFrameOf}
 use Rattle.layout.specs.Superblock.{Plan, superblock_bytes, IsPlan}
 use Rattle.device.specs.Disk.{Image}
 use Rattle.layout.specs.Image.{SavedState, Denotes}
 
 abbrev pub SpellOneCapability : Type 0
-SpellOneCapability = (g : Geometry) (age : ℕ) (b c : Cap) → IsCapability g age b → IsCapability g age c → capability_bytes b ≡ capability_bytes c → b ≡ c
+SpellOneCapability = (g : Geometry) (age : ℕ) (b c : Cap) → IsKeptCap g age b → IsKeptCap g age c → capability_bytes b ≡ capability_bytes c → b ≡ c
 
 abbrev pub SpellOneGate : Type 0
 SpellOneGate = (g : Gate) → gate_of (gate_bytes g) ≡ g
@@ -27,14 +28,11 @@ SpellOneHeader = (room : ℕ) (g h : CheckpointHeader) → IsHeader room g → I
 abbrev pub SpellOneDirectory : Type 0
 SpellOneDirectory = (g : Geometry) (ds es : List Entry) → IsDirectory g ds → IsDirectory g es → directory_bytes ds ≡ directory_bytes es → ds ≡ es
 
-abbrev pub SpellOneNodeFrame : Type 0
-SpellOneNodeFrame = (g : Geometry) (age : ℕ) (e f : Frame) → IsNodeFrame g age e → IsNodeFrame g age f → node_frame_bytes e ≡ node_frame_bytes f → e ≡ f
-
-abbrev pub SpellOnePageFrame : Type 0
-SpellOnePageFrame = (age : ℕ) (e f : Frame) → IsPageFrame age e → IsPageFrame age f → page_frame_bytes e ≡ page_frame_bytes f → e ≡ f
+abbrev pub SpellOneFrame : Type 0
+SpellOneFrame = (g : Geometry) (age object : ℕ) (bytes : List ℕ) (e f : Frame) → IsFrameOf g age object bytes e → IsFrameOf g age object bytes f → e ≡ f
 
 abbrev pub SpellOneSuperblock : Type 0
 SpellOneSuperblock = (p q : Plan) → IsPlan p → IsPlan q → superblock_bytes p ≡ superblock_bytes q → p ≡ q
 
 abbrev pub DenoteOneState : Type 0
-DenoteOneState = (size : ℕ) (image : Image) (s t : SavedState) → Denotes size image s → Denotes size image t → s ≡ t
+DenoteOneState = (image : Image) (size : ℕ) (s t : SavedState) → Denotes image size s → Denotes image size t → s ≡ t

@@ -4,6 +4,7 @@ pub mod Gate
 pub mod Header
 pub mod Frame
 pub mod Directory
+pub mod Half
 pub mod Superblock
 pub mod Image
 pub mod Laws

@@ -6,6 +6,8 @@ use Rattle.layout.specs.declared.bad_image.BadImage.{BadImage}
 use Rattle.layout.specs.declared.bad_image.BadImage.TheVariants.{NotASuperblock, BadGeometry}
 use Rattle.layout.specs.declared.extent.Extent.{Extent}
 use Rattle.layout.specs.declared.extent.HomeRange.{HomeRange}
+use Rattle.layout.specs.declared.half.Half.{Half}
+use Rattle.layout.specs.declared.half.Half.TheVariants.{First, Second}
 use Rattle.layout.specs.Bytes.{number, half_number, zeros}
 
 -- what a superblock tells
@@ -113,3 +115,8 @@ RangeFits r = (r.first < 2 ^ 64) × (r.count < 2 ^ 64) × (r.sector < 2 ^ 64)
 
 abbrev pub plan_of : Geometry → List HomeRange → ℕ → ℕ → ℕ → Plan
 plan_of g rs half_0 half_1 total = record { geometry = g; ranges = rs; half_0 = half_0; half_1 = half_1; total = total }
+
+-- the first sector of a half of the log
+abbrev pub half_start : Plan → Half → ℕ
+half_start p First = p.half_0
+half_start p Second = p.half_1

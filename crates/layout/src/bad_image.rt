@@ -1,3 +1,4 @@
+// Why an image is refused.
 use thiserror::Error;
 
 /// Why an image is refused. Of the reasons that hold the least is given.

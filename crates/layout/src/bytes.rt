@@ -1,3 +1,4 @@
+// Numbers and zeros in bytes.
 ghost use Rattle.std.specs.Prelude.{◌≡◌, ℕ, ◌+◌, ◌-◌, ◌≤◌, ◌++◌, ◌↔◌, List, length, take, drop, IsTrue};
 ghost use Rattle.layout.specs.Bytes.{number, zeros};
 

@@ -1,8 +1,10 @@
+// Capabilities as bytes.
 ghost use Rattle.std.specs.Prelude.{◌≡◌, ℕ, ◌+◌, ◌*◌, ◌^◌, ◌%◌, ◌<◌, ◌≤◌, ◌++◌, ◌↔◌, length, IsTrue, IfOk, IfErr};
 ghost use Rattle.model.specs.declared.access.Access.{Access};
 ghost use Rattle.model.specs.declared.capability.Cap.{Cap};
 ghost use Rattle.model.specs.Capability.{IsAccess};
-ghost use Rattle.layout.specs.Capability.{capability_bytes, head_number, HeadFits, number_of, assembled, IsCapability, Follows};
+ghost use Rattle.model.specs.Keepable.{Follows, IsKeptCap};
+ghost use Rattle.layout.specs.Capability.{capability_bytes, head_number, HeadFits, number_of, assembled};
 
 use crate::bad_image::BadImage;
 use crate::bytes::{number_at, put_number};
@@ -61,7 +63,7 @@ fn is_access(access: Access) -> bool
 }
 
 fn is_capability(geometry: Geometry, age: u64, cap: Cap) -> bool
-    ensures { IsTrue result ↔ IsCapability geometry age cap }
+    ensures { IsTrue result ↔ IsKeptCap geometry age cap }
 {
     match cap.what {
         Capability::Void | Capability::Number(_) | Capability::Discrim => cap.count == 0,
@@ -124,7 +126,8 @@ fn assembled(
 ) -> Reading
     ensures what { result.what ≡ assembled (numbers.head % 256) access key height numbers.object }
     ensures spelt { IsTrue result.is_spelt ↔ ((head_number result.what ≡ numbers.head)
-        × (number_of result.what ≡ numbers.object) × Follows geometry age numbers.count result.what) }
+        × (number_of result.what ≡ numbers.object)
+        × Follows geometry age numbers.count result.what) }
     ensures fits { HeadFits result.what }
 {
     let object = numbers.object;
@@ -168,10 +171,10 @@ pub fn encode_capability(cap: Cap, into: &mut [u8])
 /// `BadFrame`.
 pub fn decode_capability(bytes: &[u8], geometry: Geometry, age: u64) -> Result<Cap, BadImage>
     requires { length bytes.now ≡ 24 }
-    ensures found { IfOk result (λ c. IsCapability geometry age c
+    ensures found { IfOk result (λ c. IsKeptCap geometry age c
         × (bytes.now ≡ capability_bytes c)) }
     ensures refused { IfErr result (λ e. (e ≡ BadImage.BadFrame)
-        × ((c : Cap) → IsCapability geometry age c → bytes.now ≡ capability_bytes c → ⊥)) }
+        × ((c : Cap) → IsKeptCap geometry age c → bytes.now ≡ capability_bytes c → ⊥)) }
 {
     let head = number_at(bytes, 0);
     let object = number_at(bytes, 8);

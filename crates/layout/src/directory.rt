@@ -1,3 +1,4 @@
+// The directory of a checkpoint.
 ghost use Rattle.std.specs.Prelude.{◌≡◌, ℕ, ◌+◌, ◌*◌, ◌<◌, ◌≤◌, ◌↔◌, List, length, IsTrue, OnOk, IfErr};
 ghost use Rattle.std.specs.List.{All};
 ghost use Rattle.layout.specs.declared.directory.Entry.{Entry};

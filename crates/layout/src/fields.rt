@@ -1,3 +1,4 @@
+// Numbers of sectors that may be damaged.
 ghost use Rattle.std.specs.Prelude.{◌≡◌, ℕ, ◌≤◌, length};
 ghost use Rattle.layout.specs.Image.{total_in, sequence_in};
 

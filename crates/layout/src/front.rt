@@ -1,35 +1,23 @@
-ghost use Rattle.std.specs.Prelude.{◌≡◌, ℕ, ◌<◌, ◌≤◌, ◌++◌, ◌↔◌, List, length, take, drop, IsTrue};
-ghost use Rattle.model.specs.Object.{role_of};
-ghost use Rattle.layout.specs.Capability.{IsCount};
-ghost use Rattle.layout.specs.Frame.{front_numbers, role_number};
+// The front of a frame: its role, its counts and its owner.
+ghost use Rattle.std.specs.Prelude.{◌≡◌, ℕ, ◌≤◌, ◌++◌, ◌↔◌, length, take, drop, IsTrue};
+ghost use Rattle.model.specs.Keepable.{IsCount};
+ghost use Rattle.model.specs.Object.{role_number};
+ghost use Rattle.layout.specs.Frame.{front_numbers, role_in};
 
 use crate::bytes::{number_at, put_number};
-use model::{Cap, Content, ObjectHeader, Role};
+use model::{ObjectHeader, Role};
 
-/// What an object is.
-pub fn role_of(content: &Content<Cap>) -> Role
-    ensures { result ≡ role_of content.now }
+// The role with a number, or free.
+fn role_in(number: u64) -> Role
+    ensures { result ≡ role_in number }
 {
-    match content {
-        Content::Free => Role::Free,
-        Content::Page(_) => Role::Page,
-        Content::Node(_) => Role::Node,
-        Content::Root(_) => Role::Root,
-        Content::Annex(_) => Role::Annex,
-        Content::Bank { .. } => Role::Bank,
-    }
-}
-
-fn role_number(role: Role) -> u64
-    ensures { result ≡ role_number role }
-{
-    match role {
-        Role::Free => 0,
-        Role::Page => 1,
-        Role::Node => 2,
-        Role::Root => 3,
-        Role::Annex => 4,
-        Role::Bank => 5,
+    match number {
+        1 => Role::Page,
+        2 => Role::Node,
+        3 => Role::Root,
+        4 => Role::Annex,
+        5 => Role::Bank,
+        _ => Role::Free,
     }
 }
 
@@ -40,29 +28,31 @@ pub fn has_counts(header: ObjectHeader, age: u64) -> bool
     header.allocations <= age && header.calls <= age
 }
 
-/// Writes the front of a frame.
-pub fn encode_front(role: Role, header: ObjectHeader, into: &mut [u8])
+/// Writes the 32 bytes of the front of a frame.
+pub fn encode_front(header: ObjectHeader, into: &mut [u8])
     requires { 32 ≤ length into.old }
-    ensures before { take 32 into.new ≡ front_numbers (role_number role) header }
+    ensures before { take 32 into.new ≡ front_numbers (role_number header.role) header }
     ensures after { drop 32 into.new ≡ drop 32 into.old }
 {
-    put_number(into, 0, role_number(role));
+    put_number(into, 0, header.role.number());
     put_number(into, 8, header.allocations);
     put_number(into, 16, header.calls);
     put_number(into, 24, header.owner);
 }
 
-/// Reads the front of a frame: its first eight bytes, which are its role and seven zeros, and the
-/// rest of it.
+/// Reads the front of a frame: its first eight bytes as one number, which are its role and seven
+/// zeros, and the header, which is of a free object where the number is none of a role.
 pub fn decode_front(bytes: &[u8]) -> (u64, ObjectHeader)
     requires { 32 ≤ length bytes.now }
-    ensures { bytes.now ≡ front_numbers result.0 result.1 ++ drop 32 bytes.now }
+    ensures bytes { bytes.now ≡ front_numbers result.0 result.1 ++ drop 32 bytes.now }
+    ensures role { result.1.role ≡ role_in result.0 }
 {
-    let role = number_at(bytes, 0);
+    let first = number_at(bytes, 0);
     let header = ObjectHeader {
+        role: role_in(first),
         allocations: number_at(bytes, 8),
         calls: number_at(bytes, 16),
         owner: number_at(bytes, 24),
     };
-    (role, header)
+    (first, header)
 }

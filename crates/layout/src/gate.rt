@@ -1,3 +1,4 @@
+// The gate of a header.
 ghost use Rattle.std.specs.Prelude.{◌≡◌, ℕ, ◌<◌, length};
 ghost use Rattle.layout.specs.Gate.{gate_bytes, gate_of};
 

@@ -1,4 +1,5 @@
-ghost use Rattle.layout.specs.Laws.{SpellOneCapability, SpellOneGate, SpellOneHeader, SpellOneDirectory, SpellOneNodeFrame, SpellOnePageFrame, SpellOneSuperblock, DenoteOneState};
+// Laws of the format, told by functions that do nothing.
+ghost use Rattle.layout.specs.Laws.{SpellOneCapability, SpellOneGate, SpellOneHeader, SpellOneDirectory, SpellOneFrame, SpellOneSuperblock, DenoteOneState};
 
 /// Given bytes spell at most one value of each structure. It does nothing: its contract is the law.
 pub fn spell_one_value()
@@ -6,8 +7,7 @@ pub fn spell_one_value()
     ensures gate { SpellOneGate }
     ensures header { SpellOneHeader }
     ensures directory { SpellOneDirectory }
-    ensures node_frame { SpellOneNodeFrame }
-    ensures page_frame { SpellOnePageFrame }
+    ensures frame { SpellOneFrame }
     ensures superblock { SpellOneSuperblock }
 {}
 

@@ -2,13 +2,16 @@
 #![tactic(auto)]
 
 mod bad_image;
+mod body;
 mod bytes;
 mod capability;
 mod directory;
 mod extent;
 mod fields;
+mod frame;
 mod front;
 mod gate;
+mod half;
 mod header;
 mod laws;
 mod node_frame;
@@ -17,16 +20,16 @@ mod slots;
 mod superblock;
 
 pub use bad_image::BadImage;
+pub use body::{Body, Room};
 pub use capability::{CAPABILITY_BYTES, decode_capability, encode_capability};
 pub use directory::{ENTRY_BYTES, Entry, MAX_LOG, decode_directory, encode_directory};
 pub use extent::HomeRange;
 pub use fields::{sequence_in, total_in};
+pub use frame::{decode_frame, encode_frame};
 pub use gate::{Gate, decode_gate, encode_gate};
+pub use half::Half;
 pub use header::{CheckpointHeader, decode_header, encode_header};
 pub use laws::{denote_one_state, spell_one_value};
-pub use node_frame::{NODE_FRAME_BYTES, NodeBody, decode_node_frame, encode_node_frame};
-pub use page_frame::{PAGE_FRAME_BYTES, PageBody, decode_page_frame, encode_page_frame};
-pub use slots::VOID;
-pub use superblock::{
-    MAX_RANGES, Superblock, decode_superblock, encode_superblock,
-};
+pub use node_frame::NODE_FRAME_BYTES;
+pub use page_frame::PAGE_FRAME_BYTES;
+pub use superblock::{MAX_RANGES, Superblock, decode_superblock, encode_superblock};

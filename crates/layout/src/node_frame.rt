@@ -1,30 +1,21 @@
-ghost use Rattle.std.specs.Prelude.{◌-◌, ◌≡◌, ℕ, ◌+◌, ◌*◌, ◌<◌, ◌≤◌, ◌++◌, ◌↔◌, ◌^◌, List, length, take, drop, IsTrue, IfOk, IfErr};
+// Frames with the number of a node.
+ghost use Rattle.std.specs.Prelude.{◌-◌, ◌≡◌, ℕ, ◌*◌, ◌<◌, ◌≤◌, ◌++◌, ◌↔◌, ◌^◌, [], length, take, IsTrue, IfOk, IfErr};
 ghost use Rattle.model.specs.declared.frame.Frame.{Frame};
 ghost use Rattle.model.specs.declared.object.Content.TheVariants as content;
-ghost use Rattle.model.specs.Object.{state_number};
 ghost use Rattle.model.specs.Sound.{IsSpace};
 ghost use Rattle.layout.specs.Bytes.{zeros};
-ghost use Rattle.layout.specs.Frame.{number_held, number_cap, state_in, root_from, body_in, root_slots, slots_of, slots_bytes, with_slots, node_frame, node_frame_bytes, FollowsRole, IsBody, IsNodeFrame};
+ghost use Rattle.layout.specs.Frame.{number_held, number_cap, state_in, root_from, body_in, root_slots, slots_of, slots_bytes, content_of, frame_of, node_frame_bytes, FollowsRole, IsBody, IsNodeFrame};
 
 use crate::bad_image::BadImage;
+use crate::body::{Body, Room};
 use crate::bytes::{blank_from, is_blank_from};
 use crate::capability::CAPABILITY_BYTES;
-use crate::front::{decode_front, encode_front, has_counts, role_of};
-use crate::slots::{VOID, are_held, decode_slots, encode_slots};
-use model::{Cap, Capability, Content, Frame, Geometry, ObjectHeader, Root, Slots, State};
+use crate::front::{decode_front, encode_front, has_counts};
+use crate::slots::{are_held, decode_slots, encode_slots};
+use model::{Cap, Capability, Content, Geometry, ObjectHeader, Root, State};
 
 /// How many bytes a frame with the number of a node takes.
 pub const NODE_FRAME_BYTES: usize = 1024;
-
-/// What a frame with the number of a node holds, beside the slots of a node or an annex.
-#[derive(Drop)]
-pub enum NodeBody {
-    Free,
-    Node,
-    Root(Root<Cap>),
-    Annex,
-    Bank { limit: u64 },
-}
 
 // The number that a capability is, or 0.
 fn number_held(cap: Cap) -> u64
@@ -52,16 +43,6 @@ fn state_in(number: u64) -> State
         0 => State::Available,
         1 => State::Running,
         _ => State::Waiting,
-    }
-}
-
-fn state_number(state: State) -> u64
-    ensures { result ≡ state_number state }
-{
-    match state {
-        State::Available => 0,
-        State::Running => 1,
-        State::Waiting => 2,
     }
 }
 
@@ -101,7 +82,7 @@ fn root_slots(root: &Root<Cap>) -> [Cap; 8]
 {
     [
         number_cap(root.annex),
-        number_cap(state_number(root.state)),
+        number_cap(root.state.number()),
         number_cap(root.words[0]),
         number_cap(root.words[1]),
         number_cap(root.words[2]),
@@ -111,64 +92,66 @@ fn root_slots(root: &Root<Cap>) -> [Cap; 8]
     ]
 }
 
-// The body that a role and 32 slots would be.
-fn body_in(role: u64, slots: &[Cap]) -> NodeBody
+// The body that a role's number and 32 slots would be.
+fn body_in(role: u64, slots: &[Cap]) -> Body
     requires { length slots.now ≡ 32 }
     ensures { result ≡ body_in role slots.now }
 {
     match role {
-        2 => NodeBody::Node,
-        3 => NodeBody::Root(root_from(slots)),
-        4 => NodeBody::Annex,
-        5 => NodeBody::Bank {
+        2 => Body::Node,
+        3 => Body::Root(root_from(slots)),
+        4 => Body::Annex,
+        5 => Body::Bank {
             limit: number_held(slots[0]),
         },
-        _ => NodeBody::Free,
+        _ => Body::Free,
     }
 }
 
 fn is_root(root: &Root<Cap>, slots: &[Cap]) -> bool
     requires { length slots.now ≡ 32 }
-    ensures { IsTrue result ↔ ((slots.now ≡ slots_of (content.Root root.now)) × FollowsRole (content.Root root.now)) }
+    ensures { IsTrue result ↔ ((slots.now ≡ slots_of (content.Root root.now))
+        × FollowsRole (content.Root root.now)) }
 {
     let held = root_slots(root);
     is_space(root.space.what) && are_held(&held, slots)
 }
 
-fn is_body(body: &NodeBody, role: u64, owner: u64, slots: &[Cap]) -> bool
+fn is_body(body: &Body, role: u64, owner: u64, slots: &[Cap]) -> bool
     requires { length slots.now ≡ 32 }
-    ensures { IsTrue result ↔ IsBody role owner slots.now (with_slots body.now slots.now) }
+    ensures { IsTrue result ↔ IsBody role owner slots.now (content_of body.now slots.now []) }
 {
     match body {
-        NodeBody::Free => role == 0 && owner == 0 && are_held(&[], slots),
-        NodeBody::Node => role == 2,
-        NodeBody::Root(root) => role == 3 && is_root(root, slots),
-        NodeBody::Annex => role == 4 && slots[0] == VOID,
-        NodeBody::Bank { limit } => role == 5 && are_held(&[number_cap(*limit)], slots),
+        Body::Free => role == 0 && owner == 0 && are_held(&[], slots),
+        Body::Page => false,
+        Body::Node => role == 2,
+        Body::Root(root) => role == 3 && is_root(root, slots),
+        Body::Annex => role == 4 && slots[0] == Cap::void(),
+        Body::Bank { limit } => role == 5 && are_held(&[number_cap(*limit)], slots),
     }
 }
 
 /// Reads the 1024 bytes of a frame with the number of a node. The slots of a node or an annex are
-/// left in `slots`, and no memory is taken. All that is no spelling of such a frame is a
-/// `BadFrame`, which leaves any slots.
+/// left in `room`. All that is no spelling of such a frame is a `BadFrame`, which leaves any slots.
 pub fn decode_node_frame(
     bytes: &[u8],
     geometry: Geometry,
     age: u64,
-    slots: &mut Slots<Cap>,
-) -> Result<(ObjectHeader, NodeBody), BadImage>
+    room: &mut Room,
+) -> Result<(ObjectHeader, Body), BadImage>
     requires { length bytes.now ≡ 1024 }
-    ensures found { IfOk result (λ read. IsNodeFrame geometry age (node_frame read slots.new)
-        × (bytes.now ≡ node_frame_bytes (node_frame read slots.new))) }
+    ensures found { IfOk result (λ read. IsNodeFrame geometry age (frame_of read room.new)
+        × (bytes.now ≡ node_frame_bytes (frame_of read room.new))) }
     ensures refused { IfErr result (λ e. (e ≡ BadImage.BadFrame)
         × ((f : Frame) → IsNodeFrame geometry age f → bytes.now ≡ node_frame_bytes f → ⊥)) }
 {
     let (role, header) = decode_front(bytes);
-    decode_slots(&bytes[32..800], geometry, age, slots)?;
-    let body = body_in(role, slots.as_slice());
+    decode_slots(&bytes[32..800], geometry, age, &mut room.slots)?;
+    let slots = room.slots.as_slice();
+    let body = body_in(role, slots);
     let has_counts = has_counts(header, age);
     let is_blank = is_blank_from(bytes, 800);
-    if has_counts && is_blank && is_body(&body, role, header.owner, slots.as_slice()) {
+    if has_counts && is_blank && is_body(&body, role, header.owner, slots) {
         Ok((header, body))
     } else {
         Err(BadImage::BadFrame)
@@ -179,21 +162,22 @@ pub fn decode_node_frame(
 fn put_slots(caps: &[Cap], into: &mut [u8])
     requires few { length caps.now ≤ 32 }
     requires size { length into.old ≡ 1024 }
-    ensures { into.new ≡ take 32 into.old ++ slots_bytes caps.now ++ zeros (992 - 24 * length caps.now) }
+    ensures { into.new ≡ take 32 into.old ++ slots_bytes caps.now
+        ++ zeros (992 - 24 * length caps.now) }
 {
     let end = 32 + CAPABILITY_BYTES * caps.len();
     encode_slots(caps, &mut into[32..end]);
     blank_from(into, end);
 }
 
-/// Writes the 1024 bytes of a frame with the number of a node. A frame that holds a page has no
-/// spelling here: it is written with its role and void slots.
-pub fn encode_node_frame(frame: &Frame, into: &mut [u8])
+/// Writes the 1024 bytes of a frame with the number of a node. A page has no spelling here: it is
+/// written as void slots.
+pub fn encode_node_frame(header: ObjectHeader, content: &Content<Cap>, into: &mut [u8])
     requires { length into.old ≡ 1024 }
-    ensures { into.new ≡ node_frame_bytes frame.now }
+    ensures { into.new ≡ node_frame_bytes (record { header = header; content = content.now }) }
 {
-    encode_front(role_of(&frame.content), frame.header, into);
-    match &frame.content {
+    encode_front(header, into);
+    match content {
         Content::Free => put_slots(&[], into),
         Content::Page(_) => put_slots(&[], into),
         Content::Node(slots) => put_slots(slots.as_slice(), into),

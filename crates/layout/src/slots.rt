@@ -1,23 +1,21 @@
+// Capabilities one after the other.
 ghost use Rattle.std.specs.Prelude.{◌≡◌, ℕ, ◌*◌, ◌-◌, ◌++◌, ◌<◌, ◌≤◌, ◌↔◌, List, length, replicate, IsTrue, OnOk, IfErr};
 ghost use Rattle.std.specs.List.{All};
 ghost use Rattle.model.specs.declared.capability.Cap.{Cap};
-ghost use Rattle.layout.specs.Frame.{AreSlots, slots_bytes, void_cap};
+ghost use Rattle.model.specs.Frame.{void_held};
+ghost use Rattle.model.specs.Keepable.{AreKeptSlots};
+ghost use Rattle.layout.specs.Frame.{slots_bytes};
 
 use crate::bad_image::BadImage;
 use crate::capability::{CAPABILITY_BYTES, decode_capability, encode_capability};
-use model::{Cap, Capability, Geometry, Slots};
-
-/// A capability that conveys nothing.
-pub const VOID: Cap = Cap {
-    what: Capability::Void,
-    count: 0,
-};
+use model::{Cap, Geometry, Slots};
 
 // Whether all are void.
 fn are_void(caps: &[Cap]) -> bool
-    ensures { IsTrue result ↔ All (λ c. c ≡ void_cap) caps.now }
+    ensures { IsTrue result ↔ All (λ c. c ≡ void_held) caps.now }
 {
-    caps.iter().all(|cap| *cap == VOID)
+    let void = Cap::void();
+    caps.iter().all(|cap| *cap == void)
 }
 
 fn are_same(caps: &[Cap], others: &[Cap]) -> bool
@@ -30,7 +28,7 @@ fn are_same(caps: &[Cap], others: &[Cap]) -> bool
 pub fn are_held(caps: &[Cap], slots: &[Cap]) -> bool
     requires size { length slots.now ≡ 32 }
     requires few { length caps.now ≤ 32 }
-    ensures { IsTrue result ↔ (slots.now ≡ caps.now ++ replicate (32 - length caps.now) void_cap) }
+    ensures { IsTrue result ↔ (slots.now ≡ caps.now ++ replicate (32 - length caps.now) void_held) }
 {
     are_same(&slots[..caps.len()], caps) && are_void(&slots[caps.len()..])
 }
@@ -54,10 +52,11 @@ pub fn decode_slots(
     into: &mut Slots<Cap>,
 ) -> Result<(), BadImage>
     requires { length bytes.now ≡ 768 }
-    ensures found { OnOk result (AreSlots geometry age into.new
+    ensures found { OnOk result (AreKeptSlots geometry age into.new
         × (bytes.now ≡ slots_bytes into.new)) }
     ensures refused { IfErr result (λ e. (e ≡ BadImage.BadFrame)
-        × ((slots : List Cap) → AreSlots geometry age slots → bytes.now ≡ slots_bytes slots → ⊥)) }
+        × ((slots : List Cap) → AreKeptSlots geometry age slots
+        → bytes.now ≡ slots_bytes slots → ⊥)) }
 {
     for i in 0..into.as_slice().len() {
         let at = CAPABILITY_BYTES * i;

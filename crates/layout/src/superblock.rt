@@ -1,10 +1,12 @@
-ghost use Rattle.std.specs.Prelude.{if◌then◌else◌, ◌≡◌, ℕ, ◌+◌, ◌*◌, ◌-◌, ◌<◌, ◌≤◌, ◌++◌, ◌↔◌, ◌^◌, List, length, take, drop, map, replicate, IsTrue, IfOk, IfErr, IfSome, IfNone, slice_index};
+// The superblock: how much a device holds, and where.
+ghost use Rattle.std.specs.Prelude.{◌≡◌, ℕ, ◌+◌, ◌*◌, ◌-◌, ◌<◌, ◌≤◌, ◌++◌, ◌↔◌, ◌^◌, List, length, take, drop, map, replicate, IsTrue, IfOk, IfErr, IfSome, IfNone, slice_index};
 ghost use Rattle.std.specs.List.{All};
-ghost use Rattle.layout.specs.Superblock.{Plan, superblock_bytes, ranges_bytes, unused, IsGeometry, IsNext, Cover, extents, IsPlan, IsRefused, RangeFits, plan_of};
+ghost use Rattle.layout.specs.Superblock.{Plan, superblock_bytes, ranges_bytes, unused, IsGeometry, IsNext, Cover, extents, IsPlan, IsRefused, RangeFits, plan_of, half_start};
 
 use crate::bad_image::BadImage;
 use crate::bytes::{blank, is_blank_from, number_at, put_number};
 use crate::extent::{Extent, HomeRange, are_apart, are_within, fill_extents};
+use crate::half::Half;
 use device::MAX_SECTORS;
 use model::Geometry;
 use std::marker::Model;
@@ -165,12 +167,15 @@ impl Superblock {
         &self.ranges[..self.used]
     }
 
-    /// The first sector of a half of the log: of half 1, or else of half 0.
-    pub fn half(&self, second: bool) -> u64
-        ensures value { result ≡ (if second then self.now.half_1 else self.now.half_0) }
+    /// The first sector of a half of the log.
+    pub fn half(&self, half: Half) -> u64
+        ensures value { result ≡ half_start self.now half }
         ensures fits { IsPlan self.now }
     {
-        if second { self.half_1 } else { self.half_0 }
+        match half {
+            Half::First => self.half_0,
+            Half::Second => self.half_1,
+        }
     }
 
     /// How many sectors the image takes.
@@ -228,8 +233,8 @@ pub fn encode_superblock(superblock: &Superblock, into: &mut [u8])
     put_number(into, 16, geometry.nodes);
     put_number(into, 24, geometry.pages);
     put_number(into, 32, geometry.log);
-    put_number(into, 40, superblock.half(false));
-    put_number(into, 48, superblock.half(true));
+    put_number(into, 40, superblock.half(Half::First));
+    put_number(into, 48, superblock.half(Half::Second));
     put_number(into, 56, superblock.total());
     let end = RANGES_AT + RANGE_BYTES * ranges.len();
     write_ranges(ranges, &mut into[RANGES_AT..end]);

@@ -1,23 +1,15 @@
 //! Encodes and decodes frames in memory, many times, or copies as many words. To be timed from outside.
 #![tactic(auto)]
 
-ghost use Rattle.std.specs.Prelude.{◌≡◌, ◌≤◌, ◌*◌, length};
+ghost use Rattle.std.specs.Prelude.{◌≡◌, ◌≤◌, ◌<◌, ◌*◌, length};
+ghost use Rattle.layout.specs.Frame.{frame_length};
 
 use byteorder::{ByteOrder, LittleEndian};
-use layout::{
-    NODE_FRAME_BYTES, PAGE_FRAME_BYTES, decode_node_frame, decode_page_frame, encode_node_frame,
-    encode_page_frame,
-};
-use model::{Access, Cap, Capability, Content, Frame, Geometry, ObjectHeader, Slots, Words};
+use layout::{NODE_FRAME_BYTES, PAGE_FRAME_BYTES, Room, decode_frame, encode_frame};
+use model::{Access, Cap, Capability, Content, Geometry, ObjectHeader, Role, Slots, Words};
 use std::alloc::{AllocError, Global};
 
 const AGE: u64 = 1000;
-
-const HEADER: ObjectHeader = ObjectHeader {
-    allocations: 1,
-    calls: 2,
-    owner: 0,
-};
 
 const GEOMETRY: Geometry = Geometry {
     nodes: 16,
@@ -25,28 +17,36 @@ const GEOMETRY: Geometry = Geometry {
     log: 16,
 };
 
-/// Encodes and decodes a page frame so many times, and tells how often it was read back.
-fn code_page(frame: &Frame, bytes: &mut [u8], read: &mut Words, rounds: u64) -> u64
-    requires { length bytes.old ≡ 4608 }
-{
-    let mut done = 0;
-    for _ in 0..rounds {
-        encode_page_frame(frame, bytes);
-        if decode_page_frame(bytes, AGE, read).is_ok() {
-            done = u64::wrapping_add(done, 1);
-        }
+// The number of a node, and of a page.
+const NODE: u64 = 15;
+
+const PAGE: u64 = 16;
+
+fn header(role: Role) -> ObjectHeader {
+    ObjectHeader {
+        role,
+        allocations: 1,
+        calls: 2,
+        owner: 0,
     }
-    done
 }
 
-/// Encodes and decodes a node frame so many times, and tells how often it was read back.
-fn code_node(frame: &Frame, bytes: &mut [u8], read: &mut Slots<Cap>, rounds: u64) -> u64
-    requires { length bytes.old ≡ 1024 }
+/// Encodes and decodes a frame so many times, and tells how often it was read back.
+fn code(
+    number: u64,
+    header: ObjectHeader,
+    content: &Content<Cap>,
+    bytes: &mut [u8],
+    room: &mut Room,
+    rounds: u64,
+) -> u64
+    requires number { number < 24 }
+    requires size { length bytes.old ≡ 512 * frame_length GEOMETRY number }
 {
     let mut done = 0;
     for _ in 0..rounds {
-        encode_node_frame(frame, bytes);
-        if decode_node_frame(bytes, GEOMETRY, AGE, read).is_ok() {
+        encode_frame(GEOMETRY, number, header, content, bytes);
+        if decode_frame(bytes, GEOMETRY, number, AGE, room).is_ok() {
             done = u64::wrapping_add(done, 1);
         }
     }
@@ -66,16 +66,21 @@ fn copy_words(words: &mut [u64], bytes: &mut [u8], rounds: u64) -> u64
     done
 }
 
+fn room(alloc: Global) -> Result<Room, AllocError> {
+    Ok(Room {
+        slots: Slots::new(alloc, Cap::void())?,
+        words: Words::new(alloc)?,
+    })
+}
+
 fn page_frames(alloc: Global, rounds: u64) -> Result<u64, AllocError> {
     let mut bytes = vec![in alloc; 0; PAGE_FRAME_BYTES]?;
-    let mut read = Words::new(alloc)?;
+    let mut room = room(alloc)?;
     let mut words = Words::new(alloc)?;
     words.set(3, 99);
-    let frame = Frame {
-        header: HEADER,
-        content: Content::Page(words),
-    };
-    Ok(code_page(&frame, bytes.as_mut_slice(), &mut read, rounds))
+    let page = Content::Page(words);
+    let into = bytes.as_mut_slice();
+    Ok(code(PAGE, header(Role::Page), &page, into, &mut room, rounds))
 }
 
 fn node_frames(alloc: Global, rounds: u64) -> Result<u64, AllocError> {
@@ -87,12 +92,10 @@ fn node_frames(alloc: Global, rounds: u64) -> Result<u64, AllocError> {
         count: 7,
     };
     let mut bytes = vec![in alloc; 0; NODE_FRAME_BYTES]?;
-    let mut read = Slots::new(alloc, held)?;
-    let frame = Frame {
-        header: HEADER,
-        content: Content::Node(Slots::new(alloc, held)?),
-    };
-    Ok(code_node(&frame, bytes.as_mut_slice(), &mut read, rounds))
+    let mut room = room(alloc)?;
+    let node = Content::Node(Slots::new(alloc, held)?);
+    let into = bytes.as_mut_slice();
+    Ok(code(NODE, header(Role::Node), &node, into, &mut room, rounds))
 }
 
 fn copies(alloc: Global, words: usize, rounds: u64) -> Result<u64, AllocError>

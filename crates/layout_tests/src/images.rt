@@ -1,12 +1,12 @@
 ghost use Rattle.std.specs.Prelude.{◌≡◌, ℕ, ◌<◌, length};
 
 use layout::{
-    BadImage, CheckpointHeader, Entry, Gate, HomeRange, NodeBody, Superblock, VOID,
-    decode_capability, decode_directory, decode_gate, decode_header, decode_node_frame,
-    decode_page_frame, decode_superblock, encode_capability, encode_gate, encode_header,
-    encode_node_frame, encode_superblock, total_in,
+    BadImage, Body, CheckpointHeader, Entry, Gate, Half, HomeRange, Room, Superblock,
+    decode_capability, decode_directory, decode_frame, decode_gate, decode_header,
+    decode_superblock, encode_capability, encode_frame, encode_gate, encode_header,
+    encode_superblock, total_in,
 };
-use model::{Cap, Capability, Content, Frame, Geometry, ObjectHeader, Root, Slots, State, Words};
+use model::{Cap, Capability, Content, Geometry, ObjectHeader, Role, Root, Slots, State, Words};
 use std::alloc::{AllocError, Global};
 use std::process::Abort;
 use std::test::Fail;
@@ -19,18 +19,30 @@ const GEOMETRY: Geometry = Geometry {
 
 const AGE: u64 = 10;
 
+// The number of a node, and of a page.
+const NODE: u64 = 15;
+
+const PAGE: u64 = 16;
+
+fn room(alloc: Global) -> Result<Room, AllocError> {
+    Ok(Room {
+        slots: Slots::new(alloc, Cap::void())?,
+        words: Words::new(alloc)?,
+    })
+}
+
 fn is_node_frame(alloc: Global, bytes: &[u8]) -> Result<bool, AllocError>
     requires { length bytes.now ≡ 1024 }
 {
-    let mut slots = Slots::new(alloc, VOID)?;
-    Ok(decode_node_frame(bytes, GEOMETRY, AGE, &mut slots).is_ok())
+    let mut room = room(alloc)?;
+    Ok(decode_frame(bytes, GEOMETRY, NODE, AGE, &mut room).is_ok())
 }
 
 fn is_page_frame(alloc: Global, bytes: &[u8]) -> Result<bool, AllocError>
     requires { length bytes.now ≡ 4608 }
 {
-    let mut words = Words::new(alloc)?;
-    Ok(decode_page_frame(bytes, AGE, &mut words).is_ok())
+    let mut room = room(alloc)?;
+    Ok(decode_frame(bytes, GEOMETRY, PAGE, AGE, &mut room).is_ok())
 }
 
 // A frame with a node's number is taken, or is refused: a word for why.
@@ -171,12 +183,12 @@ fn node_frames(rt: HostRuntime) -> Result<(), Fail> {
 fn root_of(alloc: Global, bytes: &[u8]) -> Result<Root<Cap>, Fail>
     requires { length bytes.now ≡ 1024 }
 {
-    let mut slots = Slots::new(alloc, VOID)?;
-    let (_, body) = decode_node_frame(bytes, GEOMETRY, AGE, &mut slots)
+    let mut room = room(alloc)?;
+    let (header, body) = decode_frame(bytes, GEOMETRY, NODE, AGE, &mut room)
         .ok()
         .ok_or("a root")?;
     match body {
-        NodeBody::Root(root) => Ok(root),
+        Body::Root(root) if header.role == Role::Root => Ok(root),
         _ => Err("another role".into()),
     }
 }
@@ -190,7 +202,7 @@ fn root_frames(rt: HostRuntime) -> Result<(), Fail> {
     assert_eq!(rt; root.state, State::Running);
     assert!(rt; root.words == [1, 2, 3, 4]);
     assert_eq!(rt; root.key, 65535);
-    assert_eq!(rt; root.space, VOID);
+    assert_eq!(rt; root.space, Cap::void());
     Ok(())
 }
 
@@ -270,17 +282,60 @@ fn written_node_frame(rt: HostRuntime) -> Result<(), Fail> {
     spelt[16] = 2;
     spelt[24] = 3;
     put_slot(&mut spelt, 0, 1, 200);
-    let frame = Frame {
-        header: ObjectHeader {
-            allocations: 1,
-            calls: 2,
-            owner: 3,
-        },
-        content: Content::Bank { limit: 200 },
+    let header = ObjectHeader {
+        role: Role::Bank,
+        allocations: 1,
+        calls: 2,
+        owner: 3,
     };
     let mut bytes = [255; 1024];
-    encode_node_frame(&frame, &mut bytes);
+    encode_frame(
+        GEOMETRY,
+        NODE,
+        header,
+        &Content::Bank { limit: 200 },
+        &mut bytes,
+    );
     assert!(rt; bytes[..] == spelt[..]);
+    Ok(())
+}
+
+#[test]
+fn written_page_frame(rt: HostRuntime) -> Result<(), Fail> {
+    let mut spelt = [0; 4608];
+    spelt[0] = 1;
+    spelt[8] = 1;
+    spelt[24] = 3;
+    spelt[4600] = 99;
+    let header = ObjectHeader {
+        role: Role::Page,
+        allocations: 1,
+        calls: 0,
+        owner: 3,
+    };
+    let mut words = Words::new(rt.alloc())?;
+    words.set(511, 99);
+    let mut bytes = [255; 4608];
+    encode_frame(GEOMETRY, PAGE, header, &Content::Page(words), &mut bytes);
+    assert!(rt; bytes[..] == spelt[..]);
+    read_page(&rt, rt.alloc(), &bytes)
+}
+
+// What such bytes are read as.
+fn read_page(rt: &impl Abort, alloc: Global, spelt: &[u8]) -> Result<(), Fail>
+    requires { length spelt.now ≡ 4608 }
+{
+    let mut room = room(alloc)?;
+    let (header, body) = decode_frame(spelt, GEOMETRY, PAGE, AGE, &mut room)
+        .ok()
+        .ok_or("a page")?;
+    assert_eq!(rt; header.role, Role::Page);
+    assert_eq!(rt; header.allocations, 1);
+    assert_eq!(rt; header.calls, 0);
+    assert_eq!(rt; header.owner, 3);
+    assert!(rt; matches!(body, Body::Page));
+    assert_eq!(rt; room.words.get(510), 0);
+    assert_eq!(rt; room.words.get(511), 99);
     Ok(())
 }
 
@@ -453,8 +508,10 @@ fn read_superblock(rt: &impl Abort, spelt: &[u8]) -> Result<(), Fail>
     let read = decode_superblock(spelt).ok().ok_or("a superblock")?;
     assert_eq!(rt; read.geometry(), GEOMETRY);
     assert!(rt; read.ranges() == RANGES.as_slice());
-    assert_eq!(rt; read.half(false), 109);
-    assert_eq!(rt; read.half(true), 254);
+    assert_eq!(rt; read.half(Half::First), 109);
+    assert_eq!(rt; read.half(Half::Second), 254);
+    assert_eq!(rt; read.half(Half::of(2)), 109);
+    assert_eq!(rt; read.half(Half::of(3)), 254);
     assert_eq!(rt; read.total(), 399);
     assert_eq!(rt; total_in(spelt), 399);
     Ok(())

@@ -150,7 +150,8 @@ resumed_now g os p us s =
 
 -- what an invocation sends
 
-all_words : (xs : List ℕ) → All (λ w. w < 2 ^ 64) xs → (i : ℕ) → slice_index xs i < 2 ^ 64
+-- each of words that fit is below 2^64
+pub all_words : (xs : List ℕ) → All (λ w. w < 2 ^ 64) xs → (i : ℕ) → slice_index xs i < 2 ^ 64
 all_words xs all i = elim (cases_lt i (length xs)) [
   | inl lt ↦ all i 0 lt
   | inr past ↦ rw (get_or_past xs i 0 past) (omega arith)
@@ -161,7 +162,8 @@ held_map os W f [] j h = held_void os W
 held_map os W f (r ∷ rs) zero h = h r
 held_map os W f (r ∷ rs) (suc j) h = held_map os W f rs j h
 
-held_sent : (g : Geometry) (os : List Object) (i : Invocation) (j : ℕ) → IsNow g os → IsHeld os (Waits os) (get_or (sent_by os i) j Void)
+-- what is sent may be held
+pub held_sent : (g : Geometry) (os : List Object) (i : Invocation) (j : ℕ) → IsNow g os → IsHeld os (Waits os) (get_or (sent_by os i) j Void)
 held_sent g os i j h = held_map os (Waits os) (register_at os i.process) i.sent j (λ r. (h.filled (annex_at os i.process)).slots r)
 
 -- the invoker after the operation through a gate, and what the gate receives, by the operation

@@ -21,4 +21,4 @@ returns-clause-keepable g c =
     let old = g.F.PresentFrames.parts c.args.store.now in
     let new = g.F.PresentFrames.parts c.consume.new.self in
     let at = g.met.F.PresentFrames.known_announced c.args.store.now c.args.process c.requires.announced in
-    λ age few keepable. call_stays_keepable old.geometry age old new c.args.process at.0 at.1 few c.consume.ensures.parts keepable
+    λ age few keepable. call_stays_keepable old.geometry age old new c.args.process at.0 few c.consume.ensures.parts keepable

@@ -21,4 +21,4 @@ returns-clause-keepable g c =
     let old = g.F.PresentFrames.parts c.args.store.now in
     let new = g.F.PresentFrames.parts c.set_owner.new.self in
     let at = g.met.F.PresentFrames.known_announced c.args.store.now c.args.number c.requires.announced in
-    λ age unowned keepable. owner_stays_keepable old.geometry age old new c.args.number at.0 at.1 c.args.bank c.ranges.bank.fits unowned c.set_owner.ensures.parts keepable
+    λ age unowned keepable. owner_stays_keepable old.geometry age old new c.args.number at.0 c.args.bank c.ranges.bank.fits unowned c.set_owner.ensures.parts keepable

@@ -1,14 +1,14 @@
-use Rattle.std.proofs.Common.{◌≡◌, ◌-◌, ℕ, List, refl, sym, ap, subst, ◌∙◌, arith}
+use Rattle.std.proofs.Common.{◌≡◌, ◌-◌, ℕ, List, [], refl, sym, ap, subst, ◌∙◌, arith}
 use Rattle.std.proofs.lemmas.Bool.{false≢true}
 use Rattle.std.proofs.lemmas.Result.{err_from_is_err_and}
 use Rattle.model.specs.declared.capability.Cap.{Cap}
 use Rattle.model.specs.declared.frame.ObjectHeader.{ObjectHeader}
+use Rattle.model.specs.Keepable.{IsCount}
 use Rattle.layout.specs.Bytes.{zeros}
-use Rattle.layout.specs.Capability.{IsCount}
-use Rattle.layout.specs.declared.node_frame.NodeBody.{NodeBody}
-use Rattle.layout.specs.Frame.{IsBody, slots_of, with_slots, body_in}
+use Rattle.layout.specs.declared.body.Body.{Body}
+use Rattle.layout.specs.Frame.{IsBody, slots_of, content_of, body_in}
 use Rattle.layout.proofs.Numbers.{AllFit}
-use Rattle.layout.proofs.Frames.{front_list, node_parts, node_told, body_told, node_found}
+use Rattle.layout.proofs.Frames.{front_list, node_parts, node_told, body_told, node_found, any_words}
 use Rattle.layout.proofs.node_frame.decode_node_frame.Goals as goal
 use Rattle.layout.proofs.node_frame.decode_node_frame.Goals.{else-has_counts-via-then-has_counts+then-is_blank+else-is_body, else-has_counts-via-then-has_counts+else-is_blank, else-has_counts-via-else-has_counts}
 
@@ -21,30 +21,31 @@ returns-in_err-decode_slots-clause-refused c =
 pub returns-then-is_body-clause-found : goal.returns-then-is_body-clause-found
 returns-then-is_body-clause-found c =
     let role : ℕ = c.decode_front-role.result.0 in
-    let header = c.decode_front-role.result.1 in
+    let header : ObjectHeader = c.decode_front-role.result.1 in
     let slots : List Cap = c.decode_slots.new.into in
+    let words : List ℕ = c.args.room.now.words in
     let read = c.in_ok-decode_slots.ensures.found in
-    let body : NodeBody = c.body_in-body.result in
-    let is = subst (λ (s : List Cap). IsBody role header.owner s (with_slots body s)) c.as_slice-then-is_blank.ensures.value (c.is_body.ensures.0 c.if-is_body.true) in
-    node_found c.args.geometry c.args.age role header slots (with_slots body slots) c.args.bytes.now
-    (omega arith, (omega arith, (omega arith, (omega arith, tt)))) (c.has_counts-has_counts.ensures.0 c.if-has_counts.true) read.0 is
-    c.decode_front-role.ensures read.1 (c.is_blank_from-is_blank.ensures.0 c.if-is_blank.true ∙ ap (λ (n : ℕ). zeros (n - 800)) c.requires)
+    let body : Body = c.body_in-body.result in
+    let is = subst (λ (s : List Cap). IsBody role header.owner s (content_of body s [])) c.as_slice-slots.ensures.value (c.is_body.ensures.0 c.if-is_body.true) in
+    node_found c.args.geometry c.args.age role header slots (content_of body slots words) c.args.bytes.now
+    (omega arith, (omega arith, (omega arith, (omega arith, tt)))) c.decode_front-role.ensures.role (c.has_counts-has_counts.ensures.0 c.if-has_counts.true) read.0 (any_words role header.owner body slots words is)
+    c.decode_front-role.ensures.bytes read.1 (c.is_blank_from-is_blank.ensures.0 c.if-is_blank.true ∙ ap (λ (n : ℕ). zeros (n - 800)) c.requires)
 
 pub returns-else-has_counts-clause-refused : goal.returns-else-has_counts-clause-refused
 returns-else-has_counts-clause-refused c =
     let role : ℕ = c.decode_front-role.result.0 in
-    let header = c.decode_front-role.result.1 in
+    let header : ObjectHeader = c.decode_front-role.result.1 in
     let slots : List Cap = c.decode_slots.new.into in
     let read = c.in_ok-decode_slots.ensures.found in
     let fits : AllFit (front_list role header) = (omega arith, (omega arith, (omega arith, (omega arith, tt)))) in (
       refl,
       λ f is e.
-          let told = node_told c.args.geometry c.args.age role header slots f c.args.bytes.now _ fits read.0 c.decode_front-role.ensures read.1 is e in
+          let told = node_told c.args.geometry c.args.age role header slots f c.args.bytes.now _ fits c.decode_front-role.ensures.role read.0 c.decode_front-role.ensures.bytes read.1 is e in
           elim c.else-has_counts.branch [
             | else-has_counts-via-then-has_counts+then-is_blank+else-is_body w ↦
-                let body : c.body_in-body.result ≡ body_in role slots = c.body_in-body.ensures ∙ ap (body_in role) c.as_slice.ensures.value in
-                let is_body = subst (λ (b : NodeBody). IsBody role header.owner slots (with_slots b slots)) (sym body) (body_told f role header slots c.args.age told is.role is.front) in
-                false≢true (sym w.if-is_body.false ∙ w.is_body.ensures.1 (subst (λ (s : List Cap). IsBody role header.owner s (with_slots c.body_in-body.result s)) (sym w.as_slice-then-is_blank.ensures.value) is_body))
+                let body : c.body_in-body.result ≡ body_in role slots = c.body_in-body.ensures ∙ ap (body_in role) c.as_slice-slots.ensures.value in
+                let is_body = subst (λ (b : Body). IsBody role header.owner slots (content_of b slots [])) (sym body) (body_told f role header slots c.args.age told is.follows is.front) in
+                false≢true (sym w.if-is_body.false ∙ w.is_body.ensures.1 (subst (λ (s : List Cap). IsBody role header.owner s (content_of c.body_in-body.result s [])) (sym c.as_slice-slots.ensures.value) is_body))
             | else-has_counts-via-then-has_counts+else-is_blank w ↦
                 false≢true (sym w.if-is_blank.false ∙ c.is_blank_from-is_blank.ensures.1 ((node_parts c.args.geometry c.args.age f c.args.bytes.now is e).last ∙ ap (λ (n : ℕ). zeros (n - 800)) (sym c.requires)))
             | else-has_counts-via-else-has_counts w ↦

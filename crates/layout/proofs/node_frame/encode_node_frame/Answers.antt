@@ -2,55 +2,49 @@ use Rattle.std.proofs.Common.{◌++◌, ◌∷◌, [], List, length, refl, sym, 
 use Rattle.std.specs.Prelude.{replicate}
 use Rattle.std.proofs.lemmas.List.{append-nil}
 use Rattle.model.specs.declared.capability.Cap.{Cap}
-use Rattle.model.specs.declared.object.Role.{Role}
-use Rattle.layout.specs.Frame.{front_numbers, role_number, slots_of, void_cap}
+use Rattle.model.specs.Frame.{void_held}
+use Rattle.layout.specs.Frame.{slots_of}
 use Rattle.layout.proofs.Frames.{node_written, root_count}
 use Rattle.layout.proofs.node_frame.encode_node_frame.Goals as goal
 
 pub returns-in-Root : goal.returns-in-Root
 returns-in-Root c =
-    let front = c.encode_front.ensures.before ∙ ap (λ (r : Role). front_numbers (role_number r) c.args.frame.now.header) c.role_of.ensures in
-    node_written c.args.frame.now c.encode_front.new.into c.put_slots-in-Root.new.into c.root_slots.result 24 front
-    (ap slots_of c.in-Root.is ∙ ap (λ (s : List Cap). s ++ replicate 24 void_cap) (sym c.root_slots.ensures.slots))
+    node_written (record { header = c.args.header; content = c.args.content.now }) c.encode_front.new.into c.put_slots-in-Root.new.into c.root_slots.result 24 c.encode_front.ensures.before
+    (ap slots_of c.in-Root.is ∙ ap (λ (s : List Cap). s ++ replicate 24 void_held) (sym c.root_slots.ensures.slots))
     (root_count c.in-Root.root c.root_slots.result c.root_slots.ensures.slots c.root_slots.ensures.words)
     c.put_slots-in-Root.ensures
 
 pub returns-in-Bank : goal.returns-in-Bank
 returns-in-Bank c =
-    let front = c.encode_front.ensures.before ∙ ap (λ (r : Role). front_numbers (role_number r) c.args.frame.now.header) c.role_of.ensures in
-    node_written c.args.frame.now c.encode_front.new.into c.put_slots-in-Bank.new.into (c.number_cap.result ∷ []) 31 front
-    (ap slots_of c.in-Bank.is ∙ ap (λ (x : Cap). x ∷ replicate 31 void_cap) (sym c.number_cap.ensures))
+    node_written (record { header = c.args.header; content = c.args.content.now }) c.encode_front.new.into c.put_slots-in-Bank.new.into (c.number_cap.result ∷ []) 31 c.encode_front.ensures.before
+    (ap slots_of c.in-Bank.is ∙ ap (λ (x : Cap). x ∷ replicate 31 void_held) (sym c.number_cap.ensures))
     (refl)
     c.put_slots-in-Bank.ensures
 
 pub returns-in-Free : goal.returns-in-Free
 returns-in-Free c =
-    let front = c.encode_front.ensures.before ∙ ap (λ (r : Role). front_numbers (role_number r) c.args.frame.now.header) c.role_of.ensures in
-    node_written c.args.frame.now c.encode_front.new.into c.put_slots.new.into [] 32 front
+    node_written (record { header = c.args.header; content = c.args.content.now }) c.encode_front.new.into c.put_slots.new.into [] 32 c.encode_front.ensures.before
     (ap slots_of c.in-Free.is)
     (refl)
     c.put_slots.ensures
 
 pub returns-in-Page : goal.returns-in-Page
 returns-in-Page c =
-    let front = c.encode_front.ensures.before ∙ ap (λ (r : Role). front_numbers (role_number r) c.args.frame.now.header) c.role_of.ensures in
-    node_written c.args.frame.now c.encode_front.new.into c.put_slots-in-Page.new.into [] 32 front
+    node_written (record { header = c.args.header; content = c.args.content.now }) c.encode_front.new.into c.put_slots-in-Page.new.into [] 32 c.encode_front.ensures.before
     (ap slots_of c.in-Page.is)
     (refl)
     c.put_slots-in-Page.ensures
 
 pub returns-in-Node : goal.returns-in-Node
 returns-in-Node c =
-    let front = c.encode_front.ensures.before ∙ ap (λ (r : Role). front_numbers (role_number r) c.args.frame.now.header) c.role_of.ensures in
-    node_written c.args.frame.now c.encode_front.new.into c.put_slots-in-Node.new.into c.as_slice.result.now 0 front
+    node_written (record { header = c.args.header; content = c.args.content.now }) c.encode_front.new.into c.put_slots-in-Node.new.into c.as_slice.result.now 0 c.encode_front.ensures.before
     (ap slots_of c.in-Node.is ∙ sym c.as_slice.ensures.value ∙ sym (append-nil c.as_slice.result.now))
     (omega (arith, c.as_slice.ensures.length, ap length c.as_slice.ensures.value))
     c.put_slots-in-Node.ensures
 
 pub returns-in-Annex : goal.returns-in-Annex
 returns-in-Annex c =
-    let front = c.encode_front.ensures.before ∙ ap (λ (r : Role). front_numbers (role_number r) c.args.frame.now.header) c.role_of.ensures in
-    node_written c.args.frame.now c.encode_front.new.into c.put_slots-in-Annex.new.into c.as_slice-in-Annex.result.now 0 front
+    node_written (record { header = c.args.header; content = c.args.content.now }) c.encode_front.new.into c.put_slots-in-Annex.new.into c.as_slice-in-Annex.result.now 0 c.encode_front.ensures.before
     (ap slots_of c.in-Annex.is ∙ sym c.as_slice-in-Annex.ensures.value ∙ sym (append-nil c.as_slice-in-Annex.result.now))
     (omega (arith, c.as_slice-in-Annex.ensures.length, ap length c.as_slice-in-Annex.ensures.value))
     c.put_slots-in-Annex.ensures

@@ -2,9 +2,8 @@ use Rattle.std.proofs.Common.{ℕ, List, drop, refl, sym, subst, ◌∙◌, arit
 use Rattle.std.proofs.lemmas.Bool.{false≢true}
 use Rattle.std.proofs.lemmas.List.{take_rest}
 use Rattle.model.specs.declared.frame.ObjectHeader.{ObjectHeader}
-use Rattle.layout.specs.Capability.{IsCount}
-use Rattle.layout.specs.declared.page_frame.PageBody.{PageBody}
-use Rattle.layout.specs.Frame.{IsPageBody, with_words}
+use Rattle.model.specs.Keepable.{IsCount}
+use Rattle.layout.specs.Frame.{IsPageBody}
 use Rattle.layout.proofs.Numbers.{AllFit}
 use Rattle.layout.proofs.Frames.{front_list}
 use Rattle.layout.proofs.Pages.{page_parts, page_told, page_body_told, page_found}
@@ -16,11 +15,10 @@ returns-then-is_body-clause-found c =
     let role : ℕ = c.decode_front-role.result.0 in
     let header : ObjectHeader = c.decode_front-role.result.1 in
     let words : List ℕ = c.decode_words.new.into in
-    let body : PageBody = c.body_in-body.result in
-    let is = subst (λ (w : List ℕ). IsPageBody role header.owner w (with_words body w)) c.as_slice.ensures.value (c.is_body.ensures.0 c.if-is_body.true) in
-    page_found c.args.age role header words body c.args.bytes.now
-    (omega arith, (omega arith, (omega arith, (omega arith, tt)))) (c.has_counts-has_counts.ensures.0 c.if-has_counts.true) c.decode_words.ensures.words is
-    c.decode_front-role.ensures (c.is_blank_between-is_blank.ensures.0 c.if-is_blank.true) (sym (take_rest c.args.bytes.now 512) ∙ c.decode_words.ensures.bytes)
+    let is = subst (IsPageBody role header.owner) c.as_slice-words.ensures.value (c.is_body.ensures.0 c.if-is_body.true) in
+    page_found c.args.age role header c.args.room.now.slots words c.body_in.result c.args.bytes.now
+    (omega arith, (omega arith, (omega arith, (omega arith, tt)))) c.decode_front-role.ensures.role c.body_in.ensures (c.has_counts-has_counts.ensures.0 c.if-has_counts.true) c.decode_words.ensures.words is
+    c.decode_front-role.ensures.bytes (c.is_blank_between-is_blank.ensures.0 c.if-is_blank.true) (sym (take_rest c.args.bytes.now 512) ∙ c.decode_words.ensures.bytes)
 
 pub returns-else-has_counts-clause-refused : goal.returns-else-has_counts-clause-refused
 returns-else-has_counts-clause-refused c =
@@ -30,12 +28,12 @@ returns-else-has_counts-clause-refused c =
     let fits : AllFit (front_list role header) = (omega arith, (omega arith, (omega arith, (omega arith, tt)))) in (
       refl,
       λ f is e.
-          let told = page_told c.args.age role header words f c.args.bytes.now (drop 32 c.args.bytes.now) fits c.decode_words.ensures.words c.decode_front-role.ensures
+          let told = page_told c.args.age role header words f c.args.bytes.now (drop 32 c.args.bytes.now) fits c.decode_front-role.ensures.role c.decode_words.ensures.words c.decode_front-role.ensures.bytes
           (sym (take_rest c.args.bytes.now 512) ∙ c.decode_words.ensures.bytes) is e in
           elim c.else-has_counts.branch [
             | else-has_counts-via-then-has_counts+then-is_blank+else-is_body w ↦
-                let is_body = subst (λ (b : PageBody). IsPageBody role header.owner words (with_words b words)) (sym c.body_in-body.ensures) (page_body_told f role header words c.args.age told is.holds is.front) in
-                false≢true (sym w.if-is_body.false ∙ w.is_body.ensures.1 (subst (λ (s : List ℕ). IsPageBody role header.owner s (with_words c.body_in-body.result s)) (sym w.as_slice.ensures.value) is_body))
+                let is_body = page_body_told f role header words c.args.age told is.holds is.front in
+                false≢true (sym w.if-is_body.false ∙ w.is_body.ensures.1 (subst (IsPageBody role header.owner) (sym c.as_slice-words.ensures.value) is_body))
             | else-has_counts-via-then-has_counts+else-is_blank w ↦
                 false≢true (sym w.if-is_blank.false ∙ c.is_blank_between-is_blank.ensures.1 (page_parts f c.args.bytes.now e).gap)
             | else-has_counts-via-else-has_counts w ↦

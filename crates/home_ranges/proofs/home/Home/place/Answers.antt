@@ -1,5 +1,3 @@
-use Rattle.std.proofs.Common.{arith}
-use Rattle.layout.specs.Superblock.{Plan}
 use Rattle.home_ranges.proofs.Places.{range_fits, place_found, place_missed}
 use Rattle.home_ranges.proofs.home.Home.place.Goals as goal
 

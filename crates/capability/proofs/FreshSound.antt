@@ -1,0 +1,192 @@
+-- A sound world, as frames of which none was ever given up: these are sound.
+use Rattle.std.proofs.Common.{◌≡◌, ℕ, ◌^◌, ◌<◌, ◌≤◌, Bool, true, false, List, [], ◌∷◌, length, map, slice_index, slice_index_or, refl, sym, ap, ◌∙◌, subst, arith}
+use Rattle.std.specs.List.{All}
+use Rattle.std.proofs.Math.ListN.{get_or-map}
+use Rattle.std.proofs.lemmas.List.{length-map}
+use Rattle.std.proofs.lemmas.List.Elements.{All-from_get_or, All-map}
+use Rattle.model.specs.declared.capability.Cap.{Cap}
+use Rattle.model.specs.declared.capability.Capability.{Capability}
+use Rattle.model.specs.declared.capability.Capability.TheVariants.{Void, Number, Page, Node, Space, Process, Start, Resume, Bank, Discrim}
+use Rattle.model.specs.declared.frame.Frame.{Frame}
+use Rattle.model.specs.declared.frame.ObjectHeader.{ObjectHeader}
+use Rattle.model.specs.declared.geometry.Geometry.{Geometry}
+use Rattle.model.specs.declared.object.Content.{Content}
+use Rattle.model.specs.declared.object.Content.TheVariants as content
+use Rattle.model.specs.declared.object.Object.{Object}
+use Rattle.model.specs.Frame.{frames_in, headers}
+use Rattle.model.specs.Keepable.{AreKeptSlots, Follows, IsCurrent, IsKeepable, IsKeptCap, IsSoundFrames, MayBeKept, caps_in}
+use Rattle.model.specs.Object.{free, is_annex, is_bank, is_free, is_node, is_page, is_root, map_content, root_in, slots_in, words_in}
+use Rattle.model.specs.Sound.{HasShape, IsOfKind, IsSound, IsSpace, MayBeHeld, object_count}
+use Rattle.model.specs.World.{World, annex_at, content_at, object_at, owner_at}
+use Rattle.capability.specs.Parts.{Parts, frames_of}
+use Rattle.capability.specs.Plain.{fresh_cap, fresh_frame, fresh_header, fresh_held}
+use Rattle.capability.proofs.Chains.{role_free, role_of_map}
+use Rattle.capability.proofs.FreshWorlds.{frames_fresh, objects_of_fresh}
+
+-- a content of a kind stands at a number of its kind
+node_number : (g : Geometry) (n : ℕ) (c : Content Capability) → IsOfKind g n c → is_node c ≡ true → n < g.nodes
+node_number g n (content.Node slots) kind is = kind
+node_number g n content.Free kind is = cc
+node_number g n (content.Page words) kind is = cc
+node_number g n (content.Root r) kind is = cc
+node_number g n (content.Annex registers) kind is = cc
+node_number g n (content.Bank limit) kind is = cc
+
+root_number : (g : Geometry) (n : ℕ) (c : Content Capability) → IsOfKind g n c → is_root c ≡ true → n < g.nodes
+root_number g n (content.Root r) kind is = kind
+root_number g n content.Free kind is = cc
+root_number g n (content.Page words) kind is = cc
+root_number g n (content.Node slots) kind is = cc
+root_number g n (content.Annex registers) kind is = cc
+root_number g n (content.Bank limit) kind is = cc
+
+annex_number : (g : Geometry) (n : ℕ) (c : Content Capability) → IsOfKind g n c → is_annex c ≡ true → n < g.nodes
+annex_number g n (content.Annex registers) kind is = kind
+annex_number g n content.Free kind is = cc
+annex_number g n (content.Page words) kind is = cc
+annex_number g n (content.Node slots) kind is = cc
+annex_number g n (content.Root r) kind is = cc
+annex_number g n (content.Bank limit) kind is = cc
+
+bank_number : (g : Geometry) (n : ℕ) (c : Content Capability) → IsOfKind g n c → is_bank c ≡ true → n < g.nodes
+bank_number g n (content.Bank limit) kind is = kind
+bank_number g n content.Free kind is = cc
+bank_number g n (content.Page words) kind is = cc
+bank_number g n (content.Node slots) kind is = cc
+bank_number g n (content.Root r) kind is = cc
+bank_number g n (content.Annex registers) kind is = cc
+
+page_number : (g : Geometry) (n : ℕ) (c : Content Capability) → IsOfKind g n c → is_page c ≡ true → (g.nodes ≤ n) × (n < object_count g)
+page_number g n (content.Page words) kind is = kind
+page_number g n content.Free kind is = cc
+page_number g n (content.Node slots) kind is = cc
+page_number g n (content.Root r) kind is = cc
+page_number g n (content.Annex registers) kind is = cc
+page_number g n (content.Bank limit) kind is = cc
+
+kind_map : (g : Geometry) (n : ℕ) (c : Content Capability) → IsOfKind g n c → IsOfKind g n (map_content fresh_cap c)
+kind_map g n content.Free kind = kind
+kind_map g n (content.Page words) kind = kind
+kind_map g n (content.Node slots) kind = kind
+kind_map g n (content.Root r) kind = kind
+kind_map g n (content.Annex registers) kind = kind
+kind_map g n (content.Bank limit) kind = kind
+
+none_above : (hs : List ObjectHeader) (cs : List Capability) → All (IsCurrent hs) (map fresh_cap cs)
+none_above hs cs = All-map (IsCurrent hs) fresh_cap cs (λ k d inside. omega arith)
+
+-- a count of 0 is above none
+fresh_held_current : (hs : List ObjectHeader) (c : Content Capability) → All (IsCurrent hs) (caps_in (map_content fresh_cap c))
+fresh_held_current hs content.Free = λ k d inside. absurd (omega arith)
+fresh_held_current hs (content.Page words) = λ k d inside. absurd (omega arith)
+fresh_held_current hs (content.Node slots) = none_above hs slots
+fresh_held_current hs (content.Root r) = none_above hs (r.space ∷ [])
+fresh_held_current hs (content.Annex registers) = none_above hs registers
+fresh_held_current hs (content.Bank limit) = λ k d inside. absurd (omega arith)
+
+module _ (g : Geometry) (w : World) (few : object_count g < 2 ^ 64) (sound : IsSound g w) where
+  -- a capability that may be held can be kept with count 0
+  held_follows : (c : Capability) → MayBeHeld w.objects c → Follows g w.age 0 c
+  held_follows Void h = refl
+  held_follows (Number n) h = (h.0, refl)
+  held_follows (Page o a) h =
+      let k = page_number g o (content_at w.objects o) (sound.kinds o) h.1 in
+      (h.0, (k.0, k.1, omega (arith, k.1)), (omega arith, omega arith))
+  held_follows (Node o a) h =
+      let k = node_number g o (content_at w.objects o) (sound.kinds o) h.1 in
+      (h.0, (k, omega (arith, k)), (omega arith, omega arith))
+  held_follows (Space o l a) h =
+      let k = node_number g o (content_at w.objects o) (sound.kinds o) h.1 in
+      (h.0.2, h.0.0, h.0.1, (k, omega (arith, k)), (omega arith, omega arith))
+  held_follows (Process p) h =
+      let k = root_number g p (content_at w.objects p) (sound.kinds p) h.1 in
+      ((k, omega (arith, k)), (omega arith, omega arith))
+  held_follows (Start p key) h =
+      let k = root_number g p (content_at w.objects p) (sound.kinds p) h.1 in
+      (h.0, (k, omega (arith, k)), (omega arith, omega arith))
+  held_follows (Resume p) h =
+      let k = root_number g p (content_at w.objects p) (sound.kinds p) h.1.0 in
+      ((k, omega (arith, k)), (omega arith, omega arith))
+  held_follows (Bank b) h =
+      let k = bank_number g b (content_at w.objects b) (sound.kinds b) h.1 in
+      ((k, omega (arith, k)), (omega arith, omega arith))
+  held_follows Discrim h = refl
+
+  slots_follow : (slots : List Capability) → length slots ≡ 32 → ((i : ℕ) → MayBeHeld w.objects (slice_index_or slots i Void)) → AreKeptSlots g w.age (map fresh_cap slots)
+  slots_follow slots count each = record {
+    count = length-map slots fresh_cap ∙ count;
+    each = All-map (IsKeptCap g w.age) fresh_cap slots
+        (All-from_get_or (λ c. IsKeptCap g w.age (fresh_cap c)) slots Void (λ i inside. held_follows (slice_index_or slots i Void) (each i)));
+  }
+
+  content_kept : (n : ℕ) (c : Content Capability) → content_at w.objects n ≡ c → MayBeKept g w.age (map_content fresh_cap c)
+  content_kept n content.Free is = tt
+  content_kept n (content.Page words) is = record {
+    count_is = subst HasShape is (sound.shapes n);
+    each = All-from_get_or (λ v. v < 2 ^ 64) words 0 (λ i inside. subst (λ (d : Content Capability). slice_index (words_in d) i < 2 ^ 64) is (sound.words n i));
+  }
+  content_kept n (content.Node slots) is =
+      slots_follow slots (subst HasShape is (sound.shapes n))
+      (λ i. subst (λ (d : Content Capability). MayBeHeld w.objects (slice_index_or (slots_in d) i Void)) is (sound.slots n i))
+  content_kept n (content.Root r) is =
+      let shape = subst HasShape is (sound.shapes n) in
+      let annex = annex_number g (annex_at w.objects n) (content_at w.objects (annex_at w.objects n)) (sound.kinds (annex_at w.objects n)) (sound.annexes n (ap is_root is)).0 in
+      let below = subst (λ (d : Content Capability). (root_in d).annex < g.nodes) is annex in
+      let space = subst (λ (d : Content Capability). MayBeHeld w.objects (root_in d).space) is (sound.spaces n).0 in (
+        record { count_is = shape.0; each = All-from_get_or (λ v. v < 2 ^ 64) r.words 0 (λ i inside. shape.1 i) },
+        shape.2,
+        omega (arith, below),
+        held_follows r.space space,
+        subst (λ (d : Content Capability). IsSpace (root_in d).space) is (sound.spaces n).1,
+      )
+  content_kept n (content.Annex registers) is = (
+    slots_follow registers (subst HasShape is (sound.shapes n))
+        (λ i. subst (λ (d : Content Capability). MayBeHeld w.objects (slice_index_or (slots_in d) i Void)) is (sound.slots n i)),
+    get_or-map fresh_cap registers 0 Void
+        ∙ ap fresh_cap (subst (λ (d : Content Capability). slice_index_or (slots_in d) 0 Void ≡ Void) is (sound.register_0 n (ap is_annex is))),
+  )
+  content_kept n (content.Bank limit) is = subst HasShape is (sound.shapes n)
+
+  owner_fits : (n : ℕ) (b : Bool) → is_free (content_at w.objects n) ≡ b → owner_at w.objects n < 2 ^ 64
+  owner_fits n true free = omega (arith, sound.unowned n free)
+  owner_fits n false used =
+      let owner = owner_at w.objects n in
+      let k = bank_number g owner (content_at w.objects owner) (sound.kinds owner) (sound.owners n (λ free. let e = sym used ∙ free in cc)) in
+      omega (arith, k)
+
+  frame_kept : (n : ℕ) → IsKeepable g w.age n (fresh_frame (object_at w.objects n))
+  frame_kept n = record {
+    kind = kind_map g n (content_at w.objects n) (sound.kinds n);
+    kept = record {
+      role = sym (role_of_map fresh_cap (content_at w.objects n));
+      allocations = (omega arith, omega arith);
+      calls = (omega arith, omega arith);
+      owner = owner_fits n (is_free (content_at w.objects n)) refl;
+      unowned = λ free. sound.unowned n (role_free (content_at w.objects n) free);
+      content = content_kept n (content_at w.objects n) refl;
+    };
+  }
+
+  -- a sound world of which nothing was given up, as sound frames
+  pub fresh_sound_frames : IsSoundFrames g w.age (map fresh_frame w.objects)
+  fresh_sound_frames =
+      let fs = map fresh_frame w.objects in
+      record {
+        keepable = record {
+          count = length-map w.objects fresh_frame ∙ sound.size;
+          each = λ n inside. subst (λ (f : Frame). IsKeepable g w.age n f) (sym (get_or-map fresh_frame w.objects n free)) (frame_kept n);
+        };
+        current = λ n. subst (λ (f : Frame). All (IsCurrent (headers fs)) (caps_in f.content)) (sym (get_or-map fresh_frame w.objects n free))
+            (fresh_held_current (headers fs) (content_at w.objects n));
+        sound = subst (λ (os : List Object). IsSound g (record { objects = os; age = w.age })) (sym (objects_of_fresh w.objects)) sound;
+      }
+
+  -- and parts of its headers and contents make these frames
+  pub fresh_parts_sound : (p : Parts) → p.headers ≡ map fresh_header w.objects → p.contents ≡ map fresh_held w.objects → IsSoundFrames g w.age (frames_of p)
+  fresh_parts_sound p headers contents =
+      subst (λ (fs : List Frame). IsSoundFrames g w.age fs)
+      (sym
+      (ap (λ (hs : List ObjectHeader). frames_in hs p.contents) headers
+      ∙ ap (λ (cs : List (Content Cap)). frames_in (map fresh_header w.objects) cs) contents
+      ∙ frames_fresh w.objects))
+      fresh_sound_frames

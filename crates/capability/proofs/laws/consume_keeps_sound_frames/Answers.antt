@@ -1,0 +1,5 @@
+use Rattle.capability.proofs.SoundFrames.{consume_keeps_sound_frames}
+use Rattle.capability.proofs.laws.consume_keeps_sound_frames.Goals as goal
+
+pub returns : goal.returns
+returns c = consume_keeps_sound_frames

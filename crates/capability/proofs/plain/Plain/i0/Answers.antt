@@ -1,0 +1,41 @@
+use Rattle.std.proofs.Common.{◌≡◌, ◌∙◌, ap, length, map, replicate}
+use Rattle.std.proofs.lemmas.Result.{IfOk-weaker}
+use Rattle.model.specs.declared.object.Content.TheVariants as content
+use Rattle.model.specs.Machine.{untouched}
+use Rattle.model.specs.Worlds.{i0, small}
+use Rattle.capability.specs.Plain.{PlainState, fresh_header, prime_header, world_of}
+use Rattle.capability.proofs.FreshWorlds.{i0_count, i0_headers, i0_of_fresh}
+use Rattle.capability.proofs.plain.Plain.i0.Goals as goal
+
+pub small-requires : goal.small-requires
+small-requires c = ap length c.in_ok-i0_contents.ensures ∙ i0_count
+
+pub returns-clause-world : goal.returns-clause-world
+returns-clause-world c =
+    let cs = c.in_ok-i0_contents.field-0.items in
+    let made : PlainState = record {
+      geometry = small;
+      headers = map prime_header cs;
+      contents = cs;
+      touched = untouched small;
+      rooms = replicate 24 content.Free;
+      age = 0;
+    } in
+    IfOk-weaker c.small.result (λ (p : PlainState). p ≡ made) (λ (p : PlainState). world_of p ≡ i0)
+    (λ p is. ap world_of is ∙ i0_of_fresh cs c.in_ok-i0_contents.ensures)
+    c.small.ensures
+
+pub returns-clause-headers : goal.returns-clause-headers
+returns-clause-headers c =
+    let cs = c.in_ok-i0_contents.field-0.items in
+    let made : PlainState = record {
+      geometry = small;
+      headers = map prime_header cs;
+      contents = cs;
+      touched = untouched small;
+      rooms = replicate 24 content.Free;
+      age = 0;
+    } in
+    IfOk-weaker c.small.result (λ (p : PlainState). p ≡ made) (λ (p : PlainState). p.headers ≡ map fresh_header i0.objects)
+    (λ p is. ap (λ (q : PlainState). q.headers) is ∙ i0_headers cs c.in_ok-i0_contents.ensures)
+    c.small.ensures

@@ -1,0 +1,29 @@
+use Rattle.std.proofs.Common.{◌≡◌, inl, inr, slice_index_or, subst, sym, ◌∙◌, arith}
+use Rattle.std.proofs.lemmas.Bool.{cases_eq}
+use Rattle.std.proofs.lemmas.Grind.{get_or_default_zero}
+use Rattle.model.specs.declared.object.Role.TheVariants.{Free}
+use Rattle.model.specs.Frame.{header_at, held_at}
+use Rattle.capability.specs.Plain.{room_at}
+use Rattle.capability.proofs.plain.rooms.put_aside.Goals as goal
+
+pub loop-number-preserved : goal.loop-number-preserved
+loop-number-preserved c =
+    let ns = c.args.written.now in
+    let hs = c.args.table.now in
+    let g = c.args.geometry in
+    let i = c.loop-number.number-index in
+    record {
+      aside = λ k within free. elim (cases_eq k i) [
+        | inl e ↦ subst (λ m. (header_at hs (slice_index_or ns m 0)).role ≡ Free → held_at c.put_one.new.rooms (slice_index_or ns m 0) ≡ room_at g (slice_index_or ns m 0))
+            (sym e) c.in_ok-put_one.ensures.aside free
+        | inr differ ↦ c.put_one.ensures.others (slice_index_or ns k 0) (c.loop-number.invariant.aside k (omega arith) free)
+      ];
+      count = c.put_one.ensures.count ∙ c.loop-number.invariant.count;
+    }
+
+pub returns-clause-aside : goal.returns-clause-aside
+returns-clause-aside c = λ n listed.
+    let ns = c.args.written.now in
+    let is = sym (get_or_default_zero ns listed.0 n listed.1) ∙ listed.2 in
+    subst (λ m. (header_at c.args.table.now m).role ≡ Free → held_at c.loop-number.rooms m ≡ room_at c.args.geometry m) is
+    (c.loop-number.invariant.aside listed.0 (omega arith))

@@ -1,0 +1,14 @@
+use Rattle.std.proofs.Common.{◌≡◌, ◌∙◌, map, replicate, ap}
+use Rattle.std.proofs.lemmas.Result.{IfOk-weaker}
+use Rattle.model.specs.declared.capability.Cap.{Cap}
+use Rattle.model.specs.declared.capability.Capability.TheVariants.{Void}
+use Rattle.model.specs.Object.{all_slots}
+use Rattle.capability.specs.Plain.{fresh_cap}
+use Rattle.capability.proofs.plain.worlds.void_slots.Goals as goal
+
+pub returns : goal.returns
+unfolding all_slots
+returns c =
+    IfOk-weaker c.new.result (λ slots. slots ≡ replicate 32 c.held.result) (λ slots. slots ≡ map fresh_cap (all_slots Void))
+    (λ slots is. is ∙ ap (λ (held : Cap). replicate 32 held) c.held.ensures)
+    c.new.ensures

@@ -1,0 +1,195 @@
+// The store in memory.
+ghost use Rattle.std.specs.Prelude.{◌≡◌, ◌≢◌, ℕ, ◌+◌, ◌<◌, ◌≤◌, ◌^◌, ◌↔◌, length, OnOk, OnErr, IsErrOf};
+ghost use Rattle.std.specs.List.{All, Contains};
+ghost use Rattle.model.specs.Frame.{header_at};
+ghost use Rattle.model.specs.Keepable.{AreKeepable};
+ghost use Rattle.model.specs.Machine.{touching, touched_count};
+ghost use Rattle.model.specs.Sound.{object_count};
+ghost use Rattle.capability.specs.Parts.{frames_of};
+ghost use Rattle.capability.specs.Plain.{GoesOn, HasRoom, IsThere, parts_of, with_content_at};
+
+use crate::plain::rooms::{filled, put_aside};
+use crate::plain::touched::{fresh_count, mark};
+use crate::present::{Fresh, MAX_FETCHED, PrepareFault, PresentFrames};
+use crate::table::ObjectTable;
+use model::{Cap, Content, Geometry, Role};
+use std::alloc::Global;
+use std::marker::Model;
+use std::mem;
+
+mod rooms;
+mod touched;
+pub mod usage;
+mod worlds;
+
+/// All objects in memory, by number, which numbers were written, and the age.
+///
+/// All objects are always there, and a number may be written wherever it exists. So the limit of
+/// the log, and memory for new objects, are all that is ever in the way of a change.
+#[derive(Drop)]
+pub struct Plain {
+    geometry: Geometry,
+    table: ObjectTable,
+    contents: Vec<Content<Cap>>,
+    touched: Vec<bool>,
+    /// Blank bodies for free numbers that were announced. `Free` where there is none.
+    rooms: Vec<Content<Cap>>,
+    /// How many of `touched` are true.
+    count: u64,
+    age: u64,
+}
+
+impl Model for Plain {
+    ghost use Rattle.capability.specs.Plain.{PlainState, IsWholeStore};
+
+    ghost Value = { PlainState };
+
+    ghost view = { λ p. record {
+      geometry = p.geometry;
+      headers = p.table;
+      contents = p.contents.items;
+      touched = p.touched.items;
+      rooms = p.rooms.items;
+      age = p.age;
+    } };
+
+    ghost invariant = { λ p.
+        IsWholeStore p.geometry p.table p.contents.items p.touched.items p.rooms.items p.count };
+}
+
+impl Plain {
+    /// How often the machine was changed, checkpoints included.
+    pub fn age(&self) -> u64
+        ensures { result ≡ self.now.age }
+    {
+        self.age
+    }
+
+    /// Raises the age by one.
+    pub fn raise_age(&mut self)
+        requires { self.old.age < 2 ^ 62 }
+        ensures { self.new ≡ record self.old { age = self.old.age + 1 } }
+    {
+        self.age += 1;
+    }
+}
+
+impl PresentFrames for Plain {
+    ghost parts = { parts_of };
+
+    ghost IsFetched = { IsThere };
+
+    ghost IsAnnounced = { HasRoom };
+
+    ghost LeadsTo = { GoesOn };
+
+    ghost with_content = { with_content_at };
+
+    fn geometry(&self) -> Geometry {
+        self.geometry
+    }
+
+    /// The headers of all objects. There are as many as the geometry has numbers.
+    fn table(&self) -> &ObjectTable
+        ensures headers { result.now ≡ self.now.headers }
+        ensures numbers { length self.now.headers ≡ object_count self.now.geometry }
+        ensures contents { length self.now.contents ≡ object_count self.now.geometry }
+    {
+        &self.table
+    }
+
+    /// Every object is at hand, so this marks, and puts a blank body aside for each free number.
+    ///
+    /// `LogFull` exactly where the numbers written would be more than half of the log holds,
+    /// `NoMemory` only where a number is free and memory runs out, and never `Failed`. Compares
+    /// each number to be written with those before it.
+    fn prepare(
+        &mut self,
+        alloc: Global,
+        fetched: &[u64],
+        written: &[u64],
+    ) -> Result<(), PrepareFault>
+        requires few { length fetched.now ≤ MAX_FETCHED }
+        requires known { All (λ n. n < length self.old.headers) fetched.now }
+        requires announced { All (λ n. n < length self.old.headers) written.now }
+        requires keepable { AreKeepable self.old.geometry u64.MAX (frames_of (parts_of self.old)) }
+
+        ensures fetched { OnOk result ((n : ℕ) → Contains fetched.now n → IsThere self.new n) }
+        ensures announced { OnOk result ((n : ℕ) → Contains written.now n → HasRoom self.new n) }
+        ensures touched { OnOk result (self.new.touched ≡ touching self.old.touched written.now) }
+        ensures within { touched_count self.new.touched ≤ self.new.geometry.log }
+        ensures before { touched_count self.old.touched ≤ self.old.geometry.log }
+
+        ensures headers { self.new.headers ≡ self.old.headers }
+        ensures contents { self.new.contents ≡ self.old.contents }
+        ensures geometry { self.new.geometry ≡ self.old.geometry }
+        ensures age { self.new.age ≡ self.old.age }
+        ensures untouched { OnErr result (self.new.touched ≡ self.old.touched) }
+        ensures full { IsErrOf result PrepareFault.LogFull
+            ↔ (self.old.geometry.log < touched_count (touching self.old.touched written.now)) }
+        ensures no_memory { All (λ n. (header_at self.old.headers n).role ≢ Role.Free) written.now
+            → IsErrOf result PrepareFault.NoMemory → ⊥ }
+        ensures cause { IsErrOf result PrepareFault.Failed → ⊥ }
+    {
+        let fresh = fresh_count(&self.touched, written);
+        if self.count + fresh > self.geometry.log {
+            return Err(PrepareFault::LogFull);
+        }
+        match put_aside(alloc, self.geometry, &self.table, &mut self.rooms, written) {
+            Ok(()) => {}
+            Err(_) => return Err(PrepareFault::NoMemory),
+        }
+        mark(&mut self.touched, written);
+        self.count += fresh;
+        Ok(())
+    }
+
+    fn frame(&self, number: u64) -> &Content<Cap> {
+        &self.contents[number as usize]
+    }
+
+    fn frame_mut(&mut self, number: u64) -> &mut Content<Cap> {
+        &mut self.contents[number as usize]
+    }
+
+    fn claim(&mut self, number: u64, fresh: Fresh, owner: u64) {
+        let room = mem::replace(&mut self.rooms[number as usize], Content::Free);
+        let content = filled(room, fresh);
+        self.table.claim(number, content.role(), owner);
+        self.contents[number as usize] = content;
+    }
+
+    fn reset(&mut self, number: u64) {
+        self.contents[number as usize] = Content::Free;
+        self.table.rescind(number);
+    }
+
+    fn set_owner(&mut self, number: u64, bank: u64) {
+        self.table.set_owner(number, bank);
+    }
+
+    fn consume(&mut self, root: u64) {
+        self.table.consume(root);
+    }
+
+    ghost use Rattle.std.proofs.Common.{◌∙◌, refl, arith, length-set};
+
+    ghost parts_with = { λ s n c. refl };
+
+    ghost fetched_with = { λ s n c m h. (h.0, Prim.grind (arith, length-set, h.1)) };
+
+    ghost announced_with = { λ s n c m h. record {
+      there = (h.there.0, Prim.grind (arith, length-set, h.there.1));
+      room = h.room;
+    } };
+
+    ghost known_fetched = { λ s n h. h };
+
+    ghost known_announced = { λ s n h. h.there };
+
+    ghost leads_same = { λ s. (refl, refl) };
+
+    ghost leads_with = { λ s t n c h. h };
+
+    ghost leads_twice = { λ s t u h k. (k.0 ∙ h.0, k.1 ∙ h.1) };
+}

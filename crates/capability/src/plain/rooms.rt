@@ -1,0 +1,87 @@
+// The room that is put aside for what a free number becomes.
+ghost use Rattle.std.specs.Prelude.{◌≡◌, ◌≢◌, ℕ, ◌<◌, length, IfOk, OnOk, IsErr};
+ghost use Rattle.std.specs.List.{All, Contains};
+ghost use Rattle.model.specs.Frame.{header_at, held_at, void_held};
+ghost use Rattle.capability.specs.Parts.{fresh_content};
+ghost use Rattle.capability.specs.Plain.{room_at, room_for};
+
+use crate::present::Fresh;
+use crate::table::ObjectTable;
+use model::{Cap, Content, Geometry, Role, Root, Slots, State, Words};
+use std::alloc::{AllocError, Global};
+
+/// Puts a blank body aside for each free number of a list. Takes memory for no other, and where
+/// that runs out the bodies put aside so far stay.
+pub fn put_aside(
+    alloc: Global,
+    geometry: Geometry,
+    table: &ObjectTable,
+    rooms: &mut [Content<Cap>],
+    written: &[u64],
+) -> Result<(), AllocError>
+    requires { All (λ n. n < length rooms.old) written.now }
+    ensures aside { OnOk result ((n : ℕ) → Contains written.now n
+        → (header_at table.now n).role ≡ Role.Free → held_at rooms.new n ≡ room_at geometry n) }
+    ensures count { length rooms.new ≡ length rooms.old }
+    ensures used { All (λ n. (header_at table.now n).role ≢ Role.Free) written.now
+        → IsErr result → ⊥ }
+{
+    for number in written {
+        put_one(alloc, geometry, table, rooms, *number)?;
+    }
+    Ok(())
+}
+
+// Puts a blank body aside for a number, where it is free.
+fn put_one(
+    alloc: Global,
+    geometry: Geometry,
+    table: &ObjectTable,
+    rooms: &mut [Content<Cap>],
+    number: u64,
+) -> Result<(), AllocError>
+    requires { number < length rooms.old }
+    ensures aside { OnOk result ((header_at table.now number).role ≡ Role.Free
+        → held_at rooms.new number ≡ room_at geometry number) }
+    ensures others { (m : ℕ) → held_at rooms.old m ≡ room_at geometry m
+        → held_at rooms.new m ≡ room_at geometry m }
+    ensures count { length rooms.new ≡ length rooms.old }
+    ensures used { (header_at table.now number).role ≢ Role.Free → IsErr result → ⊥ }
+{
+    if let Role::Free = table.header(number).role {
+        rooms[number as usize] = blank(alloc, geometry, number)?;
+    }
+    Ok(())
+}
+
+// A blank node for a number of a node, else a blank page.
+#[tactic(auto, unfolding(model::specs::Object::all_slots, model::specs::Object::zero_words))]
+fn blank(alloc: Global, geometry: Geometry, number: u64) -> Result<Content<Cap>, AllocError>
+    ensures { IfOk result (λ content. content ≡ room_at geometry number) }
+{
+    if number < geometry.nodes {
+        Ok(Content::Node(Slots::new(alloc, Cap::void())?))
+    } else {
+        Ok(Content::Page(Words::new(alloc)?))
+    }
+}
+
+/// A new object in the blank body that was put aside for it.
+pub fn filled(room: Content<Cap>, fresh: Fresh) -> Content<Cap>
+    requires { room ≡ room_for fresh }
+    ensures { result ≡ fresh_content void_held fresh }
+{
+    match (fresh, room) {
+        (Fresh::Page | Fresh::Node, room) => room,
+        (Fresh::Annex, Content::Node(registers)) => Content::Annex(registers),
+        (Fresh::Annex, _) => Content::Free,
+        (Fresh::Root { annex }, _) => Content::Root(Root {
+            state: State::Available,
+            words: [0; 4],
+            key: 0,
+            annex,
+            space: Cap::void(),
+        }),
+        (Fresh::Bank { limit }, _) => Content::Bank { limit },
+    }
+}

@@ -1,0 +1,190 @@
+// The two worlds that are there from the start, as stores in memory.
+ghost use Rattle.std.specs.Prelude.{◌≡◌, [], ◌∷◌, ◌++◌, length, map, replicate, slice_set, IfOk, OnOk};
+ghost use Rattle.model.specs.declared.capability.Capability.TheVariants.{Void, Node, Page, Process, Start, Bank};
+ghost use Rattle.model.specs.declared.object.Content.TheVariants as content;
+ghost use Rattle.model.specs.declared.object.State.TheVariants as states;
+ghost use Rattle.model.specs.Capability.{full};
+ghost use Rattle.model.specs.Machine.{untouched};
+ghost use Rattle.model.specs.Object.{all_slots, free};
+ghost use Rattle.model.specs.Worlds.{small, f0, i0, prime_bank, fresh_root};
+ghost use Rattle.capability.specs.Plain.{world_of, fresh_cap, fresh_header, fresh_held, prime_header};
+
+use crate::plain::Plain;
+use crate::table::ObjectTable;
+use model::{Access, Cap, Capability, Content, Geometry, ObjectHeader, Root, Slots, State, Words};
+use std::alloc::{AllocError, Global};
+
+/// The geometry of both worlds.
+const SMALL: Geometry = Geometry {
+    nodes: 16,
+    pages: 8,
+    log: 16,
+};
+
+/// How many objects they have.
+const SMALL_COUNT: usize = 24;
+
+impl Plain {
+    /// A world of one running process, which holds a node and a page. Fails only where memory runs
+    /// out.
+    pub fn f0(alloc: Global) -> Result<Plain, AllocError>
+        ensures world { IfOk result (λ p. world_of p ≡ f0) }
+        ensures headers { IfOk result (λ p. p.headers ≡ map fresh_header f0.objects) }
+        ensures contents { IfOk result (λ p. p.contents ≡ map fresh_held f0.objects) }
+        ensures geometry { IfOk result (λ p. p.geometry ≡ small) }
+        ensures touched { IfOk result (λ p. p.touched ≡ untouched small) }
+    {
+        Plain::small(alloc, f0_contents(alloc)?)
+    }
+
+    /// A world of two processes: one runs, and holds itself, the prime bank, the other and the
+    /// right to start it. Fails only where memory runs out.
+    pub fn i0(alloc: Global) -> Result<Plain, AllocError>
+        ensures world { IfOk result (λ p. world_of p ≡ i0) }
+        ensures headers { IfOk result (λ p. p.headers ≡ map fresh_header i0.objects) }
+        ensures contents { IfOk result (λ p. p.contents ≡ map fresh_held i0.objects) }
+        ensures geometry { IfOk result (λ p. p.geometry ≡ small) }
+        ensures touched { IfOk result (λ p. p.touched ≡ untouched small) }
+    {
+        Plain::small(alloc, i0_contents(alloc)?)
+    }
+
+    // Objects of the prime bank that were never given up or written.
+    fn small(alloc: Global, contents: Vec<Content<Cap>>) -> Result<Plain, AllocError>
+        requires { length contents.items ≡ 24 }
+        ensures { IfOk result (λ p. p ≡ record {
+          geometry = small;
+          headers = map prime_header contents.items;
+          contents = contents.items;
+          touched = untouched small;
+          rooms = replicate 24 content.Free;
+          age = 0;
+        }) }
+    {
+        let table = ObjectTable::new(prime_headers(alloc, &contents)?);
+        let touched = vec![in alloc; false; SMALL_COUNT]?;
+        let mut rooms = Vec::with_capacity(alloc, SMALL_COUNT)?;
+        push_free(&mut rooms, SMALL_COUNT)?;
+        Ok(Plain {
+            geometry: SMALL,
+            table,
+            contents,
+            touched,
+            rooms,
+            count: 0,
+            age: 0,
+        })
+    }
+}
+
+// The headers of objects of the prime bank, and of free numbers.
+fn prime_headers(alloc: Global, contents: &[Content<Cap>]) -> Result<Vec<ObjectHeader>, AllocError>
+    ensures { IfOk result (λ headers. headers.items ≡ map prime_header contents.now) }
+{
+    let mut headers = Vec::with_capacity(alloc, contents.len())?;
+    for content in contents {
+        headers.push(ObjectHeader {
+            role: content.role(),
+            allocations: 0,
+            calls: 0,
+            owner: 0,
+        })?;
+    }
+    Ok(headers)
+}
+
+fn f0_contents(alloc: Global) -> Result<Vec<Content<Cap>>, AllocError>
+    ensures { IfOk result (λ contents. contents.items ≡ map fresh_held f0.objects) }
+{
+    let mut contents = first_contents(alloc)?;
+    contents.push(Content::Annex(f0_registers(alloc)?))?;
+    push_free(&mut contents, 2)?;
+    contents.push(Content::Node(void_slots(alloc)?))?;
+    push_free(&mut contents, 10)?;
+    contents.push(Content::Page(Words::new(alloc)?))?;
+    push_free(&mut contents, 7)?;
+    Ok(contents)
+}
+
+fn f0_registers(alloc: Global) -> Result<Slots<Cap>, AllocError>
+    ensures { IfOk result (λ registers.
+        let held = slice_set (slice_set (all_slots Void) 5 (Node 5 full)) 6 (Page 16 full) in
+        registers ≡ map fresh_cap held) }
+{
+    let access = Access::full();
+    let mut registers = void_slots(alloc)?;
+    registers.set(5, held(Capability::Node { object: 5, access }));
+    registers.set(6, held(Capability::Page { object: 16, access }));
+    Ok(registers)
+}
+
+fn i0_contents(alloc: Global) -> Result<Vec<Content<Cap>>, AllocError>
+    ensures { IfOk result (λ contents. contents.items ≡ map fresh_held i0.objects) }
+{
+    let mut contents = first_contents(alloc)?;
+    contents.push(Content::Annex(i0_registers(alloc)?))?;
+    contents.push(root(State::Available, 4))?;
+    contents.push(Content::Annex(void_slots(alloc)?))?;
+    push_free(&mut contents, 19)?;
+    Ok(contents)
+}
+
+fn i0_registers(alloc: Global) -> Result<Slots<Cap>, AllocError>
+    ensures { IfOk result (λ registers.
+        let one = slice_set (all_slots Void) 1 (Process 1) in
+        let two = slice_set one 2 (Bank 0) in
+        let three = slice_set two 3 (Start 3 7) in
+        registers ≡ map fresh_cap (slice_set three 4 (Process 3))) }
+{
+    let mut registers = void_slots(alloc)?;
+    registers.set(1, held(Capability::Process(1)));
+    registers.set(2, held(Capability::Bank(0)));
+    registers.set(3, held(Capability::Start { process: 3, key: 7 }));
+    registers.set(4, held(Capability::Process(3)));
+    Ok(registers)
+}
+
+fn void_slots(alloc: Global) -> Result<Slots<Cap>, AllocError>
+    ensures { IfOk result (λ slots. slots ≡ map fresh_cap (all_slots Void)) }
+{
+    Slots::new(alloc, held(Capability::Void))
+}
+
+// The prime bank, and a running process without its annex.
+fn first_contents(alloc: Global) -> Result<Vec<Content<Cap>>, AllocError>
+    ensures { IfOk result (λ contents.
+        contents.items ≡ fresh_held prime_bank ∷ fresh_held (fresh_root states.Running 2) ∷ []) }
+{
+    let mut contents = Vec::with_capacity(alloc, SMALL_COUNT)?;
+    contents.push(Content::Bank { limit: 1000 })?;
+    contents.push(root(State::Running, 2))?;
+    Ok(contents)
+}
+
+fn push_free(contents: &mut Vec<Content<Cap>>, count: usize) -> Result<(), AllocError>
+    ensures { OnOk result (contents.new.items ≡ contents.old.items ++ replicate count content.Free) }
+{
+    for _n in 0..count {
+        contents.push(Content::Free)?;
+    }
+    Ok(())
+}
+
+// A process in that state, with that annex, nothing delivered and no address space.
+fn root(state: State, annex: u64) -> Content<Cap>
+    ensures { result ≡ fresh_held (fresh_root state annex) }
+{
+    Content::Root(Root {
+        state,
+        words: [0; 4],
+        key: 0,
+        annex,
+        space: held(Capability::Void),
+    })
+}
+
+fn held(what: Capability) -> Cap
+    ensures { result ≡ fresh_cap what }
+{
+    Cap { what, count: 0 }
+}

@@ -1,0 +1,36 @@
+-- What lies apart from the headers.
+use Rattle.std.proofs.Common.{◌+◌, ◌*◌, ◌≤◌, ℕ, List, take, ap, arith}
+use Rattle.layout.specs.Superblock.{Plan, IsPlan}
+use Rattle.layout.specs.Frame.{frame_length}
+use Rattle.layout.specs.Image.{frame_sector, half_sector, slot_sector, directory_sector, directory_length}
+use Rattle.layout.proofs.Halves.{half_within}
+use Rattle.layout.proofs.Sectors.{same_sectors}
+use Rattle.ckpt_log.specs.HeaderLaws.{SequencesAreTold, NextFollows, HeadersSpareSectors, HeadersSpareFrames, HeadersSpareSlots, HeadersSpareDirectories}
+use Rattle.ckpt_log.proofs.Commits.{sequence_of, next_fits, precedes}
+
+pub sequences_told : SequencesAreTold
+sequences_told h fits = sequence_of h fits
+
+pub next_follows : NextFollows
+next_follows image room h next is commits after = let more = next_fits room h is in precedes image h next commits (omega (arith, more)) after
+
+pub spare_sectors : HeadersSpareSectors
+spare_sectors old new h at n behind e = (e.before 0 (omega arith), λ i lt. e.after (at + i) (omega (arith, behind)))
+
+pub spare_frames : HeadersSpareFrames
+spare_frames old new h p generation es object behind e =
+    same_sectors (frame_sector p generation es object) (frame_length p.geometry object) old new (spare_sectors old new h (frame_sector p generation es object) (frame_length p.geometry object) behind e).1
+
+pub half_behind : (p : Plan) (generation : ℕ) → IsPlan p → 5 ≤ half_sector p generation
+half_behind p generation fits = (half_within p generation fits).0
+
+pub spare_slots : HeadersSpareSlots
+spare_slots old new h p generation slot object fits e =
+    let behind = half_behind p generation fits in
+    same_sectors (slot_sector p generation slot) (frame_length p.geometry object) old new (spare_sectors old new h (slot_sector p generation slot) (frame_length p.geometry object) (omega (arith, behind)) e).1
+
+pub spare_directories : HeadersSpareDirectories
+spare_directories old new h p generation n fits e =
+    let behind = half_behind p generation fits in
+    ap (λ (b : List ℕ). take (16 * n) b) (same_sectors (directory_sector p generation) (directory_length n) old new
+    (spare_sectors old new h (directory_sector p generation) (directory_length n) (omega (arith, behind)) e).1)

@@ -1,0 +1,39 @@
+-- What a device denotes after a commit, and after a crash in its course.
+use Rattle.std.specs.Prelude.{◌≡◌, ℕ, ◌+◌, ◌<◌, ◌≤◌, List, length}
+use Rattle.device.specs.Disk.{Image}
+use Rattle.device.specs.Calls.{Elsewhere}
+use Rattle.layout.specs.declared.directory.Entry.{Entry}
+use Rattle.layout.specs.Header.{IsHeader}
+use Rattle.layout.specs.Frame.{IsFrameOf}
+use Rattle.layout.specs.Superblock.{Plan, IsPlan}
+use Rattle.layout.specs.Image.{HasPlan, HasDirectory, SavedState, Denotes, frame_in, frame_sector, home_sector, committed_bytes}
+use Rattle.frame_io.specs.Frames.{IsObject}
+use Rattle.model.specs.Frame.{frame_at}
+use Rattle.layout.specs.declared.header.CheckpointHeader.{CheckpointHeader}
+use Rattle.ckpt_log.specs.Commit.{header_sector, HasNew}
+
+-- home frames lie behind the headers
+abbrev pub HomesAreBehind : Plan → Type 0
+HomesAreBehind p = (object : ℕ) → IsObject p.geometry object → 5 ≤ home_sector p.geometry p.ranges object
+
+-- then so do all frames
+abbrev pub FramesAreBehind : Type 0
+FramesAreBehind = (p : Plan) (generation : ℕ) (es : List Entry) (object : ℕ) → IsPlan p → 5 ≤ home_sector p.geometry p.ranges object → 5 ≤ frame_sector p generation es object
+
+-- all of a state is on an image but, perhaps, that its header is committed
+pub record IsReady (image : Image) (size : ℕ) (s : SavedState) : Type 0 where
+  pub plan : HasPlan image size s.plan
+  pub header : IsHeader s.plan.geometry.log s.header
+  pub directory : HasDirectory image s.plan s.header s.directory
+  pub count : length s.frames ≡ s.plan.geometry.nodes + s.plan.geometry.pages
+  pub each : (object : ℕ) → object < s.plan.geometry.nodes + s.plan.geometry.pages →
+      IsFrameOf s.plan.geometry s.header.age object (frame_in image s.plan s.header.generation s.directory object) (frame_at s.frames object)
+
+-- once its header is committed, the image denotes the state
+abbrev pub NewIsDenoted : Type 0
+NewIsDenoted = (old new : Image) (size : ℕ) (s : SavedState) → HomesAreBehind s.plan → IsReady old size s → HasNew s.header old new → Denotes new size s
+
+-- until then, a crash leaves the state from before: its image is one before it but for the slot of a header, with the committed header that is seen
+abbrev pub OldIsDenoted : Type 0
+OldIsDenoted = (seen before c : Image) (size : ℕ) (s : SavedState) (h : CheckpointHeader) → HomesAreBehind s.plan → Denotes seen size s → Denotes before size s
+    → Elsewhere (header_sector h) 2 before c → committed_bytes c ≡ committed_bytes seen → Denotes c size s

@@ -1,0 +1,39 @@
+-- What a header's bytes tell, and what lies apart from the headers.
+use Rattle.std.specs.Prelude.{◌≡◌, ℕ, ◌+◌, ◌^◌, ◌<◌, ◌≤◌, List}
+use Rattle.layout.specs.declared.directory.Entry.{Entry}
+use Rattle.layout.specs.declared.header.CheckpointHeader.{CheckpointHeader}
+use Rattle.layout.specs.Header.{header_bytes, IsHeader}
+use Rattle.layout.specs.Superblock.{Plan, IsPlan}
+use Rattle.layout.specs.Image.{sequence_in, frame_in, frame_sector, slot_sector, directory_in}
+use Rattle.device.specs.Disk.{Image}
+use Rattle.device.specs.Calls.{Elsewhere}
+use Rattle.ckpt_log.specs.Commit.{header_sector, Commits, Precedes}
+use Rattle.ckpt_log.specs.SavedSectors.{SameFrom}
+use Rattle.frame_io.specs.Frames.{bytes_at}
+
+-- the bytes of a header have its sequence number
+abbrev pub SequencesAreTold : Type 0
+SequencesAreTold = (h : CheckpointHeader) → h.sequence < 2 ^ 64 → sequence_in (header_bytes h) ≡ h.sequence
+
+-- the committed header is the one before the header with the next sequence number
+abbrev pub NextFollows : Type 0
+NextFollows = (image : Image) (room : ℕ) (h next : CheckpointHeader) → IsHeader room h → Commits image h → h.sequence + 1 ≡ next.sequence → Precedes image next
+
+-- a change of the slot of a header leaves the superblock, and all that lies behind the headers
+abbrev pub HeadersSpareSectors : Type 0
+HeadersSpareSectors = (old new : Image) (h : CheckpointHeader) (at n : ℕ) → 5 ≤ at → Elsewhere (header_sector h) 2 old new → (new 0 ≡ old 0) × SameFrom at n old new
+
+-- so it leaves the frames,
+abbrev pub HeadersSpareFrames : Type 0
+HeadersSpareFrames = (old new : Image) (h : CheckpointHeader) (p : Plan) (generation : ℕ) (es : List Entry) (object : ℕ) → 5 ≤ frame_sector p generation es object → Elsewhere (header_sector h) 2 old new
+    → frame_in new p generation es object ≡ frame_in old p generation es object
+
+-- those in the slots of the log,
+abbrev pub HeadersSpareSlots : Type 0
+HeadersSpareSlots = (old new : Image) (h : CheckpointHeader) (p : Plan) (generation slot object : ℕ) → IsPlan p → Elsewhere (header_sector h) 2 old new
+    → bytes_at new (slot_sector p generation slot) p.geometry object ≡ bytes_at old (slot_sector p generation slot) p.geometry object
+
+-- and the directories
+abbrev pub HeadersSpareDirectories : Type 0
+HeadersSpareDirectories = (old new : Image) (h : CheckpointHeader) (p : Plan) (generation n : ℕ) → IsPlan p → Elsewhere (header_sector h) 2 old new
+    → directory_in new p generation n ≡ directory_in old p generation n

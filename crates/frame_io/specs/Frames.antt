@@ -1,0 +1,23 @@
+-- Frames of objects, and why none is read.
+use Rattle.std.specs.Prelude.{◌≡◌, ◌+◌, ◌<◌, ℕ, List, ⊤}
+use Rattle.model.specs.declared.frame.Frame.{Frame}
+use Rattle.model.specs.declared.geometry.Geometry.{Geometry}
+use Rattle.layout.specs.declared.bad_image.BadImage.TheVariants.{BadFrame}
+use Rattle.device.specs.Disk.{Image}
+use Rattle.layout.specs.Frame.{IsFrameOf, frame_length}
+use Rattle.layout.specs.Image.{sectors_from}
+use Rattle.frame_io.specs.declared.fault.ReadFault.{ReadFault}
+use Rattle.frame_io.specs.declared.fault.ReadFault.TheVariants.{Failed, Bad}
+
+-- a number of an object: nodes have the first numbers, pages the next
+abbrev pub IsObject : Geometry → ℕ → Type 0
+IsObject g number = number < g.nodes + g.pages
+
+-- the bytes of the frame of a number that lies at a sector
+abbrev pub bytes_at : Image → ℕ → Geometry → ℕ → List ℕ
+bytes_at image at g number = sectors_from image at (frame_length g number)
+
+-- bytes are refused where they spell no frame of the number
+abbrev pub IsRefused : Geometry → ℕ → ℕ → List ℕ → ReadFault → Type 0
+IsRefused g age number bytes Failed = ⊤
+IsRefused g age number bytes (Bad reason) = (reason ≡ BadFrame) × ((f : Frame) → IsFrameOf g age number bytes f → ⊥)

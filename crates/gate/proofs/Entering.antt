@@ -1,0 +1,77 @@
+-- What an invocation through a gate comes to.
+use Rattle.std.proofs.Common.{◌≡◌, ℕ, ◌^◌, ◌<◌, Bool, true, false, not, ◌||◌, List, length, map, Option, None, Some, refl, sym, ap, ◌∙◌, subst, if◌then◌else◌}
+use Rattle.std.specs.Prelude.{IsTrue, slice_set}
+use Rattle.std.specs.List.{All}
+use Rattle.std.proofs.lemmas.List.Elements.{All-map, All-set}
+use Rattle.model.specs.declared.capability.Capability.{Capability}
+use Rattle.model.specs.declared.capability.Capability.TheVariants.{Start, Resume}
+use Rattle.model.specs.declared.command.Invocation.{Invocation}
+use Rattle.model.specs.declared.command.Operation.{Operation}
+use Rattle.model.specs.declared.command.Operation.TheVariants.{Call, Return, Send}
+use Rattle.model.specs.declared.geometry.Geometry.{Geometry}
+use Rattle.model.specs.declared.object.Object.{Object}
+use Rattle.model.specs.Invoke.{Effect, can_start, invoke, sent_by, through_gate}
+use Rattle.model.specs.Sound.{MayBeHeld, NamesItsKind, object_count}
+use Rattle.model.specs.World.{annex_at, is_process, register_at}
+use Rattle.model_laws.proofs.SoundOrders.{IsNow}
+use Rattle.model_laws.proofs.SoundParts.{held_to}
+use Rattle.gate.specs.declared.gates.Gate.{Gate}
+use Rattle.gate.specs.declared.looking.Asked.{Asked}
+use Rattle.gate.specs.Invoke.{IsAsked, entered, gate_capability, received, written_through}
+use Rattle.gate.specs.Plan.{FitsCap}
+use Rattle.gate.proofs.Effects.{invoke_is, invoked_by}
+use Rattle.gate.proofs.Fits.{held_fits, resume_fits}
+
+-- its effect
+abbrev pub effect_through : List Object → Invocation → Gate → Effect
+effect_through os i gate = record {
+  objects = entered os i gate (sent_by os i);
+  written = written_through i.operation i.process gate.process (annex_at os gate.process);
+}
+
+abbrev made : ℕ → ℕ → Bool → Gate
+made q key b = record { process = q; key = key; is_resume = b }
+
+gate_by : (os : List Object) (i : Invocation) (q key : ℕ) (b : Bool) → (b ≡ true → key ≡ 0) → (b || can_start os i q) ≡ true →
+    invoked_by os i (gate_capability (made q key b)) ≡ Some (effect_through os i (made q key b))
+unfolding through_gate
+gate_by os i q key true zeroth can = ap (λ (k : ℕ). Some (effect_through os i (made q k true))) (sym (zeroth refl))
+gate_by os i q key false zeroth can = ap (λ (b : Bool). if b then Some (through_gate os i q key) else None) can
+
+-- it is carried out where the gate can be entered
+pub gate_invoked : (os : List Object) (i : Invocation) (asked : Asked) (gate : Gate) → IsAsked os i asked → asked.invoked ≡ gate_capability gate →
+    (gate.is_resume ≡ true → gate.key ≡ 0) → (gate.is_resume || can_start os i gate.process) ≡ true → invoke os i ≡ Some (effect_through os i gate)
+gate_invoked os i asked gate is same zeroth can =
+    invoke_is os i ∙ ap (invoked_by os i) (sym is.invoked ∙ same) ∙ gate_by os i gate.process gate.key gate.is_resume zeroth can
+
+-- and else stalls
+stalled_by : (os : List Object) (i : Invocation) (q key : ℕ) (b : Bool) → (b || can_start os i q) ≡ false → invoked_by os i (gate_capability (made q key b)) ≡ None
+stalled_by os i q key true can = cc
+stalled_by os i q key false can = ap (λ (b : Bool). if b then Some (through_gate os i q key) else None) can
+
+pub gate_stalled : (os : List Object) (i : Invocation) (asked : Asked) (gate : Gate) → IsAsked os i asked → asked.invoked ≡ gate_capability gate →
+    (gate.is_resume || can_start os i gate.process) ≡ false → invoke os i ≡ None
+gate_stalled os i asked gate is same can =
+    invoke_is os i ∙ ap (invoked_by os i) (sym is.invoked ∙ same) ∙ stalled_by os i gate.process gate.key gate.is_resume can
+
+-- a gate is that of a process
+gate_names : (os : List Object) (q key : ℕ) (b : Bool) → NamesItsKind os (gate_capability (made q key b)) → IsTrue (is_process os q)
+gate_names os q key true kind = kind.0
+gate_names os q key false kind = kind
+
+pub gate_process : (os : List Object) (c : Capability) (gate : Gate) → NamesItsKind os c → c ≡ gate_capability gate → IsTrue (is_process os gate.process)
+gate_process os c gate kind same = gate_names os gate.process gate.key gate.is_resume (subst (NamesItsKind os) same kind)
+
+-- what is received fits
+pub received_fits : (g : Geometry) (os : List Object) (i : Invocation) (sent : List Capability) → IsNow g os → object_count g < 2 ^ 64 → IsTrue (is_process os i.process) → sent ≡ sent_by os i →
+    All (FitsCap g) (received i sent)
+received_fits g os i sent now few is same = go i.operation
+  where
+    all : All (FitsCap g) sent
+    all = subst (All (FitsCap g)) (sym same) (All-map (FitsCap g) (register_at os i.process) i.sent
+        (λ k d inside. held_fits g os now.frame.kinds few _ (held_to os _ ((now.filled (annex_at os i.process)).slots _))))
+
+    go : (o : Operation) → All (FitsCap g) (elim o [ Call ↦ slice_set sent 3 (Resume i.process) | _ ↦ sent ])
+    go Call = All-set (FitsCap g) sent 3 (Resume i.process) (resume_fits g os now.frame.kinds few i.process is) all
+    go Return = all
+    go Send = all

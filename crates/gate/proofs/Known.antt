@@ -1,0 +1,86 @@
+-- Which numbers have objects.
+use Rattle.std.proofs.Common.{◌≡◌, ℕ, zero, suc, ◌<◌, true, false, ◌&&◌, Bool, Some, List, [], ◌∷◌, length, refl, sym, ap, ◌∙◌, subst, arith}
+use Rattle.std.specs.Prelude.{IsTrue}
+use Rattle.std.specs.List.{All}
+use Rattle.model.specs.declared.capability.Capability.{Capability}
+use Rattle.model.specs.declared.capability.Capability.TheVariants.{Void, Number, Page, Node, Space, Process, Start, Resume, Bank, Discrim}
+use Rattle.model.specs.declared.frame.Frame.{Frame}
+use Rattle.model.specs.declared.frame.ObjectHeader.{ObjectHeader}
+use Rattle.model.specs.declared.object.Content.{Content}
+use Rattle.model.specs.declared.object.Content.TheVariants as content
+use Rattle.model.specs.declared.object.Object.{Object}
+use Rattle.model.specs.Capability.{named}
+use Rattle.model.specs.Frame.{frames_in, objects_of}
+use Rattle.model.specs.Object.{is_annex, is_bank, is_free}
+use Rattle.model.specs.Sound.{NamesItsKind}
+use Rattle.model.specs.World.{annex_at, content_at, is_process, is_running_process}
+use Rattle.capability.specs.Parts.{Parts, frames_of}
+use Rattle.capability.proofs.Frames.{annex_used, known_used, node_used, page_used, root_used}
+
+pub process_known : (p : Parts) (n : ℕ) → IsTrue (is_process (objects_of (frames_of p)) n) → n < length p.headers
+process_known p n is = known_used p n (root_used (content_at (objects_of (frames_of p)) n) is)
+
+pub annex_known : (p : Parts) (n : ℕ) → IsTrue (is_annex (content_at (objects_of (frames_of p)) n)) → n < length p.headers
+annex_known p n is = known_used p n (annex_used (content_at (objects_of (frames_of p)) n) is)
+
+bank_used : (c : Content Capability) → is_bank c ≡ true → is_free c ≡ false
+bank_used (content.Bank limit) is = refl
+bank_used content.Free is = cc
+bank_used (content.Page words) is = cc
+bank_used (content.Node slots) is = cc
+bank_used (content.Root r) is = cc
+bank_used (content.Annex slots) is = cc
+
+-- what a capability names that may be held isn't free
+module _ (os : List Object) where
+  pub named_used : (c : Capability) → NamesItsKind os c → (n : ℕ) → named c ≡ Some n → is_free (content_at os n) ≡ false
+  named_used Void kind n is = cc
+  named_used (Number m) kind n is = cc
+  named_used (Page o a) kind n is = let e : o ≡ n = cc in subst (λ (m : ℕ). is_free (content_at os m) ≡ false) e (page_used (content_at os o) kind)
+  named_used (Node o a) kind n is = let e : o ≡ n = cc in subst (λ (m : ℕ). is_free (content_at os m) ≡ false) e (node_used (content_at os o) kind)
+  named_used (Space o h a) kind n is = let e : o ≡ n = cc in subst (λ (m : ℕ). is_free (content_at os m) ≡ false) e (node_used (content_at os o) kind)
+  named_used (Process o) kind n is = let e : o ≡ n = cc in subst (λ (m : ℕ). is_free (content_at os m) ≡ false) e (root_used (content_at os o) kind)
+  named_used (Start o key) kind n is = let e : o ≡ n = cc in subst (λ (m : ℕ). is_free (content_at os m) ≡ false) e (root_used (content_at os o) kind)
+  named_used (Resume o) kind n is = let e : o ≡ n = cc in subst (λ (m : ℕ). is_free (content_at os m) ≡ false) e (root_used (content_at os o) kind.0)
+  named_used (Bank o) kind n is = let e : o ≡ n = cc in subst (λ (m : ℕ). is_free (content_at os m) ≡ false) e (bank_used (content_at os o) kind)
+  named_used Discrim kind n is = cc
+
+pub named_known : (p : Parts) (c : Capability) → NamesItsKind (objects_of (frames_of p)) c → (n : ℕ) → named c ≡ Some n → n < length p.headers
+named_known p c kind n is = known_used p n (named_used (objects_of (frames_of p)) c kind n is)
+
+-- a running process is a process
+pub running_process : (os : List Object) (p : ℕ) → IsTrue (is_running_process os p) → IsTrue (is_process os p)
+running_process os p running = both_true (is_process os p) _ running
+  where
+    both_true : (a b : Bool) → IsTrue (a && b) → IsTrue a
+    both_true true b both = refl
+    both_true false b both = both
+
+-- the same headers and contents, and so the same frames
+abbrev pub LooksSame : Parts → Parts → Type 0
+LooksSame before now = (now.headers ≡ before.headers) × (now.contents ≡ before.contents)
+
+pub same_frames : (before now : Parts) → now.headers ≡ before.headers → now.contents ≡ before.contents → frames_of now ≡ frames_of before
+same_frames before now hs cs = ap (λ (ks : List ObjectHeader). frames_in ks now.contents) hs ∙ ap (frames_in before.headers) cs
+
+-- a process and its annex have objects, also after a look at others
+pub looked_annex : (before now : Parts) (p a : ℕ) → LooksSame before now → a ≡ annex_at (objects_of (frames_of now)) p →
+    IsTrue (is_annex (content_at (objects_of (frames_of before)) (annex_at (objects_of (frames_of before)) p))) → a < length now.headers
+looked_annex before now p a same is annex =
+    let fs = same_frames before now same.0 same.1 in
+    let here : a ≡ annex_at (objects_of (frames_of before)) p = is ∙ ap (λ (gs : List Frame). annex_at (objects_of gs) p) fs in
+    subst (λ (hs : List ObjectHeader). a < length hs) (sym same.0)
+    (subst (λ (n : ℕ). n < length before.headers) (sym here) (annex_known before (annex_at (objects_of (frames_of before)) p) annex))
+
+pub looked_process : (before now : Parts) (p : ℕ) → LooksSame before now → IsTrue (is_process (objects_of (frames_of before)) p) → p < length now.headers
+looked_process before now p same is = subst (λ (hs : List ObjectHeader). p < length hs) (sym same.0) (process_known before p is)
+
+-- one and two numbers that exist
+pub one_known : (P : ℕ → Type 0) (m : ℕ) → P m → All P (m ∷ [])
+one_known P m x zero d inside = x
+one_known P m x (suc k) d inside = absurd (omega arith)
+
+pub both_known : (P : ℕ → Type 0) (m n : ℕ) → P m → P n → All P (m ∷ n ∷ [])
+both_known P m n x y zero d inside = x
+both_known P m n x y (suc zero) d inside = y
+both_known P m n x y (suc (suc k)) d inside = absurd (omega arith)

@@ -1,0 +1,146 @@
+-- What stays of processes while one of them changes.
+use Rattle.std.proofs.Common.{◌≡◌, ℕ, true, Bool, List, refl, sym, ap, ◌∙◌, subst}
+use Rattle.std.specs.Prelude.{IsTrue, slice_index_or, slice_set}
+use Rattle.std.proofs.Math.ListN.{get_or-map}
+use Rattle.std.proofs.Math.Seq.{map-set_same}
+use Rattle.model.specs.declared.capability.Capability.{Capability}
+use Rattle.model.specs.declared.command.Invocation.{Invocation}
+use Rattle.model.specs.declared.command.Operation.{Operation}
+use Rattle.model.specs.declared.command.Operation.TheVariants.{Call, Return, Send}
+use Rattle.model.specs.declared.object.Content.{Content}
+use Rattle.model.specs.declared.object.Content.TheVariants as content
+use Rattle.model.specs.declared.object.Object.{Object}
+use Rattle.model.specs.declared.object.Role.{Role}
+use Rattle.model.specs.declared.object.Root.{Root}
+use Rattle.model.specs.declared.object.State.{State}
+use Rattle.model.specs.declared.object.State.TheVariants.{Available, Waiting}
+use Rattle.model.specs.Invoke.{after_gate}
+use Rattle.model.specs.Object.{free, is_node, is_root, map_content, role_of, root_in, with_slot_in, with_word_in}
+use Rattle.model.specs.Order.{with_root_word, with_space}
+use Rattle.model.specs.Revoke.{consume, resumes, void_where, without}
+use Rattle.model.specs.World.{annex_at, content_at, is_process, root_at, with_content, with_root, with_slot, with_state, with_word}
+use Rattle.gate.specs.declared.plan.Change.{Change}
+use Rattle.gate.specs.declared.plan.Change.TheVariants as change
+use Rattle.model.specs.declared.geometry.Geometry.{Geometry}
+use Rattle.gate.specs.Plan.{IsOfProcess, MayHold, changed}
+
+-- a field of all contents that one edit leaves
+module _ {X : Type 0} (field : Content Capability → X) where
+  abbrev field_of : Object → X
+  field_of o = field o.content
+
+  field_kept : (os : List Object) (n : ℕ) (c : Content Capability) → field c ≡ field (content_at os n) → (m : ℕ) → field (content_at (with_content os n c) m) ≡ field (content_at os m)
+  unfolding with_content
+  field_kept os n c same m =
+      sym (get_or-map field_of (with_content os n c) m free)
+      ∙ ap (λ (xs : List X). slice_index_or xs m (field_of free)) (map-set_same field_of os n _ free same)
+      ∙ get_or-map field_of os m free
+
+-- the annex that a content names
+abbrev annex_in : Content Capability → ℕ
+annex_in c = (root_in c).annex
+
+-- a root in place of a root has its annex, and is one
+root_role : (c : Content Capability) (r : Root Capability) → is_root c ≡ true → is_root (content.Root r) ≡ is_root c
+root_role c r is = sym is
+
+root_kind : (c : Content Capability) (r : Root Capability) → is_root c ≡ true → is_node (content.Root r) ≡ is_node c
+root_kind content.Free r is = cc
+root_kind (content.Page words) r is = cc
+root_kind (content.Node slots) r is = cc
+root_kind (content.Root s) r is = refl
+root_kind (content.Annex slots) r is = cc
+root_kind (content.Bank limit) r is = cc
+
+-- a process in another state
+module _ (os : List Object) (p : ℕ) (s : State) (is : IsTrue (is_process os p)) where
+  pub state_process : (q : ℕ) → is_process (with_state os p s) q ≡ is_process os q
+  unfolding with_state with_root
+  state_process q = field_kept is_root os p _ (sym is) q
+
+  pub state_node : (n : ℕ) → is_node (content_at (with_state os p s) n) ≡ is_node (content_at os n)
+  unfolding with_state with_root
+  state_node n = field_kept is_node os p _ (root_kind (content_at os p) (record (root_at os p) { state = s }) is) n
+
+pub state_annex : (os : List Object) (p : ℕ) (s : State) (q : ℕ) → annex_at (with_state os p s) q ≡ annex_at os q
+unfolding with_state with_root
+state_annex os p s q = field_kept annex_in os p (content.Root (record (root_at os p) { state = s })) refl q
+
+-- the process that invokes through a gate
+pub after_process : (os : List Object) (i : Invocation) → IsTrue (is_process os i.process) → (q : ℕ) → is_process (after_gate os i) q ≡ is_process os q
+after_process os i is q = go i.operation
+  where
+    go : (o : Operation) → is_process (elim o [ Call ↦ with_state os i.process Waiting | Return ↦ with_state os i.process Available | Send ↦ os ]) q ≡ is_process os q
+    go Call = state_process os i.process Waiting is q
+    go Return = state_process os i.process Available is q
+    go Send = refl
+
+pub after_annex : (os : List Object) (i : Invocation) (q : ℕ) → annex_at (after_gate os i) q ≡ annex_at os q
+after_annex os i q = go i.operation
+  where
+    go : (o : Operation) → annex_at (elim o [ Call ↦ with_state os i.process Waiting | Return ↦ with_state os i.process Available | Send ↦ os ]) q ≡ annex_at os q
+    go Call = state_annex os i.process Waiting q
+    go Return = state_annex os i.process Available q
+    go Send = refl
+
+-- a slot, a word and what goes void leave annexes
+word_annex : (c : Content Capability) (i word : ℕ) → annex_in (with_word_in c i word) ≡ annex_in c
+word_annex content.Free i word = refl
+word_annex (content.Page words) i word = refl
+word_annex (content.Node slots) i word = refl
+word_annex (content.Root r) i word = refl
+word_annex (content.Annex slots) i word = refl
+word_annex (content.Bank limit) i word = refl
+
+slot_annex : (c : Content Capability) (i : ℕ) (held : Capability) → annex_in (with_slot_in c i held) ≡ annex_in c
+slot_annex content.Free i held = refl
+slot_annex (content.Page words) i held = refl
+slot_annex (content.Node slots) i held = refl
+slot_annex (content.Root r) i held = refl
+slot_annex (content.Annex slots) i held = refl
+slot_annex (content.Bank limit) i held = refl
+
+void_annex : (f : Capability → Capability) (c : Content Capability) → annex_in (map_content f c) ≡ annex_in c
+void_annex f content.Free = refl
+void_annex f (content.Page words) = refl
+void_annex f (content.Node slots) = refl
+void_annex f (content.Root r) = refl
+void_annex f (content.Annex slots) = refl
+void_annex f (content.Bank limit) = refl
+
+consume_annex : (p : ℕ) (os : List Object) (q : ℕ) → annex_at (consume p os) q ≡ annex_at os q
+unfolding consume
+consume_annex p os q =
+    ap (λ (o : Object). annex_in o.content) (get_or-map (without (resumes p)) os q free)
+    ∙ void_annex (void_where (resumes p)) (content_at os q)
+
+-- a change leaves the annex of each process
+pub changed_annex : (os : List Object) (c : Change) (q : ℕ) → annex_at (changed os c) q ≡ annex_at os q
+unfolding with_word with_slot with_root
+changed_annex os change.Nothing q = refl
+changed_annex os (change.Word page index word) q = field_kept annex_in os page _ (word_annex (content_at os page) index word) q
+changed_annex os (change.Slot node slot held) q = field_kept annex_in os node _ (slot_annex (content_at os node) slot held) q
+changed_annex os (change.Register process annex slot held) q = field_kept annex_in os annex _ (slot_annex (content_at os annex) slot held) q
+changed_annex os (change.RootWord process index word) q = field_kept annex_in os process (content.Root (with_root_word (root_at os process) index word)) refl q
+changed_annex os (change.SetState process state) q = consume_annex process (with_state os process state) q ∙ state_annex os process state q
+changed_annex os (change.Space process held) q = field_kept annex_in os process (content.Root (with_space (root_at os process) held)) refl q
+
+-- a change of a process is one also while another process changes its state
+pub state_of_process : (os : List Object) (p : ℕ) (s : State) → IsTrue (is_process os p) → (c : Change) → IsOfProcess os c → IsOfProcess (with_state os p s) c
+state_of_process os p s is change.Nothing of = tt
+state_of_process os p s is (change.Word page index word) of = tt
+state_of_process os p s is (change.Slot node slot held) of = tt
+state_of_process os p s is (change.Register process annex slot held) of = tt
+state_of_process os p s is (change.RootWord process index word) of = state_process os p s is process ∙ of
+state_of_process os p s is (change.SetState process state) of = state_process os p s is process ∙ of
+state_of_process os p s is (change.Space process held) of = state_process os p s is process ∙ of
+
+-- what a change may put, it may also put while another process changes its state
+pub state_may_hold : (g : Geometry) (os : List Object) (p : ℕ) (s : State) → IsTrue (is_process os p) → (c : Change) → MayHold g os c → MayHold g (with_state os p s) c
+state_may_hold g os p s is change.Nothing held = tt
+state_may_hold g os p s is (change.Word page index word) held = tt
+state_may_hold g os p s is (change.Slot node slot capability) held = (held.0, state_node os p s is node ∙ held.1)
+state_may_hold g os p s is (change.Register process annex slot capability) held = held
+state_may_hold g os p s is (change.RootWord process index word) held = tt
+state_may_hold g os p s is (change.SetState process state) held = tt
+state_may_hold g os p s is (change.Space process capability) held = held

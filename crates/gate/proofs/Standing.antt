@@ -1,0 +1,90 @@
+-- What sound frames stand for.
+use Rattle.std.proofs.Common.{◌≡◌, ℕ, ◌+◌, ◌-◌, ◌^◌, ◌<◌, ◌≤◌, Some, List, length, sym, subst, ap, ◌∙◌, arith}
+use Rattle.std.specs.Prelude.{IsTrue}
+use Rattle.model.specs.declared.capability.Capability.{Capability}
+use Rattle.model.specs.declared.frame.Frame.{Frame}
+use Rattle.model.specs.declared.frame.ObjectHeader.{ObjectHeader}
+use Rattle.model.specs.declared.geometry.Geometry.{Geometry}
+use Rattle.model.specs.Frame.{header_at, headers, objects_of}
+use Rattle.model.specs.Keepable.{AreKeepable, IsSoundFrames, world_at}
+use Rattle.model.specs.Object.{is_annex}
+use Rattle.model.specs.Sound.{MayBeHeld, NamesItsKind, object_count}
+use Rattle.model.specs.World.{annex_at, content_at, is_process, register_at}
+use Rattle.model_laws.proofs.SoundOrders.{IsNow}
+use Rattle.model_laws.proofs.SoundParts.{nearly_from}
+use Rattle.capability.specs.Parts.{Parts, frames_of}
+use Rattle.capability.proofs.Frames.{length_objects}
+use Rattle.capability.proofs.Keeping.{keepable_count, keepable_later}
+use Rattle.gate.specs.Invoke.{KeepsSoundFrames}
+use Rattle.gate.proofs.Fits.{calls_kept}
+use Rattle.gate.proofs.Known.{annex_known, same_frames}
+
+-- sound frames at some age
+abbrev pub AreSound : Parts → Type 0
+AreSound p = (age : ℕ) × IsSoundFrames p.geometry age (frames_of p)
+
+module _ (p : Parts) (sound : AreSound p) where
+  pub keepable_most : AreKeepable p.geometry (2 ^ 64 - 1) (frames_of p)
+  keepable_most = keepable_later p.geometry sound.0 (2 ^ 64 - 1) (frames_of p) (omega (arith, sound.1.sound.age)) sound.1.keepable
+
+  pub now_sound : IsNow p.geometry (objects_of (frames_of p))
+  now_sound = nearly_from p.geometry (world_at sound.0 (frames_of p)) sound.1.sound
+
+  pub few_objects : length p.headers < 2 ^ 64 → object_count p.geometry < 2 ^ 64
+  few_objects few = subst (λ (n : ℕ). n < 2 ^ 64) (keepable_count p.geometry sound.0 p sound.1.keepable) few
+
+  pub register_kind : (q r : ℕ) (c : Capability) → c ≡ register_at (objects_of (frames_of p)) q r → NamesItsKind (objects_of (frames_of p)) c
+  register_kind q r c is = subst (NamesItsKind (objects_of (frames_of p))) (sym is) (sound.1.sound.slots (annex_at (objects_of (frames_of p)) q) r).1
+
+  pub annex_there : (q : ℕ) → IsTrue (is_process (objects_of (frames_of p)) q) → IsTrue (is_annex (content_at (objects_of (frames_of p)) (annex_at (objects_of (frames_of p)) q)))
+  annex_there q is = (sound.1.sound.annexes q is).0
+
+  -- no call count is at its greatest
+  pub calls_below : (n : ℕ) → n < length p.headers → (header_at p.headers n).calls < 2 ^ 64 - 1
+  calls_below n known = omega (arith, calls_kept p.geometry sound.0 p sound.1.keepable n known, sound.1.sound.age)
+
+-- the same parts but for failures, and in what was touched
+pub record LooksAs (old now : Parts) : Type 0 where
+  pub headers : now.headers ≡ old.headers
+  pub contents : now.contents ≡ old.contents
+  pub geometry : now.geometry ≡ old.geometry
+
+module _ (old now : Parts) (looks : LooksAs old now) where
+  pub looked_frames : frames_of now ≡ frames_of old
+  looked_frames = same_frames old now looks.headers looks.contents
+
+  pub looked_objects : objects_of (frames_of now) ≡ objects_of (frames_of old)
+  looked_objects = ap (λ (fs : List Frame). objects_of fs) looked_frames
+
+  pub looked_sound : AreSound old → AreSound now
+  looked_sound sound = (
+    sound.0,
+    subst (λ (g : Geometry). IsSoundFrames g sound.0 (frames_of now)) (sym looks.geometry)
+        (subst (λ (fs : List Frame). IsSoundFrames old.geometry sound.0 fs) (sym looked_frames) sound.1),
+  )
+
+  pub looked_number : (n : ℕ) → n < length old.headers → n < length now.headers
+  looked_number n known = subst (λ (hs : List ObjectHeader). n < length hs) (sym looks.headers) known
+
+  pub looked_keepable : (age : ℕ) → AreKeepable old.geometry age (frames_of old) → AreKeepable now.geometry age (frames_of now)
+  looked_keepable age k =
+      subst (λ (g : Geometry). AreKeepable g age (frames_of now)) (sym looks.geometry)
+      (subst (λ (fs : List Frame). AreKeepable old.geometry age fs) (sym looked_frames) k)
+
+-- one look after another
+pub looks_again : (old mid now : Parts) → LooksAs old mid → LooksAs mid now → LooksAs old now
+looks_again old mid now a b = record { headers = b.headers ∙ a.headers; contents = b.contents ∙ a.contents; geometry = b.geometry ∙ a.geometry }
+
+-- what is among the objects has a header
+pub inside_known : (p : Parts) (n : ℕ) → n < length (objects_of (frames_of p)) → n < length p.headers
+inside_known p n inside = subst (λ (m : ℕ). n < m) (length_objects p.headers p.contents) inside
+
+pub asked_annex : (p : Parts) (sound : AreSound p) (q a : ℕ) → IsTrue (is_process (objects_of (frames_of p)) q) → a ≡ annex_at (objects_of (frames_of p)) q → a < length p.headers
+asked_annex p sound q a is same = subst (λ (n : ℕ). n < length p.headers) (sym same) (annex_known p (annex_at (objects_of (frames_of p)) q) (annex_there p sound q is))
+
+-- what keeps frames sound after a look keeps those before it
+pub keeps_looked : (old mid new : Parts) → LooksAs old mid → KeepsSoundFrames mid new → KeepsSoundFrames old new
+keeps_looked old mid new looks keeps age young sound =
+    let there = subst (λ (g : Geometry). IsSoundFrames g age (frames_of mid)) (sym looks.geometry)
+    (subst (λ (fs : List Frame). IsSoundFrames old.geometry age fs) (sym (looked_frames old mid looks)) sound) in
+    subst (λ (g : Geometry). IsSoundFrames g (age + 1) (frames_of new)) looks.geometry (keeps age young there)

@@ -1,0 +1,7 @@
+use Rattle.gate.proofs.node.on_node.Goals as goal
+
+pub returns-in-Store-clause-only : goal.returns-in-Store-clause-only
+returns-in-Store-clause-only g c = c.stored.ensures.only _
+
+pub returns-in-PutNumber-clause-only : goal.returns-in-PutNumber-clause-only
+returns-in-PutNumber-clause-only g c = c.stored-in-PutNumber.ensures.only _

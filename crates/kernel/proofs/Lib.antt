@@ -1,0 +1,3 @@
+mod Roles
+mod Serving
+mod Steps

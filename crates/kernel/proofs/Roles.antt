@@ -1,0 +1,66 @@
+-- What the roles in headers tell of the objects that frames stand for.
+use Rattle.std.proofs.Common.{◌≡◌, ℕ, ◌<◌, Bool, true, false, ◌&&◌, List, length, refl, sym, ap, ◌∙◌, subst}
+use Rattle.std.proofs.Math.ListN.{get_or-map}
+use Rattle.model.specs.declared.capability.Cap.{Cap}
+use Rattle.model.specs.declared.capability.Capability.{Capability}
+use Rattle.model.specs.declared.frame.Frame.{Frame}
+use Rattle.model.specs.declared.frame.ObjectHeader.{ObjectHeader}
+use Rattle.model.specs.declared.object.Content.{Content}
+use Rattle.model.specs.declared.object.Content.TheVariants as content
+use Rattle.model.specs.declared.object.Object.{Object}
+use Rattle.model.specs.declared.object.Role.{Role}
+use Rattle.model.specs.declared.object.Role.TheVariants as role
+use Rattle.model.specs.Frame.{blank_frame, conveyed, frame_at, header_at, headers, object_of, objects_of}
+use Rattle.model.specs.Object.{is_root, map_content, role_of}
+use Rattle.model.specs.World.{content_at, is_process}
+use Rattle.capability.specs.Parts.{HaveTheirRoles, Parts, frames_of}
+use Rattle.capability.proofs.Frames.{headers_in}
+
+abbrev pub is_root_role : Role → Bool
+is_root_role role.Root = true
+is_root_role _ = false
+
+root_of : (c : Content Cap) → is_root c ≡ is_root_role (role_of c)
+root_of content.Free = refl
+root_of (content.Page words) = refl
+root_of (content.Node slots) = refl
+root_of (content.Root r) = refl
+root_of (content.Annex slots) = refl
+root_of (content.Bank limit) = refl
+
+root_map : (f : Cap → Capability) (c : Content Cap) → is_root (map_content f c) ≡ is_root c
+root_map f content.Free = refl
+root_map f (content.Page words) = refl
+root_map f (content.Node slots) = refl
+root_map f (content.Root r) = refl
+root_map f (content.Annex slots) = refl
+root_map f (content.Bank limit) = refl
+
+content_there : (fs : List Frame) (n : ℕ) → content_at (objects_of fs) n ≡ map_content (conveyed (headers fs)) (frame_at fs n).content
+unfolding objects_of
+content_there fs n = ap (λ (o : Object). o.content) (get_or-map (object_of (headers fs)) fs n blank_frame)
+
+header_there : (p : Parts) (n : ℕ) → header_at p.headers n ≡ (frame_at (frames_of p) n).header
+header_there p n =
+    ap (λ (hs : List ObjectHeader). header_at hs n) (sym (headers_in p.headers p.contents))
+    ∙ get_or-map (λ (f : Frame). f.header) (frames_of p) n blank_frame
+
+-- a number is that of a process exactly where its role is that of a root
+pub process_by_role : (p : Parts) (n : ℕ) → HaveTheirRoles (frames_of p) → is_process (objects_of (frames_of p)) n ≡ is_root_role (header_at p.headers n).role
+process_by_role p n roles =
+    ap is_root (content_there (frames_of p) n)
+    ∙ root_map (conveyed (headers (frames_of p))) (frame_at (frames_of p) n).content
+    ∙ root_of (frame_at (frames_of p) n).content
+    ∙ ap is_root_role (sym (roles n))
+    ∙ ap (λ (h : ObjectHeader). is_root_role h.role) (sym (header_there p n))
+
+pub role_there : (p : Parts) (n : ℕ) (hs : List ObjectHeader) (h : ObjectHeader) → hs ≡ p.headers → h ≡ header_at hs n → is_root_role (header_at p.headers n).role ≡ is_root_role h.role
+role_there p n hs h same is = ap (λ (k : ObjectHeader). is_root_role k.role) (sym (is ∙ ap (λ (ks : List ObjectHeader). header_at ks n) same))
+
+pub no_root_role : (r : Role) → (r ≡ role.Root → ⊥) → is_root_role r ≡ false
+no_root_role role.Free other = refl
+no_root_role role.Page other = refl
+no_root_role role.Node other = refl
+no_root_role role.Root other = absurd (other refl)
+no_root_role role.Annex other = refl
+no_root_role role.Bank other = refl

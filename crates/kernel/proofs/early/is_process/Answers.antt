@@ -1,0 +1,13 @@
+use Rattle.std.proofs.Common.{sym, ap, ◌∙◌}
+use Rattle.kernel.proofs.Roles.{is_root_role, no_root_role, process_by_role, role_there}
+use Rattle.kernel.proofs.early.is_process.Goals as goal
+
+pub returns-in-Root : goal.returns-in-Root
+returns-in-Root g c =
+    let p = g.F.PresentFrames.parts c.args.store.now in
+    sym (process_by_role p c.args.number c.requires ∙ role_there p c.args.number c.table.result.now c.header.result c.table.ensures c.header.ensures ∙ ap is_root_role c.in-Root.is)
+
+pub returns-in_default : goal.returns-in_default
+returns-in_default g c =
+    let p = g.F.PresentFrames.parts c.args.store.now in
+    sym (process_by_role p c.args.number c.requires ∙ role_there p c.args.number c.table.result.now c.header.result c.table.ensures c.header.ensures ∙ no_root_role c.header.result.role c.in_default.not-Root)

@@ -1,0 +1,187 @@
+-- What the readers of both kinds of frames ask for is what can be kept.
+use Rattle.std.proofs.Common.{◌≡◌, ℕ, ◌+◌, ◌^◌, ◌<◌, ◌≤◌, Bool, List, [], ◌∷◌, ◌++◌, length, refl, sym, ap, ◌∙◌, arith}
+use Rattle.std.specs.Prelude.{map, replicate, if◌then◌else◌, IsTrue}
+use Rattle.std.specs.List.{All}
+use Rattle.std.proofs.lemmas.Bool.{lt-ltb, le-ltb, false≢true}
+use Rattle.std.proofs.lemmas.List.{length-append, length-map, length-replicate}
+use Rattle.std.proofs.lemmas.List.Elements.{All-from_recursion, All-cons, All-append, All-map, All-replicate, All-weaker}
+use Rattle.model.specs.declared.capability.Cap.{Cap}
+use Rattle.model.specs.declared.frame.Frame.{Frame}
+use Rattle.model.specs.declared.geometry.Geometry.{Geometry}
+use Rattle.model.specs.declared.object.Content.{Content}
+use Rattle.model.specs.declared.object.Content.TheVariants as content
+use Rattle.model.specs.declared.object.Role.TheVariants as role
+use Rattle.model.specs.declared.object.Root.{Root}
+use Rattle.model.specs.declared.object.State.{State}
+use Rattle.model.specs.declared.object.State.TheVariants.{Available, Running, Waiting}
+use Rattle.model.specs.Frame.{void_held}
+use Rattle.model.specs.Keepable.{IsKeptCap, AreKeptSlots, AreKeptWords, MayBeKept, IsKept, IsKeepable}
+use Rattle.model.specs.Object.{role_of, is_free, state_number}
+use Rattle.model.specs.Sound.{IsOfKind}
+use Rattle.layout.specs.Frame.{number_cap, root_slots, slots_of, node_frame_bytes, page_frame_bytes, frame_bytes, FollowsRole, HoldsPage, IsFront, IsNodeFrame, IsPageFrame, IsFrameOf}
+
+-- ---- slots
+
+abbrev Kept : Geometry → ℕ → List Cap → Type 0
+Kept g age slots = All (IsKeptCap g age) slots
+
+voids_kept : (g : Geometry) (age n : ℕ) → Kept g age (replicate n void_held)
+voids_kept g age n = All-replicate (IsKeptCap g age) n void_held refl
+
+number_kept : (g : Geometry) (age n : ℕ) → n < 2 ^ 64 → IsKeptCap g age (number_cap n)
+number_kept g age n fits = (fits, refl)
+
+state_fits : (s : State) → state_number s < 2 ^ 64
+state_fits Available = omega arith
+state_fits Running = omega arith
+state_fits Waiting = omega arith
+
+numbers_kept : (g : Geometry) (age : ℕ) (ws : List ℕ) → All (λ w. w < 2 ^ 64) ws → Kept g age (map number_cap ws)
+numbers_kept g age ws each = All-map (IsKeptCap g age) number_cap ws (All-weaker (λ (w : ℕ). w < 2 ^ 64) (λ w. IsKeptCap g age (number_cap w)) (number_kept g age) ws each)
+
+abbrev root_of : State → List ℕ → ℕ → ℕ → Cap → Root Cap
+root_of s ws key annex space = record { state = s; words = ws; key = key; annex = annex; space = space }
+
+root_slots_kept : (g : Geometry) (age : ℕ) (r : Root Cap) → AreKeptWords 4 r.words → r.key < 2 ^ 16 → r.annex < 2 ^ 64 → IsKeptCap g age r.space → AreKeptSlots g age (slots_of (content.Root r))
+root_slots_kept g age r words key annex space =
+    let P : Cap → Type 0 = IsKeptCap g age in
+    let last : List Cap = number_cap r.key ∷ r.space ∷ [] in
+    let ends : All P last = All-from_recursion P last (number_kept g age r.key (omega (arith, key)), (space, tt)) in
+    let middle : All P (map number_cap r.words ++ last) = All-append P (map number_cap r.words) last (numbers_kept g age r.words words.each) ends in
+    let front : All P (root_slots r) = All-cons P (number_cap r.annex) (number_cap (state_number r.state) ∷ map number_cap r.words ++ last) (number_kept g age r.annex annex)
+    (All-cons P (number_cap (state_number r.state)) (map number_cap r.words ++ last) (number_kept g age (state_number r.state) (state_fits r.state)) middle) in
+    record {
+      count = length-append (root_slots r) (replicate 24 void_held) ∙ omega (arith, length-append (map number_cap r.words) last, length-map r.words number_cap, words.count_is, length-replicate 24 void_held);
+      each = All-append P (root_slots r) (replicate 24 void_held) front (voids_kept g age 24);
+    }
+
+-- what the slots of a root say of its fields
+record RootIs (g : Geometry) (age : ℕ) (r : Root Cap) : Type 0 where
+  pub words : AreKeptWords 4 r.words
+  pub annex : r.annex < 2 ^ 64
+  pub space : IsKeptCap g age r.space
+
+root_is : (g : Geometry) (age : ℕ) (s : State) (ws : List ℕ) (key annex : ℕ) (space : Cap) → length ws ≡ 4 → AreKeptSlots g age (slots_of (content.Root (root_of s ws key annex space))) → RootIs g age (root_of s ws key annex space)
+root_is g age s [] key annex space len are = absurd (omega (arith, len))
+root_is g age s (a ∷ []) key annex space len are = absurd (omega (arith, len))
+root_is g age s (a ∷ b ∷ []) key annex space len are = absurd (omega (arith, len))
+root_is g age s (a ∷ b ∷ c ∷ []) key annex space len are = absurd (omega (arith, len))
+root_is g age s (a ∷ b ∷ c ∷ d ∷ []) key annex space len are = record {
+  words = record {
+    count_is = refl;
+    each = All-from_recursion (λ (w : ℕ). w < 2 ^ 64) (a ∷ b ∷ c ∷ d ∷ [])
+        ((are.each 2 void_held (omega arith)).0, ((are.each 3 void_held (omega arith)).0, ((are.each 4 void_held (omega arith)).0, ((are.each 5 void_held (omega arith)).0, tt))));
+  };
+  annex = (are.each 0 void_held (omega arith)).0;
+  space = are.each 7 void_held (omega arith);
+}
+root_is g age s (a ∷ b ∷ c ∷ d ∷ e ∷ ws) key annex space len are = absurd (omega (arith, len))
+
+-- ---- contents
+
+slots_kept : (g : Geometry) (age n : ℕ) (c : Content Cap) → n < g.nodes → IsOfKind g n c → MayBeKept g age c → AreKeptSlots g age (slots_of c)
+slots_kept g age n content.Free lt kind may = record { count = refl; each = voids_kept g age 32 }
+slots_kept g age n (content.Page words) lt kind may = absurd (omega (arith, lt, kind.0))
+slots_kept g age n (content.Node slots) lt kind may = may
+slots_kept g age n (content.Root r) lt kind may = root_slots_kept g age r may.0 may.1 may.2 may.3
+slots_kept g age n (content.Annex registers) lt kind may = may.0
+slots_kept g age n (content.Bank limit) lt kind may =
+    record { count = refl; each = All-cons (IsKeptCap g age) (number_cap limit) (replicate 31 void_held) (number_kept g age limit may) (voids_kept g age 31) }
+
+follows_role : (g : Geometry) (age n : ℕ) (c : Content Cap) → n < g.nodes → IsOfKind g n c → MayBeKept g age c → FollowsRole c
+follows_role g age n content.Free lt kind may = tt
+follows_role g age n (content.Page words) lt kind may = absurd (omega (arith, lt, kind.0))
+follows_role g age n (content.Node slots) lt kind may = tt
+follows_role g age n (content.Root r) lt kind may = (may.0.count_is, may.1, may.4)
+follows_role g age n (content.Annex registers) lt kind may = may.1
+follows_role g age n (content.Bank limit) lt kind may = tt
+
+may_be_kept : (g : Geometry) (age n : ℕ) (c : Content Cap) → n < g.nodes → AreKeptSlots g age (slots_of c) → FollowsRole c → IsOfKind g n c × MayBeKept g age c
+may_be_kept g age n content.Free lt are follows = (tt, tt)
+may_be_kept g age n (content.Page words) lt are follows = absurd follows
+may_be_kept g age n (content.Node slots) lt are follows = (lt, are)
+may_be_kept g age n (content.Root r) lt are follows =
+    let is = root_is g age r.state r.words r.key r.annex r.space follows.0 are in
+    (lt, (is.words, follows.1, is.annex, is.space, follows.2))
+may_be_kept g age n (content.Annex registers) lt are follows = (lt, (are, follows))
+may_be_kept g age n (content.Bank limit) lt are follows = (lt, (are.each 0 void_held (omega arith)).0)
+
+holds_page : (g : Geometry) (age n : ℕ) (c : Content Cap) → g.nodes ≤ n → IsOfKind g n c → MayBeKept g age c → HoldsPage c
+holds_page g age n content.Free le kind may = tt
+holds_page g age n (content.Page words) le kind may = may
+holds_page g age n (content.Node slots) le kind may = absurd (omega (arith, le, kind))
+holds_page g age n (content.Root r) le kind may = absurd (omega (arith, le, kind))
+holds_page g age n (content.Annex registers) le kind may = absurd (omega (arith, le, kind))
+holds_page g age n (content.Bank limit) le kind may = absurd (omega (arith, le, kind))
+
+page_may_be_kept : (g : Geometry) (age n : ℕ) (c : Content Cap) → g.nodes ≤ n → n < g.nodes + g.pages → HoldsPage c → IsOfKind g n c × MayBeKept g age c
+page_may_be_kept g age n content.Free le lt holds = (tt, tt)
+page_may_be_kept g age n (content.Page words) le lt holds = ((le, lt), holds)
+page_may_be_kept g age n (content.Node slots) le lt holds = absurd holds
+page_may_be_kept g age n (content.Root r) le lt holds = absurd holds
+page_may_be_kept g age n (content.Annex registers) le lt holds = absurd holds
+page_may_be_kept g age n (content.Bank limit) le lt holds = absurd holds
+
+-- ---- frames
+
+free_role : (c : Content Cap) → IsTrue (is_free c) → role_of c ≡ role.Free
+free_role content.Free t = refl
+free_role (content.Page words) t = absurd (false≢true t)
+free_role (content.Node slots) t = absurd (false≢true t)
+free_role (content.Root r) t = absurd (false≢true t)
+free_role (content.Annex registers) t = absurd (false≢true t)
+free_role (content.Bank limit) t = absurd (false≢true t)
+
+role_free : (c : Content Cap) → role_of c ≡ role.Free → IsTrue (is_free c)
+role_free content.Free e = refl
+role_free (content.Page words) e = absurd cc
+role_free (content.Node slots) e = absurd cc
+role_free (content.Root r) e = absurd cc
+role_free (content.Annex registers) e = absurd cc
+role_free (content.Bank limit) e = absurd cc
+
+front_of : (g : Geometry) (age : ℕ) (f : Frame) → IsKept g age f → IsFront age f
+front_of g age f is = record { role = is.role; allocations = is.allocations; calls = is.calls; owner = is.owner; unowned = λ t. is.unowned (is.role ∙ free_role f.content t) }
+
+kept_of : (g : Geometry) (age : ℕ) (f : Frame) → IsFront age f → MayBeKept g age f.content → IsKept g age f
+kept_of g age f is may = record { role = is.role; allocations = is.allocations; calls = is.calls; owner = is.owner; unowned = λ e. is.unowned (role_free f.content (sym is.role ∙ e)); content = may }
+
+pub node_keepable : (g : Geometry) (age n : ℕ) (f : Frame) → n < g.nodes → IsNodeFrame g age f → IsKeepable g age n f
+node_keepable g age n f lt is =
+    let may = may_be_kept g age n f.content lt is.slots is.follows in
+    record { kind = may.0; kept = kept_of g age f is.front may.1 }
+
+pub keepable_node : (g : Geometry) (age n : ℕ) (f : Frame) → n < g.nodes → IsKeepable g age n f → IsNodeFrame g age f
+keepable_node g age n f lt is = record {
+  front = front_of g age f is.kept;
+  slots = slots_kept g age n f.content lt is.kind is.kept.content;
+  follows = follows_role g age n f.content lt is.kind is.kept.content;
+}
+
+pub page_keepable : (g : Geometry) (age n : ℕ) (f : Frame) → g.nodes ≤ n → n < g.nodes + g.pages → IsPageFrame age f → IsKeepable g age n f
+page_keepable g age n f le lt is =
+    let may = page_may_be_kept g age n f.content le lt is.holds in
+    record { kind = may.0; kept = kept_of g age f is.front may.1 }
+
+pub keepable_page : (g : Geometry) (age n : ℕ) (f : Frame) → g.nodes ≤ n → IsKeepable g age n f → IsPageFrame age f
+keepable_page g age n f le is = record { front = front_of g age f is.kept; holds = holds_page g age n f.content le is.kind is.kept.content }
+
+-- ---- their bytes
+
+node_bytes : (g : Geometry) (n : ℕ) (f : Frame) → n < g.nodes → frame_bytes g n f ≡ node_frame_bytes f
+node_bytes g n f lt = ap (λ (b : Bool). if b then node_frame_bytes f else page_frame_bytes f) (lt-ltb n g.nodes lt)
+
+page_bytes : (g : Geometry) (n : ℕ) (f : Frame) → g.nodes ≤ n → frame_bytes g n f ≡ page_frame_bytes f
+page_bytes g n f le = ap (λ (b : Bool). if b then node_frame_bytes f else page_frame_bytes f) (le-ltb n g.nodes le)
+
+pub frame_of_node : (g : Geometry) (age n : ℕ) (bytes : List ℕ) (f : Frame) → n < g.nodes → IsNodeFrame g age f × (bytes ≡ node_frame_bytes f) → IsFrameOf g age n bytes f
+frame_of_node g age n bytes f lt is = (node_keepable g age n f lt is.0, is.1 ∙ sym (node_bytes g n f lt))
+
+pub node_of_frame : (g : Geometry) (age n : ℕ) (bytes : List ℕ) (f : Frame) → n < g.nodes → IsFrameOf g age n bytes f → IsNodeFrame g age f × (bytes ≡ node_frame_bytes f)
+node_of_frame g age n bytes f lt is = (keepable_node g age n f lt is.0, is.1 ∙ node_bytes g n f lt)
+
+pub frame_of_page : (g : Geometry) (age n : ℕ) (bytes : List ℕ) (f : Frame) → g.nodes ≤ n → n < g.nodes + g.pages → IsPageFrame age f × (bytes ≡ page_frame_bytes f) → IsFrameOf g age n bytes f
+frame_of_page g age n bytes f le lt is = (page_keepable g age n f le lt is.0, is.1 ∙ sym (page_bytes g n f le))
+
+pub page_of_frame : (g : Geometry) (age n : ℕ) (bytes : List ℕ) (f : Frame) → g.nodes ≤ n → IsFrameOf g age n bytes f → IsPageFrame age f × (bytes ≡ page_frame_bytes f)
+page_of_frame g age n bytes f le is = (keepable_page g age n f le is.0, is.1 ∙ page_bytes g n f le)

@@ -1,0 +1,57 @@
+// The frame of an object, whose number tells its kind.
+ghost use Rattle.std.specs.Prelude.{◌≡◌, ℕ, ◌+◌, ◌*◌, ◌<◌, length, IfOk, IfErr};
+ghost use Rattle.model.specs.declared.frame.Frame.{Frame};
+ghost use Rattle.layout.specs.Frame.{frame_bytes, frame_length, frame_of, IsFrameOf};
+
+use crate::bad_image::BadImage;
+use crate::body::{Body, Room};
+use crate::node_frame::{decode_node_frame, encode_node_frame};
+use crate::page_frame::{decode_page_frame, encode_page_frame};
+use model::{Cap, Content, Geometry, ObjectHeader};
+
+/// Reads the frame of an object: the 1024 bytes of a node's number or the 4608 of a page's. The
+/// slots of a node or an annex and the words of a page are left in `room`, and no memory is taken.
+///
+/// The frame is one that can be kept at the age and the number. All that is no spelling of such a
+/// frame is a `BadFrame`, which leaves anything in the room.
+pub fn decode_frame(
+    bytes: &[u8],
+    geometry: Geometry,
+    number: u64,
+    age: u64,
+    room: &mut Room,
+) -> Result<(ObjectHeader, Body), BadImage>
+    requires size { length bytes.now ≡ 512 * frame_length geometry number }
+    requires number { number < geometry.nodes + geometry.pages }
+    ensures found { IfOk result (λ read.
+        IsFrameOf geometry age number bytes.now (frame_of read room.new)) }
+    ensures refused { IfErr result (λ e. (e ≡ BadImage.BadFrame)
+        × ((f : Frame) → IsFrameOf geometry age number bytes.now f → ⊥)) }
+{
+    if number < geometry.nodes {
+        decode_node_frame(bytes, geometry, age, room)
+    } else {
+        decode_page_frame(bytes, age, room)
+    }
+}
+
+/// Writes the frame of an object: the 1024 bytes of a node's number or the 4608 of a page's. What
+/// can't be kept at the number has no spelling: a page at a node's number is written with void
+/// slots, and anything but a page at a page's number with words of 0.
+pub fn encode_frame(
+    geometry: Geometry,
+    number: u64,
+    header: ObjectHeader,
+    content: &Content<Cap>,
+    into: &mut [u8],
+)
+    requires { length into.old ≡ 512 * frame_length geometry number }
+    ensures { into.new ≡ frame_bytes geometry number
+        (record { header = header; content = content.now }) }
+{
+    if number < geometry.nodes {
+        encode_node_frame(header, content, into);
+    } else {
+        encode_page_frame(header, content, into);
+    }
+}

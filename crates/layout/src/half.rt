@@ -1,0 +1,23 @@
+// The halves of the log.
+ghost use Rattle.std.specs.Prelude.{◌≡◌};
+ghost use Rattle.layout.specs.Half.{half_of};
+
+/// A half of the log. Checkpoints take turns in them.
+#[derive(Clone, Copy, PartialEq, Eq, Debug)]
+pub enum Half {
+    First,
+    Second,
+}
+
+impl Half {
+    /// The half that holds the checkpoint of a generation: the first holds the even ones.
+    pub fn of(generation: u64) -> Half
+        ensures { result ≡ half_of generation }
+    {
+        if generation % 2 == 0 {
+            Half::First
+        } else {
+            Half::Second
+        }
+    }
+}
