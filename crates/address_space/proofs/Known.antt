@@ -1,0 +1,45 @@
+-- What stands where a capability says so has a header.
+use Rattle.std.proofs.Common.{◌≡◌, ℕ, ◌-◌, ◌^◌, ◌<◌, List, length, sym, ap, ◌∙◌, subst, arith}
+use Rattle.std.specs.Prelude.{IsTrue}
+use Rattle.model.specs.declared.access.Access.{Access}
+use Rattle.model.specs.declared.capability.Capability.TheVariants.{Space}
+use Rattle.model.specs.declared.frame.Frame.{Frame}
+use Rattle.model.specs.declared.frame.ObjectHeader.{ObjectHeader}
+use Rattle.model.specs.declared.geometry.Geometry.{Geometry}
+use Rattle.model.specs.Frame.{frames_in, objects_of}
+use Rattle.model.specs.Keepable.{AreKeepable, IsSoundFrames}
+use Rattle.model.specs.Object.{is_page}
+use Rattle.model.specs.Sound.{MayBeHeld}
+use Rattle.model.specs.World.{content_at, is_process}
+use Rattle.capability.specs.Parts.{Parts, frames_of}
+use Rattle.capability.proofs.Frames.{known_used, node_used, page_used, root_used}
+use Rattle.capability.proofs.Keeping.{keepable_later}
+
+pub process_known : (p : Parts) (n : ℕ) → IsTrue (is_process (objects_of (frames_of p)) n) → n < length p.headers
+process_known p n is = known_used p n (root_used (content_at (objects_of (frames_of p)) n) is)
+
+pub space_known : (p : Parts) (n h : ℕ) (a : Access) → MayBeHeld (objects_of (frames_of p)) (Space n h a) → n < length p.headers
+space_known p n h a held = known_used p n (node_used (content_at (objects_of (frames_of p)) n) held.1)
+
+pub page_known : (p : Parts) (n : ℕ) → IsTrue (is_page (content_at (objects_of (frames_of p)) n)) → n < length p.headers
+page_known p n is = known_used p n (page_used (content_at (objects_of (frames_of p)) n) is)
+
+-- sound frames can be kept at any age
+pub sound_keepable : (g : Geometry) (age : ℕ) (fs : List Frame) → IsSoundFrames g age fs → AreKeepable g (2 ^ 64 - 1) fs
+sound_keepable g age fs sound = keepable_later g age (2 ^ 64 - 1) fs (omega (arith, sound.sound.age)) sound.keepable
+
+-- Frames that are the same after a look: what stands there, and what is sound.
+module _ (p q : Parts) (headers : q.headers ≡ p.headers) (contents : q.contents ≡ p.contents) where
+  pub frames_same : frames_of q ≡ frames_of p
+  frames_same = ap (λ (hs : List ObjectHeader). frames_in hs q.contents) headers ∙ ap (frames_in p.headers) contents
+
+  pub page_still_known : (n : ℕ) → IsTrue (is_page (content_at (objects_of (frames_of p)) n)) → n < length q.headers
+  page_still_known n is = page_known q n (ap (λ (fs : List Frame). is_page (content_at (objects_of fs) n)) frames_same ∙ is)
+
+  pub sound_onward : q.geometry ≡ p.geometry → (fs : List Frame) →
+      ((age : ℕ) → IsSoundFrames q.geometry age (frames_of q) → IsSoundFrames q.geometry age fs) →
+      (age : ℕ) → IsSoundFrames p.geometry age (frames_of p) → IsSoundFrames p.geometry age fs
+  sound_onward geometry fs keeps age sound =
+      subst (λ (g : Geometry). IsSoundFrames g age fs) geometry
+      (keeps age (subst (λ (g : Geometry). IsSoundFrames g age (frames_of q)) (sym geometry)
+      (subst (λ (ks : List Frame). IsSoundFrames p.geometry age ks) (sym frames_same) sound)))

@@ -1,0 +1,3 @@
+mod Known
+mod Paths
+mod Stored

@@ -1,0 +1,92 @@
+-- Trees of nodes, level by level.
+use Rattle.std.proofs.Common.{◌≡◌, ◌≢◌, ℕ, zero, suc, ◌+◌, ◌-◌, ◌/◌, ◌%◌, ◌^◌, ◌<◌, ◌≤◌, ◌==◌, true, false, List, Result, Ok, Err, refl, sym, ap, ◌∙◌, arith}
+use Rattle.std.proofs.lemmas.Bool.{eq-eqb, ne_eqb}
+use Rattle.model.specs.declared.access.Access.{Access}
+use Rattle.model.specs.declared.answer.MemoryFault.{MemoryFault}
+use Rattle.model.specs.declared.answer.MemoryFault.TheVariants.{Hole, Malformed}
+use Rattle.model.specs.declared.capability.Capability.{Capability}
+use Rattle.model.specs.declared.capability.Capability.TheVariants.{Void, Number, Page, Node, Space, Process, Start, Resume, Bank, Discrim}
+use Rattle.model.specs.declared.object.Object.{Object}
+use Rattle.model.specs.Capability.{union}
+use Rattle.model.specs.Walk.{below, path, restricted, walk_along}
+use Rattle.model.specs.World.{slot_at}
+
+pub power_some : (h : ℕ) → 0 < 32 ^ h
+power_some zero = omega arith
+power_some (suc h) = let less = power_some h in omega (arith, less)
+
+pub power_fits : (h : ℕ) → h ≤ 4 → 32 ^ h < 2 ^ 64
+power_fits zero le = omega arith
+power_fits (suc zero) le = omega arith
+power_fits (suc (suc zero)) le = omega arith
+power_fits (suc (suc (suc zero))) le = omega arith
+power_fits (suc (suc (suc (suc zero)))) le = omega arith
+power_fits (suc (suc (suc (suc (suc h))))) le = absurd (omega (arith, le))
+
+-- A tree at least one high, and what its slot on the way holds.
+module _ (os : List Object) (o h index : ℕ) (a : Access) (s : Capability) (some : 1 ≤ h) (there : s ≡ slot_at os o (index / 32 ^ (h - 1) % 32)) where
+  abbrev k : ℕ
+  k = h - 1
+
+  descends : walk_along os (Space o h a) (path h index) ≡ below (suc k) a s (walk_along os s (path k index))
+  descends =
+      let higher : h ≡ suc k = omega (arith, some) in
+      ap (λ (n : ℕ). walk_along os (Space o n a) (path n index)) higher
+      ∙ ap (λ (c : Capability). below (suc k) a c (walk_along os c (path k index))) (sym there)
+
+  pub at_hole : s ≡ Void → walk_along os (Space o h a) (path h index) ≡ Err Hole
+  at_hole is = descends ∙ ap (λ (c : Capability). below (suc k) a c (walk_along os c (path k index))) is
+
+  pub at_page : (p : ℕ) (b : Access) → s ≡ Page p b → h ≡ 1 → walk_along os (Space o h a) (path h index) ≡ Ok (p, union a b.0)
+  at_page p b is lowest =
+      let last : k ≡ 0 = omega (arith, lowest) in
+      descends
+      ∙ ap (λ (c : Capability). below (suc k) a c (walk_along os c (path k index))) is
+      ∙ ap (λ (n : ℕ). below (suc n) a (Page p b) (walk_along os (Page p b) (path n index))) last
+
+  pub at_early_page : (p : ℕ) (b : Access) → s ≡ Page p b → h ≢ 1 → walk_along os (Space o h a) (path h index) ≡ Err Malformed
+  at_early_page p b is early =
+      let other : (suc k == 1) ≡ false = ne_eqb (suc k) 1 (λ e. early (omega (arith, e, some))) in
+      descends
+      ∙ ap (λ (c : Capability). below (suc k) a c (walk_along os c (path k index))) is
+      ∙ rw other refl
+
+  at_tree : (n l : ℕ) (b : Access) → s ≡ Space n l b → l ≡ h - 1 →
+      walk_along os (Space o h a) (path h index) ≡ restricted a (walk_along os (Space n l b) (path l index))
+  at_tree n l b is level =
+      let same : (suc k == l + 1) ≡ true = eq-eqb (suc k) (l + 1) (omega (arith, level)) in
+      descends
+      ∙ ap (λ (c : Capability). below (suc k) a c (walk_along os c (path k index))) is
+      ∙ rw same (ap (λ (m : ℕ). restricted a (walk_along os (Space n l b) (path m index))) (sym level))
+
+  pub at_found : (n l : ℕ) (b : Access) → s ≡ Space n l b → l ≡ h - 1 → (page : ℕ) (c : Access) →
+      Ok (page, c) ≡ walk_along os (Space n l b) (path l index) → walk_along os (Space o h a) (path h index) ≡ Ok (page, union a c.0)
+  at_found n l b is level page c from = at_tree n l b is level ∙ ap (restricted a) (sym from)
+
+  pub at_fault : (n l : ℕ) (b : Access) → s ≡ Space n l b → l ≡ h - 1 → (why : MemoryFault) →
+      Err why ≡ walk_along os (Space n l b) (path l index) → walk_along os (Space o h a) (path h index) ≡ Err why
+  at_fault n l b is level why from = at_tree n l b is level ∙ ap (restricted a) (sym from)
+
+  pub at_other_tree : (n l : ℕ) (b : Access) → s ≡ Space n l b → h - 1 ≢ l → walk_along os (Space o h a) (path h index) ≡ Err Malformed
+  at_other_tree n l b is differ =
+      let other : (suc k == l + 1) ≡ false = ne_eqb (suc k) (l + 1) (λ e. differ (omega (arith, e))) in
+      descends
+      ∙ ap (λ (c : Capability). below (suc k) a c (walk_along os c (path k index))) is
+      ∙ rw other refl
+
+  no_level : (c : Capability) → c ≢ Void → ((p : ℕ) (b : Access) → c ≢ Page p b) → ((n l : ℕ) (b : Access) → c ≢ Space n l b) →
+      (rest : Result (ℕ × Access) MemoryFault) → below (suc k) a c rest ≡ Err Malformed
+  no_level Void void page space rest = absurd (void refl)
+  no_level (Number n) void page space rest = refl
+  no_level (Page p b) void page space rest = absurd (page p b refl)
+  no_level (Node n b) void page space rest = refl
+  no_level (Space n l b) void page space rest = absurd (space n l b refl)
+  no_level (Process p) void page space rest = refl
+  no_level (Start p key) void page space rest = refl
+  no_level (Resume p) void page space rest = refl
+  no_level (Bank b) void page space rest = refl
+  no_level Discrim void page space rest = refl
+
+  pub at_other : s ≢ Void → ((p : ℕ) (b : Access) → s ≢ Page p b) → ((n l : ℕ) (b : Access) → s ≢ Space n l b) →
+      walk_along os (Space o h a) (path h index) ≡ Err Malformed
+  at_other void page space = descends ∙ no_level s void page space (walk_along os s (path k index))

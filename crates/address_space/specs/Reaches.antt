@@ -1,0 +1,45 @@
+-- Over what a walk goes, and what it tells.
+use Rattle.std.specs.Prelude.{◌↔◌, ℕ, ◌<◌, ◌≤◌, ◌==◌, Bool, not, ◌&&◌, if◌then◌else◌, List, Result, Ok, Err, IsErrOf, IsTrue}
+use Rattle.model.specs.declared.access.Access.{Access}
+use Rattle.model.specs.declared.answer.MemoryFault.{MemoryFault}
+use Rattle.model.specs.declared.answer.MemoryFault.TheVariants.{ReadOnly}
+use Rattle.model.specs.declared.object.Object.{Object}
+use Rattle.model.specs.Frame.{objects_of}
+use Rattle.model.specs.Keepable.{IsSoundFrames}
+use Rattle.model.specs.Object.{is_page}
+use Rattle.model.specs.World.{content_at}
+use Rattle.capability.specs.declared.present.PrepareFault.{PrepareFault}
+use Rattle.capability.specs.declared.present.PrepareFault.TheVariants as prepare
+use Rattle.capability.specs.Parts.{Parts, LooksUp, frames_of}
+use Rattle.address_space.specs.declared.walking.Reached.{Reached}
+
+-- the objects that the frames of a store stand for
+abbrev pub objects_in : Parts → List Object
+objects_in p = objects_of (frames_of p)
+
+-- they are sound, at some age
+abbrev pub AreSound : Parts → Type 0
+AreSound p = (age : ℕ) × IsSoundFrames p.geometry age (frames_of p)
+
+-- the page reached and its access, or the fault
+abbrev pub told : Result Reached MemoryFault → Result (ℕ × Access) MemoryFault
+told (Ok reached) = Ok (reached.page, reached.access)
+told (Err why) = Err why
+
+-- what is reached, if anything is, is a page
+abbrev pub ReachesPage : List Object → Result Reached MemoryFault → Type 0
+ReachesPage os (Ok reached) = IsTrue (is_page (content_at os reached.page))
+ReachesPage os (Err why) = Unit {0}
+
+-- what is reached for a load, or for a store, which wants no restriction
+abbrev pub allowed : Bool → Result (ℕ × Access) MemoryFault → Result (ℕ × Access) MemoryFault
+allowed for_write (Ok found) = if for_write && not (found.1.0 == 0) then Err ReadOnly else Ok found
+allowed for_write (Err why) = Err why
+
+-- Frames were fetched for a call that may want memory or fail, and nothing else came of it. The parameters are
+-- ghost members of a store of present frames.
+pub record Looks {S T : Type 0} (parts : S → Parts) (Leads : S → S → Type 0) (old new : S) (result : Result T PrepareFault) : Type 0 where
+  pub aside : LooksUp parts Leads old new
+  pub later : (parts old).failures ≤ (parts new).failures
+  pub cause : IsErrOf result prepare.Failed ↔ ((parts old).failures < (parts new).failures)
+  pub room : IsErrOf result prepare.LogFull → ⊥

@@ -1,0 +1,39 @@
+-- What loads and stores come to over a store of present frames.
+use Rattle.std.specs.Prelude.{◌≡◌, ℕ, ◌%◌, ◌<◌, ◌≤◌, Bool, List, [], ◌∷◌, Result, Ok, Err}
+use Rattle.model.specs.declared.access.Access.{Access}
+use Rattle.model.specs.declared.answer.MemoryFault.{MemoryFault}
+use Rattle.model.specs.declared.object.Object.{Object}
+use Rattle.model.specs.Keepable.{IsSoundFrames}
+use Rattle.model.specs.Machine.{touching, touched_count}
+use Rattle.model.specs.Step.{reached, writable}
+use Rattle.model.specs.World.{word_at, with_word}
+use Rattle.capability.specs.Parts.{Parts, frames_of}
+
+-- a load gives a word, or says why there is none
+abbrev pub IsLoaded : List Object → ℕ → ℕ → Result ℕ MemoryFault → Type 0
+IsLoaded os p address (Ok word) =
+    (found : ℕ × Access) × (reached os p address ≡ Ok found) × (word ≡ word_at os found.0 (address % 512))
+IsLoaded os p address (Err why) = reached os p address ≡ Err why
+
+-- a store puts a word into a page, which half of the log holds with the numbers written before, or says why it can't
+abbrev pub IsStored : ℕ → List Object → List Bool → ℕ → ℕ → ℕ → List Object → List Bool → Result (Unit {0}) MemoryFault → Type 0
+IsStored log before touched p address word after touched_after (Ok done) =
+    (page : ℕ) × (writable (reached before p address) ≡ Ok page) × (after ≡ with_word before page (address % 512) word)
+    × (touched_after ≡ touching touched (page ∷ [])) × (touched_count touched_after ≤ log)
+IsStored log before touched p address word after touched_after (Err why) =
+    (writable (reached before p address) ≡ Err why) × (after ≡ before) × (touched_after ≡ touched)
+
+-- a store for which the log has no room
+abbrev pub OverfillsStore : ℕ → List Object → List Bool → ℕ → ℕ → Type 0
+OverfillsStore log os touched p address =
+    (page : ℕ) × (writable (reached os p address) ≡ Ok page) × (log < touched_count (touching touched (page ∷ [])))
+
+-- no object and no number written is another
+pub record IsUnchanged (old new : Parts) : Type 0 where
+  pub headers : new.headers ≡ old.headers
+  pub contents : new.contents ≡ old.contents
+  pub touched : new.touched ≡ old.touched
+
+-- frames that are sound at an age are still sound then
+abbrev pub KeepsSound : Parts → Parts → Type 0
+KeepsSound old new = (age : ℕ) → IsSoundFrames old.geometry age (frames_of old) → IsSoundFrames old.geometry age (frames_of new)

@@ -1,0 +1,9 @@
+//! Address spaces: what the loads and stores of processes reach.
+#![tactic(auto)]
+
+mod looking;
+mod reference;
+mod walking;
+
+pub use reference::{load, store};
+pub use walking::{Reached, walk};

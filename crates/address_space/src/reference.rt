@@ -1,0 +1,140 @@
+// The references of processes to memory: loads and stores.
+ghost use Rattle.std.specs.Prelude.{◌≡◌, ◌↔◌, ◌%◌, ◌<◌, ◌≤◌, IfOk, OnErr, OnOk, IsErrOf, IsTrue, [], ◌∷◌};
+ghost use Rattle.model.specs.Machine.{touched_count, touching};
+ghost use Rattle.model.specs.Object.{is_page};
+ghost use Rattle.model.specs.Step.{reached};
+ghost use Rattle.model.specs.World.{content_at, is_running_process, with_word};
+ghost use Rattle.address_space.specs.Reaches.{AreSound, Looks, ReachesPage, allowed, objects_in, told};
+ghost use Rattle.address_space.specs.References.{IsLoaded, IsStored, IsUnchanged, KeepsSound, OverfillsStore};
+
+use crate::looking::{look, space_of};
+use crate::walking::{Reached, walk};
+use capability::{PrepareFault, PresentFrames, objects};
+use model::{MemoryFault, WORDS};
+use std::alloc::Global;
+
+/// Reads the word at an address in the address space of a running process, or tells the fault of
+/// the first place where the way to it stops, as `walk` does.
+///
+/// Nothing is changed. An error is `NoMemory` where memory ran out, or `Failed` exactly where the
+/// device failed; it is never `LogFull`.
+pub fn load<F: PresentFrames>(
+    alloc: Global,
+    frames: &mut F,
+    process: u64,
+    address: u64,
+) -> Result<Result<u64, MemoryFault>, PrepareFault>
+    requires sound { AreSound (F.parts frames.old) }
+    requires process { IsTrue (is_running_process (objects_in (F.parts frames.old)) process) }
+    ensures loaded { IfOk result (λ loaded.
+        IsLoaded (objects_in (F.parts frames.old)) process address loaded) }
+    ensures looks { Looks F.parts F.LeadsTo frames.old frames.new result }
+{
+    match reach(alloc, frames, process, address, false)? {
+        Ok(found) => {
+            look(alloc, frames, found.page)?;
+            Ok(Ok(objects::word(frames, found.page, word_index(address))))
+        }
+        Err(fault) => Ok(Err(fault)),
+    }
+}
+
+/// Writes a word at an address in the address space of a running process, or tells the fault of the
+/// first place where the way to it stops, as `walk` does for a store, and writes nothing.
+///
+/// The page alone is written, and announced only once it is reached, so a fault comes before want
+/// of room in the log. An error changes nothing: `NoMemory` where memory ran out, `LogFull` where
+/// the numbers written since the last checkpoint with the page would be more than half of the log
+/// holds, and `Failed` exactly where the device failed.
+pub fn store<F: PresentFrames>(
+    alloc: Global,
+    frames: &mut F,
+    process: u64,
+    address: u64,
+    word: u64,
+) -> Result<Result<(), MemoryFault>, PrepareFault>
+    requires sound { AreSound (F.parts frames.old) }
+    requires process { IsTrue (is_running_process (objects_in (F.parts frames.old)) process) }
+    ensures stored { IfOk result (λ stored. IsStored (F.parts frames.old).geometry.log
+        (objects_in (F.parts frames.old)) (F.parts frames.old).touched process address word
+        (objects_in (F.parts frames.new)) (F.parts frames.new).touched stored) }
+    ensures sound { KeepsSound (F.parts frames.old) (F.parts frames.new) }
+    ensures full { IsErrOf result PrepareFault.LogFull
+        → OverfillsStore (F.parts frames.old).geometry.log (objects_in (F.parts frames.old))
+        (F.parts frames.old).touched process address }
+    ensures unchanged { OnErr result (IsUnchanged (F.parts frames.old) (F.parts frames.new)) }
+    ensures cause { IsErrOf result PrepareFault.Failed
+        ↔ ((F.parts frames.old).failures < (F.parts frames.new).failures) }
+    ensures later { (F.parts frames.old).failures ≤ (F.parts frames.new).failures }
+    ensures geometry { (F.parts frames.new).geometry ≡ (F.parts frames.old).geometry }
+    ensures leads { F.LeadsTo frames.old frames.new }
+{
+    match reach(alloc, frames, process, address, true)? {
+        Ok(found) => {
+            put(alloc, frames, found.page, word_index(address), word)?;
+            Ok(Ok(()))
+        }
+        Err(fault) => Ok(Err(fault)),
+    }
+}
+
+// The page that a reference of a process reaches.
+fn reach<F: PresentFrames>(
+    alloc: Global,
+    frames: &mut F,
+    process: u64,
+    address: u64,
+    for_write: bool,
+) -> Result<Result<Reached, MemoryFault>, PrepareFault>
+    requires sound { AreSound (F.parts frames.old) }
+    requires process { IsTrue (is_running_process (objects_in (F.parts frames.old)) process) }
+    ensures reached { IfOk result (λ found.
+        told found ≡ allowed for_write
+        (reached (objects_in (F.parts frames.old)) process address)) }
+    ensures page { IfOk result (ReachesPage (objects_in (F.parts frames.old))) }
+    ensures looks { Looks F.parts F.LeadsTo frames.old frames.new result }
+{
+    let space = space_of(alloc, frames, process)?;
+    walk(alloc, frames, space, address, for_write)
+}
+
+// Announces a page, and puts a word into it.
+#[tactic(auto, using(crate::proofs::Known::page_known))]
+fn put<F: PresentFrames>(
+    alloc: Global,
+    frames: &mut F,
+    page: u64,
+    index: usize,
+    word: u64,
+) -> Result<(), PrepareFault>
+    requires sound { AreSound (F.parts frames.old) }
+    requires page { IsTrue (is_page (content_at (objects_in (F.parts frames.old)) page)) }
+    requires within { index < 512 }
+    ensures objects { OnOk result (objects_in (F.parts frames.new)
+        ≡ with_word (objects_in (F.parts frames.old)) page index word) }
+    ensures touched { OnOk result ((F.parts frames.new).touched
+        ≡ touching (F.parts frames.old).touched (page ∷ [])) }
+    ensures within { touched_count (F.parts frames.new).touched
+        ≤ (F.parts frames.old).geometry.log }
+    ensures sound { KeepsSound (F.parts frames.old) (F.parts frames.new) }
+    ensures full { IsErrOf result PrepareFault.LogFull
+        → (F.parts frames.old).geometry.log
+        < touched_count (touching (F.parts frames.old).touched (page ∷ [])) }
+    ensures unchanged { OnErr result (IsUnchanged (F.parts frames.old) (F.parts frames.new)) }
+    ensures cause { IsErrOf result PrepareFault.Failed
+        ↔ ((F.parts frames.old).failures < (F.parts frames.new).failures) }
+    ensures later { (F.parts frames.old).failures ≤ (F.parts frames.new).failures }
+    ensures geometry { (F.parts frames.new).geometry ≡ (F.parts frames.old).geometry }
+    ensures leads { F.LeadsTo frames.old frames.new }
+{
+    frames.prepare(alloc, &[page], &[page])?;
+    objects::set_word(frames, page, index, word);
+    Ok(())
+}
+
+// The index that a word has in its page.
+fn word_index(address: u64) -> usize
+    ensures { result ≡ address % 512 }
+{
+    (address % WORDS as u64) as usize
+}

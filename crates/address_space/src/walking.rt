@@ -1,0 +1,212 @@
+// The walk through an address space.
+ghost use Rattle.std.specs.Prelude.{◌≡◌, ◌-◌, ◌/◌, ◌%◌, ◌^◌, ◌<◌, ◌≤◌, IfOk};
+ghost use Rattle.model.specs.Capability.{union};
+ghost use Rattle.model.specs.Sound.{MayBeHeld};
+ghost use Rattle.model.specs.Walk.{path, walk as walked, walk_along};
+ghost use Rattle.model.specs.World.{slot_at};
+ghost use Rattle.address_space.specs.Reaches.{AreSound, Looks, ReachesPage, allowed, objects_in, told};
+
+use crate::looking::look;
+use bitflags::Flags;
+use capability::{Access, Capability, PrepareFault, PresentFrames, objects};
+use model::{MemoryFault, SLOTS, WORDS};
+use std::alloc::Global;
+
+/// The page that a reference to memory reaches.
+#[derive(Clone, Copy, PartialEq, Eq, Debug)]
+pub struct Reached {
+    /// The number of the page.
+    pub page: u64,
+    /// The union of the accesses of all capabilities on the way to it.
+    pub access: Access,
+}
+
+impl Reached {
+    // The page as it is reached through a tree of that access.
+    fn through(self, access: Access) -> Reached
+        ensures { result ≡ record { page = self.page; access = union access self.access.0 } }
+    {
+        Reached {
+            page: self.page,
+            access: access.union(self.access),
+        }
+    }
+}
+
+// A tree of nodes.
+#[derive(Clone, Copy)]
+struct Tree {
+    node: u64,
+    height: u8,
+    access: Access,
+}
+
+/// Walks through the address space that a capability is, to the page of an address, for a load or
+/// for a store (EROS: an address space is a page, or a tree of nodes 1 to 4 levels high).
+///
+/// An address counts words, and a page has 512 of them. A page alone is a space of one page. In a
+/// tree of height h the index of the page, as h digits to base 32, tells the slots on the way, the
+/// greatest digit first. What is read-only or weak on the way is so for all below it.
+///
+/// The fault is that of the first place where the way stops: `NoSpace` where the capability is
+/// void, `Malformed` where it is no address space, `Beyond` where the space has no page of that
+/// index, `Hole` at a void slot, and `Malformed` at a slot with anything else than the next level: a
+/// page at height 1, above it a tree that is one less high. A stale capability is void, so on the
+/// way it is a hole. A store to a page that is reached with any restriction is `ReadOnly`.
+///
+/// At most four nodes are fetched, one after the other, and the page isn't. No object is another
+/// than before. An error is `NoMemory` where memory ran out, or `Failed` exactly where the device
+/// failed; it is never `LogFull`.
+pub fn walk<F: PresentFrames>(
+    alloc: Global,
+    frames: &mut F,
+    capability: Capability,
+    address: u64,
+    for_write: bool,
+) -> Result<Result<Reached, MemoryFault>, PrepareFault>
+    requires sound { AreSound (F.parts frames.old) }
+    requires held { MayBeHeld (objects_in (F.parts frames.old)) capability }
+    ensures reached { IfOk result (λ reached. told reached ≡ allowed for_write
+        (walked (objects_in (F.parts frames.old)) capability (address / 512))) }
+    ensures page { IfOk result (ReachesPage (objects_in (F.parts frames.old))) }
+    ensures looks { Looks F.parts F.LeadsTo frames.old frames.new result }
+{
+    match find(alloc, frames, capability, address / WORDS as u64)? {
+        Ok(found) if for_write && !found.access.is_empty() => Ok(Err(MemoryFault::ReadOnly)),
+        reached => Ok(reached),
+    }
+}
+
+// The page with an index in an address space.
+#[tactic(auto, unfolding(model::specs::Walk::walk))]
+fn find<F: PresentFrames>(
+    alloc: Global,
+    frames: &mut F,
+    capability: Capability,
+    index: u64,
+) -> Result<Result<Reached, MemoryFault>, PrepareFault>
+    requires sound { AreSound (F.parts frames.old) }
+    requires held { MayBeHeld (objects_in (F.parts frames.old)) capability }
+    ensures reached { IfOk result (λ reached.
+        told reached ≡ walked (objects_in (F.parts frames.old)) capability index) }
+    ensures page { IfOk result (ReachesPage (objects_in (F.parts frames.old))) }
+    ensures looks { Looks F.parts F.LeadsTo frames.old frames.new result }
+{
+    match capability {
+        Capability::Void => Ok(Err(MemoryFault::NoSpace)),
+        Capability::Page { object, access } => {
+            if index != 0 {
+                return Ok(Err(MemoryFault::Beyond));
+            }
+            Ok(Ok(Reached {
+                page: object,
+                access,
+            }))
+        }
+        Capability::Space {
+            object,
+            height,
+            access,
+        } => {
+            if index >= page_count(height) {
+                return Ok(Err(MemoryFault::Beyond));
+            }
+            let tree = Tree {
+                node: object,
+                height,
+                access,
+            };
+            descend(alloc, frames, tree, index)
+        }
+        _ => Ok(Err(MemoryFault::Malformed)),
+    }
+}
+
+// The page with an index in a tree.
+#[tactic(auto, using(crate::proofs::Paths::at_hole, crate::proofs::Paths::at_page, crate::proofs::Paths::at_other))]
+fn descend<F: PresentFrames>(
+    alloc: Global,
+    frames: &mut F,
+    tree: Tree,
+    index: u64,
+) -> Result<Result<Reached, MemoryFault>, PrepareFault>
+    requires sound { AreSound (F.parts frames.old) }
+    requires held { MayBeHeld (objects_in (F.parts frames.old))
+        (Capability.Space tree.node tree.height tree.access) }
+    ensures reached { IfOk result (λ reached. told reached
+        ≡ walk_along (objects_in (F.parts frames.old))
+        (Capability.Space tree.node tree.height tree.access) (path tree.height index)) }
+    ensures page { IfOk result (ReachesPage (objects_in (F.parts frames.old))) }
+    ensures looks { Looks F.parts F.LeadsTo frames.old frames.new result }
+{
+    match next_slot(alloc, frames, tree, index)? {
+        Capability::Void => Ok(Err(MemoryFault::Hole)),
+        Capability::Page { object, access } => {
+            if tree.height != 1 {
+                return Ok(Err(MemoryFault::Malformed));
+            }
+            let found = Reached {
+                page: object,
+                access,
+            };
+            Ok(Ok(found.through(tree.access)))
+        }
+        Capability::Space {
+            object,
+            height,
+            access,
+        } => {
+            if tree.height - 1 != height {
+                return Ok(Err(MemoryFault::Malformed));
+            }
+            let below = Tree {
+                node: object,
+                height,
+                access,
+            };
+            match descend(alloc, frames, below, index)? {
+                Ok(found) => Ok(Ok(found.through(tree.access))),
+                Err(fault) => Ok(Err(fault)),
+            }
+        }
+        _ => Ok(Err(MemoryFault::Malformed)),
+    }
+}
+
+// What the node of a tree holds on the way to the page with an index.
+fn next_slot<F: PresentFrames>(
+    alloc: Global,
+    frames: &mut F,
+    tree: Tree,
+    index: u64,
+) -> Result<Capability, PrepareFault>
+    requires sound { AreSound (F.parts frames.old) }
+    requires held { MayBeHeld (objects_in (F.parts frames.old))
+        (Capability.Space tree.node tree.height tree.access) }
+    ensures slot { IfOk result (λ slot.
+        slot ≡ slot_at (objects_in (F.parts frames.old)) tree.node
+        (index / 32 ^ (tree.height - 1) % 32)) }
+    ensures held { IfOk result (MayBeHeld (objects_in (F.parts frames.old))) }
+    ensures looks { Looks F.parts F.LeadsTo frames.old frames.new result }
+{
+    look(alloc, frames, tree.node)?;
+    Ok(objects::slot(frames, tree.node, digit(index, tree.height - 1)))
+}
+
+// How many pages a tree of that height has room for.
+#[tactic(auto, using(crate::proofs::Paths::power_fits, crate::proofs::Paths::power_some))]
+fn page_count(height: u8) -> u64
+    requires { height ≤ 4 }
+    ensures count { result ≡ 32 ^ height }
+    ensures some { 0 < result }
+{
+    (SLOTS as u64).pow(height as u32)
+}
+
+// The slot on the way to a page, in the nodes that have so many levels below them.
+fn digit(index: u64, level: u8) -> usize
+    requires { level < 4 }
+    ensures { result ≡ index / 32 ^ level % 32 }
+{
+    (index / page_count(level)) as usize % SLOTS
+}
