@@ -3,7 +3,7 @@ ghost use Rattle.std.specs.Prelude.{◌≡◌, ◌≤◌, ◌+◌, ◌*◌, ◌%
 ghost use Rattle.device.specs.Sound.{IsSoundMirror};
 
 use crate::device::SECTOR_SIZE;
-use crate::record::{Action, RecordEntry, Outcome, mark, note, note_writes};
+use crate::record::{Action, Outcome, RecordEntry, mark, note, note_writes};
 use crate::sectors::{copy_written, put, settle};
 use std::alloc::{AllocError, Global};
 

@@ -6,7 +6,7 @@ ghost use Rattle.device.specs.Record.{writes, names};
 ghost use Rattle.device.specs.Sound.{state_with};
 
 use crate::device::SECTOR_SIZE;
-use crate::record::{Action, RecordEntry, Outcome};
+use crate::record::{Action, Outcome, RecordEntry};
 
 /// Puts these sectors in the place of those from `at` on.
 pub(crate) fn put(sectors: &mut [u8], at: usize, from: &[u8])
@@ -69,7 +69,12 @@ pub(crate) fn fill_written(into: &mut [u8], byte: u8, entries: &[RecordEntry])
 }
 
 /// Makes both the present and the synced sectors those that a power cut leaves, where these entries are not synced.
-pub(crate) fn settle(present: &mut [u8], synced: &mut [u8], unsynced: &[RecordEntry], outcome: Outcome)
+pub(crate) fn settle(
+    present: &mut [u8],
+    synced: &mut [u8],
+    unsynced: &[RecordEntry],
+    outcome: Outcome,
+)
     requires same_size { length synced.old ≡ length present.old }
     requires inside { (i : ℕ) → names unsynced.now i ≡ true → 512 * (i + 1) ≤ length present.old }
     requires same_elsewhere { (i : ℕ) → names unsynced.now i ≡ false → image_of present.old i ≡ image_of synced.old i }
