@@ -8,7 +8,7 @@ use Rattle.model.specs.declared.object.Content.TheVariants as content
 use Rattle.model.specs.declared.object.Object.{Object}
 use Rattle.model.specs.Object.{free, is_free, slots_in, root_in, map_content}
 use Rattle.model.specs.World.{object_at}
-use Rattle.model.specs.Revoke.{void_where, without, is_member, names_member, resumes, rescind, consume}
+use Rattle.model.specs.Revoke.{void_where, without, is_member, names_member, resumes, rescind}
 use Rattle.model_laws.specs.Laws.{RescindsAll, ConsumesAll}
 use Rattle.model_laws.proofs.SoundEdits.{object_consume}
 

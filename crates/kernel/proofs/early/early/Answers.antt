@@ -1,5 +1,4 @@
-use Rattle.std.proofs.Common.{ℕ, ◌<◌, length, zero, suc, arith, sym, ◌∙◌}
-use Rattle.capability.specs.Parts.{frames_of}
+use Rattle.std.proofs.Common.{ℕ, ◌<◌, length, sym}
 use Rattle.gate.proofs.Known.{one_known, process_known}
 use Rattle.gate.proofs.Standing.{keepable_most}
 use Rattle.kernel.proofs.early.early.Goals as goal

@@ -1,11 +1,6 @@
-use Rattle.std.proofs.Common.{◌≡◌, ℕ, ◌<◌, ◌≤◌, Some, arith, sym, ap, subst, ◌∙◌, List, refl}
-use Rattle.model.specs.declared.answer.Answer.TheVariants as answer
+use Rattle.std.proofs.Common.{Some, ap}
 use Rattle.model.specs.declared.answer.Refusal.TheVariants as refusal
 use Rattle.model.specs.declared.command.Command.TheVariants as command
-use Rattle.model.specs.declared.frame.Frame.{Frame}
-use Rattle.model.specs.Frame.{objects_of}
-use Rattle.model.specs.World.{is_process, is_running_process}
-use Rattle.capability.specs.Parts.{frames_of}
 use Rattle.gate.specs.declared.fault.InvokeFault.TheVariants as fault
 use Rattle.kernel.proofs.Serving.{AreSame, done_after, done_unfailed, fault_is, fault_unfailed, full_after, no_memory_after, refused_serves, stalled_after, told_cause, unfailed}
 use Rattle.kernel.proofs.Steps.{early_step, worn_step}

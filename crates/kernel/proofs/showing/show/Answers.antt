@@ -1,4 +1,4 @@
-use Rattle.std.proofs.Common.{◌≡◌, ℕ, ◌≤◌, ◌<◌, List, length, refl, sym, ap, ◌∙◌, subst, arith}
+use Rattle.std.proofs.Common.{◌≡◌, ℕ, ◌≤◌, ◌<◌, List, length, refl, ap, ◌∙◌, subst, arith}
 use Rattle.model.specs.declared.frame.ObjectHeader.{ObjectHeader}
 use Rattle.kernel.proofs.Serving.{AreSame, bad_number_serves, look_unfailed, show_no_memory_serves, shown_serves, shown_unfailed}
 use Rattle.kernel.proofs.showing.show.Goals as goal

@@ -1,5 +1,4 @@
-use Rattle.std.specs.Prelude.{ℕ, ◌^◌, ◌-◌}
-use Rattle.capability.specs.Parts.{Parts}
+use Rattle.std.specs.Prelude.{◌^◌, ◌-◌}
 use Rattle.gate.proofs.Standing.{LooksAs, keepable_most, looked_keepable}
 use Rattle.kernel.proofs.showing.shown.Goals as goal
 
