@@ -1,5 +1,5 @@
 -- Frames that stay sound through the calls of a machine.
-use Rattle.std.proofs.Common.{◌≡◌, ℕ, ◌+◌, ◌^◌, ◌<◌, ◌≤◌, List, Result, Ok, Err, map, refl, sym, ap, ◌∙◌, subst, arith}
+use Rattle.std.proofs.Common.{◌≡◌, ℕ, List, Result, Ok, Err, map, refl, sym, ap, ◌∙◌, subst, arith}
 use Rattle.std.specs.Prelude.{IsTrue, IfOk}
 use Rattle.model.specs.declared.capability.Cap.{Cap}
 use Rattle.model.specs.declared.capability.Capability.{Capability}
@@ -9,7 +9,7 @@ use Rattle.model.specs.declared.frame.ObjectHeader.{ObjectHeader}
 use Rattle.model.specs.declared.geometry.Geometry.{Geometry}
 use Rattle.model.specs.declared.object.Object.{Object}
 use Rattle.model.specs.Frame.{current_count, frames_in, held_at, objects_of}
-use Rattle.model.specs.Keepable.{AreCurrent, AreKeepable, IsKeptCap, IsSoundFrames, world_at}
+use Rattle.model.specs.Keepable.{AreCurrent, AreKeepable, IsKeptCap, IsSoundFrames}
 use Rattle.model.specs.Object.{is_annex}
 use Rattle.model.specs.Sound.{IsSound, MayBeHeld}
 use Rattle.model.specs.World.{slot_at, with_slot}

@@ -43,7 +43,7 @@ fn a_node_in_itself_is_one_level_less_high(rt: HostRuntime) -> Result<(), Fail> 
 }
 
 #[test]
-fn a_walk_tells_the_page(rt: HostRuntime) -> Result<(), Fail> {
+fn only_pages_and_trees_are_spaces(rt: HostRuntime) -> Result<(), Fail> {
     let alloc = rt.alloc();
     let mut machine = Machine::tree(alloc, 1, 0)?;
     let process = machine.walk(alloc, ITSELF, 0, false)?;
