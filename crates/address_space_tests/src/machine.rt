@@ -93,9 +93,9 @@ pub(crate) const fn ask(register: u8, order: u64, first: u64, second: u64, sent:
     }
 }
 
-/// What node 5 is given: spaces of itself 1 to 3 levels high in slots 1 to 3, page 16 in slot 4, a
-/// number in slot 5, itself in slot 6, page 16 read-only in slot 7, and spaces of itself one level
-/// high in slots 8, weak, and 9, read-only.
+// What node 5 is given: spaces of itself 1 to 3 levels high in slots 1 to 3, page 16 in slot 4, a
+// number in slot 5, itself in slot 6, page 16 read-only in slot 7, and spaces of itself one level
+// high in slots 8, weak, and 9, read-only.
 const TREE: [(u8, u64, u64, u64, u8); 17] = [
     (NODE, 4, 1, 0, 0),
     (NODE, 2, 1, 0, GIVEN),

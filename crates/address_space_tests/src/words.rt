@@ -44,7 +44,7 @@ fn a_load_gives_what_a_store_wrote(rt: HostRuntime) -> Result<(), Fail> {
     Ok(())
 }
 
-/// A tree of that height ends behind its last address, and its page is reached at another.
+// A tree of that height ends behind its last address, and its page is reached at another.
 fn ends(rt: &impl Abort, alloc: Global, height: u64, page: u64, last: u64) -> Result<(), Fail>
     requires { last < u64.MAX }
 {

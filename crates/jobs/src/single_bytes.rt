@@ -4,7 +4,7 @@ ghost use Rattle.std.specs.Io.KnownBytes.{Consumes, Keeps};
 
 use std::io::{BufRead, Read, Result};
 
-/// Takes a byte out of a reader's buffer, if it can fill it.
+// Takes a byte out of a reader's buffer, if it can fill it.
 fn take_byte<R: BufRead>(reader: &mut R) -> Result<Option<u8>>
     ensures { MatchResult result
         (λ taken. MatchOption taken (Keeps (R.remaining reader.old) (R.remaining reader.new)) (λ byte. Consumes (R.remaining reader.old) (R.remaining reader.new) (byte ∷ [])))

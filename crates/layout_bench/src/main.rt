@@ -31,7 +31,7 @@ fn header(role: Role) -> ObjectHeader {
     }
 }
 
-/// Encodes and decodes a frame so many times, and tells how often it was read back.
+// Encodes and decodes a frame so many times, and tells how often it was read back.
 fn code(
     number: u64,
     header: ObjectHeader,
@@ -53,7 +53,7 @@ fn code(
     done
 }
 
-/// Copies words to bytes and back so many times, with byteorder's slice calls.
+// Copies words to bytes and back so many times, with byteorder's slice calls.
 fn copy_words(words: &mut [u64], bytes: &mut [u8], rounds: u64) -> u64
     requires { length bytes.old ≡ 8 * length words.old }
 {
@@ -106,7 +106,7 @@ fn copies(alloc: Global, words: usize, rounds: u64) -> Result<u64, AllocError>
     Ok(copy_words(values.as_mut_slice(), bytes.as_mut_slice(), rounds))
 }
 
-/// Does what the words say: a kind and how many times. With no words, each kind once.
+// Does what the words say: a kind and how many times. With no words, each kind once.
 fn main(rt: HostRuntime) -> anyhow::Result<()> {
     let alloc = rt.alloc();
     let words: Vec<String> = std::env::args(&rt)?.collect(alloc)?;

@@ -9,7 +9,7 @@ use std::fs::File;
 use std::io::{BufReader, BufWriter, Write};
 use std::process::ExitCode;
 
-/// Runs the script that the words name, from its file to standard output.
+// Runs the script that the words name, from its file to standard output.
 fn first(rt: &HostRuntime, path: &str) -> Result<(), Fault> {
     let alloc = rt.alloc();
     let file = File::open(rt, path).map_err(|_| Fault::CannotReadScript)?;
@@ -21,7 +21,7 @@ fn first(rt: &HostRuntime, path: &str) -> Result<(), Fault> {
     outcome
 }
 
-/// Does what the words ask.
+// Does what the words ask.
 fn run(rt: &HostRuntime, matches: &ArgMatches) -> Result<(), Fault> {
     match matches.subcommand() {
         Some((_, inner)) => first(rt, inner.get_str(words::SCRIPT).unwrap_or("")),

@@ -9,7 +9,7 @@ use std::io::{ErrorKind, Write};
 use std::process::Abort;
 use std::test::Fail;
 
-/// Takes so many bytes at a time, as long as it has room, and then fails or takes nothing.
+// Takes so many bytes at a time, as long as it has room, and then fails or takes nothing.
 #[derive(Drop)]
 struct Narrow {
     taken: Vec<u8>,
@@ -57,13 +57,13 @@ fn text_of(alloc: Global, answer: &Answer) -> Result<Vec<u8>, RunFault> {
     Ok(text)
 }
 
-/// An answer is written as that text.
+// An answer is written as that text.
 fn print(rt: &impl Abort, alloc: Global, answer: &Answer, text: &[u8]) -> Result<(), RunFault> {
     assert_eq!(rt; text_of(alloc, answer)?.as_slice(), text);
     Ok(())
 }
 
-/// Void slots but for these.
+// Void slots but for these.
 fn slots(
     rt: &impl Abort,
     alloc: Global,
@@ -139,7 +139,7 @@ fn a_bank_is_shown_with_its_usage(rt: HostRuntime) -> Result<(), Fail> {
     Ok(())
 }
 
-/// The refusals are written as these texts.
+// The refusals are written as these texts.
 fn print_refusals(
     rt: &impl Abort,
     alloc: Global,
@@ -281,7 +281,7 @@ fn an_annex(rt: HostRuntime) -> Result<(), Fail> {
     Ok(())
 }
 
-/// Writes an answer to a writer: all its text where there is room, and else a fault and what fits.
+// Writes an answer to a writer: all its text where there is room, and else a fault and what fits.
 fn write_narrowly(rt: &impl Abort, answer: &Answer, text: &[u8], mut writer: Narrow) {
     let room = writer.room;
     let outcome = print_answer(answer, &mut writer);

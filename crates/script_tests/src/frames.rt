@@ -20,14 +20,14 @@ use std::alloc::{AllocError, Global};
 use std::process::Abort;
 use std::test::Fail;
 
-/// There is such a number.
+// There is such a number.
 fn is_there(rt: &impl Abort, plain: &Plain, number: u64)
     ensures { IsThere plain.now number }
 {
     assert!(rt; number < plain.table().count());
 }
 
-/// A number stands for an object, which may then be changed.
+// A number stands for an object, which may then be changed.
 fn is_used(rt: &impl Abort, plain: &Plain, number: u64)
     ensures there { IsThere plain.now number }
     ensures room { HasRoom plain.now number }
@@ -37,7 +37,7 @@ fn is_used(rt: &impl Abort, plain: &Plain, number: u64)
     assert!(rt; plain.table().header(number).role != Role::Free);
 }
 
-/// A number stands for a process.
+// A number stands for a process.
 fn is_process(rt: &impl Abort, plain: &Plain, number: u64)
     ensures { IsTrue (is_process (objects_of (frames_of (parts_of plain.now))) number) }
 {
@@ -45,7 +45,7 @@ fn is_process(rt: &impl Abort, plain: &Plain, number: u64)
     assert!(rt; objects::state(plain, number).is_some());
 }
 
-/// The annex and the state of a process.
+// The annex and the state of a process.
 fn process(rt: &impl Abort, plain: &Plain, number: u64) -> Option<(u64, State)> {
     is_there(rt, plain, number);
     match objects::state(plain, number) {
@@ -54,7 +54,7 @@ fn process(rt: &impl Abort, plain: &Plain, number: u64) -> Option<(u64, State)> 
     }
 }
 
-/// The registers of an annex, or the slots of a node, hold these capabilities.
+// The registers of an annex, or the slots of a node, hold these capabilities.
 fn hold(rt: &impl Abort, plain: &Plain, number: u64, slots: &[(usize, Capability)]) {
     is_there(rt, plain, number);
     for (index, held) in slots {
@@ -67,7 +67,7 @@ fn hold(rt: &impl Abort, plain: &Plain, number: u64, slots: &[(usize, Capability
     }
 }
 
-/// Puts a capability into a slot of a node or a register of an annex.
+// Puts a capability into a slot of a node or a register of an annex.
 fn put(rt: &impl Abort, plain: &mut Plain, number: u64, index: usize, capability: Capability)
     requires { AreCurrent (frames_of (parts_of plain.old)) }
     ensures { AreCurrent (frames_of (parts_of plain.new)) }
@@ -132,7 +132,7 @@ fn second_world_is_made(rt: HostRuntime) -> Result<(), Fail> {
     Ok(())
 }
 
-/// Changes the root of a process, and reads each change.
+// Changes the root of a process, and reads each change.
 fn change_process(rt: &impl Abort, plain: &mut Plain, number: u64) {
     is_used(rt, plain, number);
     is_process(rt, plain, number);
@@ -150,7 +150,7 @@ fn change_process(rt: &impl Abort, plain: &mut Plain, number: u64) {
     assert_eq!(rt; roots::space(plain, number), Capability::Void);
 }
 
-/// Gives a process an address space.
+// Gives a process an address space.
 fn change_space(rt: &impl Abort, plain: &mut Plain, number: u64, space: Capability) {
     is_used(rt, plain, number);
     is_process(rt, plain, number);
@@ -173,7 +173,7 @@ fn a_process_is_changed(rt: HostRuntime) -> Result<(), Fail> {
     Ok(())
 }
 
-/// Gives the right to resume a process up.
+// Gives the right to resume a process up.
 fn consume(rt: &impl Abort, plain: &mut Plain, process: u64)
     requires { AreCurrent (frames_of (parts_of plain.old)) }
 {
@@ -182,7 +182,7 @@ fn consume(rt: &impl Abort, plain: &mut Plain, process: u64)
     objects::consume(plain, process);
 }
 
-/// A capability that resumes a process is void in a slot once it was used.
+// A capability that resumes a process is void in a slot once it was used.
 fn store_and_consume(rt: &impl Abort, plain: &mut Plain, number: u64, process: u64)
     requires { AreCurrent (frames_of (parts_of plain.old)) }
 {
@@ -199,7 +199,7 @@ fn a_resume_capability_in_a_node_is_void_after_use(rt: HostRuntime) -> Result<()
     Ok(())
 }
 
-/// An object is given up, and what names it is void.
+// An object is given up, and what names it is void.
 fn give_up(rt: &impl Abort, plain: &mut Plain, number: u64)
     requires { AreCurrent (frames_of (parts_of plain.old)) }
 {
@@ -245,7 +245,7 @@ fn a_page_is_changed(rt: HostRuntime) -> Result<(), Fail> {
     Ok(())
 }
 
-/// Fetches an object.
+// Fetches an object.
 fn fetch(rt: &impl Abort, alloc: Global, plain: &mut Plain, number: u64) -> Result<(), PrepareFault>
     requires { AreKeepable plain.old.geometry 0 (frames_of (parts_of plain.old)) }
 {
@@ -263,7 +263,7 @@ fn an_object_is_fetched(rt: HostRuntime) -> Result<(), Fail> {
 
 // ---- what the log holds
 
-/// Announces a write of a number, and of the same number again.
+// Announces a write of a number, and of the same number again.
 fn touch(rt: &impl Abort, plain: &mut Plain, alloc: Global, number: u64) -> Result<(), PrepareFault>
     requires keepable { AreKeepable plain.old.geometry 0 (frames_of (parts_of plain.old)) }
     ensures keepable { AreKeepable plain.new.geometry 0 (frames_of (parts_of plain.new)) }
@@ -297,7 +297,7 @@ fn log_is_full(rt: HostRuntime) -> Result<(), Fail> {
 
 // ---- new objects and banks
 
-/// A number is one where such an object may be made.
+// A number is one where such an object may be made.
 fn is_place(rt: &impl Abort, plain: &Plain, number: u64, fresh: Fresh)
     ensures { IsFreshAt plain.now.geometry number fresh }
 {
@@ -311,7 +311,7 @@ fn is_place(rt: &impl Abort, plain: &Plain, number: u64, fresh: Fresh)
     }
 }
 
-/// Makes a free number an object of the prime bank.
+// Makes a free number an object of the prime bank.
 fn make(
     rt: &impl Abort,
     alloc: Global,
@@ -367,7 +367,7 @@ fn give(rt: &impl Abort, plain: &mut Plain, number: u64, bank: u64)
     objects::set_owner(plain, number, bank);
 }
 
-/// The banks account for so many objects.
+// The banks account for so many objects.
 fn account(rt: &impl Abort, plain: &Plain, banks: &[(u64, u64)])
     requires { AreKeepable plain.now.geometry 0 (frames_of (parts_of plain.now)) }
 {
@@ -401,7 +401,7 @@ const UNUSED: ObjectHeader = ObjectHeader {
     owner: 0,
 };
 
-/// A table of so many free numbers.
+// A table of so many free numbers.
 fn free_table(alloc: Global, count: usize) -> Result<ObjectTable, AllocError>
     ensures { IfOk result (λ table. length table ≡ count) }
 {

@@ -4,7 +4,7 @@ use std::alloc::Global;
 use std::process::Abort;
 use std::test::Fail;
 
-/// A script over the second world is answered so.
+// A script over the second world is answered so.
 fn runs(rt: &impl Abort, alloc: Global, script: &[u8], expected: &[u8]) -> Result<(), Fail> {
     let mut plain = second_world(alloc)?;
     is_answered(rt, alloc, &mut plain, script, expected)

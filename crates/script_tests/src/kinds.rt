@@ -7,7 +7,7 @@ use model::{Capability, Role};
 use std::process::Abort;
 use std::test::Fail;
 
-/// Puts the capability that tells the kinds apart into a register of process 1.
+// Puts the capability that tells the kinds apart into a register of process 1.
 fn give_discrim(rt: &impl Abort, plain: &mut Plain, register: usize)
     requires { IsSoundStore plain.old }
     ensures { IsSoundStore plain.new }

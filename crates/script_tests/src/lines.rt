@@ -126,7 +126,7 @@ fn skipped_and_long_lines(rt: HostRuntime) {
 
 // ---- reading
 
-/// Gives a byte at a time, first an interruption before each, and at the end the error.
+// Gives a byte at a time, first an interruption before each, and at the end the error.
 #[derive(Drop)]
 struct Unsteady<'a> {
     rest: &'a [u8],
@@ -169,7 +169,7 @@ impl Read for Unsteady<'_> {
     }
 }
 
-/// These lines are taken from the reader one after the other.
+// These lines are taken from the reader one after the other.
 fn takes<R: Read>(rt: &impl Abort, reader: &mut R, lines: &[Option<Line>]) -> Result<(), RunFault> {
     for line in lines {
         assert_eq!(rt; next_line(reader)?, *line);

@@ -4,7 +4,7 @@ use std::alloc::Global;
 use std::process::Abort;
 use std::test::Fail;
 
-/// A script over the first world is answered so.
+// A script over the first world is answered so.
 fn answers(rt: &impl Abort, alloc: Global, script: &[u8], expected: &[u8]) -> Result<(), Fail> {
     let mut plain = first_world(alloc)?;
     is_answered(rt, alloc, &mut plain, script, expected)

@@ -6,7 +6,7 @@ use std::io;
 use std::io::{ErrorKind, Read, Write};
 use std::test::Fail;
 
-/// What is written for a script over the world F0.
+// What is written for a script over the world F0.
 fn answers_to(alloc: Global, script: &[u8]) -> Result<Vec<u8>, Fail> {
     let mut plain = first_world(alloc)?;
     let mut reader = script;
@@ -81,7 +81,7 @@ fn a_long_line_is_bad(rt: HostRuntime) -> Result<(), Fail> {
     Ok(())
 }
 
-/// Gives its bytes, and then fails.
+// Gives its bytes, and then fails.
 #[derive(Drop)]
 struct Failing<'a> {
     rest: &'a [u8],
@@ -114,7 +114,7 @@ fn a_failing_reader_ends_the_run(rt: HostRuntime) -> Result<(), Fail> {
     Ok(())
 }
 
-/// Takes some bytes, and then fails.
+// Takes some bytes, and then fails.
 #[derive(Drop)]
 struct Full {
     room: usize,

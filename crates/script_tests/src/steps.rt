@@ -15,7 +15,7 @@ use std::alloc::Global;
 use std::process::Abort;
 use std::test::Fail;
 
-/// A call by process 1 of the capability in register 3, by which bank 0 is sent.
+// A call by process 1 of the capability in register 3, by which bank 0 is sent.
 fn starting(rt: &impl Abort) -> Invocation {
     let none = register(rt, 0);
     Invocation {
@@ -27,7 +27,7 @@ fn starting(rt: &impl Abort) -> Invocation {
     }
 }
 
-/// A process runs.
+// A process runs.
 fn is_running(rt: &impl Abort, plain: &Plain, process: u64)
     ensures { IsTrue (is_running_process (objects_of (frames_of (parts_of plain.now))) process) }
 {
@@ -38,7 +38,7 @@ fn is_running(rt: &impl Abort, plain: &Plain, process: u64)
     }
 }
 
-/// An invocation in a sound store.
+// An invocation in a sound store.
 fn invoke(
     rt: &impl Abort,
     alloc: Global,

@@ -14,14 +14,14 @@ use crate::table::ObjectTable;
 use model::{Access, Cap, Capability, Content, Geometry, ObjectHeader, Root, Slots, State, Words};
 use std::alloc::{AllocError, Global};
 
-/// The geometry of both worlds.
+// The geometry of both worlds.
 const SMALL: Geometry = Geometry {
     nodes: 16,
     pages: 8,
     log: 16,
 };
 
-/// How many objects they have.
+// How many objects they have.
 const SMALL_COUNT: usize = 24;
 
 impl Plain {
