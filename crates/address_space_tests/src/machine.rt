@@ -184,7 +184,8 @@ pub(crate) fn expect(
 
 // Whether process 1 runs.
 fn runs(frames: &Plain) -> bool
-    ensures { IsTrue result → IsTrue (is_running_process (objects_of (frames_of (parts_of frames.now))) 1) }
+    ensures { IsTrue result → IsTrue
+        (is_running_process (objects_of (frames_of (parts_of frames.now))) 1) }
 {
     if frames.table().count() < 3 {
         return false;

@@ -93,11 +93,14 @@ pub trait PresentFrames: Drop {
         requires few { length fetched.now ≤ MAX_FETCHED }
         requires known { All (λ n. n < length (parts self.old).headers) fetched.now }
         requires announced { All (λ n. n < length (parts self.old).headers) written.now }
-        requires keepable { AreKeepable (parts self.old).geometry u64.MAX (frames_of (parts self.old)) }
+        requires keepable { AreKeepable (parts self.old).geometry u64.MAX
+            (frames_of (parts self.old)) }
 
         ensures fetched { OnOk result ((n : ℕ) → Contains fetched.now n → IsFetched self.new n) }
-        ensures announced { OnOk result ((n : ℕ) → Contains written.now n → IsAnnounced self.new n) }
-        ensures touched { OnOk result ((parts self.new).touched ≡ touching (parts self.old).touched written.now) }
+        ensures announced { OnOk result
+            ((n : ℕ) → Contains written.now n → IsAnnounced self.new n) }
+        ensures touched { OnOk result ((parts self.new).touched
+            ≡ touching (parts self.old).touched written.now) }
         ensures within { touched_count (parts self.new).touched ≤ (parts self.new).geometry.log }
         ensures before { touched_count (parts self.old).touched ≤ (parts self.old).geometry.log }
 
@@ -107,7 +110,8 @@ pub trait PresentFrames: Drop {
         ensures untouched { OnErr result ((parts self.new).touched ≡ (parts self.old).touched) }
         ensures full { IsErrOf result PrepareFault.LogFull
             → (parts self.old).geometry.log < touched_count (touching (parts self.old).touched written.now) }
-        ensures cause { IsErrOf result PrepareFault.Failed ↔ ((parts self.old).failures < (parts self.new).failures) }
+        ensures cause { IsErrOf result PrepareFault.Failed
+            ↔ ((parts self.old).failures < (parts self.new).failures) }
         ensures later { (parts self.old).failures ≤ (parts self.new).failures }
         ensures leads { LeadsTo self.old self.new };
 
@@ -120,7 +124,8 @@ pub trait PresentFrames: Drop {
     fn frame_mut(&mut self, number: u64) -> &mut Content<Cap>
         requires fetched { IsFetched self.old number }
         requires announced { IsAnnounced self.old number }
-        ensures* writes_back { sem 𝓛 (Lends Self.row (content_row cap_row) self.entry result (with_content self.old number)) }
+        ensures* writes_back { sem 𝓛 (Lends Self.row (content_row cap_row) self.entry result
+            (with_content self.old number)) }
         ensures value { result.now ≡ held_at (parts self.old).contents number };
 
     /// Makes a free number an object, in the room that was put aside for it. Its counts stay.

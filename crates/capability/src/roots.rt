@@ -16,7 +16,8 @@ pub fn word<F: PresentFrames>(store: &F, process: u64, index: usize) -> u64
     requires fetched { F.IsFetched store.now process }
     requires process { IsTrue (is_process (objects_of (frames_of (F.parts store.now))) process) }
     requires within { index < 4 }
-    ensures { result ≡ slice_index (root_at (objects_of (frames_of (F.parts store.now))) process).words index }
+    ensures { result ≡ slice_index (root_at
+        (objects_of (frames_of (F.parts store.now))) process).words index }
 {
     match store.frame(process) {
         Content::Root(root) => root.words[index],
@@ -68,7 +69,8 @@ pub fn set_word<F: PresentFrames>(store: &mut F, process: u64, index: usize, wor
     requires within { index < 4 }
     ensures objects { objects_of (frames_of (F.parts store.new))
         ≡ with_root (objects_of (frames_of (F.parts store.old))) process (with_root_word (root_at (objects_of (frames_of (F.parts store.old))) process) index word) }
-    ensures current { AreCurrent (frames_of (F.parts store.old)) → AreCurrent (frames_of (F.parts store.new)) }
+    ensures current { AreCurrent (frames_of (F.parts store.old))
+        → AreCurrent (frames_of (F.parts store.new)) }
     ensures keepable { (age : ℕ)
         → AreKeepable (F.parts store.old).geometry age (frames_of (F.parts store.old))
         → AreKeepable (F.parts store.old).geometry age (frames_of (F.parts store.new)) }
@@ -82,9 +84,11 @@ pub fn set_state<F: PresentFrames>(store: &mut F, process: u64, state: State)
     requires fetched { F.IsFetched store.old process }
     requires announced { F.IsAnnounced store.old process }
     requires process { IsTrue (is_process (objects_of (frames_of (F.parts store.old))) process) }
-    ensures objects { objects_of (frames_of (F.parts store.new)) ≡ with_state (objects_of (frames_of (F.parts store.old))) process state }
+    ensures objects { objects_of (frames_of (F.parts store.new))
+        ≡ with_state (objects_of (frames_of (F.parts store.old))) process state }
     ensures headers { (F.parts store.new).headers ≡ (F.parts store.old).headers }
-    ensures current { AreCurrent (frames_of (F.parts store.old)) → AreCurrent (frames_of (F.parts store.new)) }
+    ensures current { AreCurrent (frames_of (F.parts store.old))
+        → AreCurrent (frames_of (F.parts store.new)) }
     ensures keepable { (age : ℕ)
         → AreKeepable (F.parts store.old).geometry age (frames_of (F.parts store.old))
         → AreKeepable (F.parts store.old).geometry age (frames_of (F.parts store.new)) }
@@ -100,7 +104,8 @@ pub fn set_space<F: PresentFrames>(store: &mut F, process: u64, capability: Capa
     requires process { IsTrue (is_process (objects_of (frames_of (F.parts store.old))) process) }
     ensures objects { objects_of (frames_of (F.parts store.new))
         ≡ with_root (objects_of (frames_of (F.parts store.old))) process (with_space (root_at (objects_of (frames_of (F.parts store.old))) process) capability) }
-    ensures current { AreCurrent (frames_of (F.parts store.old)) → AreCurrent (frames_of (F.parts store.new)) }
+    ensures current { AreCurrent (frames_of (F.parts store.old))
+        → AreCurrent (frames_of (F.parts store.new)) }
     ensures keepable { (age : ℕ)
         → IsKeptCap (F.parts store.old).geometry age (record { what = capability; count = current_count (F.parts store.old).headers capability })
         → IsSpace capability

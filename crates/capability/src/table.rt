@@ -54,10 +54,18 @@ impl ObjectTable {
     pub fn current_count(&self, capability: Capability) -> u64
         ensures { result ≡ current_count self.now capability }
     {
-        match (capability, capability.named()) {
-            (Capability::Resume(process), _) => self.header(process).calls,
-            (_, Some(number)) => self.header(number).allocations,
-            (_, None) => 0,
+        match capability {
+            Capability::Page { object, .. }
+            | Capability::Node { object, .. }
+            | Capability::Space { object, .. } => self.header(object).allocations,
+            Capability::Process(number)
+            | Capability::Start {
+                process: number,
+                ..
+            }
+            | Capability::Bank(number) => self.header(number).allocations,
+            Capability::Resume(process) => self.header(process).calls,
+            Capability::Void | Capability::Number(_) | Capability::Discrim => 0,
         }
     }
 
@@ -82,7 +90,8 @@ impl ObjectTable {
     /// Makes a free number an object of a bank. Its counts stay.
     pub fn claim(&mut self, number: u64, role: Role, owner: u64)
         requires { number < length self.old }
-        ensures { self.new ≡ slice_set self.old number (claimed role owner (header_at self.old number)) }
+        ensures { self.new ≡ slice_set self.old number
+            (claimed role owner (header_at self.old number)) }
     {
         let header = &mut self.headers[number as usize];
         header.role = role;

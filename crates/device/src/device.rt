@@ -51,7 +51,8 @@ pub trait Device: Drop {
         requires inside { at + sectors_of from.now ≤ (disk self.old).sectors }
         ensures written { OnOk result (AreSectors (disk self.new).seen at from.now) }
         ensures size { (disk self.new).sectors ≡ (disk self.old).sectors }
-        ensures elsewhere { Elsewhere at (sectors_of from.now) (disk self.old).seen (disk self.new).seen }
+        ensures elsewhere { Elsewhere at (sectors_of from.now) (disk self.old).seen
+            (disk self.new).seen }
         ensures crash { Tears at (sectors_of from.now) (disk self.old) (disk self.new) }
         ensures time { Elapses (disk self.old) (disk self.new) }
         ensures cause { Counts (disk self.old) (disk self.new) result };

@@ -93,8 +93,10 @@ impl<D: Device> Device for Fuse<D> {
         ensures passes { Passes D.disk self.old self.new result }
         ensures written { OnOk result (AreSectors (fused D.disk self.new).seen at from.now) }
         ensures size { (fused D.disk self.new).sectors ≡ (fused D.disk self.old).sectors }
-        ensures elsewhere { Elsewhere at (sectors_of from.now) (fused D.disk self.old).seen (fused D.disk self.new).seen }
-        ensures crash { Tears at (sectors_of from.now) (fused D.disk self.old) (fused D.disk self.new) }
+        ensures elsewhere { Elsewhere at (sectors_of from.now) (fused D.disk self.old).seen
+            (fused D.disk self.new).seen }
+        ensures crash { Tears at (sectors_of from.now) (fused D.disk self.old)
+            (fused D.disk self.new) }
         ensures time { Elapses (fused D.disk self.old) (fused D.disk self.new) }
         ensures cause { Counts (fused D.disk self.old) (fused D.disk self.new) result }
     {
@@ -109,7 +111,8 @@ impl<D: Device> Device for Fuse<D> {
         ensures size { (fused D.disk self.new).sectors ≡ (fused D.disk self.old).sectors }
         ensures seen { Agrees (fused D.disk self.new).seen (fused D.disk self.old).seen }
         ensures crash { Narrows (fused D.disk self.old) (fused D.disk self.new) }
-        ensures nothing_durable { OnErr result (Narrows (fused D.disk self.new) (fused D.disk self.old)) }
+        ensures nothing_durable { OnErr result
+            (Narrows (fused D.disk self.new) (fused D.disk self.old)) }
         ensures time { Elapses (fused D.disk self.old) (fused D.disk self.new) }
         ensures cause { Counts (fused D.disk self.old) (fused D.disk self.new) result }
     {

@@ -105,14 +105,17 @@ impl Device for Memory {
         requires whole { length from.now % 512 ≡ 0 }
         requires inside { at + sectors_of from.now ≤ (memory_disk self.old).sectors }
         ensures full { IsErr result ↔ (room_left self.old < sectors_of from.now) }
-        ensures past { OnOk result (memory_past self.new ≡ memory_past self.old ++ writes_of at (sectors_of from.now) from.now) }
+        ensures past { OnOk result (memory_past self.new
+            ≡ memory_past self.old ++ writes_of at (sectors_of from.now) from.now) }
         ensures room { OnOk result (room_left self.new + sectors_of from.now ≡ room_left self.old) }
         ensures untouched { OnErr result (IsUntouched self.old self.new) }
         ensures outcome { outcome_of self.new ≡ outcome_of self.old }
         ensures written { OnOk result (AreSectors (memory_disk self.new).seen at from.now) }
         ensures size { (memory_disk self.new).sectors ≡ (memory_disk self.old).sectors }
-        ensures elsewhere { Elsewhere at (sectors_of from.now) (memory_disk self.old).seen (memory_disk self.new).seen }
-        ensures crash { Tears at (sectors_of from.now) (memory_disk self.old) (memory_disk self.new) }
+        ensures elsewhere { Elsewhere at (sectors_of from.now) (memory_disk self.old).seen
+            (memory_disk self.new).seen }
+        ensures crash { Tears at (sectors_of from.now) (memory_disk self.old)
+            (memory_disk self.new) }
         ensures time { Elapses (memory_disk self.old) (memory_disk self.new) }
         ensures cause { Counts (memory_disk self.old) (memory_disk self.new) result }
     {
@@ -132,7 +135,8 @@ impl Device for Memory {
         ensures size { (memory_disk self.new).sectors ≡ (memory_disk self.old).sectors }
         ensures seen { Agrees (memory_disk self.new).seen (memory_disk self.old).seen }
         ensures crash { Narrows (memory_disk self.old) (memory_disk self.new) }
-        ensures nothing_durable { OnErr result (Narrows (memory_disk self.new) (memory_disk self.old)) }
+        ensures nothing_durable { OnErr result
+            (Narrows (memory_disk self.new) (memory_disk self.old)) }
         ensures time { Elapses (memory_disk self.old) (memory_disk self.new) }
         ensures cause { Counts (memory_disk self.old) (memory_disk self.new) result }
     {
@@ -144,7 +148,8 @@ impl Device for Memory {
     /// A read gives exactly what the outcome leaves: the written bytes, the synced ones, or these with each unsynced
     /// sector filled. It takes no room.
     fn power_cut(&mut self)
-        ensures outcome_left { Agrees (memory_disk self.new).seen (left_by (outcome_of self.old) (memory_state self.old)) }
+        ensures outcome_left { Agrees (memory_disk self.new).seen
+            (left_by (outcome_of self.old) (memory_state self.old)) }
         ensures past { EndsCut (outcome_of self.old) (memory_past self.old) (memory_past self.new) }
         ensures room { room_left self.new ≡ room_left self.old }
         ensures outcome { outcome_of self.new ≡ outcome_of self.old }

@@ -67,11 +67,14 @@ impl Mirror {
     pub fn write(&mut self, at: u64, from: &[u8])
         requires whole { length from.now % 512 ≡ 0 }
         requires inside { at + sectors_of from.now ≤ self.old.sectors }
-        requires room { vec_len self.old.entries + sectors_of from.now ≤ vec_capacity self.old.entries }
-        ensures past { past_of self.new ≡ past_of self.old ++ writes_of at (sectors_of from.now) from.now }
+        requires room { vec_len self.old.entries + sectors_of from.now
+            ≤ vec_capacity self.old.entries }
+        ensures past { past_of self.new
+            ≡ past_of self.old ++ writes_of at (sectors_of from.now) from.now }
         ensures first { self.new.first ≡ self.old.first }
         ensures sectors { self.new.sectors ≡ self.old.sectors }
-        ensures entries { vec_len self.new.entries ≡ vec_len self.old.entries + sectors_of from.now }
+        ensures entries { vec_len self.new.entries
+            ≡ vec_len self.old.entries + sectors_of from.now }
         ensures capacity { vec_capacity self.old.entries ≤ vec_capacity self.new.entries }
     {
         put(&mut self.present, at as usize, from);

@@ -14,7 +14,8 @@ pub fn write_durably<D: Device>(device: &mut D, at: u64, bytes: &[u8]) -> Result
     requires inside { at + sectors_of bytes.now ≤ (D.disk device.old).sectors }
     requires durable { Only (D.disk device.old).seen (D.disk device.old) }
 
-    ensures written { OnOk result (IsWrittenAt at bytes.now (D.disk device.old).seen (D.disk device.new).seen) }
+    ensures written { OnOk result (IsWrittenAt at bytes.now (D.disk device.old).seen
+        (D.disk device.new).seen) }
     ensures durable { OnOk result (Only (D.disk device.new).seen (D.disk device.new)) }
     ensures size { (D.disk device.new).sectors ≡ (D.disk device.old).sectors }
 
@@ -47,7 +48,8 @@ pub fn write_in_order<D: Device>(
     ensures size { (D.disk device.new).sectors ≡ (D.disk device.old).sectors }
 
     // After it a crash leaves the first run whole.
-    ensures first_durable { OnOk result ((c : Image) → (D.disk device.new).may_leave c → AreSectors c at first.now) }
+    ensures first_durable { OnOk result
+        ((c : Image) → (D.disk device.new).may_leave c → AreSectors c at first.now) }
 
     // A crash at any moment leaves the first run old or torn and nothing else touched, or leaves it whole.
     ensures any_moment { LeavesOnly (D.disk device.old) (D.disk device.new)

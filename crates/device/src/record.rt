@@ -35,7 +35,8 @@ pub(crate) struct RecordEntry {
 /// Notes what was done. There has to be room.
 pub(crate) fn note(entries: &mut Vec<RecordEntry>, action: Action)
     requires { vec_len entries.old < vec_capacity entries.old }
-    ensures items { entries.new.items ≡ entries.old.items ++ record { action = action; cut = None } ∷ [] }
+    ensures items { entries.new.items
+        ≡ entries.old.items ++ record { action = action; cut = None } ∷ [] }
     ensures capacity { vec_capacity entries.old ≤ vec_capacity entries.new }
 {
     let _ = entries.push(RecordEntry { action, cut: None });
@@ -45,7 +46,8 @@ pub(crate) fn note(entries: &mut Vec<RecordEntry>, action: Action)
 pub(crate) fn note_writes(entries: &mut Vec<RecordEntry>, at: u64, from: &[u8])
     requires room { vec_len entries.old + sectors_of from.now ≤ vec_capacity entries.old }
     requires few { at + sectors_of from.now < 2 ^ 64 }
-    ensures items { entries.new.items ≡ entries.old.items ++ entries_of at (sectors_of from.now) from.now }
+    ensures items { entries.new.items
+        ≡ entries.old.items ++ entries_of at (sectors_of from.now) from.now }
     ensures capacity { vec_capacity entries.old ≤ vec_capacity entries.new }
 {
     for i in 0..from.len() / SECTOR_SIZE {

@@ -13,7 +13,8 @@ pub(crate) fn put(sectors: &mut [u8], at: usize, from: &[u8])
     requires whole { length from.now % 512 ≡ 0 }
     requires inside { 512 * (at + sectors_of from.now) ≤ length sectors.old }
     ensures written { AreSectors (image_of sectors.new) at from.now }
-    ensures elsewhere { Elsewhere at (sectors_of from.now) (image_of sectors.old) (image_of sectors.new) }
+    ensures elsewhere { Elsewhere at (sectors_of from.now) (image_of sectors.old)
+        (image_of sectors.new) }
     ensures fits { All (λ b. b < 256) sectors.new }
 {
     let start = at * SECTOR_SIZE;
@@ -24,7 +25,8 @@ pub(crate) fn put(sectors: &mut [u8], at: usize, from: &[u8])
 fn copy_sector(into: &mut [u8], from: &[u8], action: &Action)
     requires same_size { length from.now ≡ length into.old }
     requires inside { (i : ℕ) → writes action.now i ≡ true → 512 * (i + 1) ≤ length into.old }
-    ensures patched { Patches (writes action.now) (image_of from.now) (image_of into.old) (image_of into.new) }
+    ensures patched { Patches (writes action.now) (image_of from.now) (image_of into.old)
+        (image_of into.new) }
     ensures fits { All (λ b. b < 256) into.old → All (λ b. b < 256) into.new }
 {
     if let Action::Wrote { sector, .. } = action {
@@ -38,7 +40,8 @@ fn copy_sector(into: &mut [u8], from: &[u8], action: &Action)
 pub(crate) fn copy_written(into: &mut [u8], from: &[u8], entries: &[RecordEntry])
     requires same_size { length from.now ≡ length into.old }
     requires inside { (i : ℕ) → names entries.now i ≡ true → 512 * (i + 1) ≤ length into.old }
-    ensures patched { Patches (names entries.now) (image_of from.now) (image_of into.old) (image_of into.new) }
+    ensures patched { Patches (names entries.now) (image_of from.now) (image_of into.old)
+        (image_of into.new) }
     ensures fits { All (λ b. b < 256) into.old → All (λ b. b < 256) into.new }
 {
     for entry in entries {
@@ -77,8 +80,10 @@ pub(crate) fn settle(
 )
     requires same_size { length synced.old ≡ length present.old }
     requires inside { (i : ℕ) → names unsynced.now i ≡ true → 512 * (i + 1) ≤ length present.old }
-    requires same_elsewhere { (i : ℕ) → names unsynced.now i ≡ false → image_of present.old i ≡ image_of synced.old i }
-    ensures left { Agrees (image_of present.new) (left_by outcome (state_with present.old synced.old unsynced.now)) }
+    requires same_elsewhere { (i : ℕ) → names unsynced.now i ≡ false → image_of present.old i
+        ≡ image_of synced.old i }
+    ensures left { Agrees (image_of present.new)
+        (left_by outcome (state_with present.old synced.old unsynced.now)) }
     ensures same { Agrees (image_of synced.new) (image_of present.new) }
     ensures present_fits { All (λ b. b < 256) present.old → All (λ b. b < 256) present.new }
     ensures synced_fits { All (λ b. b < 256) synced.old → All (λ b. b < 256) synced.new }

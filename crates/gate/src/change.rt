@@ -13,11 +13,13 @@ use capability::{PresentFrames, objects, roots};
 pub fn make<F: PresentFrames>(store: &mut F, change: Change)
     requires within { IsWithinObject change }
     requires process { IsOfProcess (objects_of (frames_of (F.parts store.old))) change }
-    requires calls { (p : ℕ) → target_of change ≡ Some p → (header_at (F.parts store.old).headers p).calls < u64.MAX }
+    requires calls { (p : ℕ) → target_of change ≡ Some p
+        → (header_at (F.parts store.old).headers p).calls < u64.MAX }
     requires current { AreCurrent (frames_of (F.parts store.old)) }
     requires fetched { (n : ℕ) → target_of change ≡ Some n → F.IsFetched store.old n }
     requires announced { (n : ℕ) → target_of change ≡ Some n → F.IsAnnounced store.old n }
-    ensures objects { objects_of (frames_of (F.parts store.new)) ≡ changed (objects_of (frames_of (F.parts store.old))) change }
+    ensures objects { objects_of (frames_of (F.parts store.new))
+        ≡ changed (objects_of (frames_of (F.parts store.old))) change }
     ensures current { AreCurrent (frames_of (F.parts store.new)) }
     ensures keepable { (age : ℕ) → age + 1 < 2 ^ 64
         → MayHold (F.parts store.old).geometry (objects_of (frames_of (F.parts store.old))) change

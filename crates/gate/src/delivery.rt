@@ -16,15 +16,20 @@ const FIRST_REGISTER: usize = 28;
 
 /// Delivers a message to a process, whose root and annex are fetched and announced: words, a key,
 /// and capabilities to its last four registers. The process is running from then on.
+#[inline(always)]
 pub fn deliver<F: PresentFrames>(store: &mut F, process: u64, message: Message)
     requires process { IsTrue (is_process (objects_of (frames_of (F.parts store.old))) process) }
     requires root_fetched { F.IsFetched store.old process }
     requires root_announced { F.IsAnnounced store.old process }
-    requires annex_fetched { F.IsFetched store.old (annex_at (objects_of (frames_of (F.parts store.old))) process) }
-    requires annex_announced { F.IsAnnounced store.old (annex_at (objects_of (frames_of (F.parts store.old))) process) }
-    ensures objects { objects_of (frames_of (F.parts store.new)) ≡ deliver (objects_of (frames_of (F.parts store.old))) process message }
+    requires annex_fetched { F.IsFetched store.old
+        (annex_at (objects_of (frames_of (F.parts store.old))) process) }
+    requires annex_announced { F.IsAnnounced store.old
+        (annex_at (objects_of (frames_of (F.parts store.old))) process) }
+    ensures objects { objects_of (frames_of (F.parts store.new))
+        ≡ deliver (objects_of (frames_of (F.parts store.old))) process message }
     ensures headers { (F.parts store.new).headers ≡ (F.parts store.old).headers }
-    ensures current { AreCurrent (frames_of (F.parts store.old)) → AreCurrent (frames_of (F.parts store.new)) }
+    ensures current { AreCurrent (frames_of (F.parts store.old))
+        → AreCurrent (frames_of (F.parts store.new)) }
     ensures keepable { (age : ℕ) → All (FitsCap (F.parts store.old).geometry) message.capabilities
         → AreKeepable (F.parts store.old).geometry age (frames_of (F.parts store.old))
         → AreKeepable (F.parts store.old).geometry age (frames_of (F.parts store.new)) }

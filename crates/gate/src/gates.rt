@@ -53,20 +53,30 @@ fn announce<F: PresentFrames>(
     receiver: u64,
     annex: u64,
 ) -> Result<(), PrepareFault>
-    requires keepable { AreKeepable (F.parts store.old).geometry u64.MAX (frames_of (F.parts store.old)) }
+    requires keepable { AreKeepable (F.parts store.old).geometry u64.MAX
+        (frames_of (F.parts store.old)) }
     requires process { invocation.now.process < length (F.parts store.old).headers }
     requires receiver { receiver < length (F.parts store.old).headers }
     requires annex { annex < length (F.parts store.old).headers }
-    ensures fetched { OnOk result (F.IsFetched store.new invocation.now.process × F.IsFetched store.new receiver × F.IsFetched store.new annex) }
-    ensures announced { OnOk result (F.IsAnnounced store.new receiver × F.IsAnnounced store.new annex × ((invocation.now.operation ≡ Operation.Send → ⊥) → F.IsAnnounced store.new invocation.now.process)) }
-    ensures touched { OnOk result ((F.parts store.new).touched ≡ touching (F.parts store.old).touched (written_through invocation.now.operation invocation.now.process receiver annex)) }
+    ensures fetched { OnOk result (F.IsFetched store.new invocation.now.process
+        × F.IsFetched store.new receiver × F.IsFetched store.new annex) }
+    ensures announced { OnOk result
+        (F.IsAnnounced store.new receiver × F.IsAnnounced store.new annex
+        × ((invocation.now.operation ≡ Operation.Send → ⊥)
+        → F.IsAnnounced store.new invocation.now.process)) }
+    ensures touched { OnOk result ((F.parts store.new).touched
+        ≡ touching (F.parts store.old).touched
+        (written_through invocation.now.operation invocation.now.process receiver annex)) }
     ensures within { touched_count (F.parts store.new).touched ≤ (F.parts store.new).geometry.log }
     ensures headers { (F.parts store.new).headers ≡ (F.parts store.old).headers }
     ensures contents { (F.parts store.new).contents ≡ (F.parts store.old).contents }
     ensures geometry { (F.parts store.new).geometry ≡ (F.parts store.old).geometry }
     ensures untouched { OnErr result ((F.parts store.new).touched ≡ (F.parts store.old).touched) }
-    ensures full { IsErrOf result PrepareFault.LogFull → (F.parts store.old).geometry.log < touched_count (touching (F.parts store.old).touched (written_through invocation.now.operation invocation.now.process receiver annex)) }
-    ensures cause { IsErrOf result PrepareFault.Failed ↔ ((F.parts store.old).failures < (F.parts store.new).failures) }
+    ensures full { IsErrOf result PrepareFault.LogFull → (F.parts store.old).geometry.log
+        < touched_count (touching (F.parts store.old).touched
+        (written_through invocation.now.operation invocation.now.process receiver annex)) }
+    ensures cause { IsErrOf result PrepareFault.Failed
+        ↔ ((F.parts store.old).failures < (F.parts store.new).failures) }
     ensures later { (F.parts store.old).failures ≤ (F.parts store.new).failures }
     ensures leads { F.LeadsTo store.old store.new }
 {
@@ -82,11 +92,15 @@ fn announce<F: PresentFrames>(
 // The state of the process that invokes changes: one that calls waits, and one that returns is
 // available.
 fn leave<F: PresentFrames>(store: &mut F, invocation: &Invocation)
-    requires process { IsTrue (is_process (objects_of (frames_of (F.parts store.old))) invocation.now.process) }
+    requires process { IsTrue (is_process
+        (objects_of (frames_of (F.parts store.old))) invocation.now.process) }
     requires fetched { F.IsFetched store.old invocation.now.process }
-    requires announced { (invocation.now.operation ≡ Operation.Send → ⊥) → F.IsAnnounced store.old invocation.now.process }
-    ensures objects { objects_of (frames_of (F.parts store.new)) ≡ after_gate (objects_of (frames_of (F.parts store.old))) invocation.now }
-    ensures current { AreCurrent (frames_of (F.parts store.old)) → AreCurrent (frames_of (F.parts store.new)) }
+    requires announced { (invocation.now.operation ≡ Operation.Send → ⊥)
+        → F.IsAnnounced store.old invocation.now.process }
+    ensures objects { objects_of (frames_of (F.parts store.new))
+        ≡ after_gate (objects_of (frames_of (F.parts store.old))) invocation.now }
+    ensures current { AreCurrent (frames_of (F.parts store.old))
+        → AreCurrent (frames_of (F.parts store.new)) }
     ensures keepable { (age : ℕ)
         → AreKeepable (F.parts store.old).geometry age (frames_of (F.parts store.old))
         → AreKeepable (F.parts store.old).geometry age (frames_of (F.parts store.new)) }
@@ -109,14 +123,20 @@ fn enter<F: PresentFrames>(
     annex: u64,
     sent: [Capability; 4],
 )
-    requires process { IsTrue (is_process (objects_of (frames_of (F.parts store.old))) invocation.now.process) }
-    requires receiver { IsTrue (is_process (objects_of (frames_of (F.parts store.old))) gate.process) }
+    requires process { IsTrue (is_process
+        (objects_of (frames_of (F.parts store.old))) invocation.now.process) }
+    requires receiver { IsTrue (is_process
+        (objects_of (frames_of (F.parts store.old))) gate.process) }
     requires annex { annex ≡ annex_at (objects_of (frames_of (F.parts store.old))) gate.process }
     requires calls { (header_at (F.parts store.old).headers gate.process).calls < u64.MAX }
     requires current { AreCurrent (frames_of (F.parts store.old)) }
-    requires fetched { F.IsFetched store.old invocation.now.process × F.IsFetched store.old gate.process × F.IsFetched store.old annex }
-    requires announced { F.IsAnnounced store.old gate.process × F.IsAnnounced store.old annex × ((invocation.now.operation ≡ Operation.Send → ⊥) → F.IsAnnounced store.old invocation.now.process) }
-    ensures objects { objects_of (frames_of (F.parts store.new)) ≡ entered (objects_of (frames_of (F.parts store.old))) invocation.now gate sent }
+    requires fetched { F.IsFetched store.old invocation.now.process
+        × F.IsFetched store.old gate.process × F.IsFetched store.old annex }
+    requires announced { F.IsAnnounced store.old gate.process × F.IsAnnounced store.old annex
+        × ((invocation.now.operation ≡ Operation.Send → ⊥)
+        → F.IsAnnounced store.old invocation.now.process) }
+    ensures objects { objects_of (frames_of (F.parts store.new))
+        ≡ entered (objects_of (frames_of (F.parts store.old))) invocation.now gate sent }
     ensures current { AreCurrent (frames_of (F.parts store.new)) }
     ensures keepable { (age : ℕ) → age + 1 < 2 ^ 64
         → All (FitsCap (F.parts store.old).geometry) (received invocation.now sent)
@@ -136,8 +156,10 @@ fn enter<F: PresentFrames>(
 // itself.
 fn can_enter<F: PresentFrames>(store: &F, invocation: &Invocation, gate: Gate) -> bool
     requires fetched { F.IsFetched store.now gate.process }
-    requires process { IsTrue (is_process (objects_of (frames_of (F.parts store.now))) gate.process) }
-    ensures { result ≡ (gate.is_resume || can_start (objects_of (frames_of (F.parts store.now))) invocation.now gate.process) }
+    requires process { IsTrue (is_process
+        (objects_of (frames_of (F.parts store.now))) gate.process) }
+    ensures { result ≡ (gate.is_resume || can_start
+        (objects_of (frames_of (F.parts store.now))) invocation.now gate.process) }
 {
     let is_available = roots::state(store, gate.process) == State::Available;
     let is_return = invocation.operation == Operation::Return;
@@ -154,19 +176,27 @@ pub fn invoke_gate<F: PresentFrames>(
     asked: Asked,
     gate: Gate,
 ) -> Result<(), InvokeFault>
-    requires sound { (age : ℕ) × IsSoundFrames (F.parts store.old).geometry age (frames_of (F.parts store.old)) }
-    requires running { IsTrue (is_running_process (objects_of (frames_of (F.parts store.old))) invocation.now.process) }
+    requires sound { (age : ℕ) × IsSoundFrames (F.parts store.old).geometry age
+        (frames_of (F.parts store.old)) }
+    requires running { IsTrue (is_running_process
+        (objects_of (frames_of (F.parts store.old))) invocation.now.process) }
     requires fits { Fits (command.Invoke invocation.now) }
     requires few { length (F.parts store.old).headers < 2 ^ 64 }
     requires asked { IsAsked (objects_of (frames_of (F.parts store.old))) invocation.now asked }
     requires gate { asked.invoked ≡ gate_capability gate }
     requires key { gate.is_resume ≡ true → gate.key ≡ 0 }
-    ensures done { OnOk result (Invokes invocation.now (F.parts store.old).geometry.log (objects_of (frames_of (F.parts store.old))) (F.parts store.old).touched (objects_of (frames_of (F.parts store.new))) (F.parts store.new).touched) }
-    ensures stalled { IsErrOf result InvokeFault.Stalled → invoke (objects_of (frames_of (F.parts store.old))) invocation.now ≡ None }
-    ensures full { IsErrOf result InvokeFault.LogFull → Overfills invocation.now (F.parts store.old).geometry.log (objects_of (frames_of (F.parts store.old))) (F.parts store.old).touched }
+    ensures done { OnOk result (Invokes invocation.now (F.parts store.old).geometry.log
+        (objects_of (frames_of (F.parts store.old))) (F.parts store.old).touched
+        (objects_of (frames_of (F.parts store.new))) (F.parts store.new).touched) }
+    ensures stalled { IsErrOf result InvokeFault.Stalled
+        → invoke (objects_of (frames_of (F.parts store.old))) invocation.now ≡ None }
+    ensures full { IsErrOf result InvokeFault.LogFull
+        → Overfills invocation.now (F.parts store.old).geometry.log
+        (objects_of (frames_of (F.parts store.old))) (F.parts store.old).touched }
     ensures sound { OnOk result (KeepsSoundFrames (F.parts store.old) (F.parts store.new)) }
     ensures unchanged { OnErr result (IsUnchanged (F.parts store.old) (F.parts store.new)) }
-    ensures cause { IsErrOf result InvokeFault.Failed ↔ ((F.parts store.old).failures < (F.parts store.new).failures) }
+    ensures cause { IsErrOf result InvokeFault.Failed
+        ↔ ((F.parts store.old).failures < (F.parts store.new).failures) }
     ensures later { (F.parts store.old).failures ≤ (F.parts store.new).failures }
     ensures geometry { (F.parts store.new).geometry ≡ (F.parts store.old).geometry }
     ensures leads { F.LeadsTo store.old store.new }

@@ -32,17 +32,23 @@ pub fn invoke<F: PresentFrames>(
     store: &mut F,
     invocation: Invocation,
 ) -> Result<(), InvokeFault>
-    requires sound { (age : ℕ) × IsSoundFrames (F.parts store.old).geometry age (frames_of (F.parts store.old)) }
-    requires process { IsTrue (is_running_process (objects_of (frames_of (F.parts store.old))) invocation.process) }
+    requires sound { (age : ℕ) × IsSoundFrames (F.parts store.old).geometry age
+        (frames_of (F.parts store.old)) }
+    requires process { IsTrue (is_running_process
+        (objects_of (frames_of (F.parts store.old))) invocation.process) }
 
     ensures done { OnOk result (Invokes invocation (F.parts store.old).geometry.log
         (objects_of (frames_of (F.parts store.old))) (F.parts store.old).touched
         (objects_of (frames_of (F.parts store.new))) (F.parts store.new).touched) }
-    ensures stalled { IsErrOf result InvokeFault.Stalled → invoke (objects_of (frames_of (F.parts store.old))) invocation ≡ None }
-    ensures full { IsErrOf result InvokeFault.LogFull → Overfills invocation (F.parts store.old).geometry.log (objects_of (frames_of (F.parts store.old))) (F.parts store.old).touched }
+    ensures stalled { IsErrOf result InvokeFault.Stalled
+        → invoke (objects_of (frames_of (F.parts store.old))) invocation ≡ None }
+    ensures full { IsErrOf result InvokeFault.LogFull
+        → Overfills invocation (F.parts store.old).geometry.log
+        (objects_of (frames_of (F.parts store.old))) (F.parts store.old).touched }
     ensures sound { OnOk result (KeepsSoundFrames (F.parts store.old) (F.parts store.new)) }
     ensures unchanged { OnErr result (IsUnchanged (F.parts store.old) (F.parts store.new)) }
-    ensures cause { IsErrOf result InvokeFault.Failed ↔ ((F.parts store.old).failures < (F.parts store.new).failures) }
+    ensures cause { IsErrOf result InvokeFault.Failed
+        ↔ ((F.parts store.old).failures < (F.parts store.new).failures) }
     ensures later { (F.parts store.old).failures ≤ (F.parts store.new).failures }
     ensures geometry { (F.parts store.new).geometry ≡ (F.parts store.old).geometry }
     ensures leads { F.LeadsTo store.old store.new }

@@ -30,20 +30,27 @@ fn announce<F: PresentFrames>(
     annex: u64,
     change: Change,
 ) -> Result<(), PrepareFault>
-    requires keepable { AreKeepable (F.parts store.old).geometry u64.MAX (frames_of (F.parts store.old)) }
+    requires keepable { AreKeepable (F.parts store.old).geometry u64.MAX
+        (frames_of (F.parts store.old)) }
     requires process { process < length (F.parts store.old).headers }
     requires annex { annex < length (F.parts store.old).headers }
     requires target { (n : ℕ) → target_of change ≡ Some n → n < length (F.parts store.old).headers }
-    ensures fetched { OnOk result (F.IsFetched store.new process × F.IsFetched store.new annex × ((n : ℕ) → target_of change ≡ Some n → F.IsFetched store.new n)) }
-    ensures announced { OnOk result (AreAnnounced F.IsAnnounced store.new operation process annex change) }
-    ensures touched { OnOk result ((F.parts store.new).touched ≡ touching (F.parts store.old).touched (written_by operation process annex change)) }
+    ensures fetched { OnOk result (F.IsFetched store.new process × F.IsFetched store.new annex
+        × ((n : ℕ) → target_of change ≡ Some n → F.IsFetched store.new n)) }
+    ensures announced { OnOk result
+        (AreAnnounced F.IsAnnounced store.new operation process annex change) }
+    ensures touched { OnOk result ((F.parts store.new).touched
+        ≡ touching (F.parts store.old).touched (written_by operation process annex change)) }
     ensures within { touched_count (F.parts store.new).touched ≤ (F.parts store.new).geometry.log }
     ensures headers { (F.parts store.new).headers ≡ (F.parts store.old).headers }
     ensures contents { (F.parts store.new).contents ≡ (F.parts store.old).contents }
     ensures geometry { (F.parts store.new).geometry ≡ (F.parts store.old).geometry }
     ensures untouched { OnErr result ((F.parts store.new).touched ≡ (F.parts store.old).touched) }
-    ensures full { IsErrOf result PrepareFault.LogFull → (F.parts store.old).geometry.log < touched_count (touching (F.parts store.old).touched (written_by operation process annex change)) }
-    ensures cause { IsErrOf result PrepareFault.Failed ↔ ((F.parts store.old).failures < (F.parts store.new).failures) }
+    ensures full { IsErrOf result PrepareFault.LogFull → (F.parts store.old).geometry.log
+        < touched_count (touching (F.parts store.old).touched
+        (written_by operation process annex change)) }
+    ensures cause { IsErrOf result PrepareFault.Failed
+        ↔ ((F.parts store.old).failures < (F.parts store.new).failures) }
     ensures later { (F.parts store.old).failures ≤ (F.parts store.new).failures }
     ensures leads { F.LeadsTo store.old store.new }
 {
@@ -67,10 +74,14 @@ fn announce<F: PresentFrames>(
 fn reply<F: PresentFrames>(store: &mut F, process: u64, plan: OrderPlan)
     requires root_fetched { F.IsFetched store.old process }
     requires root_announced { F.IsAnnounced store.old process }
-    requires annex_fetched { F.IsFetched store.old (annex_at (objects_of (frames_of (F.parts store.old))) process) }
-    requires annex_announced { F.IsAnnounced store.old (annex_at (objects_of (frames_of (F.parts store.old))) process) }
-    ensures objects { objects_of (frames_of (F.parts store.new)) ≡ replied_to (objects_of (frames_of (F.parts store.old))) process plan }
-    ensures current { AreCurrent (frames_of (F.parts store.old)) → AreCurrent (frames_of (F.parts store.new)) }
+    requires annex_fetched { F.IsFetched store.old
+        (annex_at (objects_of (frames_of (F.parts store.old))) process) }
+    requires annex_announced { F.IsAnnounced store.old
+        (annex_at (objects_of (frames_of (F.parts store.old))) process) }
+    ensures objects { objects_of (frames_of (F.parts store.new))
+        ≡ replied_to (objects_of (frames_of (F.parts store.old))) process plan }
+    ensures current { AreCurrent (frames_of (F.parts store.old))
+        → AreCurrent (frames_of (F.parts store.new)) }
     ensures keepable { (age : ℕ) → FitsCap (F.parts store.old).geometry plan.capability
         → AreKeepable (F.parts store.old).geometry age (frames_of (F.parts store.old))
         → AreKeepable (F.parts store.old).geometry age (frames_of (F.parts store.new)) }
@@ -106,11 +117,14 @@ fn finish<F: PresentFrames>(
     requires annex { annex ≡ annex_at (objects_of (frames_of (F.parts store.old))) process }
     requires within { IsWithinObject plan.change }
     requires process { IsOfProcess (objects_of (frames_of (F.parts store.old))) plan.change }
-    requires calls { (p : ℕ) → target_of plan.change ≡ Some p → (header_at (F.parts store.old).headers p).calls < u64.MAX }
+    requires calls { (p : ℕ) → target_of plan.change ≡ Some p
+        → (header_at (F.parts store.old).headers p).calls < u64.MAX }
     requires current { AreCurrent (frames_of (F.parts store.old)) }
-    requires fetched { F.IsFetched store.old process × F.IsFetched store.old annex × ((n : ℕ) → target_of plan.change ≡ Some n → F.IsFetched store.old n) }
+    requires fetched { F.IsFetched store.old process × F.IsFetched store.old annex
+        × ((n : ℕ) → target_of plan.change ≡ Some n → F.IsFetched store.old n) }
     requires announced { AreAnnounced F.IsAnnounced store.old operation process annex plan.change }
-    ensures objects { objects_of (frames_of (F.parts store.new)) ≡ finished (objects_of (frames_of (F.parts store.old))) operation process plan }
+    ensures objects { objects_of (frames_of (F.parts store.new))
+        ≡ finished (objects_of (frames_of (F.parts store.old))) operation process plan }
     ensures current { AreCurrent (frames_of (F.parts store.new)) }
     ensures keepable { (age : ℕ) → age + 1 < 2 ^ 64
         → MayHold (F.parts store.old).geometry (objects_of (frames_of (F.parts store.old))) plan.change
@@ -139,7 +153,8 @@ fn plan_order<F: PresentFrames>(
     invocation: &Invocation,
     asked: Asked,
 ) -> Result<OrderPlan, PrepareFault>
-    requires sound { (age : ℕ) × IsSoundFrames (F.parts store.old).geometry age (frames_of (F.parts store.old)) }
+    requires sound { (age : ℕ) × IsSoundFrames (F.parts store.old).geometry age
+        (frames_of (F.parts store.old)) }
     requires fits { Fits (command.Invoke invocation.now) }
     requires few { length (F.parts store.old).headers < 2 ^ 64 }
     requires asked { IsAsked (objects_of (frames_of (F.parts store.old))) invocation.now asked }
@@ -164,18 +179,25 @@ pub fn invoke_object<F: PresentFrames>(
     invocation: &Invocation,
     asked: Asked,
 ) -> Result<(), InvokeFault>
-    requires sound { (age : ℕ) × IsSoundFrames (F.parts store.old).geometry age (frames_of (F.parts store.old)) }
-    requires running { IsTrue (is_running_process (objects_of (frames_of (F.parts store.old))) invocation.now.process) }
+    requires sound { (age : ℕ) × IsSoundFrames (F.parts store.old).geometry age
+        (frames_of (F.parts store.old)) }
+    requires running { IsTrue (is_running_process
+        (objects_of (frames_of (F.parts store.old))) invocation.now.process) }
     requires fits { Fits (command.Invoke invocation.now) }
     requires few { length (F.parts store.old).headers < 2 ^ 64 }
     requires asked { IsAsked (objects_of (frames_of (F.parts store.old))) invocation.now asked }
     requires object { IsKernelObject asked.invoked }
-    ensures done { OnOk result (Invokes invocation.now (F.parts store.old).geometry.log (objects_of (frames_of (F.parts store.old))) (F.parts store.old).touched (objects_of (frames_of (F.parts store.new))) (F.parts store.new).touched) }
+    ensures done { OnOk result (Invokes invocation.now (F.parts store.old).geometry.log
+        (objects_of (frames_of (F.parts store.old))) (F.parts store.old).touched
+        (objects_of (frames_of (F.parts store.new))) (F.parts store.new).touched) }
     ensures stalled { IsErrOf result InvokeFault.Stalled → ⊥ }
-    ensures full { IsErrOf result InvokeFault.LogFull → Overfills invocation.now (F.parts store.old).geometry.log (objects_of (frames_of (F.parts store.old))) (F.parts store.old).touched }
+    ensures full { IsErrOf result InvokeFault.LogFull
+        → Overfills invocation.now (F.parts store.old).geometry.log
+        (objects_of (frames_of (F.parts store.old))) (F.parts store.old).touched }
     ensures sound { OnOk result (KeepsSoundFrames (F.parts store.old) (F.parts store.new)) }
     ensures unchanged { OnErr result (IsUnchanged (F.parts store.old) (F.parts store.new)) }
-    ensures cause { IsErrOf result InvokeFault.Failed ↔ ((F.parts store.old).failures < (F.parts store.new).failures) }
+    ensures cause { IsErrOf result InvokeFault.Failed
+        ↔ ((F.parts store.old).failures < (F.parts store.new).failures) }
     ensures later { (F.parts store.old).failures ≤ (F.parts store.new).failures }
     ensures geometry { (F.parts store.new).geometry ≡ (F.parts store.old).geometry }
     ensures leads { F.LeadsTo store.old store.new }

@@ -26,7 +26,8 @@ pub struct Asked {
 /// Fetches one object.
 pub fn look<F: PresentFrames>(alloc: Global, store: &mut F, number: u64) -> Result<(), PrepareFault>
     requires known { number < length (F.parts store.old).headers }
-    requires keepable { AreKeepable (F.parts store.old).geometry u64.MAX (frames_of (F.parts store.old)) }
+    requires keepable { AreKeepable (F.parts store.old).geometry u64.MAX
+        (frames_of (F.parts store.old)) }
     ensures fetched { OnOk result (F.IsFetched store.new number) }
     ensures looks { Looks F.parts F.LeadsTo store.old store.new result }
 {
@@ -39,9 +40,12 @@ pub fn look_at_process<F: PresentFrames>(
     store: &mut F,
     process: u64,
 ) -> Result<u64, PrepareFault>
-    requires keepable { AreKeepable (F.parts store.old).geometry u64.MAX (frames_of (F.parts store.old)) }
+    requires keepable { AreKeepable (F.parts store.old).geometry u64.MAX
+        (frames_of (F.parts store.old)) }
     requires process { IsTrue (is_process (objects_of (frames_of (F.parts store.old))) process) }
-    requires annex { IsTrue (is_annex (content_at (objects_of (frames_of (F.parts store.old))) (annex_at (objects_of (frames_of (F.parts store.old))) process))) }
+    requires annex { IsTrue (is_annex
+        (content_at (objects_of (frames_of (F.parts store.old)))
+        (annex_at (objects_of (frames_of (F.parts store.old))) process))) }
     ensures root { OnOk result (F.IsFetched store.new process) }
     ensures annex { IfOk result (λ annex. (annex ≡ annex_at (objects_of (frames_of (F.parts store.old))) process) × F.IsFetched store.new annex) }
     ensures looks { Looks F.parts F.LeadsTo store.old store.new result }
@@ -59,12 +63,14 @@ pub fn look_at_named<F: PresentFrames>(
     store: &mut F,
     capability: Capability,
 ) -> Result<(), PrepareFault>
-    requires keepable { AreKeepable (F.parts store.old).geometry u64.MAX (frames_of (F.parts store.old)) }
+    requires keepable { AreKeepable (F.parts store.old).geometry u64.MAX
+        (frames_of (F.parts store.old)) }
     requires kind { NamesItsKind (objects_of (frames_of (F.parts store.old))) capability }
     requires annex { (p : ℕ) → process_named capability ≡ Some p
         → IsTrue (is_annex (content_at (objects_of (frames_of (F.parts store.old))) (annex_at (objects_of (frames_of (F.parts store.old))) p))) }
     ensures object { OnOk result ((n : ℕ) → named capability ≡ Some n → F.IsFetched store.new n) }
-    ensures annex { OnOk result ((p : ℕ) → process_named capability ≡ Some p → F.IsFetched store.new (annex_at (objects_of (frames_of (F.parts store.old))) p)) }
+    ensures annex { OnOk result ((p : ℕ) → process_named capability ≡ Some p
+        → F.IsFetched store.new (annex_at (objects_of (frames_of (F.parts store.old))) p)) }
     ensures looks { Looks F.parts F.LeadsTo store.old store.new result }
 {
     if let Capability::Process(process) = capability {
@@ -83,9 +89,13 @@ pub fn ask<F: PresentFrames>(
     store: &mut F,
     invocation: &Invocation,
 ) -> Result<Asked, PrepareFault>
-    requires keepable { AreKeepable (F.parts store.old).geometry u64.MAX (frames_of (F.parts store.old)) }
-    requires process { IsTrue (is_process (objects_of (frames_of (F.parts store.old))) invocation.now.process) }
-    requires annex { IsTrue (is_annex (content_at (objects_of (frames_of (F.parts store.old))) (annex_at (objects_of (frames_of (F.parts store.old))) invocation.now.process))) }
+    requires keepable { AreKeepable (F.parts store.old).geometry u64.MAX
+        (frames_of (F.parts store.old)) }
+    requires process { IsTrue (is_process
+        (objects_of (frames_of (F.parts store.old))) invocation.now.process) }
+    requires annex { IsTrue (is_annex
+        (content_at (objects_of (frames_of (F.parts store.old)))
+        (annex_at (objects_of (frames_of (F.parts store.old))) invocation.now.process))) }
     ensures asked { IfOk result (λ asked. IsAsked (objects_of (frames_of (F.parts store.old))) invocation.now asked) }
     ensures looks { Looks F.parts F.LeadsTo store.old store.new result }
 {

@@ -44,10 +44,14 @@ fn fetched(access: Access, capability: Capability) -> Capability
 
 // What a store into a slot of a node comes to, of the capability that was sent or of a number.
 fn stored(object: u64, access: Access, arguments: Arguments, capability: Capability) -> OrderPlan
-    requires { (capability ≡ arguments.capability) ⊎ (capability ≡ Capability.Number arguments.second) }
-    ensures only { (os : List Object) → IsFor os (Capability.Node object access) arguments result.change }
-    ensures outcome { (os : List Object) → outcome_of os result ≡ stored os object access arguments.first capability }
-    ensures change { (os : List Object) → ChangesAs os result (stored os object access arguments.first capability) }
+    requires { (capability ≡ arguments.capability)
+        ⊎ (capability ≡ Capability.Number arguments.second) }
+    ensures only { (os : List Object)
+        → IsFor os (Capability.Node object access) arguments result.change }
+    ensures outcome { (os : List Object) → outcome_of os result
+        ≡ stored os object access arguments.first capability }
+    ensures change { (os : List Object)
+        → ChangesAs os result (stored os object access arguments.first capability) }
 {
     if !access.is_empty() {
         return OrderPlan::refused(ResultCode::NoAccess);
@@ -72,10 +76,12 @@ pub fn on_node<F: PresentFrames>(
     arguments: Arguments,
 ) -> OrderPlan
     requires { F.IsFetched store.now object }
-    ensures only { IsFor (objects_of (frames_of (F.parts store.now))) (Capability.Node object access) arguments result.change }
+    ensures only { IsFor (objects_of (frames_of (F.parts store.now)))
+        (Capability.Node object access) arguments result.change }
     ensures outcome { outcome_of (objects_of (frames_of (F.parts store.now))) result
         ≡ on_node (objects_of (frames_of (F.parts store.now))) object access order arguments }
-    ensures change { (os : List Object) → ChangesAs os result (on_node os object access order arguments) }
+    ensures change { (os : List Object)
+        → ChangesAs os result (on_node os object access order arguments) }
 {
     match order {
         NodeOrder::Fetch => {

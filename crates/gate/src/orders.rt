@@ -28,9 +28,12 @@ const CLASSIFY: u64 = 1;
 // What an order on an address space comes to.
 #[tactic(auto, unfolding(model::specs::Order::order))]
 fn on_space(object: u64, height: u8, access: Access, word: u64, arguments: Arguments) -> OrderPlan
-    ensures only { (os : List Object) → IsFor os (Capability.Space object height access) arguments result.change }
-    ensures outcome { (os : List Object) → outcome_of os result ≡ order os (Capability.Space object height access) word arguments }
-    ensures change { (os : List Object) → ChangesAs os result (order os (Capability.Space object height access) word arguments) }
+    ensures only { (os : List Object)
+        → IsFor os (Capability.Space object height access) arguments result.change }
+    ensures outcome { (os : List Object) → outcome_of os result
+        ≡ order os (Capability.Space object height access) word arguments }
+    ensures change { (os : List Object)
+        → ChangesAs os result (order os (Capability.Space object height access) word arguments) }
 {
     if word != REDUCE_SPACE {
         return OrderPlan::refused(ResultCode::NoOrder);
@@ -80,7 +83,8 @@ fn access_bits(capability: Capability) -> u64
 fn on_plain(word: u64, capability: Capability, arguments: Arguments) -> OrderPlan
     requires { IsPlain capability }
     ensures only { (os : List Object) → IsFor os capability arguments result.change }
-    ensures outcome { (os : List Object) → outcome_of os result ≡ order os capability word arguments }
+    ensures outcome { (os : List Object) → outcome_of os result
+        ≡ order os capability word arguments }
     ensures change { (os : List Object) → ChangesAs os result (order os capability word arguments) }
 {
     match capability {
@@ -104,12 +108,16 @@ pub fn plan<F: PresentFrames>(
     arguments: Arguments,
 ) -> OrderPlan
     requires fetched { (n : ℕ) → named capability ≡ Some n → F.IsFetched store.now n }
-    requires process { (p : ℕ) → process_named capability ≡ Some p → IsTrue (is_process (objects_of (frames_of (F.parts store.now))) p) }
-    requires annex { (p : ℕ) → process_named capability ≡ Some p → F.IsFetched store.now (annex_at (objects_of (frames_of (F.parts store.now))) p) }
-    ensures only { IsFor (objects_of (frames_of (F.parts store.now))) capability arguments result.change }
+    requires process { (p : ℕ) → process_named capability ≡ Some p
+        → IsTrue (is_process (objects_of (frames_of (F.parts store.now))) p) }
+    requires annex { (p : ℕ) → process_named capability ≡ Some p
+        → F.IsFetched store.now (annex_at (objects_of (frames_of (F.parts store.now))) p) }
+    ensures only { IsFor (objects_of
+        (frames_of (F.parts store.now))) capability arguments result.change }
     ensures outcome { outcome_of (objects_of (frames_of (F.parts store.now))) result
         ≡ order (objects_of (frames_of (F.parts store.now))) capability word arguments }
-    ensures change { (os : List Object) → HaveAnnexesOf (objects_of (frames_of (F.parts store.now))) os
+    ensures change { (os : List Object)
+        → HaveAnnexesOf (objects_of (frames_of (F.parts store.now))) os
         → ChangesAs os result (order os capability word arguments) }
 {
     match capability {

@@ -45,10 +45,12 @@ pub fn on_page<F: PresentFrames>(
     arguments: Arguments,
 ) -> OrderPlan
     requires { F.IsFetched store.now object }
-    ensures only { IsFor (objects_of (frames_of (F.parts store.now))) (Capability.Page object access) arguments result.change }
+    ensures only { IsFor (objects_of (frames_of (F.parts store.now)))
+        (Capability.Page object access) arguments result.change }
     ensures outcome { outcome_of (objects_of (frames_of (F.parts store.now))) result
         ≡ on_page (objects_of (frames_of (F.parts store.now))) object access order arguments }
-    ensures change { (os : List Object) → ChangesAs os result (on_page os object access order arguments) }
+    ensures change { (os : List Object)
+        → ChangesAs os result (on_page os object access order arguments) }
 {
     match order {
         PageOrder::Read => {

@@ -56,12 +56,15 @@ pub fn on_process<F: PresentFrames>(
     arguments: Arguments,
 ) -> OrderPlan
     requires root { F.IsFetched store.now process }
-    requires annex { F.IsFetched store.now (annex_at (objects_of (frames_of (F.parts store.now))) process) }
+    requires annex { F.IsFetched store.now
+        (annex_at (objects_of (frames_of (F.parts store.now))) process) }
     requires process { IsTrue (is_process (objects_of (frames_of (F.parts store.now))) process) }
-    ensures only { IsFor (objects_of (frames_of (F.parts store.now))) (Capability.Process process) arguments result.change }
+    ensures only { IsFor (objects_of (frames_of (F.parts store.now)))
+        (Capability.Process process) arguments result.change }
     ensures outcome { outcome_of (objects_of (frames_of (F.parts store.now))) result
         ≡ on_process (objects_of (frames_of (F.parts store.now))) process order arguments }
-    ensures change { (os : List Object) → HaveAnnexesOf (objects_of (frames_of (F.parts store.now))) os
+    ensures change { (os : List Object)
+        → HaveAnnexesOf (objects_of (frames_of (F.parts store.now))) os
         → ChangesAs os result (on_process os process order arguments) }
 {
     let first = arguments.first;

@@ -26,11 +26,13 @@ pub fn early<F: PresentFrames>(
     age: u64,
     process: u64,
 ) -> Option<Refusal>
-    requires sound { IsSoundFrames (F.parts store.old).geometry age (frames_of (F.parts store.old)) }
+    requires sound { IsSoundFrames (F.parts store.old).geometry age
+        (frames_of (F.parts store.old)) }
     ensures why { IsEarly (objects_of (frames_of (F.parts store.old))) process result }
     ensures aside { LooksUp F.parts F.LeadsTo store.old store.new }
     ensures later { (F.parts store.old).failures ≤ (F.parts store.new).failures }
-    ensures cause { (result ≡ Some Refusal.Fault) ↔ ((F.parts store.old).failures < (F.parts store.new).failures) }
+    ensures cause { (result ≡ Some Refusal.Fault)
+        ↔ ((F.parts store.old).failures < (F.parts store.new).failures) }
 {
     if !is_process(store, process) {
         return Some(Refusal::NoProcess);

@@ -22,7 +22,8 @@ pub fn invoke<F: PresentFrames>(
     invocation: Invocation,
 ) -> Answer
     requires { IsSoundFrames (F.parts store.old).geometry age (frames_of (F.parts store.old)) }
-    ensures serves { Serves age (F.parts store.old) (command.Invoke invocation) result (age_after age result) (F.parts store.new) }
+    ensures serves { Serves age (F.parts store.old) (command.Invoke invocation) result
+        (age_after age result) (F.parts store.new) }
     ensures leads { F.LeadsTo store.old store.new }
 {
     if let Some(refusal) = early(alloc, store, age, invocation.process) {

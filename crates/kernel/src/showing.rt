@@ -18,7 +18,8 @@ use std::alloc::Global;
 // The usage of an object with that content, which is 0 where it is no bank.
 fn used_by<F: PresentFrames>(store: &F, content: &Content<Capability>, number: u64) -> u64
     requires { HaveTheirRoles (frames_of (F.parts store.now)) }
-    ensures { result ≡ (if is_bank content.now then usage_of (objects_of (frames_of (F.parts store.now))) number else 0) }
+    ensures { result ≡ (if is_bank content.now then usage_of
+        (objects_of (frames_of (F.parts store.now))) number else 0) }
 {
     match content {
         Content::Bank { .. } => usage(store, number),
@@ -32,8 +33,10 @@ fn registers_of<F: PresentFrames>(
     store: &mut F,
     annex: u64,
 ) -> Result<Slots<Capability>, PrepareFault>
-    requires keepable { AreKeepable (F.parts store.old).geometry u64.MAX (frames_of (F.parts store.old)) }
-    requires annex { IsTrue (is_annex (content_at (objects_of (frames_of (F.parts store.old))) annex)) }
+    requires keepable { AreKeepable (F.parts store.old).geometry u64.MAX
+        (frames_of (F.parts store.old)) }
+    requires annex { IsTrue (is_annex
+        (content_at (objects_of (frames_of (F.parts store.old))) annex)) }
     ensures registers { IfOk result (λ registers. registers ≡ slots_in (content_at (objects_of (frames_of (F.parts store.old))) annex)) }
     ensures looks { Looks F.parts F.LeadsTo store.old store.new result }
 {
@@ -52,7 +55,8 @@ fn shown<F: PresentFrames>(
     age: u64,
     number: u64,
 ) -> Result<Answer, PrepareFault>
-    requires sound { IsSoundFrames (F.parts store.old).geometry age (frames_of (F.parts store.old)) }
+    requires sound { IsSoundFrames (F.parts store.old).geometry age
+        (frames_of (F.parts store.old)) }
     requires known { number < length (F.parts store.old).headers }
     ensures answer { IfOk result (λ answer. answer ≡ shown (objects_of (frames_of (F.parts store.old))) number) }
     ensures looks { Looks F.parts F.LeadsTo store.old store.new result }
@@ -80,7 +84,8 @@ fn shown<F: PresentFrames>(
 /// and by `Fault` exactly where the device failed.
 pub fn show<F: PresentFrames>(alloc: Global, store: &mut F, age: u64, number: u64) -> Answer
     requires { IsSoundFrames (F.parts store.old).geometry age (frames_of (F.parts store.old)) }
-    ensures serves { Serves age (F.parts store.old) (command.Show number) result age (F.parts store.new) }
+    ensures serves { Serves age (F.parts store.old) (command.Show number) result age
+        (F.parts store.new) }
     ensures aside { LooksUp F.parts F.LeadsTo store.old store.new }
 {
     if number >= store.table().count() {

@@ -119,7 +119,8 @@ impl Superblock {
     ) -> Option<Self>
         ensures some { IfSome result (λ s. s ≡ plan_of geometry ranges.now half_0 half_1 total) }
         ensures fits { IfSome result (λ s. IsPlan s) }
-        ensures none { IfNone result (IsPlan (plan_of geometry ranges.now half_0 half_1 total) → ⊥) }
+        ensures none { IfNone result (IsPlan (plan_of geometry ranges.now half_0 half_1 total)
+            → ⊥) }
     {
         if !is_plan(geometry, ranges, half_0, half_1, total) {
             return None;

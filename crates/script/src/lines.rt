@@ -12,7 +12,8 @@ use std::io::{ErrorKind, Read};
 // that have no room aren't kept, and count as one too many.
 fn push(text: &mut [u8], count: usize, byte: u8) -> usize
     requires room { length text.old ≡ 256 }
-    ensures holds { (line : List ℕ) → HoldsLine text.old count line → HoldsLine text.new result (line ++ byte ∷ []) }
+    ensures holds { (line : List ℕ) → HoldsLine text.old count line
+        → HoldsLine text.new result (line ++ byte ∷ []) }
     ensures room { length text.new ≡ 256 }
 {
     if count >= LONGEST_LINE {

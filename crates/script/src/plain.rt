@@ -17,6 +17,7 @@ use std::alloc::Global;
 use std::io::{Read, Write};
 
 // Does what a line says, and writes the answer.
+#[inline(never)]
 fn take<W: Write>(
     alloc: Global,
     known: Known,

@@ -118,7 +118,8 @@ fn bank_line(number: u64, owner: u64, limit: u64, used: u64) -> LineText
 
 // Writes the line of a word that isn't 0.
 fn print_word<W: Write>(index: usize, word: u64, writer: &mut W) -> Result<(), RunFault>
-    ensures { Writes (W.contents writer.old) (W.contents writer.new) result (word_line (index, word)) }
+    ensures { Writes (W.contents writer.old) (W.contents writer.new) result
+        (word_line (index, word)) }
 {
     if word == 0 {
         return Ok(());

@@ -321,7 +321,8 @@ fn make(
 ) -> Result<(), PrepareFault>
     requires fits { FreshFits fresh }
     requires keepable { AreKeepable plain.old.geometry 0 (frames_of (parts_of plain.old)) }
-    ensures keepable { OnOk result (AreKeepable plain.new.geometry 0 (frames_of (parts_of plain.new))) }
+    ensures keepable { OnOk result (AreKeepable plain.new.geometry 0
+        (frames_of (parts_of plain.new))) }
 {
     is_there(rt, plain, number);
     is_place(rt, plain, number, fresh);

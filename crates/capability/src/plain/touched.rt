@@ -8,7 +8,8 @@ ghost use Rattle.model.specs.Machine.{touching, touched_count};
 /// Takes as many comparisons as the list has pairs, and no memory.
 pub fn fresh_count(touched: &[bool], written: &[u64]) -> u64
     requires { All (λ n. n < length touched.now) written.now }
-    ensures counted { touched_count touched.now + result ≡ touched_count (touching touched.now written.now) }
+    ensures counted { touched_count touched.now + result
+        ≡ touched_count (touching touched.now written.now) }
     ensures small { touched_count touched.now + result < 2 ^ 64 }
 {
     let mut fresh = 0;

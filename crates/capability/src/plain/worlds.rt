@@ -162,7 +162,8 @@ fn first_contents(alloc: Global) -> Result<Vec<Content<Cap>>, AllocError>
 }
 
 fn push_free(contents: &mut Vec<Content<Cap>>, count: usize) -> Result<(), AllocError>
-    ensures { OnOk result (contents.new.items ≡ contents.old.items ++ replicate count content.Free) }
+    ensures { OnOk result (contents.new.items
+        ≡ contents.old.items ++ replicate count content.Free) }
 {
     for _n in 0..count {
         contents.push(Content::Free)?;
