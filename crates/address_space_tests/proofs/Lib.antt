@@ -1,1 +1,1 @@
-pub mod Sound
+mod Sound

@@ -1,11 +1,11 @@
 pub mod Asides
-pub mod Counts
-pub mod Edits
 pub mod Frames
 pub mod FreshSound
-pub mod FreshWorlds
 pub mod Keeping
-pub mod RootEdits
 mod Chains
+mod Counts
+mod Edits
+mod FreshWorlds
+mod RootEdits
 mod SoundFrames
 mod Touched

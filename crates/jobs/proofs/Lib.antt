@@ -1,2 +1,2 @@
-pub mod FirstRuns
-pub mod OneByte
+mod FirstRuns
+mod OneByte

@@ -1,10 +1,10 @@
-pub mod Revoking
 pub mod SoundEdits
 pub mod SoundGates
 pub mod SoundOrders
 pub mod SoundParts
 pub mod SoundWorlds
 pub mod Spelling
-pub mod Touching
-pub mod Usage
-pub mod WorkedRows
+mod Revoking
+mod Touching
+mod Usage
+mod WorkedRows

@@ -1,11 +1,11 @@
 pub mod Begins
-pub mod Commands
-pub mod Fronts
-pub mod Keywords
-pub mod Numbers
-pub mod Spellings
-pub mod Split
-pub mod Stores
-pub mod Taken
-pub mod Texts
-pub mod Turns
+mod Commands
+mod Fronts
+mod Keywords
+mod Numbers
+mod Spellings
+mod Split
+mod Stores
+mod Taken
+mod Texts
+mod Turns

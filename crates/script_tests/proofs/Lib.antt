@@ -1,3 +1,3 @@
-pub mod Discrims
-pub mod KeptStores
-pub mod MadeWorlds
+mod Discrims
+mod KeptStores
+mod MadeWorlds
