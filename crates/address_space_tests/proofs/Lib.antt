@@ -1,1 +1,1 @@
-mod Sound
+pub mod Sound

@@ -1,3 +1,3 @@
-mod Discrims
-mod KeptStores
-mod MadeWorlds
+pub mod Discrims
+pub mod KeptStores
+pub mod MadeWorlds
