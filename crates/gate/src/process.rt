@@ -47,6 +47,44 @@ fn may_be_space(capability: Capability) -> bool
     )
 }
 
+// What setting the state of a process comes to: 0 makes it available, 1 running.
+#[tactic(auto, unfolding(model::specs::Order::on_process))]
+fn set_state(process: u64, arguments: Arguments) -> OrderPlan
+    ensures only { (os : List Object)
+        → IsFor os (Capability.Process process) arguments result.change }
+    ensures outcome { (os : List Object)
+        → outcome_of os result ≡ on_process os process ProcessOrder.SetState arguments }
+    ensures change { (os : List Object)
+        → ChangesAs os result (on_process os process ProcessOrder.SetState arguments) }
+{
+    let state = match arguments.first {
+        0 => State::Available,
+        1 => State::Running,
+        _ => return OrderPlan::refused(ResultCode::BadIndex),
+    };
+    OrderPlan::changed(Change::SetState { process, state })
+}
+
+// What setting the address space of a process comes to.
+#[tactic(auto, unfolding(model::specs::Order::on_process))]
+fn set_space(process: u64, arguments: Arguments) -> OrderPlan
+    ensures only { (os : List Object)
+        → IsFor os (Capability.Process process) arguments result.change }
+    ensures outcome { (os : List Object)
+        → outcome_of os result ≡ on_process os process ProcessOrder.SetSpace arguments }
+    ensures change { (os : List Object)
+        → ChangesAs os result (on_process os process ProcessOrder.SetSpace arguments) }
+{
+    let capability = arguments.capability;
+    if !may_be_space(capability) {
+        return OrderPlan::refused(ResultCode::BadCapability);
+    }
+    OrderPlan::changed(Change::Space {
+        process,
+        capability,
+    })
+}
+
 /// What an order on a process comes to whose root and annex are fetched.
 #[tactic(auto, unfolding(model::specs::Order::on_process))]
 pub fn on_process<F: PresentFrames>(
@@ -97,22 +135,9 @@ pub fn on_process<F: PresentFrames>(
             let state = roots::state(store, process);
             OrderPlan::told(state.number(), roots::key(store, process) as u64)
         }
-        ProcessOrder::SetState if first == 0 => OrderPlan::changed(Change::SetState {
-            process,
-            state: State::Available,
-        }),
-        ProcessOrder::SetState if first == 1 => OrderPlan::changed(Change::SetState {
-            process,
-            state: State::Running,
-        }),
+        ProcessOrder::SetState => set_state(process, arguments),
         ProcessOrder::GetSpace => OrderPlan::given(roots::space(store, process)),
-        ProcessOrder::SetSpace if may_be_space(arguments.capability) => {
-            OrderPlan::changed(Change::Space {
-                process,
-                capability: arguments.capability,
-            })
-        }
-        ProcessOrder::SetSpace => OrderPlan::refused(ResultCode::BadCapability),
+        ProcessOrder::SetSpace => set_space(process, arguments),
         _ => OrderPlan::refused(ResultCode::BadIndex),
     }
 }
