@@ -1,11 +1,11 @@
 pub mod BesideHeaders
 pub mod Commits
-mod Denoted
+pub mod Denoted
 mod Directories
-mod Places
+pub mod Places
 mod ReadBack
 mod Refusals
 pub mod Runs
-mod SavedStates
+pub mod SavedStates
 mod Sectors
 mod Winners

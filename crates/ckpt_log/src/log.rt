@@ -51,8 +51,8 @@ impl Log {
         self.superblock.half(Half::of(generation))
     }
 
-    // The first sector of a slot.
-    pub(crate) fn slot_sector(&self, generation: u64, slot: u64) -> u64
+    /// The first sector of a slot in the half of a generation, which takes 9 sectors.
+    pub fn slot_sector(&self, generation: u64, slot: u64) -> u64
         requires slot { slot < self.now.geometry.log }
         ensures value { result ≡ slot_sector self.now generation slot }
         ensures inside { result + 9 ≤ self.now.total }

@@ -1,2 +1,2 @@
-mod Places
+pub mod Places
 mod Runs

@@ -116,7 +116,7 @@ pub record HasNumbers (c : Cap) (head object count : ℕ) : Type 0 where
   pub object_is : object ≡ number_of c.what
   pub count_is : count ≡ c.count
 
-head_below : (k : Capability) → HeadFits k → head_number k < 2 ^ 64
+pub head_below : (k : Capability) → HeadFits k → head_number k < 2 ^ 64
 head_below k fits = let t = tag_fits k in omega (arith, fits.access, fits.key, fits.height)
 
 pub spelt_numbers : (c : Cap) (head object count : ℕ) → CapFits c → head < 2 ^ 64 → object < 2 ^ 64 → count < 2 ^ 64
@@ -127,7 +127,7 @@ spelt_numbers c head object count fits fh fo fc e =
     let d = number_splits count c.count [] [] fc fits.count (ap (λ (r : List ℕ). r ++ []) b.1) in
     record { head_is = a.0; object_is = b.0; count_is = d.0 }
 
-same_cap : (b c : Cap) → b.what ≡ c.what → b.count ≡ c.count → b ≡ c
+pub same_cap : (b c : Cap) → b.what ≡ c.what → b.count ≡ c.count → b ≡ c
 same_cap b c w n = ap (λ (k : Capability). record { what = k; count = b.count }) w ∙ ap (λ (m : ℕ). record { what = c.what; count = m }) n
 
 -- three numbers are written

@@ -147,7 +147,7 @@ root_again s (a ∷ b ∷ c ∷ d ∷ []) key annex space len fits =
     ap (λ (t : State). root_of t (a ∷ b ∷ c ∷ d ∷ []) (key % 65536) annex space) (state_again s) ∙ ap (λ (k : ℕ). root_of s (a ∷ b ∷ c ∷ d ∷ []) k annex space) small
 root_again s (a ∷ b ∷ c ∷ d ∷ e ∷ ws) key annex space len fits = absurd (omega (arith, len))
 
-content_again : (c : Content Cap) → FollowsRole c → content_of (body_in (role_number (role_of c)) (slots_of c)) (slots_of c) [] ≡ c
+pub content_again : (c : Content Cap) → FollowsRole c → content_of (body_in (role_number (role_of c)) (slots_of c)) (slots_of c) [] ≡ c
 content_again content.Free f = refl
 content_again (content.Page words) f = absurd f
 content_again (content.Node slots) f = refl

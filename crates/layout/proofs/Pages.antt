@@ -29,7 +29,7 @@ words_bytes-push : (ws : List ℕ) (w : ℕ) → words_bytes (ws ++ w ∷ []) �
 unfolding words_bytes
 words_bytes-push ws w = flat_map-append number ws (w ∷ []) ∙ ap (λ (r : List ℕ). flat_map number ws ++ r) (append-nil (number w))
 
-words_stream : (ws : List ℕ) → words_bytes ws ≡ stream ws []
+pub words_stream : (ws : List ℕ) → words_bytes ws ≡ stream ws []
 unfolding words_bytes
 words_stream [] = refl
 words_stream (w ∷ ws) = ap (λ (r : List ℕ). number w ++ r) (words_stream ws)
@@ -39,7 +39,7 @@ unfolding words_bytes
 length-words [] = refl
 length-words (w ∷ ws) = length-append (number w) (words_bytes ws) ∙ omega (arith, length-number w, length-words ws)
 
-all_fit : (ws : List ℕ) → All (λ w. w < 2 ^ 64) ws → AllFit ws
+pub all_fit : (ws : List ℕ) → All (λ w. w < 2 ^ 64) ws → AllFit ws
 all_fit [] all = tt
 all_fit (w ∷ ws) all = (all 0 0 (omega arith), all_fit ws (λ k d lt. all (suc k) d (omega arith)))
 
@@ -94,7 +94,7 @@ zero_words_bytes = refl
 
 -- ---- frames
 
-words_fit : (c : Content Cap) → HoldsPage c → AreKeptWords 512 (page_words c)
+pub words_fit : (c : Content Cap) → HoldsPage c → AreKeptWords 512 (page_words c)
 words_fit content.Free h = zero_words_fit
 words_fit (content.Page words) h = h
 words_fit (content.Node slots) h = absurd h
@@ -102,7 +102,7 @@ words_fit (content.Root root) h = absurd h
 words_fit (content.Annex registers) h = absurd h
 words_fit (content.Bank limit) h = absurd h
 
-content_again : (c : Content Cap) → HoldsPage c → content_of (page_body_in (role_number (role_of c))) [] (page_words c) ≡ c
+pub content_again : (c : Content Cap) → HoldsPage c → content_of (page_body_in (role_number (role_of c))) [] (page_words c) ≡ c
 content_again content.Free h = refl
 content_again (content.Page words) h = refl
 content_again (content.Node slots) h = absurd h

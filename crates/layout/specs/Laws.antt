@@ -1,4 +1,4 @@
--- Given bytes spell at most one value, and an image denotes at most one saved state.
+-- Given bytes spell at most one value, a frame is read of the bytes that spell it, and an image denotes at most one saved state.
 use Rattle.std.specs.Prelude.{◌≡◌, ℕ, List}
 use Rattle.model.specs.declared.capability.Cap.{Cap}
 use Rattle.model.specs.declared.frame.Frame.{Frame}
@@ -12,6 +12,7 @@ use Rattle.layout.specs.Gate.{gate_bytes, gate_of}
 use Rattle.layout.specs.Header.{header_bytes, IsHeader}
 use Rattle.layout.specs.Directory.{directory_bytes, IsDirectory}
 use Rattle.layout.specs.Frame.{IsFrameOf}
+use Rattle.layout.specs.FrameReader.{frame_from}
 use Rattle.layout.specs.Superblock.{Plan, superblock_bytes, IsPlan}
 use Rattle.device.specs.Disk.{Image}
 use Rattle.layout.specs.Image.{SavedState, Denotes}
@@ -36,3 +37,7 @@ SpellOneSuperblock = (p q : Plan) → IsPlan p → IsPlan q → superblock_bytes
 
 abbrev pub DenoteOneState : Type 0
 DenoteOneState = (image : Image) (size : ℕ) (s t : SavedState) → Denotes image size s → Denotes image size t → s ≡ t
+
+-- what spells a frame is read as that frame
+abbrev pub SpeltIsRead : Type 0
+SpeltIsRead = (g : Geometry) (age object : ℕ) (bytes : List ℕ) (f : Frame) → IsFrameOf g age object bytes f → frame_from g object bytes ≡ f

@@ -8,4 +8,6 @@ pub mod Half
 pub mod Superblock
 pub mod Image
 pub mod Laws
+pub mod FrameReader
+pub mod Spelt
 pub use Rattle.byteorder.specs.Endian

@@ -1,5 +1,5 @@
 // Laws of the format, told by functions that do nothing.
-ghost use Rattle.layout.specs.Laws.{SpellOneCapability, SpellOneGate, SpellOneHeader, SpellOneDirectory, SpellOneFrame, SpellOneSuperblock, DenoteOneState};
+ghost use Rattle.layout.specs.Laws.{SpellOneCapability, SpellOneGate, SpellOneHeader, SpellOneDirectory, SpellOneFrame, SpellOneSuperblock, SpeltIsRead, DenoteOneState};
 
 /// Given bytes spell at most one value of each structure. It does nothing: its contract is the law.
 pub fn spell_one_value()
@@ -9,6 +9,12 @@ pub fn spell_one_value()
     ensures directory { SpellOneDirectory }
     ensures frame { SpellOneFrame }
     ensures superblock { SpellOneSuperblock }
+{}
+
+/// Bytes that spell a frame are read as that frame, by the reader that takes any bytes. It does
+/// nothing: its contract is the law.
+pub fn what_is_spelt_is_read()
+    ensures { SpeltIsRead }
 {}
 
 /// An image denotes at most one saved state. It does nothing: its contract is the law.

@@ -29,7 +29,7 @@ pub use frame::{decode_frame, encode_frame};
 pub use gate::{Gate, decode_gate, encode_gate};
 pub use half::Half;
 pub use header::{CheckpointHeader, decode_header, encode_header};
-pub use laws::{denote_one_state, spell_one_value};
+pub use laws::{denote_one_state, spell_one_value, what_is_spelt_is_read};
 pub use node_frame::NODE_FRAME_BYTES;
 pub use page_frame::PAGE_FRAME_BYTES;
 pub use superblock::{MAX_RANGES, Superblock, decode_superblock, encode_superblock};

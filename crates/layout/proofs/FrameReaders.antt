@@ -1,0 +1,143 @@
+-- Bytes that spell a frame are read as that frame.
+use Rattle.std.proofs.Common.{◌≡◌, ℕ, ◌+◌, ◌/◌, ◌%◌, ◌^◌, ◌<◌, Bool, List, [], ◌∷◌, ◌++◌, length, drop, refl, sym, ap, subst, ◌∙◌, append_assoc, inl, inr}
+use Rattle.std.proofs.lemmas.Bool.{cases_lt, lt-ltb, le-ltb}
+use Rattle.std.proofs.lemmas.List.{drop_at, drop-drop}
+use Rattle.std.proofs.lemmas.List.Elements.{All-head, All-tail}
+use Rattle.std.specs.List.{All}
+use Rattle.std.specs.Prelude.{if◌then◌else◌}
+use Rattle.model.specs.declared.capability.Cap.{Cap}
+use Rattle.model.specs.declared.frame.Frame.{Frame}
+use Rattle.model.specs.declared.frame.ObjectHeader.{ObjectHeader}
+use Rattle.model.specs.declared.geometry.Geometry.{Geometry}
+use Rattle.model.specs.declared.object.Content.{Content}
+use Rattle.model.specs.declared.object.Role.{Role}
+use Rattle.model.specs.Keepable.{IsKeptCap}
+use Rattle.model.specs.Object.{role_of, role_number}
+use Rattle.layout.specs.Bytes.{number, number_from, zeros}
+use Rattle.layout.specs.Capability.{capability_bytes, head_number, number_of}
+use Rattle.layout.specs.Frame.{front_numbers, slots_of, slots_bytes, words_bytes, page_words, role_in, body_in, page_body_in, content_of, IsNodeFrame, IsPageFrame, node_frame_bytes, page_frame_bytes, IsFront, IsFrameOf}
+use Rattle.layout.specs.FrameReader.{cap_with, cap_from, slots_from, words_from, header_from, node_from, page_from, frame_from}
+use Rattle.layout.proofs.Capabilities.{as_numbers, follows_fits, head_below, made_again, same_cap}
+use Rattle.layout.proofs.Numbers.{AllFit, stream, number_told, length-number}
+use Rattle.layout.proofs.Frames.{front_stream, content_again, role_again, role_fits, node_parts, front_list, length-front}
+use Rattle.layout.proofs.Pages as page
+use Rattle.layout.proofs.Keepables.{node_of_frame, page_of_frame}
+use Rattle.layout.proofs.SlotLists.{slots_bytes-cons, length-capability}
+
+-- a number, and what follows it
+pub told : (n : ℕ) (rest bytes : List ℕ) → n < 2 ^ 64 → bytes ≡ number n ++ rest → number_from bytes ≡ n
+told n rest bytes fits e = sym (number_told bytes rest n fits e)
+
+pub passed : (n : ℕ) (rest bytes : List ℕ) → bytes ≡ number n ++ rest → drop 8 bytes ≡ rest
+passed n rest bytes e = ap (drop 8) e ∙ drop_at (number n) rest 8 (length-number n)
+
+pub passed_on : (k n : ℕ) (rest bytes : List ℕ) → drop k bytes ≡ number n ++ rest → drop (k + 8) bytes ≡ rest
+passed_on k n rest bytes e = sym (drop-drop 8 k bytes) ∙ passed n rest (drop k bytes) e
+
+cap_is : (head object count : ℕ) (c : Cap) (g : Geometry) (age : ℕ) → IsKeptCap g age c → head ≡ head_number c.what → object ≡ number_of c.what → count ≡ c.count → cap_with head object count ≡ c
+cap_is head object count c g age kept eh eo ec =
+    let all = follows_fits g age c.count c.what kept in
+    same_cap (cap_with head object count) c (made_again c.what head (head / 256 % 256) object all.head eh eo refl) ec
+
+pub cap_again : (g : Geometry) (age : ℕ) (c : Cap) (rest : List ℕ) → IsKeptCap g age c → cap_from (capability_bytes c ++ rest) ≡ c
+unfolding cap_from
+cap_again g age c rest kept =
+    let all = follows_fits g age c.count c.what kept in
+    let h : List ℕ = number (head_number c.what) in
+    let o : List ℕ = number (number_of c.what) in
+    let n : List ℕ = number c.count in
+    let bytes : List ℕ = capability_bytes c ++ rest in
+    let whole : bytes ≡ h ++ (o ++ (n ++ rest)) = ap (λ (b : List ℕ). b ++ rest) (as_numbers c all.head) ∙ append_assoc h (o ++ n) rest ∙ ap (λ (b : List ℕ). h ++ b) (append_assoc o n rest) in
+    let second : drop 8 bytes ≡ o ++ (n ++ rest) = passed (head_number c.what) (o ++ (n ++ rest)) bytes whole in
+    let third : drop 16 bytes ≡ n ++ rest = passed_on 8 (number_of c.what) (n ++ rest) bytes second in
+    cap_is (number_from bytes) (number_from (drop 8 bytes)) (number_from (drop 16 bytes)) c g age kept
+    (told (head_number c.what) (o ++ (n ++ rest)) bytes (head_below c.what all.head) whole)
+    (told (number_of c.what) (n ++ rest) (drop 8 bytes) all.object second)
+    (told c.count rest (drop 16 bytes) all.count third)
+
+slots_again : (g : Geometry) (age : ℕ) (cs : List Cap) (rest : List ℕ) → All (IsKeptCap g age) cs → slots_from (length cs) (slots_bytes cs ++ rest) ≡ cs
+unfolding slots_from
+slots_again g age [] rest all = refl
+slots_again g age (c ∷ cs) rest all =
+    let whole : slots_bytes (c ∷ cs) ++ rest ≡ capability_bytes c ++ (slots_bytes cs ++ rest) = ap (λ (b : List ℕ). b ++ rest) (slots_bytes-cons c cs) ∙ append_assoc (capability_bytes c) (slots_bytes cs) rest in
+    let behind : drop 24 (slots_bytes (c ∷ cs) ++ rest) ≡ slots_bytes cs ++ rest = ap (drop 24) whole ∙ drop_at (capability_bytes c) (slots_bytes cs ++ rest) 24 (length-capability c) in
+    ap (λ (x : Cap). x ∷ slots_from (length cs) (drop 24 (slots_bytes (c ∷ cs) ++ rest))) (ap cap_from whole ∙ cap_again g age c (slots_bytes cs ++ rest) (All-head (IsKeptCap g age) c cs all))
+    ∙ ap (λ (xs : List Cap). c ∷ xs) (ap (slots_from (length cs)) behind ∙ slots_again g age cs rest (All-tail (IsKeptCap g age) c cs all))
+
+words_again : (ws : List ℕ) (rest : List ℕ) → AllFit ws → words_from (length ws) (stream ws rest) ≡ ws
+unfolding words_from
+words_again [] rest fits = refl
+words_again (w ∷ ws) rest fits =
+    ap (λ (x : ℕ). x ∷ words_from (length ws) (drop 8 (stream (w ∷ ws) rest))) (told w (stream ws rest) (stream (w ∷ ws) rest) fits.0 refl)
+    ∙ ap (λ (xs : List ℕ). w ∷ xs) (ap (words_from (length ws)) (passed w (stream ws rest) (stream (w ∷ ws) rest) refl) ∙ words_again ws rest fits.1)
+
+abbrev header_of : Role → ℕ → ℕ → ℕ → ObjectHeader
+header_of r a c o = record { role = r; allocations = a; calls = c; owner = o }
+
+same_header : (r r' : Role) (a a' c c' o o' : ℕ) → r ≡ r' → a ≡ a' → c ≡ c' → o ≡ o' → header_of r a c o ≡ header_of r' a' c' o'
+same_header r r' a a' c c' o o' er ea ec eo = rw (er, ea, ec, eo) refl
+
+record FrontIs (f : Frame) (bytes : List ℕ) : Type 0 where
+  pub role : number_from bytes ≡ role_number (role_of f.content)
+  pub header : header_from bytes ≡ f.header
+
+front_again : (age : ℕ) (f : Frame) (bytes rest : List ℕ) → IsFront age f → bytes ≡ front_numbers (role_number f.header.role) f.header ++ rest → FrontIs f bytes
+unfolding header_from
+front_again age f bytes rest is e =
+    let h : ObjectHeader = f.header in
+    let whole : bytes ≡ stream (front_list (role_number h.role) h) rest = e ∙ front_stream (role_number h.role) h rest in
+    let after : drop 8 bytes ≡ stream (h.allocations ∷ h.calls ∷ h.owner ∷ []) rest = passed (role_number h.role) (stream (h.allocations ∷ h.calls ∷ h.owner ∷ []) rest) bytes whole in
+    let after' : drop 16 bytes ≡ stream (h.calls ∷ h.owner ∷ []) rest = passed_on 8 h.allocations (stream (h.calls ∷ h.owner ∷ []) rest) bytes after in
+    let last : drop 24 bytes ≡ stream (h.owner ∷ []) rest = passed_on 16 h.calls (stream (h.owner ∷ []) rest) bytes after' in
+    let role : number_from bytes ≡ role_number h.role = told (role_number h.role) (stream (h.allocations ∷ h.calls ∷ h.owner ∷ []) rest) bytes (role_fits h.role) whole in
+    record {
+      role = role ∙ ap role_number is.role;
+      header = same_header (role_in (number_from bytes)) h.role (number_from (drop 8 bytes)) h.allocations (number_from (drop 16 bytes)) h.calls (number_from (drop 24 bytes)) h.owner
+          (ap role_in role ∙ role_again h.role)
+          (told h.allocations (stream (h.calls ∷ h.owner ∷ []) rest) (drop 8 bytes) is.allocations.1 after)
+          (told h.calls (stream (h.owner ∷ []) rest) (drop 16 bytes) is.calls.1 after')
+          (told h.owner rest (drop 24 bytes) is.owner last);
+    }
+
+abbrev frame_with : ObjectHeader → Content Cap → Frame
+frame_with h c = record { header = h; content = c }
+
+same_frame : (h h' : ObjectHeader) (c c' : Content Cap) → h ≡ h' → c ≡ c' → frame_with h c ≡ frame_with h' c'
+same_frame h h' c c' eh ec = rw (eh, ec) refl
+
+node_again : (g : Geometry) (age : ℕ) (f : Frame) (bytes : List ℕ) → IsNodeFrame g age f → bytes ≡ node_frame_bytes f → node_from bytes ≡ f
+node_again g age f bytes is e =
+    let parts = node_parts g age f bytes is e in
+    let slots : List Cap = slots_of f.content in
+    let rest : List ℕ = slots_bytes slots ++ zeros 224 in
+    let front = front_again age f bytes rest is.front parts.whole in
+    let behind : drop 32 bytes ≡ rest = ap (drop 32) parts.whole ∙ drop_at (front_numbers (role_number f.header.role) f.header) rest 32 (length-front (role_number f.header.role) f.header) in
+    let read : slots_from 32 (drop 32 bytes) ≡ slots =
+    ap (slots_from 32) behind ∙ subst (λ (n : ℕ). slots_from n rest ≡ slots) is.slots.count (slots_again g age slots (zeros 224) is.slots.each) in
+    let content : content_of (body_in (number_from bytes) (slots_from 32 (drop 32 bytes))) (slots_from 32 (drop 32 bytes)) [] ≡ f.content =
+    ap (λ (s : List Cap). content_of (body_in (number_from bytes) s) s []) read ∙ ap (λ (n : ℕ). content_of (body_in n slots) slots []) front.role ∙ content_again f.content is.follows in
+    same_frame (header_from bytes) f.header (content_of (body_in (number_from bytes) (slots_from 32 (drop 32 bytes))) (slots_from 32 (drop 32 bytes)) []) f.content front.header content
+
+page_again : (age : ℕ) (f : Frame) (bytes : List ℕ) → IsPageFrame age f → bytes ≡ page_frame_bytes f → page_from bytes ≡ f
+page_again age f bytes is e =
+    let parts = page.page_parts f bytes e in
+    let words : List ℕ = page_words f.content in
+    let front = front_again age f bytes (zeros 480 ++ words_bytes words) is.front parts.whole in
+    let held = page.words_fit f.content is.holds in
+    let read : words_from 512 (drop 512 bytes) ≡ words =
+    ap (words_from 512) (parts.last ∙ page.words_stream words) ∙ subst (λ (n : ℕ). words_from n (stream words []) ≡ words) held.count_is (words_again words [] (page.all_fit words held.each)) in
+    let content : content_of (page_body_in (number_from bytes)) [] (words_from 512 (drop 512 bytes)) ≡ f.content =
+    ap (λ (w : List ℕ). content_of (page_body_in (number_from bytes)) [] w) read ∙ ap (λ (n : ℕ). content_of (page_body_in n) [] words) front.role ∙ page.content_again f.content is.holds in
+    same_frame (header_from bytes) f.header (content_of (page_body_in (number_from bytes)) [] (words_from 512 (drop 512 bytes))) f.content front.header content
+
+-- bytes that spell a frame are read as that frame
+pub frame_again : (g : Geometry) (age object : ℕ) (bytes : List ℕ) (f : Frame) → IsFrameOf g age object bytes f → frame_from g object bytes ≡ f
+unfolding frame_from
+frame_again g age object bytes f is = elim (cases_lt object g.nodes) [
+  | inl lt ↦
+      let node = node_of_frame g age object bytes f lt is in
+      ap (λ (b : Bool). if b then node_from bytes else page_from bytes) (lt-ltb object g.nodes lt) ∙ node_again g age f bytes node.0 node.1
+  | inr le ↦
+      let one = page_of_frame g age object bytes f le is in
+      ap (λ (b : Bool). if b then node_from bytes else page_from bytes) (le-ltb object g.nodes le) ∙ page_again age f bytes one.0 one.1
+]

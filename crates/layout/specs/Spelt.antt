@@ -1,0 +1,34 @@
+-- The frames that the sectors of an image would be, and where they spell them.
+use Rattle.std.specs.Prelude.{ℕ, ◌+◌, ◌<◌, List, map}
+use Rattle.std.specs.List.{range_with_len}
+use Rattle.model.specs.declared.frame.Frame.{Frame}
+use Rattle.device.specs.Disk.{Image}
+use Rattle.layout.specs.declared.directory.Entry.{Entry}
+use Rattle.layout.specs.declared.header.CheckpointHeader.{CheckpointHeader}
+use Rattle.layout.specs.Frame.{IsFrameOf}
+use Rattle.layout.specs.FrameReader.{frame_from}
+use Rattle.layout.specs.Image.{frame_in, SavedState}
+use Rattle.layout.specs.Superblock.{Plan}
+
+-- how many objects there are
+abbrev pub count_of : Plan → ℕ
+count_of p = p.geometry.nodes + p.geometry.pages
+
+-- the frame of an object, where a directory says that it lies, whatever the bytes are
+abbrev pub frame_read : Image → Plan → ℕ → List Entry → ℕ → Frame
+frame_read image p generation es object = frame_from p.geometry object (frame_in image p generation es object)
+
+-- those of all objects
+unfoldable pub frames_read : Image → Plan → ℕ → List Entry → List Frame
+frames_read image p generation es = map (frame_read image p generation es) (range_with_len 0 (count_of p))
+
+-- it is spelt there, and can be kept at an age
+abbrev pub IsSpelt : Image → Plan → ℕ → ℕ → List Entry → ℕ → Type 0
+IsSpelt image p age generation es object = IsFrameOf p.geometry age object (frame_in image p generation es object) (frame_read image p generation es object)
+
+abbrev pub AreSpelt : Image → Plan → ℕ → ℕ → List Entry → Type 0
+AreSpelt image p age generation es = (object : ℕ) → object < count_of p → IsSpelt image p age generation es object
+
+-- the saved state that an image has if this header is committed in it with this directory
+abbrev pub state_in : Image → Plan → CheckpointHeader → List Entry → SavedState
+state_in image p h es = record { plan = p; header = h; directory = es; frames = frames_read image p h.generation es }

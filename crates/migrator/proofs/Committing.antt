@@ -1,0 +1,337 @@
+-- The frozen frames become the saved ones.
+use Rattle.std.proofs.Common.{◌≡◌, ◌⊎◌, ⊎_elim, ℕ, ◌+◌, ◌-◌, ◌%◌, ◌^◌, ◌<◌, ◌≤◌, Bool, true, false, cond, Option, Some, None, List, length, refl, sym, ap, subst, ◌∙◌, inl, inr, arith}
+use Rattle.std.specs.Prelude.{◌==◌, map, replicate, take}
+use Rattle.std.specs.List.{range_with_len}
+use Rattle.std.proofs.lemmas.List.{length-replicate}
+use Rattle.model.specs.declared.frame.Frame.{Frame}
+use Rattle.model.specs.Frame.{frame_at}
+use Rattle.model.specs.Keepable.{IsKeepable, AreKeepable}
+use Rattle.device.specs.Disk.{Image, Disk}
+use Rattle.device.specs.Moments.{LeavesOnly}
+use Rattle.device.proofs.Moments.{leaves_weaker}
+use Rattle.layout.specs.declared.directory.Entry.{Entry}
+use Rattle.layout.specs.declared.extent.Extent.{Extent}
+use Rattle.layout.specs.declared.header.CheckpointHeader.{CheckpointHeader}
+use Rattle.layout.specs.Directory.{IsDirectory, entry_at}
+use Rattle.layout.specs.Frame.{IsFrameOf}
+use Rattle.layout.specs.FrameReader.{frame_from}
+use Rattle.layout.specs.Header.{IsHeader}
+use Rattle.layout.specs.Image.{Denotes, frame_in, slot_in, half_sector}
+use Rattle.layout.specs.Spelt.{count_of, frame_read, frames_read, IsSpelt, AreSpelt, state_in}
+use Rattle.layout.specs.Superblock.{Plan, IsApart, IsInside, half_extent}
+use Rattle.layout.proofs.Halves.{itself, apart_inside, half_within}
+use Rattle.layout.proofs.Spelling.{length_read, read_at, spelt_same, spelt_at}
+use Rattle.home_ranges.proofs.Places.{places_within}
+use Rattle.ckpt_log.specs.Commit.{header_sector}
+use Rattle.ckpt_log.specs.Places.{slot_extent, place_extent, directory_extent}
+use Rattle.ckpt_log.proofs.Denoted.{frames_behind}
+use Rattle.ckpt_log.proofs.Places.{frames_in_slots, directories_inside, slots_spare_directories}
+use Rattle.migrator.specs.declared.table.Place.{Place}
+use Rattle.migrator.specs.declared.table.Place.TheVariants.{Nowhere, Torn, Whole}
+use Rattle.migrator.specs.Table.{place_at, slot_of, taken_count, whole_count, has_slot, IsTable, entries_of}
+use Rattle.migrator.specs.Put.{Put, Absent, put_at, put_or, overlaid, most, slot_bytes, put_of, puts_in, ArePut}
+use Rattle.migrator.specs.Saved.{SavedFrames, kept_of, Holds, LeavesEither}
+use Rattle.migrator.proofs.GoingOn.{holds}
+use Rattle.migrator.specs.Durable.{Books, frozen_generation, working_generation, generation_after, Stored, saved_state, frozen_of, stored_in, IsRunning, IsKept, LeavesState, next_header, next_saved, committed, books_of}
+use Rattle.migrator.specs.Saving.{MaySave, SavesOnly}
+use Rattle.migrator.specs.Spared.{SparesFrames, Spares}
+use Rattle.migrator.proofs.Tables.{all_whole, whole_taken, entries_directory, length_entries, slot_entries, blank_at, blank_table, tally-blank}
+use Rattle.migrator.proofs.Spared.{state_stays}
+use Rattle.migrator.proofs.Kept.{maps_same, SparesKept, stored_stays, kept_on}
+use Rattle.migrator.proofs.PlacesApart.{in_slot, at_home, frame_apart, home_apart, slot_fits, spares_other, homes_behind, no_slots}
+use Rattle.migrator.proofs.Putting.{put_is, other_parity, half_spares, none_spares, homes_spare}
+
+-- ---- what is kept through a directory and a header that are written
+
+-- the sectors of a header and its gate
+abbrev pub header_extent : CheckpointHeader → Extent
+header_extent h = record { sector = header_sector h; length = 2 }
+
+-- all that is kept lies behind the headers
+pub headers_spare : (size : ℕ) (image : Image) (b : Books) (h : CheckpointHeader) → IsKept size image b → SparesKept b (header_extent h)
+headers_spare size image b h kept = record {
+  frames = λ n lt. let behind = frames_behind b.plan b.header.generation b.directory n kept.plan (homes_behind b.plan kept.plan n lt) in inr (omega (arith, behind));
+  homes = λ i lt.
+      let behind = places_within b.plan (entry_at b.directory i).object kept.plan (kept.directory.each i (record { object = 0; slot = 0 }) (omega (arith, lt, kept.few, kept.count))).object in inr (omega (arith, behind.0));
+  frozen = λ n s lt is. let behind = half_within b.plan (frozen_generation b) kept.plan in inr (omega (arith, behind.0));
+  working = λ n s lt is. let behind = half_within b.plan (working_generation b) kept.plan in inr (omega (arith, behind.0));
+}
+
+module _ (size : ℕ) (b : Books) (next : CheckpointHeader) (old new : Image) (kept : IsKept size old b) (only : SavesOnly b.plan next old new) (spares : SparesKept b (directory_extent b.plan next.generation next.entries)) where
+  between_kept : IsKept size only.between b
+  between_kept = kept_on size b (directory_extent b.plan next.generation next.entries) old only.between spares only.directory kept
+
+  pub kept_saves : IsKept size new b
+  kept_saves = kept_on size b (header_extent next) only.between new (headers_spare size only.between b next between_kept) only.header between_kept
+
+  pub stored_saves : stored_in new b ≡ stored_in old b
+  stored_saves =
+      stored_stays size b (header_extent next) only.between new (headers_spare size only.between b next between_kept) only.header
+      ∙ stored_stays size b (directory_extent b.plan next.generation next.entries) old only.between spares only.directory
+
+  pub state_saves : saved_state new b ≡ saved_state old b
+  state_saves =
+      state_stays b.plan b.header b.directory (header_extent next) only.between new (headers_spare size only.between b next between_kept).frames only.header
+      ∙ state_stays b.plan b.header b.directory (directory_extent b.plan next.generation next.entries) old only.between spares.frames only.directory
+
+-- ---- a directory and the slots of its half
+
+pub slots_apart_directory : (p : Plan) (generation s m n : ℕ) → s < p.geometry.log → m ≤ p.geometry.log → IsApart (place_extent p generation s n) (directory_extent p generation m)
+slots_apart_directory p generation s m n lt le =
+    apart_inside (place_extent p generation s n) (directory_extent p generation m) (slot_extent p generation s) (directory_extent p generation m)
+    (frames_in_slots p generation s n) (itself (directory_extent p generation m)) (slots_spare_directories p generation s m lt)
+
+pub directory_inside : (p : Plan) (generation m : ℕ) → m ≤ p.geometry.log → IsInside (directory_extent p generation m) (half_extent p.geometry (half_sector p generation))
+directory_inside p generation m le = directories_inside p generation m le
+
+-- ---- the header that is committed next
+
+one_more : (t : Bool) → cond t 1 0 ≤ 1
+one_more true = omega arith
+one_more false = omega arith
+
+pub next_fits : (room age : ℕ) (b : Books) → IsHeader room b.header → b.header.age < age → age ≤ 2 ^ 62 → taken_count b.frozen ≤ room → room ≤ 4096 → IsHeader room (next_header age b)
+next_fits room age b is later most few small = record {
+  entries = few;
+  age = most;
+  generation = omega (arith, is.generation, later);
+  sequence = let more = one_more (b.header.entries == 0) in omega (arith, is.sequence, more, later);
+  entries_fit = omega (arith, few, small);
+}
+
+-- ---- the frames that are saved next
+
+-- all that was put is whole
+module _ (size : ℕ) (image : Image) (b : Books) (k : ℕ) (kept : IsKept size image b) (running : b.size ≡ Some k) (stable : k ≤ whole_count b.frozen) where
+  pub was : IsRunning b (Some k)
+  was = subst (IsRunning b) running kept.running
+
+  pub taken_all : taken_count b.frozen ≡ k
+  taken_all = let less = whole_taken b.frozen in omega (arith, less, was.1, stable)
+
+  fs : List Entry
+  fs = entries_of b.frozen
+
+  none_saved : (n : ℕ) → slot_in b.directory n ≡ None
+  none_saved n = by (slot_in b.directory n) refl where
+    by : (o : Option ℕ) → slot_in b.directory n ≡ o → slot_in b.directory n ≡ None
+    by None is = is
+    by (Some s) is = absurd (no_slots b.directory n s (kept.count ∙ was.0) is)
+
+  whole_at : (n s : ℕ) → n < count_of b.plan → slot_of (place_at b.frozen n) ≡ Some s → place_at b.frozen n ≡ Whole s
+  whole_at n s lt is = let less = whole_taken b.frozen in all_whole b.frozen n s (omega (arith, was.1, stable)) (omega (arith, lt, kept.frozen.count)) is
+
+  -- where an object has no place it lies at home, as before
+  home_frame : (n : ℕ) → slot_of (place_at b.frozen n) ≡ None → frame_in image b.plan (b.header.generation + 1) (entries_of b.frozen) n ≡ frame_in image b.plan b.header.generation b.directory n
+  home_frame n none = at_home image b.plan (b.header.generation + 1) (entries_of b.frozen) n (slot_entries b.frozen n ∙ none) ∙ sym (at_home image b.plan b.header.generation b.directory n (none_saved n))
+
+  slot_frame_in : (n s : ℕ) → slot_of (place_at b.frozen n) ≡ Some s → frame_in image b.plan (b.header.generation + 1) (entries_of b.frozen) n ≡ slot_bytes image b.plan (b.header.generation + 1) s n
+  slot_frame_in n s is = in_slot image b.plan (b.header.generation + 1) (entries_of b.frozen) n s (slot_entries b.frozen n ∙ is)
+
+  abbrev saved_frames : List Frame
+  saved_frames = frames_read image b.plan b.header.generation b.directory
+
+  abbrev frozen_puts : List Put
+  frozen_puts = puts_in image b.plan (frozen_generation b) b.frozen
+
+  frame_next : (n : ℕ) → n < count_of b.plan → frame_read image b.plan (b.header.generation + 1) (entries_of b.frozen) n ≡ put_or (put_at frozen_puts n) (frame_at saved_frames n)
+  frame_next n lt = by (slot_of (place_at b.frozen n)) refl where
+    by : (o : Option ℕ) → slot_of (place_at b.frozen n) ≡ o → frame_read image b.plan (b.header.generation + 1) (entries_of b.frozen) n ≡ put_or (put_at frozen_puts n) (frame_at saved_frames n)
+    by None is =
+        ap (frame_from b.plan.geometry n) (home_frame n is) ∙ sym (read_at image b.plan b.header.generation b.directory n lt)
+        ∙ sym (ap (λ (x : Put). put_or x (frame_at saved_frames n)) (put_is image b.plan (frozen_generation b) b.frozen n lt ∙ none_put (place_at b.frozen n) is)) where
+          none_put : (q : Place) → slot_of q ≡ None → put_of image b.plan (frozen_generation b) n q ≡ Absent
+          none_put Nowhere e = refl
+          none_put (Torn s) e = absurd cc
+          none_put (Whole s) e = absurd cc
+    by (Some s) is =
+        ap (frame_from b.plan.geometry n) (slot_frame_in n s is)
+        ∙ sym (ap (λ (x : Put). put_or x (frame_at saved_frames n)) (put_is image b.plan (frozen_generation b) b.frozen n lt ∙ ap (put_of image b.plan (frozen_generation b) n) (whole_at n s lt is)))
+
+  -- the frames that are saved next are the saved ones with the frozen ones in their place
+  pub frames_next : frames_read image b.plan (b.header.generation + 1) (entries_of b.frozen) ≡ overlaid frozen_puts saved_frames
+  unfolding frames_read overlaid
+  frames_next =
+      maps_same (frame_read image b.plan (b.header.generation + 1) (entries_of b.frozen)) (λ n. put_or (put_at frozen_puts n) (frame_at saved_frames n)) (count_of b.plan) frame_next
+      ∙ ap (λ (m : ℕ). map (λ n. put_or (put_at frozen_puts n) (frame_at saved_frames n)) (range_with_len 0 m)) (sym (length_read image b.plan b.header.generation b.directory))
+
+  module _ (age : ℕ) (keepable : AreKeepable b.plan.geometry age (overlaid frozen_puts saved_frames)) where
+    keepable_at : (n : ℕ) → n < count_of b.plan → IsKeepable b.plan.geometry age n (frame_read image b.plan (b.header.generation + 1) (entries_of b.frozen) n)
+    keepable_at n lt =
+        subst (IsKeepable b.plan.geometry age n) (ap (λ (xs : List Frame). frame_at xs n) (sym frames_next) ∙ read_at image b.plan (b.header.generation + 1) (entries_of b.frozen) n lt) (keepable.each n lt)
+
+    pub spelt_next : AreSpelt image b.plan age (b.header.generation + 1) (entries_of b.frozen)
+    spelt_next n lt = by (slot_of (place_at b.frozen n)) refl where
+      by : (o : Option ℕ) → slot_of (place_at b.frozen n) ≡ o → IsSpelt image b.plan age (b.header.generation + 1) (entries_of b.frozen) n
+      by None is =
+          spelt_at image b.plan b.header.age age (b.header.generation + 1) (entries_of b.frozen) n
+          (spelt_same image image b.plan b.header.age (b.header.generation + 1) b.header.generation (entries_of b.frozen) b.directory n (home_frame n is) (kept.saved n lt)) (keepable_at n lt)
+      by (Some s) is =
+          spelt_at image b.plan most age (b.header.generation + 1) (entries_of b.frozen) n
+          (subst (λ (bytes : List ℕ). IsFrameOf b.plan.geometry most n bytes (frame_from b.plan.geometry n bytes)) (sym (slot_frame_in n s is)) (kept.frozen.spelt n s lt (whole_at n s lt is))) (keepable_at n lt)
+
+-- ---- a commit
+
+-- what is kept once the frozen frames are saved, where no object has a place any more
+abbrev pub committed_books : ℕ → Books → List Place → Books
+committed_books age b ps = record {
+  plan = b.plan;
+  header = next_header age b;
+  directory = entries_of b.frozen;
+  moved = 0;
+  frozen = ps;
+  size = None;
+  working = b.working;
+}
+
+module _ (disk : Disk) (b : Books) (k : ℕ) (kept : IsKept disk.sectors disk.seen b) (running : b.size ≡ Some k) (stable : k ≤ whole_count b.frozen)
+    (age : ℕ) (later : b.header.age < age) (most_age : age ≤ 2 ^ 62) (keepable : AreKeepable b.plan.geometry age (overlaid (puts_in disk.seen b.plan (frozen_generation b) b.frozen) (frames_read disk.seen b.plan b.header.generation b.directory))) where
+  pub fits_next : IsHeader b.plan.geometry.log (next_header age b)
+  fits_next = next_fits b.plan.geometry.log age b kept.header later most_age kept.frozen.few kept.plan.geometry.most_log
+
+  directory_next : IsDirectory b.plan.geometry (entries_of b.frozen)
+  directory_next =
+      entries_directory b.plan.geometry b.frozen kept.frozen.table kept.frozen.count kept.frozen.few (omega (arith, kept.plan.geometry.most_nodes, kept.plan.geometry.most_pages)) kept.plan.geometry.most_log
+
+  inside_half : IsInside (directory_extent b.plan (frozen_generation b) (taken_count b.frozen)) (half_extent b.plan.geometry (half_sector b.plan (frozen_generation b)))
+  inside_half = directory_inside b.plan (frozen_generation b) (taken_count b.frozen) kept.frozen.few
+
+  spares_now : Spares b.plan b.header b.directory (directory_extent b.plan (frozen_generation b) (taken_count b.frozen))
+  spares_now =
+      spares_other b.plan b.header b.directory (frozen_generation b) (directory_extent b.plan (frozen_generation b) (taken_count b.frozen)) kept.plan kept.directory kept.header.entries (other_parity b.header.generation) inside_half
+
+  spares_then : SparesFrames b.plan (frozen_generation b) (entries_of b.frozen) (directory_extent b.plan (frozen_generation b) (taken_count b.frozen))
+  spares_then n lt =
+      frame_apart b.plan (frozen_generation b) (entries_of b.frozen) n (directory_extent b.plan (frozen_generation b) (taken_count b.frozen))
+      (λ s is. slots_apart_directory b.plan (frozen_generation b) s (taken_count b.frozen) n (slot_fits b.plan (entries_of b.frozen) n s directory_next is) kept.frozen.few)
+      (λ _. home_apart b.plan (frozen_generation b) n (directory_extent b.plan (frozen_generation b) (taken_count b.frozen)) kept.plan lt inside_half)
+
+  pub may_commit : LeavesState disk (saved_state disk.seen b) → MaySave disk b.plan b.header b.directory (next_header age b) (entries_of b.frozen)
+  may_commit sound = record {
+    plan = kept.plan;
+    inside = kept.inside;
+    header = kept.header;
+    sound = sound;
+    fits = fits_next;
+    after = refl;
+    directory = directory_next;
+    count = length_entries b.frozen;
+    spelt = spelt_next disk.sectors disk.seen b k kept running stable age keepable;
+    spares = spares_now;
+    spares_next = spares_then;
+  }
+
+  generation_is : working_generation b ≡ frozen_generation b + 1
+  generation_is = ap (generation_after b.header.generation) running
+
+  later_half : working_generation b % 2 ≡ frozen_generation b % 2 → ⊥
+  later_half same = other_parity (frozen_generation b) (sym (sym (ap (λ (g : ℕ). g % 2) generation_is) ∙ same))
+
+  -- what was kept lies apart from the directory
+  pub spares_kept : SparesKept b (directory_extent b.plan (frozen_generation b) (taken_count b.frozen))
+  spares_kept = record {
+    frames = spares_now.frames;
+    homes = homes_spare disk.sectors disk.seen b (frozen_generation b) (directory_extent b.plan (frozen_generation b) (taken_count b.frozen)) kept inside_half;
+    frozen = λ n s lt is. let less = kept.frozen.table.few n s (ap slot_of is) in slots_apart_directory b.plan (frozen_generation b) s (taken_count b.frozen) n (omega (arith, less, kept.frozen.few)) kept.frozen.few;
+    working = half_spares b.plan (working_generation b) (frozen_generation b) b.working (directory_extent b.plan (frozen_generation b) (taken_count b.frozen)) kept.plan later_half kept.working.table kept.working.few inside_half;
+  }
+
+  module _ (ps : List Place) (blank : ps ≡ replicate (length b.frozen) Nowhere) where
+    none : (n : ℕ) → place_at ps n ≡ Nowhere
+    none n = ap (λ (qs : List Place). place_at qs n) blank ∙ blank_at (length b.frozen) n
+
+    no_place : ArePut disk.seen b.plan (frozen_generation b + 1) ps
+    no_place = record {
+      count = ap length blank ∙ length-replicate {A = Place} (length b.frozen) Nowhere ∙ kept.frozen.count;
+      few = let taken : taken_count ps ≡ 0 = ap taken_count blank ∙ tally-blank has_slot (length b.frozen) refl in omega (arith, taken);
+      table = subst IsTable (sym blank) (blank_table (length b.frozen));
+      spelt = λ n s lt is. absurd (let never : Nowhere ≡ Whole s = sym (none n) ∙ is in cc);
+    }
+
+    working_put : ArePut disk.seen b.plan (frozen_generation b + 1) b.working
+    working_put = subst (λ (g : ℕ). ArePut disk.seen b.plan g b.working) generation_is kept.working
+
+    committed_kept : IsKept disk.sectors disk.seen (committed_books age b ps)
+    committed_kept = record {
+      plan = kept.plan;
+      inside = kept.inside;
+      header = fits_next;
+      count = length_entries b.frozen;
+      directory = directory_next;
+      saved = spelt_next disk.sectors disk.seen b k kept running stable age keepable;
+      few = omega arith;
+      moved = λ i lt. absurd (omega (arith, lt));
+      frozen = no_place;
+      running = none;
+      working = working_put;
+    }
+
+    committed_spares : SparesKept (committed_books age b ps) (directory_extent b.plan (frozen_generation b) (taken_count b.frozen))
+    committed_spares = record {
+      frames = spares_then;
+      homes = λ i lt. absurd (omega (arith, lt));
+      frozen = none_spares b.plan (frozen_generation b + 1) ps (directory_extent b.plan (frozen_generation b) (taken_count b.frozen)) none;
+      working = half_spares b.plan (frozen_generation b + 1) (frozen_generation b) b.working (directory_extent b.plan (frozen_generation b) (taken_count b.frozen)) kept.plan
+          (λ same. other_parity (frozen_generation b) (sym same)) kept.working.table kept.working.few inside_half;
+    }
+
+    abbrev stored_as : ℕ → List Put → List Frame → Stored
+    stored_as entries working frames = record {
+      working = working;
+      frozen = None;
+      saved = record { geometry = b.plan.geometry; frames = frames; generation = frozen_generation b; entries = entries; age = age };
+      to_move = entries - 0;
+    }
+
+    committed_stored : stored_in disk.seen (committed_books age b ps) ≡ committed age (frozen_of disk.seen b k) (stored_in disk.seen b)
+    committed_stored =
+        ap (λ (g : ℕ). stored_as (taken_count b.frozen) (puts_in disk.seen b.plan g b.working) (frames_read disk.seen b.plan (frozen_generation b) (entries_of b.frozen))) (sym generation_is)
+        ∙ ap (λ (fs : List Frame). stored_as (taken_count b.frozen) (puts_in disk.seen b.plan (working_generation b) b.working) fs) (frames_next disk.sectors disk.seen b k kept running stable)
+        ∙ ap (λ (n : ℕ). stored_as n (puts_in disk.seen b.plan (working_generation b) b.working) (overlaid (puts_in disk.seen b.plan (frozen_generation b) b.frozen) (frames_read disk.seen b.plan b.header.generation b.directory)))
+        (taken_all disk.sectors disk.seen b k kept running stable)
+        ∙ same_move k (overlaid (puts_in disk.seen b.plan (frozen_generation b) b.frozen) (frames_read disk.seen b.plan b.header.generation b.directory)) where
+          same_move : (n : ℕ) (fs : List Frame) → stored_as n (puts_in disk.seen b.plan (working_generation b) b.working) fs ≡ record (stored_as n (puts_in disk.seen b.plan (working_generation b) b.working) fs) { to_move = n }
+          same_move n fs = let same : n - 0 ≡ n = omega arith in ap (λ (m : ℕ). record (stored_as n (puts_in disk.seen b.plan (working_generation b) b.working) fs) { to_move = m }) same
+
+    -- after the commit
+    module _ (new : Image) (only : SavesOnly b.plan (next_header age b) disk.seen new) where
+      pub done_kept : IsKept disk.sectors new (committed_books age b ps)
+      done_kept = kept_saves disk.sectors (committed_books age b ps) (next_header age b) disk.seen new committed_kept only committed_spares
+
+      pub done_stored : stored_in new (committed_books age b ps) ≡ committed age (frozen_of disk.seen b k) (stored_in disk.seen b)
+      done_stored = stored_saves disk.sectors (committed_books age b ps) (next_header age b) disk.seen new committed_kept only committed_spares ∙ committed_stored
+
+      pub done_state : saved_state new (committed_books age b ps) ≡ state_in disk.seen b.plan (next_header age b) (entries_of b.frozen)
+      done_state = state_saves disk.sectors (committed_books age b ps) (next_header age b) disk.seen new committed_kept only committed_spares
+
+  -- after a failure
+  module _ (new : Image) (only : SavesOnly b.plan (next_header age b) disk.seen new) where
+    pub failed_kept : IsKept disk.sectors new b
+    failed_kept = kept_saves disk.sectors b (next_header age b) disk.seen new kept only spares_kept
+
+    pub failed_stored : stored_in new b ≡ stored_in disk.seen b
+    failed_stored = stored_saves disk.sectors b (next_header age b) disk.seen new kept only spares_kept
+
+  abbrev saved_as : ℕ → List Frame → SavedFrames
+  saved_as entries frames = record { geometry = b.plan.geometry; frames = frames; generation = frozen_generation b; entries = entries; age = age }
+
+  -- what is saved next
+  pub next_kept : kept_of (state_in disk.seen b.plan (next_header age b) (entries_of b.frozen)) ≡ next_saved age (frozen_of disk.seen b k) (stored_in disk.seen b).saved
+  next_kept =
+      ap (λ (fs : List Frame). saved_as (taken_count b.frozen) fs) (frames_next disk.sectors disk.seen b k kept running stable)
+      ∙ ap (λ (n : ℕ). saved_as n (overlaid (puts_in disk.seen b.plan (frozen_generation b) b.frozen) (frames_read disk.seen b.plan b.header.generation b.directory))) (taken_all disk.sectors disk.seen b k kept running stable)
+
+  pub commit_moments : (new : Disk) → LeavesOnly disk new (λ c. Denotes c disk.sectors (saved_state disk.seen b) ⊎ Denotes c disk.sectors (state_in disk.seen b.plan (next_header age b) (entries_of b.frozen)))
+      → LeavesEither disk new (stored_in disk.seen b).saved (next_saved age (frozen_of disk.seen b k) (stored_in disk.seen b).saved)
+  commit_moments new run =
+      leaves_weaker {old = disk} {new = new} {P = λ c. Denotes c disk.sectors (saved_state disk.seen b) ⊎ Denotes c disk.sectors (state_in disk.seen b.plan (next_header age b) (entries_of b.frozen))}
+      (λ c. Holds disk.sectors c (stored_in disk.seen b).saved ⊎ Holds disk.sectors c (next_saved age (frozen_of disk.seen b k) (stored_in disk.seen b).saved))
+      (λ c. ⊎_elim (λ is. inl (holds disk.sectors c (saved_state disk.seen b) is))
+      (λ is. inr (subst (Holds disk.sectors c) next_kept (holds disk.sectors c (state_in disk.seen b.plan (next_header age b) (entries_of b.frozen)) is)))) run
+
+abbrev books_with : Books → CheckpointHeader → List Entry → List Place → Books
+books_with b h es ps = record { plan = b.plan; header = h; directory = es; moved = 0; frozen = ps; size = None; working = b.working }
+
+pub books_same : (age : ℕ) (b : Books) (h : CheckpointHeader) (es : List Entry) (ps : List Place) → h ≡ next_header age b → take h.entries es ≡ entries_of b.frozen
+    → books_of b.plan h es 0 ps None b.working ≡ committed_books age b ps
+books_same age b h es ps header directory = ap (λ (ds : List Entry). books_with b h ds ps) directory ∙ ap (λ (x : CheckpointHeader). books_with b x (entries_of b.frozen) ps) header

@@ -1,0 +1,77 @@
+-- Frames that are spelt are read, and never refused.
+use Rattle.std.proofs.Common.{◌≡◌, ℕ, ◌<◌, Option, Some, None, Result, Ok, Err, List, refl, sym, ap, subst, ◌∙◌, arith}
+use Rattle.std.specs.Prelude.{option_map, IfOk}
+use Rattle.model.specs.Frame.{frame_at}
+use Rattle.layout.specs.Spelt.{count_of}
+use Rattle.layout.specs.Superblock.{Plan}
+use Rattle.migrator.specs.declared.table.Place.{Place}
+use Rattle.migrator.specs.declared.table.Place.TheVariants.{Whole}
+use Rattle.migrator.specs.Table.{place_at, slot_of}
+use Rattle.migrator.specs.Put.{Put, put_at, put_or, put_of, ArePut}
+use Rattle.migrator.proofs.Putting.{put_is}
+use Rattle.model.specs.declared.frame.Frame.{Frame}
+use Rattle.model.specs.declared.geometry.Geometry.{Geometry}
+use Rattle.device.specs.Disk.{Image, Disk}
+use Rattle.device.specs.Calls.{Agrees}
+use Rattle.device.proofs.Images.{agrees_is}
+use Rattle.device.proofs.Moments.{leaves_weaker}
+use Rattle.layout.specs.Frame.{IsFrameOf}
+use Rattle.layout.specs.Image.{Denotes}
+use Rattle.layout.proofs.Images.{one_frame}
+use Rattle.frame_io.specs.Calls.{ReadsOnly}
+use Rattle.migrator.specs.Saved.{Holds}
+use Rattle.migrator.specs.Durable.{Books, DurableState, frozen_generation, working_generation, frozen_put, frozen_of, newest, IsRunning, stored_in, saved_state, LeavesState, IsKept, GoesOnDisk, ReadsStore}
+use Rattle.migrator.proofs.GoingOn.{holds}
+
+-- of bytes that are a function of an image
+pub read_is : (g : Geometry) (age n : ℕ) (bytes : Image → List ℕ) (old mid : Image) (f read : Frame) → Agrees mid old → IsFrameOf g age n (bytes old) f → IsFrameOf g age n (bytes mid) read → read ≡ f
+read_is g age n bytes old mid f read same is found =
+    one_frame g age n (bytes old) read f (subst (λ (i : Image). IsFrameOf g age n (bytes i) read) (agrees_is mid old same) found) is
+
+pub never_bad : (g : Geometry) (age n : ℕ) (bytes : Image → List ℕ) (old mid : Image) (f : Frame) → Agrees mid old → IsFrameOf g age n (bytes old) f → ((f : Frame) → IsFrameOf g age n (bytes mid) f → ⊥) → ⊥
+never_bad g age n bytes old mid f same is refused = refused f (subst (λ (i : Image). IsFrameOf g age n (bytes i) f) (sym (agrees_is mid old same)) is)
+
+module _ (old new : Disk) (b : Books) (reads : ReadsOnly old new) where
+  seen : new.seen ≡ old.seen
+  seen = agrees_is new.seen old.seen reads.seen
+
+  pub fetched_kept : IsKept old.sectors old.seen b → IsKept new.sectors new.seen b
+  fetched_kept kept = subst (λ (i : Image). IsKept new.sectors i b) (sym seen) (subst (λ (k : ℕ). IsKept k old.seen b) (sym reads.size) kept)
+
+  pub fetched_stored : stored_in new.seen b ≡ stored_in old.seen b
+  fetched_stored = ap (λ (i : Image). stored_in i b) seen
+
+  pub fetched_goes_on : GoesOnDisk old new b b
+  fetched_goes_on = record {
+    plan = refl;
+    size = reads.size;
+    sound = λ sound. subst (λ (i : Image). LeavesState new (saved_state i b)) (sym seen) (λ x may. subst (λ (k : ℕ). Denotes x k (saved_state old.seen b)) (sym reads.size) (sound x (reads.crash x may)));
+    any_moment = λ sound. leaves_weaker {old = old} {new = new} {P = old.may_leave} (λ x. Holds old.sectors x (stored_in old.seen b).saved) (λ x left. holds old.sectors x (saved_state old.seen b) (sound x left)) reads.any_moment;
+  }
+
+pub reads_store : {D : Type 0} (disk : D → Disk) (old : DurableState D) (back : D) → ReadsOnly (disk old.beneath) (disk back) → ReadsStore disk old (record { beneath = back; books = old.books })
+reads_store disk old back reads = record {
+  books = refl;
+  stored = fetched_stored (disk old.beneath) (disk back) old.books reads;
+  goes_on = fetched_goes_on (disk old.beneath) (disk back) old.books reads;
+}
+
+pub ok_weaker : {T E : Type 0} {P Q : T → Type 0} (r : Result T E) → ((x : T) → P x → Q x) → IfOk r P → IfOk r Q
+ok_weaker (Ok x) f p = f x p
+ok_weaker (Err e) f p = tt
+
+-- the slot of a whole place is one of the log
+pub whole_low : (image : Image) (p : Plan) (generation : ℕ) (ps : List Place) (n s : ℕ) (place : Place) → ArePut image p generation ps → place ≡ place_at ps n → place ≡ Whole s → s < p.geometry.log
+whole_low image p generation ps n s place are at is = let less = are.table.few n s (ap slot_of (sym at ∙ is)) in omega (arith, less, are.few)
+
+frozen_is : (image : Image) (b : Books) (o : Option ℕ) (n : ℕ) → n < count_of b.plan → IsRunning b o
+    → frozen_put (option_map (frozen_of image b) o) n ≡ put_of image b.plan (frozen_generation b) n (place_at b.frozen n)
+frozen_is image b None n lt running = sym (ap (put_of image b.plan (frozen_generation b) n) (running n))
+frozen_is image b (Some k) n lt running = put_is image b.plan (frozen_generation b) b.frozen n lt
+
+-- the newest frame, by the places
+pub newest_is : (size : ℕ) (image : Image) (b : Books) (n : ℕ) → n < count_of b.plan → IsKept size image b
+    → put_or (put_of image b.plan (working_generation b) n (place_at b.working n)) (put_or (put_of image b.plan (frozen_generation b) n (place_at b.frozen n)) (frame_at (stored_in image b).saved.frames n)) ≡ newest (stored_in image b) n
+newest_is size image b n lt kept =
+    ap (λ (x : Put). put_or x (put_or (put_of image b.plan (frozen_generation b) n (place_at b.frozen n)) (frame_at (stored_in image b).saved.frames n))) (sym (put_is image b.plan (working_generation b) b.working n lt))
+    ∙ ap (λ (x : Put). put_or (put_at (stored_in image b).working n) (put_or x (frame_at (stored_in image b).saved.frames n))) (sym (frozen_is image b b.size n lt kept.running))

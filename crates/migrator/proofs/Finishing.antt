@@ -1,0 +1,180 @@
+-- All that is saved is home, and a header says so.
+use Rattle.std.proofs.Common.{◌≡◌, ◌⊎◌, ℕ, ◌+◌, ◌-◌, ◌*◌, ◌%◌, ◌<◌, ◌≤◌, Bool, false, cond, Option, Some, None, List, [], refl, sym, ap, subst, ◌∙◌, inl, inr, ⊎_elim, arith}
+use Rattle.std.specs.Prelude.{◌==◌}
+use Rattle.std.proofs.lemmas.Bool.{ne_eqb}
+use Rattle.model.specs.declared.frame.Frame.{Frame}
+use Rattle.device.specs.Disk.{Image, Disk}
+use Rattle.device.specs.Moments.{LeavesOnly}
+use Rattle.device.proofs.Moments.{leaves_weaker}
+use Rattle.layout.specs.declared.extent.Extent.{Extent}
+use Rattle.layout.specs.declared.header.CheckpointHeader.{CheckpointHeader}
+use Rattle.layout.specs.Directory.{IsDirectory}
+use Rattle.layout.specs.Header.{IsHeader}
+use Rattle.layout.specs.Image.{Denotes, frame_in, slot_in, half_sector}
+use Rattle.layout.specs.Spelt.{count_of, AreSpelt, frames_read, state_in}
+use Rattle.layout.specs.Superblock.{Plan, IsApart, IsInside, half_extent}
+use Rattle.layout.proofs.Halves.{half_within, within_inside}
+use Rattle.layout.proofs.SlotsOf.{found_slot}
+use Rattle.layout.proofs.Spelling.{read_same, spelt_same}
+use Rattle.frame_io.specs.Frames.{bytes_at}
+use Rattle.home_ranges.specs.Home.{home_place}
+use Rattle.home_ranges.specs.Laws.{home_extent}
+use Rattle.ckpt_log.specs.Places.{directory_extent}
+use Rattle.migrator.specs.declared.table.Place.TheVariants.{Nowhere}
+use Rattle.migrator.specs.Table.{place_at}
+use Rattle.migrator.specs.Saved.{kept_of, home_saved, Holds, LeavesEither}
+use Rattle.migrator.specs.Durable.{Books, frozen_generation, working_generation, generation_after, Stored, saved_state, stored_in, IsRunning, IsKept, LeavesState, home_header, finished}
+use Rattle.migrator.specs.Saving.{MaySave, SavesOnly}
+use Rattle.migrator.specs.Spared.{SparesFrames, Spares}
+use Rattle.migrator.proofs.Kept.{SparesPuts, SparesKept}
+use Rattle.migrator.proofs.GoingOn.{holds}
+use Rattle.migrator.proofs.PlacesApart.{at_home, frame_apart, home_apart, slot_fits}
+use Rattle.migrator.proofs.Putting.{none_spares, half_spares, homes_spare, other_parity}
+use Rattle.migrator.proofs.Committing.{slots_apart_directory, directory_inside, kept_saves, stored_saves, state_saves}
+use Rattle.migrator.proofs.Moving.{no_checkpoint}
+
+no_directory : (p : Plan) → IsDirectory p.geometry []
+no_directory p = record { each = λ i d lt. absurd (omega (arith, lt)); rising = λ i lt. absurd (omega (arith, lt)); apart = λ i j lt within. absurd (omega (arith, within)) }
+
+home_fits : (room : ℕ) (h : CheckpointHeader) → IsHeader room h → 0 < h.entries → IsHeader room (home_header h)
+home_fits room h is some =
+    let test : (h.entries == 0) ≡ false = ne_eqb h.entries 0 (λ none. omega (arith, none, some)) in
+    let few : h.sequence ≤ 2 * h.age + 0 = subst (λ (t : Bool). h.sequence ≤ 2 * h.age + cond t 1 0) test is.sequence in
+    record { entries = omega arith; age = is.age; generation = is.generation; sequence = omega (arith, few); entries_fit = omega arith }
+
+abbrev pub home_books : Books → Books
+home_books b = record { plan = b.plan; header = home_header b.header; directory = []; moved = 0; frozen = b.frozen; size = b.size; working = b.working }
+
+module _ (disk : Disk) (b : Books) (kept : IsKept disk.sectors disk.seen b) (some : 0 < b.header.entries) (all : b.moved ≡ b.header.entries) where
+  abbrev extent : Extent
+  extent = directory_extent b.plan b.header.generation 0
+
+  none : b.size ≡ None
+  none = no_checkpoint disk.sectors disk.seen b kept some
+
+  blank : (n : ℕ) → place_at b.frozen n ≡ Nowhere
+  blank = subst (IsRunning b) none kept.running
+
+  inside_half : IsInside extent (half_extent b.plan.geometry (half_sector b.plan b.header.generation))
+  inside_half = directory_inside b.plan b.header.generation 0 (omega arith)
+
+  -- an object's home frame is its saved frame
+  same_frame : (n : ℕ) → frame_in disk.seen b.plan b.header.generation [] n ≡ frame_in disk.seen b.plan b.header.generation b.directory n
+  same_frame n = by (slot_in b.directory n) refl where
+    by : (o : Option ℕ) → slot_in b.directory n ≡ o → frame_in disk.seen b.plan b.header.generation [] n ≡ frame_in disk.seen b.plan b.header.generation b.directory n
+    by None is = at_home disk.seen b.plan b.header.generation [] n refl ∙ sym (at_home disk.seen b.plan b.header.generation b.directory n is)
+    by (Some s) is =
+        let entry = found_slot b.directory n s is in
+        at_home disk.seen b.plan b.header.generation [] n refl
+        ∙ subst (λ (m : ℕ). bytes_at disk.seen (home_place b.plan m) b.plan.geometry m ≡ frame_in disk.seen b.plan b.header.generation b.directory m) entry.object_is (kept.moved entry.index (omega (arith, entry.within, kept.count, all)))
+
+  frames_home : frames_read disk.seen b.plan b.header.generation [] ≡ frames_read disk.seen b.plan b.header.generation b.directory
+  frames_home = read_same disk.seen disk.seen b.plan b.header.generation b.header.generation [] b.directory (λ n lt. same_frame n)
+
+  spelt_home : AreSpelt disk.seen b.plan b.header.age b.header.generation []
+  spelt_home n lt = spelt_same disk.seen disk.seen b.plan b.header.age b.header.generation b.header.generation [] b.directory n (same_frame n) (kept.saved n lt)
+
+  spares_homes : (n : ℕ) → n < count_of b.plan → IsApart (home_extent b.plan n) extent
+  spares_homes n lt = home_apart b.plan b.header.generation n extent kept.plan lt inside_half
+
+  spares : Spares b.plan b.header b.directory extent
+  spares = record {
+    headers = (within_inside b.plan.total extent (half_extent b.plan.geometry (half_sector b.plan b.header.generation)) inside_half (half_within b.plan b.header.generation kept.plan)).0;
+    directory = inr (inr (omega arith));
+    frames = λ n lt. frame_apart b.plan b.header.generation b.directory n extent
+        (λ s is. slots_apart_directory b.plan b.header.generation s 0 n (slot_fits b.plan b.directory n s kept.directory is) (omega arith)) (λ _. spares_homes n lt);
+  }
+
+  spares_then : SparesFrames b.plan b.header.generation [] extent
+  spares_then n lt = frame_apart b.plan b.header.generation [] n extent (λ s is. absurd (let never : None ≡ Some s = is in cc)) (λ _. spares_homes n lt)
+
+  pub may_finish : LeavesState disk (saved_state disk.seen b) → MaySave disk b.plan b.header b.directory (home_header b.header) []
+  may_finish sound = record {
+    plan = kept.plan;
+    inside = kept.inside;
+    header = kept.header;
+    sound = sound;
+    fits = home_fits b.plan.geometry.log b.header kept.header some;
+    after = refl;
+    directory = no_directory b.plan;
+    count = refl;
+    spelt = spelt_home;
+    spares = spares;
+    spares_next = spares_then;
+  }
+
+  next_half : working_generation b % 2 ≡ b.header.generation % 2 → ⊥
+  next_half same = other_parity b.header.generation (sym (sym (ap (λ (o : Option ℕ). generation_after b.header.generation o % 2) none) ∙ same))
+
+  working_spares : SparesPuts b.plan (working_generation b) b.working extent
+  working_spares = half_spares b.plan (working_generation b) b.header.generation b.working extent kept.plan next_half kept.working.table kept.working.few inside_half
+
+  spares_now : SparesKept b extent
+  spares_now = record {
+    frames = spares.frames;
+    homes = homes_spare disk.sectors disk.seen b b.header.generation extent kept inside_half;
+    frozen = none_spares b.plan (frozen_generation b) b.frozen extent blank;
+    working = working_spares;
+  }
+
+  running_of : (o : Option ℕ) → IsRunning b o → IsRunning (home_books b) o
+  running_of None is = is
+  running_of (Some k) is = (refl, is.1, is.2)
+
+  home_kept : IsKept disk.sectors disk.seen (home_books b)
+  home_kept = record {
+    plan = kept.plan;
+    inside = kept.inside;
+    header = home_fits b.plan.geometry.log b.header kept.header some;
+    count = refl;
+    directory = no_directory b.plan;
+    saved = spelt_home;
+    few = omega arith;
+    moved = λ i lt. absurd (omega (arith, lt));
+    frozen = kept.frozen;
+    running = running_of b.size kept.running;
+    working = kept.working;
+  }
+
+  spares_home_books : SparesKept (home_books b) extent
+  spares_home_books = record {
+    frames = spares_then;
+    homes = λ i lt. absurd (omega (arith, lt));
+    frozen = none_spares b.plan (frozen_generation b) b.frozen extent blank;
+    working = working_spares;
+  }
+
+  abbrev stored_as : List Frame → ℕ → Stored
+  stored_as frames to_move = record (stored_in disk.seen b) { saved = record { geometry = b.plan.geometry; frames = frames; generation = b.header.generation; entries = 0; age = b.header.age }; to_move = to_move }
+
+  home_stored : stored_in disk.seen (home_books b) ≡ finished (stored_in disk.seen b)
+  home_stored =
+      let zero' : 0 - 0 ≡ 0 = omega arith in
+      ap (λ (fs : List Frame). stored_as fs (0 - 0)) frames_home ∙ ap (stored_as (frames_read disk.seen b.plan b.header.generation b.directory)) zero'
+
+  module _ (new : Image) (only : SavesOnly b.plan (home_header b.header) disk.seen new) where
+    pub finished_kept : IsKept disk.sectors new (home_books b)
+    finished_kept = kept_saves disk.sectors (home_books b) (home_header b.header) disk.seen new home_kept only spares_home_books
+
+    pub finished_stored : stored_in new (home_books b) ≡ finished (stored_in disk.seen b)
+    finished_stored = stored_saves disk.sectors (home_books b) (home_header b.header) disk.seen new home_kept only spares_home_books ∙ home_stored
+
+    pub finished_state : saved_state new (home_books b) ≡ state_in disk.seen b.plan (home_header b.header) []
+    finished_state = state_saves disk.sectors (home_books b) (home_header b.header) disk.seen new home_kept only spares_home_books
+
+    pub unfinished_kept : IsKept disk.sectors new b
+    unfinished_kept = kept_saves disk.sectors b (home_header b.header) disk.seen new kept only spares_now
+
+    pub unfinished_stored : stored_in new b ≡ stored_in disk.seen b
+    unfinished_stored = stored_saves disk.sectors b (home_header b.header) disk.seen new kept only spares_now
+
+  home_kept_of : kept_of (state_in disk.seen b.plan (home_header b.header) []) ≡ home_saved (stored_in disk.seen b).saved
+  home_kept_of = ap (λ (fs : List Frame). (stored_as fs 0).saved) frames_home
+
+  pub finish_moments : (new : Disk) → LeavesOnly disk new (λ c. Denotes c disk.sectors (saved_state disk.seen b) ⊎ Denotes c disk.sectors (state_in disk.seen b.plan (home_header b.header) []))
+      → LeavesEither disk new (stored_in disk.seen b).saved (home_saved (stored_in disk.seen b).saved)
+  finish_moments new run =
+      leaves_weaker {old = disk} {new = new} {P = λ c. Denotes c disk.sectors (saved_state disk.seen b) ⊎ Denotes c disk.sectors (state_in disk.seen b.plan (home_header b.header) [])}
+      (λ c. Holds disk.sectors c (stored_in disk.seen b).saved ⊎ Holds disk.sectors c (home_saved (stored_in disk.seen b).saved))
+      (λ c. ⊎_elim (λ is. inl (holds disk.sectors c (saved_state disk.seen b) is))
+      (λ is. inr (subst (Holds disk.sectors c) home_kept_of (holds disk.sectors c (state_in disk.seen b.plan (home_header b.header) []) is)))) run

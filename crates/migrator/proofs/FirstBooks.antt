@@ -1,0 +1,82 @@
+-- A device that was read whole holds a store.
+use Rattle.std.proofs.Common.{◌≡◌, ℕ, ◌+◌, None, List, length, take, refl, sym, ap, subst, ◌∙◌, arith}
+use Rattle.std.specs.Prelude.{replicate}
+use Rattle.std.proofs.lemmas.List.{length-replicate}
+use Rattle.model.specs.declared.frame.ObjectHeader.{ObjectHeader}
+use Rattle.model.specs.Frame.{headers}
+use Rattle.device.specs.Disk.{Image, Disk}
+use Rattle.device.specs.Calls.{Only}
+use Rattle.device.proofs.Images.{agrees_is}
+use Rattle.layout.specs.declared.directory.Entry.{Entry}
+use Rattle.layout.specs.declared.header.CheckpointHeader.{CheckpointHeader}
+use Rattle.layout.specs.Image.{HasPlan, Denotes}
+use Rattle.layout.specs.Spelt.{count_of, frames_read, state_in}
+use Rattle.layout.specs.Superblock.{Plan}
+use Rattle.layout.proofs.Spelling.{denotes, length_read}
+use Rattle.migrator.specs.declared.table.Place.{Place}
+use Rattle.migrator.specs.declared.table.Place.TheVariants.{Nowhere, Whole}
+use Rattle.migrator.specs.Table.{place_at, taken_count, has_slot, IsTable}
+use Rattle.migrator.specs.Put.{Absent, ArePut}
+use Rattle.migrator.specs.Saved.{Holds}
+use Rattle.migrator.specs.Durable.{Books, books_of, stored_in, saved_state, IsKept, IsSoundOn}
+use Rattle.migrator.specs.Opened.{IsRead, Looks}
+use Rattle.migrator.proofs.Tables.{blank_at, blank_table, tally-blank}
+use Rattle.migrator.proofs.Freezing.{puts_blank}
+use Rattle.migrator.proofs.GoingOn.{holds}
+use Rattle.migrator.proofs.Reading.{opened_sound}
+
+none_put : (image : Image) (p : Plan) (generation : ℕ) (ps : List Place) → ps ≡ replicate (count_of p) Nowhere → ArePut image p generation ps
+none_put image p generation ps blank = record {
+  count = ap length blank ∙ length-replicate {A = Place} (count_of p) Nowhere;
+  few = let taken : taken_count ps ≡ 0 = ap taken_count blank ∙ tally-blank has_slot (count_of p) refl in omega (arith, taken);
+  table = subst IsTable (sym blank) (blank_table (count_of p));
+  spelt = λ n s lt is. absurd (let never : Nowhere ≡ Whole s = sym (ap (λ (qs : List Place). place_at qs n) blank ∙ blank_at (count_of p) n) ∙ is in cc);
+}
+
+abbrev pub first_books : Plan → CheckpointHeader → List Entry → List Place → List Place → Books
+first_books p h es fs ws = books_of p h es 0 fs None ws
+
+module _ (old new : Disk) (p : Plan) (h : CheckpointHeader) (es : List Entry) (hs : List ObjectHeader) (fs ws : List Place) (looks : Looks old new) (plan : HasPlan old.seen old.sectors p) (read : IsRead old.seen p h es hs)
+    (frozen : fs ≡ replicate (count_of p) Nowhere) (working : ws ≡ replicate (count_of p) Nowhere) where
+  same : old.seen ≡ new.seen
+  same = sym (agrees_is new.seen old.seen looks.seen)
+
+  plan_new : HasPlan new.seen new.sectors p
+  plan_new = subst (λ (i : Image). HasPlan i new.sectors p) same (subst (λ (k : ℕ). HasPlan old.seen k p) (sym looks.size) plan)
+
+  read_new : IsRead new.seen p h es hs
+  read_new = subst (λ (i : Image). IsRead i p h es hs) same read
+
+  pub first_kept : IsKept new.sectors new.seen (first_books p h es fs ws)
+  first_kept = record {
+    plan = plan.fits;
+    inside = plan_new.whole;
+    header = read.header.fits;
+    count = read.directory.count;
+    directory = read.directory.fits;
+    saved = read_new.spelt;
+    few = omega arith;
+    moved = λ i lt. absurd (omega (arith, lt));
+    frozen = none_put new.seen p (h.generation + 1) fs frozen;
+    running = λ n. ap (λ (qs : List Place). place_at qs n) frozen ∙ blank_at (count_of p) n;
+    working = none_put new.seen p (h.generation + 1) ws working;
+  }
+
+  first_state : Denotes old.seen old.sectors (saved_state new.seen (first_books p h es fs ws))
+  first_state =
+      subst (λ (i : Image). Denotes old.seen old.sectors (state_in i p h (take h.entries es))) same
+      (denotes old.seen old.sectors p h (take h.entries es) plan read.header read.directory read.spelt)
+
+  pub first_sound : Only new.seen new → IsSoundOn new (first_books p h es fs ws)
+  first_sound only = opened_sound new p h (take h.entries es) only plan_new read_new.header read_new.directory read_new.spelt
+
+  pub first_holds : Holds old.sectors old.seen (stored_in new.seen (first_books p h es fs ws)).saved
+  first_holds = holds old.sectors old.seen (saved_state new.seen (first_books p h es fs ws)) first_state
+
+  pub first_headers : hs ≡ headers (stored_in new.seen (first_books p h es fs ws)).saved.frames
+  first_headers = read_new.headers_are
+
+  pub first_working : (stored_in new.seen (first_books p h es fs ws)).working ≡ replicate (length (stored_in new.seen (first_books p h es fs ws)).saved.frames) Absent
+  first_working =
+      puts_blank new.seen p (h.generation + 1) (length (frames_read new.seen p h.generation (take h.entries es))) ws (λ n. ap (λ (qs : List Place). place_at qs n) working ∙ blank_at (count_of p) n)
+      (length_read new.seen p h.generation (take h.entries es))

@@ -1,0 +1,149 @@
+-- A frozen frame is put into its slot.
+use Rattle.std.proofs.Common.{◌≡◌, ℕ, ◌+◌, ◌%◌, ◌<◌, ◌≤◌, Option, Some, None, Result, Ok, Err, List, length, set, refl, sym, ap, subst, ◌∙◌, arith}
+use Rattle.std.specs.Prelude.{option_map, OnOk, OnErr}
+use Rattle.model.specs.declared.frame.Frame.{Frame}
+use Rattle.model.specs.Keepable.{IsKeepable}
+use Rattle.device.specs.Disk.{Image, Disk}
+use Rattle.device.specs.declared.device.Failed.{Failed}
+use Rattle.layout.specs.Frame.{IsFrameOf, frame_bytes, frame_length}
+use Rattle.layout.specs.Image.{half_sector, slot_sector}
+use Rattle.layout.specs.Spelt.{count_of}
+use Rattle.layout.specs.Superblock.{IsInside, half_extent}
+use Rattle.layout.proofs.Spelling.{bytes_spelt}
+use Rattle.frame_io.specs.Calls.{WritesAt}
+use Rattle.ckpt_log.specs.Places.{place_extent}
+use Rattle.migrator.specs.declared.table.Place.{Place}
+use Rattle.migrator.specs.declared.table.Place.TheVariants.{Torn, Whole}
+use Rattle.migrator.specs.Table.{taken_count, slot_for}
+use Rattle.migrator.specs.Put.{Put, Broken, Kept, most, slot_bytes, slot_frame, puts_in, ArePut}
+use Rattle.migrator.specs.Durable.{Books, frozen_generation, working_generation, generation_after, Frozen, Stored, GoesOnDisk, stored_in, frozen_of, with_put, IsRunning, IsKept, with_frozen, with_frozen}
+use Rattle.migrator.specs.Spared.{Spares}
+use Rattle.migrator.proofs.Kept.{SparesKept, stored_stays, kept_on}
+use Rattle.migrator.proofs.PlacesApart.{place_inside, spares_other}
+use Rattle.migrator.proofs.GoingOn.{goes_spared}
+use Rattle.migrator.proofs.Spared.{touches}
+use Rattle.migrator.proofs.Putting.{torn_put, puts_set, slots_spare, half_spares, other_parity, taken_set, homes_spare, set_twice, mended, puts_mended}
+
+abbrev pub with_places : Books → List Place → Books
+with_places b ps = record b { frozen = ps }
+
+pub kept_frozen : (size : ℕ) (image : Image) (b : Books) (ps : List Place) (k : ℕ) → b.size ≡ Some k → IsKept size image b → ArePut image b.plan (frozen_generation b) ps → taken_count ps ≤ k → IsKept size image (with_places b ps)
+kept_frozen size image b ps k is kept are few = record {
+  plan = kept.plan;
+  inside = kept.inside;
+  header = kept.header;
+  count = kept.count;
+  directory = kept.directory;
+  saved = kept.saved;
+  few = kept.few;
+  moved = kept.moved;
+  frozen = are;
+  running =
+      let was : IsRunning b (Some k) = subst (IsRunning b) is kept.running in
+      subst (IsRunning (with_places b ps)) (sym is) (was.0, few, was.2);
+  working = kept.working;
+}
+
+abbrev frozen_with : List Put → ℕ → Frozen
+frozen_with puts size = record { put = puts; size = size }
+
+put_by : (image : Image) (b : Books) (o : Option ℕ) (ps : List Place) (n : ℕ) (x : Put) → puts_in image b.plan (frozen_generation b) ps ≡ set (puts_in image b.plan (frozen_generation b) b.frozen) n x
+    → option_map (frozen_of image (with_places b ps)) o ≡ option_map (with_put n x) (option_map (frozen_of image b) o)
+put_by image b None ps n x same = refl
+put_by image b (Some k) ps n x same = ap (λ (puts : List Put). Some (frozen_with puts k)) same
+
+-- what was put of one object is all that differs
+stored_put : (image : Image) (b : Books) (ps : List Place) (n : ℕ) (x : Put) → puts_in image b.plan (frozen_generation b) ps ≡ set (puts_in image b.plan (frozen_generation b) b.frozen) n x
+    → stored_in image (with_places b ps) ≡ with_frozen n x (stored_in image b)
+stored_put image b ps n x same = ap (λ (f : Option Frozen). record (stored_in image b) { frozen = f }) (put_by image b b.size ps n x same)
+
+twice_by : (o : Option Frozen) (n : ℕ) (x y : Put) → option_map (with_put n y) (option_map (with_put n x) o) ≡ option_map (with_put n y) o
+twice_by None n x y = refl
+twice_by (Some f) n x y = ap (λ (puts : List Put). Some (frozen_with puts f.size)) (set_twice f.put n x y)
+
+put_twice : (s : Stored) (n : ℕ) (x y : Put) → with_frozen n y (with_frozen n x s) ≡ with_frozen n y s
+put_twice s n x y = ap (λ (f : Option Frozen). record s { frozen = f }) (twice_by s.frozen n x y)
+
+-- a frame is written into its slot
+module _ (old new : Disk) (b : Books) (n : ℕ) (f : Frame) (kept : IsKept old.sectors old.seen b) (lt : n < count_of b.plan) (k : ℕ) (size_is : b.size ≡ Some k) (low : slot_for b.frozen n < k)
+    (writes : WritesAt (slot_sector b.plan (frozen_generation b) (slot_for b.frozen n)) (frame_length b.plan.geometry n) old new) where
+  was : IsRunning b (Some k)
+  was = subst (IsRunning b) size_is kept.running
+
+  room : slot_for b.frozen n < b.plan.geometry.log
+  room = omega (arith, low, was.2)
+
+  inside : IsInside (place_extent b.plan (frozen_generation b) (slot_for b.frozen n) n) (half_extent b.plan.geometry (half_sector b.plan (frozen_generation b)))
+  inside = place_inside b.plan (frozen_generation b) (slot_for b.frozen n) n room
+
+  in_list : n < length b.frozen
+  in_list = omega (arith, lt, kept.frozen.count)
+
+  spares : Spares b.plan b.header b.directory (place_extent b.plan (frozen_generation b) (slot_for b.frozen n) n)
+  spares = spares_other b.plan b.header b.directory (frozen_generation b) (place_extent b.plan (frozen_generation b) (slot_for b.frozen n) n) kept.plan kept.directory kept.header.entries (other_parity b.header.generation) inside
+
+  torn_kept : IsKept old.sectors old.seen (with_places b (set b.frozen n (Torn (slot_for b.frozen n))))
+  torn_kept = kept_frozen old.sectors old.seen b (set b.frozen n (Torn (slot_for b.frozen n))) k size_is kept (torn_put old.seen b.plan (frozen_generation b) b.frozen n kept.frozen lt room)
+      (taken_set b.frozen n k (Torn (slot_for b.frozen n)) in_list refl was.1 low)
+
+  later : working_generation b % 2 ≡ frozen_generation b % 2 → ⊥
+  later same =
+      let both : (b.header.generation + 1 + 1) % 2 ≡ frozen_generation b % 2 = ap (λ (o : Option ℕ). generation_after b.header.generation o % 2) (sym size_is) ∙ same in
+      other_parity (b.header.generation + 1) (sym both)
+
+  torn_spares : SparesKept (with_places b (set b.frozen n (Torn (slot_for b.frozen n)))) (place_extent b.plan (frozen_generation b) (slot_for b.frozen n) n)
+  torn_spares = record {
+    frames = spares.frames;
+    homes = homes_spare old.sectors old.seen b (frozen_generation b) (place_extent b.plan (frozen_generation b) (slot_for b.frozen n) n) kept inside;
+    frozen = slots_spare b.plan (frozen_generation b) b.frozen n kept.frozen.table in_list;
+    working =
+        half_spares b.plan (working_generation b) (frozen_generation b) b.working (place_extent b.plan (frozen_generation b) (slot_for b.frozen n) n) kept.plan later kept.working.table kept.working.few inside;
+  }
+
+  stays_kept : IsKept new.sectors new.seen (with_places b (set b.frozen n (Torn (slot_for b.frozen n))))
+  stays_kept =
+      subst (λ (size : ℕ). IsKept size new.seen (with_places b (set b.frozen n (Torn (slot_for b.frozen n))))) (sym writes.size)
+      (kept_on old.sectors (with_places b (set b.frozen n (Torn (slot_for b.frozen n)))) (place_extent b.plan (frozen_generation b) (slot_for b.frozen n) n) old.seen new.seen torn_spares writes.elsewhere torn_kept)
+
+  stays_stored : stored_in new.seen (with_places b (set b.frozen n (Torn (slot_for b.frozen n)))) ≡ with_frozen n Broken (stored_in old.seen b)
+  stays_stored =
+      stored_stays old.sectors (with_places b (set b.frozen n (Torn (slot_for b.frozen n)))) (place_extent b.plan (frozen_generation b) (slot_for b.frozen n) n) old.seen new.seen torn_spares writes.elsewhere
+      ∙ stored_put old.seen b (set b.frozen n (Torn (slot_for b.frozen n))) n Broken (puts_set old.seen b.plan (frozen_generation b) b.frozen n kept.frozen lt room (Torn (slot_for b.frozen n)))
+
+  -- the frame was written
+  module _ (keepable : IsKeepable b.plan.geometry most n f) (written : slot_bytes new.seen b.plan (frozen_generation b) (slot_for b.frozen n) n ≡ frame_bytes b.plan.geometry n f) where
+    spelt : IsFrameOf b.plan.geometry most n (slot_bytes new.seen b.plan (frozen_generation b) (slot_for b.frozen n) n) (slot_frame new.seen b.plan (frozen_generation b) (slot_for b.frozen n) n)
+        × (slot_frame new.seen b.plan (frozen_generation b) (slot_for b.frozen n) n ≡ f)
+    spelt = bytes_spelt b.plan.geometry most n (slot_bytes new.seen b.plan (frozen_generation b) (slot_for b.frozen n) n) f keepable written
+
+    put_kept : IsKept new.sectors new.seen (with_places b (set b.frozen n (Whole (slot_for b.frozen n))))
+    put_kept =
+        kept_frozen new.sectors new.seen (with_places b (set b.frozen n (Torn (slot_for b.frozen n)))) (set b.frozen n (Whole (slot_for b.frozen n))) k size_is stays_kept
+        (mended new.seen b.plan (frozen_generation b) b.frozen n (slot_for b.frozen n) stays_kept.frozen lt spelt.0)
+        (taken_set b.frozen n k (Whole (slot_for b.frozen n)) in_list refl was.1 low)
+
+    put_stored : stored_in new.seen (with_places b (set b.frozen n (Whole (slot_for b.frozen n)))) ≡ with_frozen n (Kept f) (stored_in old.seen b)
+    put_stored =
+        stored_put new.seen (with_places b (set b.frozen n (Torn (slot_for b.frozen n)))) (set b.frozen n (Whole (slot_for b.frozen n))) n (Kept f)
+        (puts_mended new.seen b.plan (frozen_generation b) b.frozen n (slot_for b.frozen n) stays_kept.frozen lt f spelt.1)
+        ∙ ap (with_frozen n (Kept f)) stays_stored ∙ put_twice (stored_in old.seen b) n Broken (Kept f)
+
+  pub put_goes_on : (ps : List Place) → GoesOnDisk old new b (with_places b ps)
+  put_goes_on ps = goes_spared old new b (with_places b ps) (place_extent b.plan (frozen_generation b) (slot_for b.frozen n) n) refl refl refl spares
+      (touches (slot_sector b.plan (frozen_generation b) (slot_for b.frozen n)) (frame_length b.plan.geometry n) old new writes)
+
+  -- what it comes to, whether or not the device failed
+  pub put_either : {T : Type 0} (r : Result T Failed) (ps : List Place) → IsKeepable b.plan.geometry most n f
+      → OnOk r (ps ≡ set b.frozen n (Whole (slot_for b.frozen n))) → OnErr r (ps ≡ set b.frozen n (Torn (slot_for b.frozen n)))
+      → OnOk r (slot_bytes new.seen b.plan (frozen_generation b) (slot_for b.frozen n) n ≡ frame_bytes b.plan.geometry n f)
+      → IsKept new.sectors new.seen (with_places b ps) × OnOk r (stored_in new.seen (with_places b ps) ≡ with_frozen n (Kept f) (stored_in old.seen b)) × OnErr r (stored_in new.seen (with_places b ps) ≡ with_frozen n Broken (stored_in old.seen b))
+  put_either (Ok u) ps keepable ok err written = (
+    subst (λ (xs : List Place). IsKept new.sectors new.seen (with_places b xs)) (sym ok) (put_kept keepable written),
+    subst (λ (xs : List Place). stored_in new.seen (with_places b xs) ≡ with_frozen n (Kept f) (stored_in old.seen b)) (sym ok) (put_stored keepable written),
+    tt,
+  )
+  put_either (Err e) ps keepable ok err written = (
+    subst (λ (xs : List Place). IsKept new.sectors new.seen (with_places b xs)) (sym err) stays_kept,
+    tt,
+    subst (λ (xs : List Place). stored_in new.seen (with_places b xs) ≡ with_frozen n Broken (stored_in old.seen b)) (sym err) stays_stored,
+  )

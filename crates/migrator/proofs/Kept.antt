@@ -1,0 +1,134 @@
+-- What is kept of a store is kept through a write apart from it.
+use Rattle.std.proofs.Common.{◌≡◌, ℕ, ◌-◌, ◌<◌, Option, Some, None, List, length, get_or, set, refl, sym, ap, subst, ◌∙◌, inl, inr, arith}
+use Rattle.std.specs.Prelude.{map, option_map}
+use Rattle.std.specs.List.{range_with_len}
+use Rattle.std.proofs.lemmas.Bool.{cases_eq}
+use Rattle.std.proofs.lemmas.List.{same_lists, length-set, get_or-set_same, get_or-set_other}
+use Rattle.std.proofs.lemmas.List.FromFn.{length-map-range_with_len, get_or-map-range_with_len}
+use Rattle.device.specs.Disk.{Image}
+use Rattle.device.specs.Calls.{Elsewhere}
+use Rattle.layout.specs.declared.extent.Extent.{Extent}
+use Rattle.layout.specs.Directory.{entry_at}
+use Rattle.layout.specs.Frame.{IsFrameOf}
+use Rattle.layout.specs.FrameReader.{frame_from}
+use Rattle.layout.specs.Image.{SavedState}
+use Rattle.layout.specs.Spelt.{count_of}
+use Rattle.layout.specs.Superblock.{Plan, IsApart}
+use Rattle.layout.proofs.Spelling.{spelt_same}
+use Rattle.home_ranges.specs.Laws.{home_extent}
+use Rattle.ckpt_log.specs.Places.{place_extent}
+use Rattle.migrator.specs.declared.table.Place.{Place}
+use Rattle.migrator.specs.declared.table.Place.TheVariants.{Nowhere, Torn, Whole}
+use Rattle.migrator.specs.Table.{place_at}
+use Rattle.migrator.specs.Put.{Put, Kept, most, slot_bytes, put_of, puts_in, ArePut}
+use Rattle.migrator.specs.Durable.{Books, frozen_generation, working_generation, Frozen, Stored, saved_state, frozen_of, stored_in, IsHome, IsKept}
+use Rattle.migrator.specs.Saved.{SavedFrames, kept_of}
+use Rattle.migrator.specs.Spared.{SparesFrames}
+use Rattle.migrator.proofs.Spared.{frame_stays, state_stays, bytes_stay}
+
+-- ---- lists by number
+
+pub maps_same : {X : Type 0} (f g : ℕ → X) (n : ℕ) → ((i : ℕ) → i < n → f i ≡ g i) → map f (range_with_len 0 n) ≡ map g (range_with_len 0 n)
+maps_same f g n same =
+    same_lists (map f (range_with_len 0 n)) (map g (range_with_len 0 n)) (length-map-range_with_len f 0 n ∙ sym (length-map-range_with_len g 0 n))
+    (λ i d lt.
+    let few : i < n = omega (arith, lt, length-map-range_with_len f 0 n) in
+    get_or-map-range_with_len f 0 n i i d few (omega arith) ∙ same i few ∙ sym (get_or-map-range_with_len g 0 n i i d few (omega arith)))
+
+-- one of them is another
+pub map_set : {X : Type 0} (f g : ℕ → X) (n k : ℕ) (x : X) → k < n → g k ≡ x → ((i : ℕ) → i < n → (i ≡ k → ⊥) → g i ≡ f i) → map g (range_with_len 0 n) ≡ set (map f (range_with_len 0 n)) k x
+map_set f g n k x within here others =
+    same_lists (map g (range_with_len 0 n)) (set (map f (range_with_len 0 n)) k x)
+    (length-map-range_with_len g 0 n ∙ sym (length-set (map f (range_with_len 0 n)) k x ∙ length-map-range_with_len f 0 n))
+    (λ i d lt.
+    let few : i < n = omega (arith, lt, length-map-range_with_len g 0 n) in
+    let room : k < length (map f (range_with_len 0 n)) = omega (arith, within, length-map-range_with_len f 0 n) in
+    get_or-map-range_with_len g 0 n i i d few (omega arith) ∙ elim (cases_eq i k) [
+      | inl same ↦ ap g same ∙ here ∙ sym (ap (λ (j : ℕ). get_or (set (map f (range_with_len 0 n)) k x) j d) same ∙ get_or-set_same (map f (range_with_len 0 n)) k x d room)
+      | inr other ↦ others i few other ∙ sym (get_or-set_other (map f (range_with_len 0 n)) k i x d other ∙ get_or-map-range_with_len f 0 n i i d few (omega arith))
+    ])
+
+-- ---- what was put
+
+-- the frames that were put lie in other sectors
+abbrev pub SparesPuts : Plan → ℕ → List Place → Extent → Type 0
+SparesPuts p generation ps e = (n s : ℕ) → n < count_of p → place_at ps n ≡ Whole s → IsApart (place_extent p generation s n) e
+
+put_same : (new old : Image) (p : Plan) (generation n : ℕ) (place : Place) → ((s : ℕ) → place ≡ Whole s → slot_bytes new p generation s n ≡ slot_bytes old p generation s n) → put_of new p generation n place ≡ put_of old p generation n place
+put_same new old p generation n Nowhere same = refl
+put_same new old p generation n (Torn s) same = refl
+put_same new old p generation n (Whole s) same = ap (λ (bytes : List ℕ). Kept (frame_from p.geometry n bytes)) (same s refl)
+
+module _ (p : Plan) (generation : ℕ) (ps : List Place) (e : Extent) (old new : Image) (spares : SparesPuts p generation ps e) (change : Elsewhere e.sector e.length old new) where
+  slot_stays : (n s : ℕ) → n < count_of p → place_at ps n ≡ Whole s → slot_bytes new p generation s n ≡ slot_bytes old p generation s n
+  slot_stays n s lt is = bytes_stay (place_extent p generation s n) e old new (spares n s lt is) change
+
+  pub puts_stay : puts_in new p generation ps ≡ puts_in old p generation ps
+  unfolding puts_in
+  puts_stay =
+      maps_same (λ n. put_of new p generation n (place_at ps n)) (λ n. put_of old p generation n (place_at ps n)) (count_of p)
+      (λ n lt. put_same new old p generation n (place_at ps n) (λ s is. slot_stays n s lt is))
+
+  pub are_put_on : ArePut old p generation ps → ArePut new p generation ps
+  are_put_on are = record {
+    count = are.count;
+    few = are.few;
+    table = are.table;
+    spelt = λ n s lt is. subst (λ (bytes : List ℕ). IsFrameOf p.geometry most n bytes (frame_from p.geometry n bytes)) (sym (slot_stays n s lt is)) (are.spelt n s lt is);
+  }
+
+-- ---- all of it
+
+-- what is kept of a store lies in other sectors
+pub record SparesKept (b : Books) (e : Extent) : Type 0 where
+  pub frames : SparesFrames b.plan b.header.generation b.directory e
+  pub homes : (i : ℕ) → i < b.moved → IsApart (home_extent b.plan (entry_at b.directory i).object) e
+  pub frozen : SparesPuts b.plan (frozen_generation b) b.frozen e
+  pub working : SparesPuts b.plan (working_generation b) b.working e
+
+abbrev stored_of : List Put → Option Frozen → SavedFrames → ℕ → Stored
+stored_of working frozen saved to_move = record { working = working; frozen = frozen; saved = saved; to_move = to_move }
+
+frozen_same : (new old : Image) (b : Books) (size : Option ℕ) → puts_in new b.plan (frozen_generation b) b.frozen ≡ puts_in old b.plan (frozen_generation b) b.frozen
+    → option_map (frozen_of new b) size ≡ option_map (frozen_of old b) size
+frozen_same new old b None same = refl
+frozen_same new old b (Some size) same = ap (λ (puts : List Put). Some (record { put = puts; size = size })) same
+
+pub stored_same : (new old : Image) (b : Books) → puts_in new b.plan (working_generation b) b.working ≡ puts_in old b.plan (working_generation b) b.working
+    → puts_in new b.plan (frozen_generation b) b.frozen ≡ puts_in old b.plan (frozen_generation b) b.frozen → saved_state new b ≡ saved_state old b → stored_in new b ≡ stored_in old b
+stored_same new old b working frozen saved =
+    ap (λ (x : List Put). stored_of x (option_map (frozen_of new b) b.size) (kept_of (saved_state new b)) (b.header.entries - b.moved)) working
+    ∙ ap (λ (x : Option Frozen). stored_of (puts_in old b.plan (working_generation b) b.working) x (kept_of (saved_state new b)) (b.header.entries - b.moved)) (frozen_same new old b b.size frozen)
+    ∙ ap (λ (x : SavedState). stored_of (puts_in old b.plan (working_generation b) b.working) (option_map (frozen_of old b) b.size) (kept_of x) (b.header.entries - b.moved)) saved
+
+module _ (size : ℕ) (b : Books) (e : Extent) (old new : Image) (spares : SparesKept b e) (change : Elsewhere e.sector e.length old new) where
+  pub stored_stays : stored_in new b ≡ stored_in old b
+  stored_stays =
+      stored_same new old b (puts_stay b.plan (working_generation b) b.working e old new spares.working change)
+      (puts_stay b.plan (frozen_generation b) b.frozen e old new spares.frozen change)
+      (state_stays b.plan b.header b.directory e old new spares.frames change)
+
+  object_fits : IsKept size old b → (i : ℕ) → i < b.moved → (entry_at b.directory i).object < count_of b.plan
+  object_fits kept i lt = (kept.directory.each i (record { object = 0; slot = 0 }) (omega (arith, lt, kept.few, kept.count))).object
+
+  pub home_stays : (i : ℕ) → (entry_at b.directory i).object < count_of b.plan → IsApart (home_extent b.plan (entry_at b.directory i).object) e
+      → IsHome old b.plan b.header.generation b.directory i → IsHome new b.plan b.header.generation b.directory i
+  home_stays i fits apart is =
+      bytes_stay (home_extent b.plan (entry_at b.directory i).object) e old new apart change ∙ is
+      ∙ sym (frame_stays b.plan b.header.generation b.directory e old new spares.frames change (entry_at b.directory i).object fits)
+
+  pub kept_on : IsKept size old b → IsKept size new b
+  kept_on kept = record {
+    plan = kept.plan;
+    inside = kept.inside;
+    header = kept.header;
+    count = kept.count;
+    directory = kept.directory;
+    saved = λ n lt. spelt_same new old b.plan b.header.age b.header.generation b.header.generation b.directory b.directory n
+        (frame_stays b.plan b.header.generation b.directory e old new spares.frames change n lt) (kept.saved n lt);
+    few = kept.few;
+    moved = λ i lt. home_stays i (object_fits kept i lt) (spares.homes i lt) (kept.moved i lt);
+    frozen = are_put_on b.plan (frozen_generation b) b.frozen e old new spares.frozen change kept.frozen;
+    running = kept.running;
+    working = are_put_on b.plan (working_generation b) b.working e old new spares.working change kept.working;
+  }

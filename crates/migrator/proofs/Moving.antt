@@ -1,0 +1,161 @@
+-- A saved frame goes home.
+use Rattle.std.proofs.Common.{◌≡◌, ℕ, ◌+◌, ◌-◌, ◌<◌, ◌≤◌, Option, Some, None, List, length, take, get_or, refl, sym, ap, subst, ◌∙◌, inl, inr, arith}
+use Rattle.std.proofs.lemmas.Bool.{cases_lt}
+use Rattle.std.proofs.lemmas.List.{get_or_default, get_or-take}
+use Rattle.device.specs.Disk.{Image, Disk}
+use Rattle.device.specs.Moments.{LeavesOnly}
+use Rattle.device.proofs.Moments.{leaves_on, started}
+use Rattle.layout.specs.declared.directory.Entry.{Entry}
+use Rattle.layout.specs.Directory.{entry_at}
+use Rattle.layout.specs.Frame.{frame_length}
+use Rattle.layout.specs.Image.{slot_in}
+use Rattle.layout.specs.Spelt.{count_of}
+use Rattle.layout.specs.Superblock.{Plan, IsPlan}
+use Rattle.layout.proofs.Halves.{apart_turned}
+use Rattle.layout.proofs.SlotsOf.{own_slot, two_objects}
+use Rattle.frame_io.specs.Frames.{bytes_at}
+use Rattle.home_ranges.specs.Home.{home_place}
+use Rattle.home_ranges.specs.Laws.{home_extent}
+use Rattle.home_ranges.proofs.Places.{places_apart}
+use Rattle.ckpt_log.specs.Places.{place_extent}
+use Rattle.migrator.specs.declared.table.Place.{Place}
+use Rattle.migrator.specs.declared.table.Place.TheVariants.{Nowhere}
+use Rattle.migrator.specs.Table.{place_at, slot_of, IsTable, taken_count}
+use Rattle.migrator.specs.Put.{slot_bytes}
+use Rattle.migrator.specs.Saved.{SavedFrames, Holds}
+use Rattle.migrator.specs.Durable.{Books, frozen_generation, working_generation, Stored, GoesOnDisk, saved_state, stored_in, IsHome, IsRunning, IsKept}
+use Rattle.migrator.specs.Spared.{Spares, Touches}
+use Rattle.migrator.proofs.Spared.{frame_stays}
+use Rattle.migrator.proofs.Kept.{SparesPuts, SparesKept, stored_stays, kept_on}
+use Rattle.migrator.proofs.GoingOn.{holds, goes_spared}
+use Rattle.migrator.proofs.PlacesApart.{in_slot, place_inside, home_apart, spares_home}
+use Rattle.migrator.proofs.Putting.{none_spares}
+
+-- ---- where some of what is saved lies in the log no checkpoint is on its way
+
+not_running : (b : Books) (o : Option ℕ) → IsRunning b o → 0 < b.header.entries → o ≡ None
+not_running b None running some = refl
+not_running b (Some k) running some = absurd (omega (arith, running.0, some))
+
+pub no_checkpoint : (size : ℕ) (image : Image) (b : Books) → IsKept size image b → 0 < b.header.entries → b.size ≡ None
+no_checkpoint size image b kept some = not_running b b.size kept.running some
+
+-- sectors that hold no frame that was put: a home
+puts_home : (p : Plan) (generation m : ℕ) (ps : List Place) → IsPlan p → IsTable ps → taken_count ps ≤ p.geometry.log → m < count_of p → SparesPuts p generation ps (home_extent p m)
+puts_home p generation m ps fits table few within n s lt is =
+    let less = table.few n s (ap slot_of is) in
+    apart_turned (home_extent p m) (place_extent p generation s n) (home_apart p generation m (place_extent p generation s n) fits within (place_inside p generation s n (omega (arith, less, few))))
+
+abbrev pub moved_books : Books → ℕ → Books
+moved_books b k = record b { moved = b.moved + k }
+
+-- ---- the next frame is copied
+
+module _ (old new : Disk) (b : Books) (kept : IsKept old.sectors old.seen b) (some : b.moved < b.header.entries)
+    (touches : Touches (home_place b.plan (entry_at b.directory b.moved).object) (frame_length b.plan.geometry (entry_at b.directory b.moved).object) old new) where
+  abbrev object : ℕ
+  object = (entry_at b.directory b.moved).object
+
+  in_list : b.moved < length b.directory
+  in_list = omega (arith, some, kept.count)
+
+  pub object_fits : object < count_of b.plan
+  object_fits = (kept.directory.each b.moved (record { object = 0; slot = 0 }) in_list).object
+
+  pub slot_low : (entry_at b.directory b.moved).slot < b.plan.geometry.log
+  slot_low = (kept.directory.each b.moved (record { object = 0; slot = 0 }) in_list).slot
+
+  has_slot : slot_in b.directory object ≡ Some (entry_at b.directory b.moved).slot
+  has_slot = own_slot b.directory b.moved kept.directory.rising in_list
+
+  spares : Spares b.plan b.header b.directory (home_extent b.plan object)
+  spares = spares_home b.plan b.header b.directory object (entry_at b.directory b.moved).slot kept.plan kept.directory kept.header.entries object_fits has_slot
+
+  none : b.size ≡ None
+  none = no_checkpoint old.sectors old.seen b kept (omega (arith, some))
+
+  blank : (n : ℕ) → place_at b.frozen n ≡ Nowhere
+  blank = subst (IsRunning b) none kept.running
+
+  spares_all : SparesKept b (home_extent b.plan object)
+  spares_all = record {
+    frames = spares.frames;
+    homes = λ i lt.
+        places_apart b.plan (entry_at b.directory i).object object kept.plan (kept.directory.each i (record { object = 0; slot = 0 }) (omega (arith, lt, in_list))).object object_fits
+        (λ same. two_objects b.directory i b.moved kept.directory.rising lt in_list same);
+    frozen = none_spares b.plan (frozen_generation b) b.frozen (home_extent b.plan object) blank;
+    working = puts_home b.plan (working_generation b) object b.working kept.plan kept.working.table kept.working.few object_fits;
+  }
+
+  kept_new : IsKept new.sectors new.seen b
+  kept_new = subst (λ (k : ℕ). IsKept k new.seen b) (sym touches.size) (kept_on old.sectors b (home_extent b.plan object) old.seen new.seen spares_all touches.elsewhere kept)
+
+  stored_new : stored_in new.seen b ≡ stored_in old.seen b
+  stored_new = stored_stays old.sectors b (home_extent b.plan object) old.seen new.seen spares_all touches.elsewhere
+
+  is_home : bytes_at new.seen (home_place b.plan object) b.plan.geometry object ≡ slot_bytes old.seen b.plan b.header.generation (entry_at b.directory b.moved).slot object → IsHome new.seen b.plan b.header.generation b.directory b.moved
+  is_home copied =
+      copied ∙ sym (in_slot old.seen b.plan b.header.generation b.directory object (entry_at b.directory b.moved).slot has_slot)
+      ∙ sym (frame_stays b.plan b.header.generation b.directory (home_extent b.plan object) old.seen new.seen spares.frames touches.elsewhere object object_fits)
+
+  pub copied_kept : bytes_at new.seen (home_place b.plan object) b.plan.geometry object ≡ slot_bytes old.seen b.plan b.header.generation (entry_at b.directory b.moved).slot object → IsKept new.sectors new.seen (moved_books b 1)
+  copied_kept copied = record {
+    plan = kept_new.plan;
+    inside = kept_new.inside;
+    header = kept_new.header;
+    count = kept_new.count;
+    directory = kept_new.directory;
+    saved = kept_new.saved;
+    few = omega (arith, some);
+    moved = λ i lt. elim (cases_lt i b.moved) [
+      | inl less ↦ kept_new.moved i less
+      | inr le ↦ let same : b.moved ≡ i = omega (arith, lt, le) in subst (IsHome new.seen b.plan b.header.generation b.directory) same (is_home copied)
+    ];
+    frozen = kept_new.frozen;
+    running = running_of b.size kept_new.running;
+    working = kept_new.working;
+  } where
+    running_of : (o : Option ℕ) → IsRunning b o → IsRunning (moved_books b 1) o
+    running_of None is = is
+    running_of (Some k) is = is
+
+  pub uncopied_kept : IsKept new.sectors new.seen b
+  uncopied_kept = kept_new
+
+  pub copied_stored : stored_in new.seen (moved_books b 1) ≡ record (stored_in old.seen b) { to_move = b.header.entries - (b.moved + 1) }
+  copied_stored = ap (λ (s : Stored). record s { to_move = b.header.entries - (b.moved + 1) }) stored_new
+
+  pub uncopied_stored : stored_in new.seen b ≡ record (stored_in old.seen b) { to_move = b.header.entries - (b.moved + 0) }
+  uncopied_stored = let same : b.moved ≡ b.moved + 0 = omega arith in stored_new ∙ ap (λ (n : ℕ). record (stored_in old.seen b) { to_move = b.header.entries - n }) same
+
+  pub copied_goes_on : (k : ℕ) → GoesOnDisk old new b (moved_books b k)
+  copied_goes_on k = goes_spared old new b (moved_books b k) (home_extent b.plan object) refl refl refl spares touches
+
+  pub uncopied_goes_on : GoesOnDisk old new b b
+  uncopied_goes_on = goes_spared old new b b (home_extent b.plan object) refl refl refl spares touches
+
+-- ---- one after the other
+
+pub goes_trans : (old mid new : Disk) (a b c : Books) → (stored_in mid.seen b).saved ≡ (stored_in old.seen a).saved → GoesOnDisk old mid a b → GoesOnDisk mid new b c → GoesOnDisk old new a c
+goes_trans old mid new a b c same first second = record {
+  plan = second.plan ∙ first.plan;
+  size = second.size ∙ first.size;
+  sound = λ sound. second.sound (first.sound sound);
+  any_moment = λ sound.
+      leaves_on {old = old} {mid = mid} {new = new} {P = λ x. Holds old.sectors x (stored_in old.seen a).saved} (first.any_moment sound)
+      (subst (λ (k : ℕ). LeavesOnly mid new (λ x. Holds k x (stored_in old.seen a).saved)) first.size
+      (subst (λ (s : SavedFrames). LeavesOnly mid new (λ x. Holds mid.sectors x s)) same (second.any_moment (first.sound sound))));
+}
+
+pub goes_none : (disk : Disk) (b : Books) → ((c : Image) → disk.left_since disk.moment c → disk.may_leave c) → GoesOnDisk disk disk b b
+goes_none disk b only_now = record {
+  plan = refl;
+  size = refl;
+  sound = λ sound. sound;
+  any_moment = λ sound. started disk (λ c. Holds disk.sectors c (stored_in disk.seen b).saved) only_now (λ c left. holds disk.sectors c (saved_state disk.seen b) (sound c left));
+}
+
+-- an entry of the directory as it is read
+pub entry_is : (es : List Entry) (n i : ℕ) (e : Entry) → i < n → i < length es → e ≡ get_or es i e → e ≡ entry_at (take n es) i
+entry_is es n i e lt within is =
+    is ∙ get_or_default es i e (record { object = 0; slot = 0 }) within ∙ sym (get_or-take n es i (record { object = 0; slot = 0 }) lt)

@@ -1,0 +1,73 @@
+-- What is read of a device as it is opened.
+use Rattle.std.proofs.Common.{◌≡◌, ℕ, ◌+◌, ◌<◌, ◌≤◌, Some, None, List, length, sym, ap, subst, ◌∙◌, append-nil, inl, inr, ⊎_elim, arith}
+use Rattle.std.proofs.lemmas.Bool.{cases_lt}
+use Rattle.device.specs.Disk.{Image}
+use Rattle.device.specs.Calls.{Agrees}
+use Rattle.layout.specs.declared.bad_image.BadImage.{BadImage}
+use Rattle.layout.specs.declared.bad_image.BadImage.TheVariants as bad
+use Rattle.layout.specs.declared.directory.Entry.{Entry}
+use Rattle.layout.specs.Directory.{entry_at, AreRising}
+use Rattle.layout.specs.Image.{HasPlan, IsBadBy, IsTooSmall, total_in, sectors_from, slot_in}
+use Rattle.layout.specs.Superblock.{Plan, IsPlan, IsRefused, superblock_bytes}
+use Rattle.layout.proofs.SlotsOf.{own_slot, rising_to, no_slot}
+use Rattle.layout.proofs.Totals.{total_told}
+
+-- ---- the superblock
+
+one_sector : (image : Image) → sectors_from image 0 1 ≡ image 0
+unfolding sectors_from
+one_sector image = append-nil (image 0)
+
+pub sector_is : (old mid : Image) (bytes : List ℕ) → Agrees mid old → sectors_from mid 0 1 ≡ bytes → old 0 ≡ bytes
+sector_is old mid bytes same is = sym (same 0) ∙ sym (one_sector mid) ∙ is
+
+not_small : (image : Image) (size : ℕ) (bytes : List ℕ) → image 0 ≡ bytes → 5 ≤ size → total_in bytes ≤ size → IsTooSmall image size → ⊥
+not_small image size bytes is least whole small = ⊎_elim (λ lt. omega (arith, lt, least)) (λ lt. let less : size < total_in bytes = subst (λ (b : List ℕ). size < total_in b) is lt in omega (arith, less, whole)) small
+
+pub total_small : (image : Image) (size : ℕ) (bytes : List ℕ) → image 0 ≡ bytes → size < total_in bytes → IsTooSmall image size
+total_small image size bytes is lt = inr (subst (λ (b : List ℕ). size < total_in b) (sym is) lt)
+
+pub plan_refused : (image : Image) (size : ℕ) (bytes : List ℕ) (reason : BadImage) → image 0 ≡ bytes → 5 ≤ size → total_in bytes ≤ size → IsRefused bytes reason → IsBadBy image size reason
+plan_refused image size bytes bad.Small is least whole refused = absurd refused
+plan_refused image size bytes bad.NotASuperblock is least whole refused =
+    (not_small image size bytes is least whole, subst (λ (b : List ℕ). IsRefused b bad.NotASuperblock) (sym is) refused)
+plan_refused image size bytes bad.BadGeometry is least whole refused =
+    let parts = subst (λ (b : List ℕ). IsRefused b bad.BadGeometry) (sym is) refused in
+    (not_small image size bytes is least whole, parts.0, parts.1)
+plan_refused image size bytes bad.NoHeader is least whole refused = absurd refused
+plan_refused image size bytes bad.BadHeader is least whole refused = absurd refused
+plan_refused image size bytes bad.BadDirectory is least whole refused = absurd refused
+plan_refused image size bytes bad.BadFrame is least whole refused = absurd refused
+plan_refused image size bytes bad.BadCapability is least whole refused = absurd refused
+plan_refused image size bytes bad.BadProcess is least whole refused = absurd refused
+plan_refused image size bytes bad.BadBank is least whole refused = absurd refused
+
+pub plan_read : (image : Image) (size : ℕ) (bytes : List ℕ) (p : Plan) → image 0 ≡ bytes → 5 ≤ size → total_in bytes ≤ size → bytes ≡ superblock_bytes p → IsPlan p → HasPlan image size p
+plan_read image size bytes p is least whole spelt fits = record {
+  least = least;
+  whole = let total = ap total_in spelt ∙ total_told p fits in omega (arith, whole, total);
+  fits = fits;
+  spelt = is ∙ spelt;
+}
+
+-- ---- looking a slot up
+
+pub found_at : (es : List Entry) (n i : ℕ) (e : Entry) → AreRising es → i < length es → e ≡ entry_at es i → e.object ≡ n → slot_in es n ≡ Some e.slot
+found_at es n i e rising lt is same =
+    ap (slot_in es) (sym same ∙ ap (λ (x : Entry). x.object) is) ∙ own_slot es i rising lt ∙ ap (λ (x : Entry). Some x.slot) (sym is)
+
+pub none_at : (es : List Entry) (n low high : ℕ) → high ≤ low → ((i : ℕ) → i < low → (entry_at es i).object < n) → ((i : ℕ) → high ≤ i → i < length es → n < (entry_at es i).object) → slot_in es n ≡ None
+none_at es n low high done below above =
+    no_slot es n (λ i lt same. ⊎_elim (λ less. let one = below i less in omega (arith, one, same)) (λ more. let one = above i (omega (arith, more, done)) lt in omega (arith, one, same)) (cases_lt i low))
+
+pub below_more : (es : List Entry) (n middle : ℕ) → AreRising es → middle < length es → (entry_at es middle).object < n → (i : ℕ) → i < middle + 1 → (entry_at es i).object < n
+below_more es n middle rising within less i lt = elim (cases_lt i middle) [
+  | inl before ↦ let one = rising_to es i middle rising before within in omega (arith, one, less)
+  | inr le ↦ let same : middle ≡ i = omega (arith, lt, le) in subst (λ (k : ℕ). (entry_at es k).object < n) same less
+]
+
+pub above_more : (es : List Entry) (n middle : ℕ) → AreRising es → middle < length es → n < (entry_at es middle).object → (i : ℕ) → middle ≤ i → i < length es → n < (entry_at es i).object
+above_more es n middle rising within less i le lt = elim (cases_lt middle i) [
+  | inl before ↦ let one = rising_to es middle i rising before lt in omega (arith, one, less)
+  | inr ge ↦ let same : middle ≡ i = omega (arith, le, ge) in subst (λ (k : ℕ). n < (entry_at es k).object) same less
+]

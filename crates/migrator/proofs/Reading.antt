@@ -1,0 +1,129 @@
+-- Reads one after the other, and the headers of the frames that they find.
+use Rattle.std.proofs.Common.{◌≡◌, ℕ, ◌+◌, ◌<◌, Result, Ok, Err, List, [], ◌∷◌, ◌++◌, length, refl, sym, ap, subst, ◌∙◌, inl, inr, ⊎_elim, arith}
+use Rattle.std.specs.Prelude.{map, IfOk, IfErr}
+use Rattle.std.specs.List.{range_with_len}
+use Rattle.std.proofs.lemmas.Bool.{cases_lt}
+use Rattle.std.proofs.lemmas.List.{same_lists, length-map, get_or-map}
+use Rattle.std.proofs.lemmas.List.FromFn.{length-map-range_with_len, get_or-map-range_with_len, map-range_with_len_more}
+use Rattle.model.specs.declared.frame.Frame.{Frame}
+use Rattle.model.specs.declared.frame.ObjectHeader.{ObjectHeader}
+use Rattle.model.specs.Frame.{headers, blank_frame}
+use Rattle.device.specs.Disk.{Image, Disk}
+use Rattle.device.specs.Calls.{Only}
+use Rattle.device.specs.Moments.{Elapses}
+use Rattle.device.proofs.Images.{agrees_is}
+use Rattle.device.proofs.Moments.{leaves_weaker, leaves_on, peeks_started}
+use Rattle.layout.specs.declared.directory.Entry.{Entry}
+use Rattle.layout.specs.declared.header.CheckpointHeader.{CheckpointHeader}
+use Rattle.layout.specs.declared.bad_image.BadImage.{BadImage}
+use Rattle.layout.specs.declared.bad_image.BadImage.TheVariants as bad
+use Rattle.layout.specs.Image.{HasPlan, HasHeader, HasDirectory, Denotes, IsBadBy}
+use Rattle.layout.specs.Spelt.{count_of, IsSpelt, AreSpelt, frame_read, frames_read, state_in}
+use Rattle.layout.specs.Superblock.{Plan}
+use Rattle.layout.proofs.Spelling.{denotes}
+use Rattle.frame_io.specs.Calls.{ReadsOnly}
+use Rattle.frame_io.specs.declared.fault.ReadFault.TheVariants as fault
+use Rattle.ckpt_log.specs.Log.{HasNoCommitted}
+use Rattle.migrator.specs.declared.open_fault.OpenFault.{OpenFault}
+use Rattle.migrator.specs.declared.open_fault.OpenFault.TheVariants as refusal
+use Rattle.migrator.specs.Opened.{IsBadAt, IsBadFor}
+use Rattle.migrator.specs.Durable.{LeavesState}
+
+time_on : (a b c : Disk) → ReadsOnly a b → ReadsOnly b c → Elapses a c
+time_on a b c first second = record {
+  later = omega (arith, first.time.later, second.time.later);
+  nothing_else = λ t x le left.
+      ⊎_elim (λ before. ⊎_elim inl (λ now. inr (second.nothing_durable x now)) (first.time.nothing_else t x le before)) inr (second.time.nothing_else t x (omega (arith, le, first.time.later)) left);
+  keeps = λ t x le left. second.time.keeps t x (omega (arith, le, first.time.later)) (first.time.keeps t x le left);
+}
+
+-- one read after another
+pub reads_more : (a b c : Disk) → ReadsOnly a b → ReadsOnly b c → ReadsOnly a c
+reads_more a b c first second = record {
+  size = second.size ∙ first.size;
+  seen = λ i. second.seen i ∙ first.seen i;
+  crash = λ x left. first.crash x (second.crash x left);
+  nothing_durable = λ x left. second.nothing_durable x (first.nothing_durable x left);
+  any_moment = leaves_on {old = a} {mid = b} {new = c} {P = a.may_leave} first.any_moment (leaves_weaker {old = b} {new = c} {P = b.may_leave} a.may_leave first.crash second.any_moment);
+  time = time_on a b c first second;
+}
+
+-- before the first
+pub reads_none : (disk : Disk) → ((c : Image) → disk.left_since disk.moment c → disk.may_leave c) → ReadsOnly disk disk
+reads_none disk only_now = record {
+  size = refl;
+  seen = λ i. refl;
+  crash = λ x left. left;
+  nothing_durable = λ x left. left;
+  any_moment = peeks_started disk only_now;
+  time = record { later = omega arith; nothing_else = λ t x le left. inl left; keeps = λ t x le left. left };
+}
+
+-- the headers of the first frames
+abbrev pub headers_until : Image → Plan → ℕ → List Entry → ℕ → List ObjectHeader
+headers_until image p generation es k = map (λ n. (frame_read image p generation es n).header) (range_with_len 0 k)
+
+pub headers_more : (image : Image) (p : Plan) (generation : ℕ) (es : List Entry) (k : ℕ) (hs new : List ObjectHeader) → hs ≡ headers_until image p generation es k → new ≡ hs ++ (frame_read image p generation es k).header ∷ []
+    → new ≡ headers_until image p generation es (k + 1)
+headers_more image p generation es k hs new is more =
+    more ∙ ap (λ (xs : List ObjectHeader). xs ++ (frame_read image p generation es k).header ∷ []) is
+    ∙ sym (map-range_with_len_more (λ n. (frame_read image p generation es n).header) 0 k k (omega arith))
+
+pub headers_all : (image : Image) (p : Plan) (generation : ℕ) (es : List Entry) → headers_until image p generation es (count_of p) ≡ headers (frames_read image p generation es)
+unfolding frames_read
+headers_all image p generation es =
+    let f : ℕ → Frame = frame_read image p generation es in
+    let fs : List Frame = map f (range_with_len 0 (count_of p)) in
+    let size : length fs ≡ count_of p = length-map-range_with_len f 0 (count_of p) in
+    same_lists (map (λ n. (f n).header) (range_with_len 0 (count_of p))) (map (λ x. x.header) fs)
+    (length-map-range_with_len (λ n. (f n).header) 0 (count_of p) ∙ sym size ∙ sym (length-map fs (λ (x : Frame). x.header)))
+    (λ i d lt.
+    let few : i < count_of p = omega (arith, lt, length-map-range_with_len (λ n. (f n).header) 0 (count_of p)) in
+    get_or-map-range_with_len (λ n. (f n).header) 0 (count_of p) i i d few (omega arith)
+    ∙ sym (get_or-map (λ (x : Frame). x.header) fs i blank_frame d (omega (arith, few, size)) ∙ ap (λ (x : Frame). x.header) (get_or-map-range_with_len f 0 (count_of p) i i blank_frame few (omega arith))))
+
+pub spelt_more : (image : Image) (p : Plan) (age generation : ℕ) (es : List Entry) (k : ℕ) → ((n : ℕ) → n < k → IsSpelt image p age generation es n) → IsSpelt image p age generation es k
+    → (n : ℕ) → n < k + 1 → IsSpelt image p age generation es n
+spelt_more image p age generation es k below here n lt = elim (cases_lt n k) [
+  | inl less ↦ below n less
+  | inr le ↦ let same : k ≡ n = omega (arith, lt, le) in subst (IsSpelt image p age generation es) same here
+]
+
+-- ---- why an image is refused
+
+-- there is no committed header with a directory
+pub bad_log : (image : Image) (size : ℕ) (p : Plan) (reason : BadImage) → HasPlan image size p → HasNoCommitted image p (fault.Bad reason) → IsBadBy image size reason
+bad_log image size p bad.Small plan none = absurd none
+bad_log image size p bad.NotASuperblock plan none = absurd none
+bad_log image size p bad.BadGeometry plan none = absurd none
+bad_log image size p bad.NoHeader plan none = (p, plan, none)
+bad_log image size p bad.BadHeader plan none = (p, plan, none.0, none.1)
+bad_log image size p bad.BadDirectory plan none = (p, none.0, plan, none.1, none.2)
+bad_log image size p bad.BadFrame plan none = absurd none
+bad_log image size p bad.BadCapability plan none = absurd none
+bad_log image size p bad.BadProcess plan none = absurd none
+bad_log image size p bad.BadBank plan none = absurd none
+
+-- the frame of some object is none
+pub bad_frame : (image : Image) (size : ℕ) (p : Plan) (h : CheckpointHeader) (es : List Entry) (n : ℕ) (e : OpenFault) → HasPlan image size p → HasHeader image p h → HasDirectory image p h es → n < count_of p → IsBadAt image p h es n e → IsBadFor image size e
+bad_frame image size p h es n refusal.Failed plan header directory lt is = tt
+bad_frame image size p h es n refusal.NoMemory plan header directory lt is = tt
+bad_frame image size p h es n (refusal.Bad reason) plan header directory lt is =
+    subst (IsBadBy image size) (sym is.0) (p, h, es, plan, header, directory, (n, lt, is.1))
+
+-- ---- a device that was read whole
+
+-- each crash leaves the state that was read, where all is durable
+pub opened_sound : (disk : Disk) (p : Plan) (h : CheckpointHeader) (es : List Entry) → Only disk.seen disk → HasPlan disk.seen disk.sectors p → HasHeader disk.seen p h → HasDirectory disk.seen p h es → AreSpelt disk.seen p h.age h.generation es
+    → LeavesState disk (state_in disk.seen p h es)
+opened_sound disk p h es only plan header directory spelt c left =
+    subst (λ (i : Image). Denotes i disk.sectors (state_in disk.seen p h es)) (sym (agrees_is c disk.seen (only c left))) (denotes disk.seen disk.sectors p h es plan header directory spelt)
+
+-- two facts of what is answered make a third
+pub if_both : {T E : Type 0} {P Q R : T → Type 0} (r : Result T E) → ((x : T) → P x → Q x → R x) → IfOk r P → IfOk r Q → IfOk r R
+if_both (Ok x) f p q = f x p q
+if_both (Err e) f p q = tt
+
+pub err_weaker : {T E : Type 0} {P Q : E → Type 0} (r : Result T E) → ((e : E) → P e → Q e) → IfErr r P → IfErr r Q
+err_weaker (Ok x) f p = tt
+err_weaker (Err e) f p = f e p

@@ -1,0 +1,354 @@
+-- What is known of a table of places.
+use Rattle.std.proofs.Common.{◌≡◌, ℕ, zero, suc, ◌+◌, ◌-◌, ◌<◌, ◌≤◌, Option, Some, None, List, [], ◌∷◌, ◌++◌, length, get_or, set, take, drop, refl, sym, ap, subst, ◌∙◌, inl, inr, arith, length-take-le}
+use Rattle.std.specs.Prelude.{replicate}
+use Rattle.std.proofs.lemmas.Bool.{cases_eq}
+use Rattle.std.proofs.Math.Seq.{take-nil}
+use Rattle.std.proofs.lemmas.List.{get_or-set_same, get_or-set_other, get_or_default, get_or-replicate, take_more, take_all, drop_all, append-nil, length-replicate, same_lists}
+use Rattle.model.specs.declared.geometry.Geometry.{Geometry}
+use Rattle.layout.specs.declared.directory.Entry.{Entry}
+use Rattle.layout.specs.Directory.{entry_at, AreRising, IsEntry, IsDirectory}
+use Rattle.layout.specs.Image.{slot_in}
+use Rattle.layout.proofs.SlotsOf.{slot_here, slot_behind, own_slot, two_objects}
+use Rattle.migrator.specs.declared.table.Place.{Place}
+use Rattle.migrator.specs.declared.table.Place.TheVariants.{Nowhere, Torn, Whole}
+use Rattle.migrator.specs.Table.{place_at, slot_of, has_slot, has_frame, tally, taken_count, whole_count, slot_or, slot_for, IsTable, entry_before, entries_from, entries_of}
+
+-- ---- counts
+
+-- one place is another
+pub tally-set : (has : Place → ℕ) (ps : List Place) (n : ℕ) (q : Place) → n < length ps → tally has (set ps n q) + has (place_at ps n) ≡ tally has ps + has q
+unfolding tally
+tally-set has [] n q lt = absurd (omega (arith, lt))
+tally-set has (p ∷ ps) zero q lt = omega arith
+tally-set has (p ∷ ps) (suc n) q lt = let rest = tally-set has ps n q (omega (arith, lt)) in omega (arith, rest)
+
+-- what one has is among what all have
+tally_at : (has : Place → ℕ) (ps : List Place) (n : ℕ) → n < length ps → has (place_at ps n) ≤ tally has ps
+unfolding tally
+tally_at has [] n lt = absurd (omega (arith, lt))
+tally_at has (p ∷ ps) zero lt = omega arith
+tally_at has (p ∷ ps) (suc n) lt = let rest = tally_at has ps n (omega (arith, lt)) in omega (arith, rest)
+
+frame_slot : (p : Place) → has_frame p ≤ has_slot p
+frame_slot Nowhere = omega arith
+frame_slot (Torn s) = omega arith
+frame_slot (Whole s) = omega arith
+
+pub whole_taken : (ps : List Place) → whole_count ps ≤ taken_count ps
+unfolding tally
+whole_taken [] = omega arith
+whole_taken (p ∷ ps) = let rest = whole_taken ps in let here = frame_slot p in omega (arith, rest, here)
+
+whole_of : (p : Place) (s : ℕ) → has_slot p ≤ has_frame p → slot_of p ≡ Some s → p ≡ Whole s
+whole_of Nowhere s le is = absurd cc
+whole_of (Torn t) s le is = absurd (omega (arith, le))
+whole_of (Whole t) s le is = let same : t ≡ s = cc in ap Whole same
+
+-- where no slot is torn, each has its frame
+pub all_whole : (ps : List Place) (n s : ℕ) → taken_count ps ≤ whole_count ps → n < length ps → slot_of (place_at ps n) ≡ Some s → place_at ps n ≡ Whole s
+unfolding tally
+all_whole [] n s le lt is = absurd (omega (arith, lt))
+all_whole (p ∷ ps) zero s le lt is = let rest = whole_taken ps in whole_of p s (omega (arith, le, rest)) is
+all_whole (p ∷ ps) (suc n) s le lt is = let here = frame_slot p in all_whole ps n s (omega (arith, le, here)) (omega (arith, lt)) is
+
+pub tally-blank : (has : Place → ℕ) (n : ℕ) → has Nowhere ≡ 0 → tally has (replicate n Nowhere) ≡ 0
+unfolding tally
+tally-blank has zero none = refl
+tally-blank has (suc n) none = let rest = tally-blank has n none in omega (arith, none, rest)
+
+-- ---- tables without a slot
+
+pub blank_at : (n k : ℕ) → place_at (replicate n Nowhere) k ≡ Nowhere
+blank_at zero k = refl
+blank_at (suc n) zero = refl
+blank_at (suc n) (suc k) = blank_at n k
+
+pub blank_table : (n : ℕ) → IsTable (replicate n Nowhere)
+blank_table n = record {
+  few = λ k s is. absurd (let e : slot_of (place_at (replicate n Nowhere) k) ≡ None = ap slot_of (blank_at n k) in let never : None ≡ Some s = sym e ∙ is in cc);
+  apart = λ m k s is is'. absurd (let e : slot_of (place_at (replicate n Nowhere) m) ≡ None = ap slot_of (blank_at n m) in let never : None ≡ Some s = sym e ∙ is in cc);
+}
+
+-- ---- a place is set
+
+none_has : (p : Place) → slot_of p ≡ None → has_slot p ≡ 0
+none_has Nowhere is = refl
+none_has (Torn s) is = absurd cc
+none_has (Whole s) is = absurd cc
+
+some_has : (p : Place) (s : ℕ) → slot_of p ≡ Some s → has_slot p ≡ 1
+some_has Nowhere s is = absurd cc
+some_has (Torn t) s is = refl
+some_has (Whole t) s is = refl
+
+same_some : (a b : ℕ) → Some a ≡ Some b → a ≡ b
+same_some a b e = cc
+
+pub set_here : (ps : List Place) (n : ℕ) (q : Place) → n < length ps → place_at (set ps n q) n ≡ q
+set_here ps n q lt = get_or-set_same ps n q Nowhere lt
+
+pub set_there : (ps : List Place) (n m : ℕ) (q : Place) → (m ≡ n → ⊥) → place_at (set ps n q) m ≡ place_at ps m
+set_there ps n m q other = get_or-set_other ps n m q Nowhere other
+
+-- an object with a slot stays in it
+table_kept : (ps : List Place) (n t : ℕ) (q : Place) → IsTable ps → n < length ps → slot_of (place_at ps n) ≡ Some t → slot_of q ≡ Some t → IsTable (set ps n q)
+table_kept ps n t q is lt was has =
+    let count : taken_count (set ps n q) ≡ taken_count ps = let set' = tally-set has_slot ps n q lt in let one = some_has (place_at ps n) t was in let one' = some_has q t has in omega (arith, set', one, one') in
+    let same : (m s : ℕ) → slot_of (place_at (set ps n q) m) ≡ Some s → slot_of (place_at ps m) ≡ Some s = λ m s e. elim (cases_eq m n) [
+      | inl here ↦
+          let now : slot_of (place_at (set ps n q) m) ≡ Some t = ap (λ (k : ℕ). slot_of (place_at (set ps n q) k)) here ∙ ap slot_of (set_here ps n q lt) ∙ has in
+          ap (λ (k : ℕ). slot_of (place_at ps k)) here ∙ was ∙ sym now ∙ e
+      | inr there ↦ ap slot_of (sym (set_there ps n m q there)) ∙ e
+    ] in
+    record {
+      few = λ m s e. let less = is.few m s (same m s e) in omega (arith, less, count);
+      apart = λ m k s e e'. is.apart m k s (same m s e) (same k s e');
+    }
+
+-- the next slot is taken
+table_more : (ps : List Place) (n : ℕ) (q : Place) → IsTable ps → n < length ps → slot_of (place_at ps n) ≡ None → slot_of q ≡ Some (taken_count ps) → IsTable (set ps n q)
+table_more ps n q is lt was has =
+    let count : taken_count (set ps n q) ≡ taken_count ps + 1 = let set' = tally-set has_slot ps n q lt in let none = none_has (place_at ps n) was in let one = some_has q (taken_count ps) has in omega (arith, set', none, one) in
+    let here : (m s : ℕ) → m ≡ n → slot_of (place_at (set ps n q) m) ≡ Some s → s ≡ taken_count ps = λ m s same e.
+    same_some s (taken_count ps) (sym e ∙ ap (λ (k : ℕ). slot_of (place_at (set ps n q) k)) same ∙ ap slot_of (set_here ps n q lt) ∙ has) in
+    let there : (m s : ℕ) → (m ≡ n → ⊥) → slot_of (place_at (set ps n q) m) ≡ Some s → slot_of (place_at ps m) ≡ Some s = λ m s other e. ap slot_of (sym (set_there ps n m q other)) ∙ e in
+    record {
+      few = λ m s e. elim (cases_eq m n) [
+        | inl same ↦ let at = here m s same e in omega (arith, at, count)
+        | inr other ↦ let less = is.few m s (there m s other e) in omega (arith, less, count)
+      ];
+      apart = λ m k s e e'. elim (cases_eq m n) [
+        | inl same ↦ elim (cases_eq k n) [
+          | inl same' ↦ same ∙ sym same'
+          | inr other' ↦ let at = here m s same e in let less = is.few k s (there k s other' e') in absurd (omega (arith, at, less))
+        ]
+        | inr other ↦ elim (cases_eq k n) [
+          | inl same' ↦ let at = here k s same' e' in let less = is.few m s (there m s other e) in absurd (omega (arith, at, less))
+          | inr other' ↦ is.apart m k s (there m s other e) (there k s other' e')
+        ]
+      ];
+    }
+
+set_by : (o : Option ℕ) (ps : List Place) (n : ℕ) (q : Place) → IsTable ps → n < length ps → slot_of (place_at ps n) ≡ o → slot_of q ≡ Some (slot_or o (taken_count ps)) → IsTable (set ps n q)
+set_by None ps n q is lt was has = table_more ps n q is lt was has
+set_by (Some s) ps n q is lt was has = table_kept ps n s q is lt was has
+
+pub table_set : (ps : List Place) (n : ℕ) (q : Place) → IsTable ps → n < length ps → slot_of q ≡ Some (slot_for ps n) → IsTable (set ps n q)
+table_set ps n q is lt has = set_by (slot_of (place_at ps n)) ps n q is lt refl has
+
+-- ---- entries
+
+entry_on : (n : ℕ) (o : Option ℕ) (xs ys : List Entry) → entry_before n o (xs ++ ys) ≡ entry_before n o xs ++ ys
+entry_on n None xs ys = refl
+entry_on n (Some s) xs ys = refl
+
+entries-append : (n : ℕ) (ps qs : List Place) → entries_from n (ps ++ qs) ≡ entries_from n ps ++ entries_from (n + length ps) qs
+entries-append n [] qs = let none : n + 0 ≡ n = omega arith in ap (λ (k : ℕ). entries_from k qs) (sym none)
+entries-append n (p ∷ ps) qs =
+    let next : n + 1 + length ps ≡ n + suc (length ps) = omega arith in
+    ap (entry_before n (slot_of p)) (entries-append (n + 1) ps qs) ∙ entry_on n (slot_of p) (entries_from (n + 1) ps) (entries_from (n + 1 + length ps) qs)
+    ∙ ap (λ (k : ℕ). entry_before n (slot_of p) (entries_from (n + 1) ps) ++ entries_from k qs) next
+
+-- one place more
+pub entries-more : (ps : List Place) (i : ℕ) (d : Place) → i < length ps → entries_of (take (i + 1) ps) ≡ entries_of (take i ps) ++ entry_before i (slot_of (get_or ps i d)) []
+unfolding entries_of
+entries-more ps i d lt =
+    let size : 0 + length (take i ps) ≡ i = omega (arith, length-take-le i ps (omega (arith, lt))) in
+    ap (entries_from 0) (take_more ps i d lt) ∙ entries-append 0 (take i ps) (get_or ps i d ∷ [])
+    ∙ ap (λ (k : ℕ). entries_from 0 (take i ps) ++ entries_from k (get_or ps i d ∷ [])) size
+
+pub no_entries : entries_of [] ≡ []
+unfolding entries_of
+no_entries = refl
+
+tally-append : (has : Place → ℕ) (ps qs : List Place) → tally has (ps ++ qs) ≡ tally has ps + tally has qs
+unfolding tally
+tally-append has [] qs = omega arith
+tally-append has (p ∷ ps) qs = let rest = tally-append has ps qs in omega (arith, rest)
+
+pub tally-more : (has : Place → ℕ) (ps : List Place) (i : ℕ) (d : Place) → i < length ps → tally has (take (i + 1) ps) ≡ tally has (take i ps) + has (get_or ps i d)
+unfolding tally
+tally-more has ps i d lt =
+    let more = tally-append has (take i ps) (get_or ps i d ∷ []) in
+    ap (tally has) (take_more ps i d lt) ∙ omega (arith, more)
+
+pub tally-none : (has : Place → ℕ) → tally has [] ≡ 0
+unfolding tally
+tally-none has = refl
+
+tally-take : (has : Place → ℕ) (ps : List Place) (i : ℕ) → tally has (take i ps) ≤ tally has ps
+unfolding tally
+tally-take has [] i = subst (λ (xs : List Place). tally has xs ≤ 0) (sym (take-nil i)) (omega arith)
+tally-take has (p ∷ ps) zero = omega arith
+tally-take has (p ∷ ps) (suc i) = let rest = tally-take has ps i in omega (arith, rest)
+
+entry_length : (n : ℕ) (p : Place) (es : List Entry) → length (entry_before n (slot_of p) es) ≡ has_slot p + length es
+entry_length n Nowhere es = omega arith
+entry_length n (Torn s) es = omega arith
+entry_length n (Whole s) es = omega arith
+
+length_from : (n : ℕ) (ps : List Place) → length (entries_from n ps) ≡ taken_count ps
+unfolding tally
+length_from n [] = refl
+length_from n (p ∷ ps) = let rest = length_from (n + 1) ps in let here = entry_length n p (entries_from (n + 1) ps) in omega (arith, rest, here)
+
+pub length_entries : (ps : List Place) → length (entries_of ps) ≡ taken_count ps
+unfolding entries_of
+length_entries ps = length_from 0 ps
+
+-- ---- the slots that the entries give
+
+none_below : (o : Option ℕ) (n m : ℕ) (es : List Entry) → m < n → slot_in es m ≡ None → slot_in (entry_before n o es) m ≡ None
+none_below None n m es lt none = none
+none_below (Some s) n m es lt none = slot_behind (record { object = n; slot = s }) es m (λ same. omega (arith, same, lt)) ∙ none
+
+below : (n m : ℕ) (ps : List Place) → m < n → slot_in (entries_from n ps) m ≡ None
+below n m [] lt = refl
+below n m (p ∷ ps) lt = none_below (slot_of p) n m (entries_from (n + 1) ps) lt (below (n + 1) m ps (omega (arith, lt)))
+
+slot_first : (o : Option ℕ) (n : ℕ) (es : List Entry) → slot_in es n ≡ None → slot_in (entry_before n o es) n ≡ o
+slot_first None n es none = none
+slot_first (Some s) n es none = slot_here (record { object = n; slot = s }) es n refl
+
+slot_later : (o : Option ℕ) (n m : ℕ) (es : List Entry) → n < m → slot_in (entry_before n o es) m ≡ slot_in es m
+slot_later None n m es lt = refl
+slot_later (Some s) n m es lt = slot_behind (record { object = n; slot = s }) es m (λ same. omega (arith, same, lt))
+
+slot_from : (n k : ℕ) (ps : List Place) → slot_in (entries_from n ps) (n + k) ≡ slot_of (place_at ps k)
+slot_from n k [] = refl
+slot_from n zero (p ∷ ps) =
+    let none : n + 0 ≡ n = omega arith in
+    ap (slot_in (entries_from n (p ∷ ps))) none ∙ slot_first (slot_of p) n (entries_from (n + 1) ps) (below (n + 1) n ps (omega arith))
+slot_from n (suc k) (p ∷ ps) =
+    let next : n + suc k ≡ n + 1 + k = omega arith in
+    slot_later (slot_of p) n (n + suc k) (entries_from (n + 1) ps) (omega arith) ∙ ap (slot_in (entries_from (n + 1) ps)) next ∙ slot_from (n + 1) k ps
+
+pub slot_entries : (ps : List Place) (n : ℕ) → slot_in (entries_of ps) n ≡ slot_of (place_at ps n)
+unfolding entries_of
+slot_entries ps n = let same : 0 + n ≡ n = omega arith in ap (slot_in (entries_from 0 ps)) (sym same) ∙ slot_from 0 n ps
+
+-- ---- the entries are a directory
+
+rising_cons : (e : Entry) (es : List Entry) → AreRising es → (0 < length es → e.object < (entry_at es 0).object) → AreRising (e ∷ es)
+rising_cons e es rising first zero lt = first (omega (arith, lt))
+rising_cons e es rising first (suc i) lt =
+    let next : suc (i + 1) ≡ suc i + 1 = omega arith in
+    subst (λ (k : ℕ). (entry_at es i).object < (entry_at (e ∷ es) k).object) next (rising i (omega (arith, lt)))
+
+-- the objects of entries lie in a range
+record AreFrom (low high : ℕ) (es : List Entry) : Type 0 where
+  pub each : (i : ℕ) → i < length es → (low ≤ (entry_at es i).object) × ((entry_at es i).object < high)
+  pub rising : AreRising es
+
+from_by : (o : Option ℕ) (n high : ℕ) (es : List Entry) → n < high → AreFrom (n + 1) high es → AreFrom n high (entry_before n o es)
+from_by None n high es lt are = record { each = λ i within. let one = are.each i within in (omega (arith, one.0), one.1); rising = are.rising }
+from_by (Some s) n high es lt are = record {
+  each = each_of;
+  rising = rising_cons (record { object = n; slot = s }) es are.rising (λ some. let one = are.each 0 some in omega (arith, one.0));
+} where
+  each_of : (i : ℕ) → i < length (entry_before n (Some s) es) → (n ≤ (entry_at (entry_before n (Some s) es) i).object) × ((entry_at (entry_before n (Some s) es) i).object < high)
+  each_of zero within = (omega arith, lt)
+  each_of (suc i) within = let one = are.each i (omega (arith, within)) in (omega (arith, one.0), one.1)
+
+from_of : (n : ℕ) (ps : List Place) → AreFrom n (n + length ps) (entries_from n ps)
+from_of n [] = record { each = λ i lt. absurd (omega (arith, lt)); rising = λ i lt. absurd (omega (arith, lt)) }
+from_of n (p ∷ ps) =
+    let end : n + 1 + length ps ≡ n + suc (length ps) = omega arith in
+    from_by (slot_of p) n (n + suc (length ps)) (entries_from (n + 1) ps) (omega arith) (subst (λ (k : ℕ). AreFrom (n + 1) k (entries_from (n + 1) ps)) end (from_of (n + 1) ps))
+
+entries_are : (ps : List Place) → AreFrom 0 (0 + length ps) (entries_of ps)
+unfolding entries_of
+entries_are ps = from_of 0 ps
+
+-- the place of the object of an entry
+entry_place : (ps : List Place) (i : ℕ) → i < length (entries_of ps) → slot_of (place_at ps (entry_at (entries_of ps) i).object) ≡ Some (entry_at (entries_of ps) i).slot
+entry_place ps i lt = sym (slot_entries ps (entry_at (entries_of ps) i).object) ∙ own_slot (entries_of ps) i (entries_are ps).rising lt
+
+pub entries_directory : (g : Geometry) (ps : List Place) → IsTable ps → length ps ≡ g.nodes + g.pages → taken_count ps ≤ g.log → g.nodes + g.pages ≤ 8192 → g.log ≤ 4096 → IsDirectory g (entries_of ps)
+entries_directory g ps is size few small small' =
+    let es : List Entry = entries_of ps in
+    let are = entries_are ps in
+    record {
+      each = λ i d lt.
+          let one = are.each i lt in
+          let slot = is.few (entry_at es i).object (entry_at es i).slot (entry_place ps i lt) in
+          subst (IsEntry g) (sym (get_or_default es i d (record { object = 0; slot = 0 }) lt))
+          (record {
+            object = omega (arith, one.1, size);
+            slot = omega (arith, slot, few);
+            object_fits = omega (arith, one.1, size, small);
+            slot_fits = omega (arith, slot, few, small');
+          });
+      rising = are.rising;
+      apart = λ i j lt within same.
+          two_objects es i j are.rising lt within
+          (is.apart (entry_at es i).object (entry_at es j).object (entry_at es j).slot
+          (entry_place ps i (omega (arith, lt, within)) ∙ ap (λ (k : ℕ). Some k) same) (entry_place ps j within));
+    }
+
+-- ---- what the code keeps
+
+one_slot : (p : Place) → has_slot p ≤ 1
+one_slot Nowhere = omega arith
+one_slot (Torn s) = omega arith
+one_slot (Whole s) = omega arith
+
+pub taken_few : (ps : List Place) → taken_count ps ≤ length ps
+unfolding tally
+taken_few [] = omega arith
+taken_few (p ∷ ps) = let rest = taken_few ps in let here = one_slot p in omega (arith, rest, here)
+
+pub count_set : (has : Place → ℕ) (items now : List Place) (n : ℕ) (q old : Place) (count a b : ℕ) → items ≡ now → n < length now → old ≡ place_at now n → count ≡ tally has items → a ≡ has q → b ≡ has old
+    → count + a - b ≡ tally has (set items n q)
+count_set has items now n q old count a b same lt is total one other =
+    let within : n < length items = subst (λ (xs : List Place). n < length xs) (sym same) lt in
+    let before : b ≡ has (place_at items n) = other ∙ ap has (is ∙ ap (λ (xs : List Place). place_at xs n) (sym same)) in
+    let after = tally-set has items n q within in
+    omega (arith, after, before, total, one)
+
+pub count_at : (has : Place → ℕ) (items now : List Place) (n : ℕ) (old : Place) (count b : ℕ) → items ≡ now → n < length now → old ≡ place_at now n → count ≡ tally has items → b ≡ has old → b ≤ count
+count_at has items now n old count b same lt is total other =
+    let within : n < length items = subst (λ (xs : List Place). n < length xs) (sym same) lt in
+    let before : b ≡ has (place_at items n) = other ∙ ap has (is ∙ ap (λ (xs : List Place). place_at xs n) (sym same)) in
+    let one = tally_at has items n within in
+    omega (arith, one, before, total)
+
+pub table_is : (items now : List Place) (n : ℕ) (q : Place) → items ≡ now → n < length now → slot_of q ≡ Some (slot_for now n) → IsTable items → IsTable (set items n q)
+table_is items now n q same lt has is =
+    table_set items n q is (subst (λ (xs : List Place). n < length xs) (sym same) lt) (has ∙ ap (λ (xs : List Place). Some (slot_for xs n)) (sym same))
+
+pub blank_is : (ps : List Place) (n : ℕ) → ps ≡ replicate n Nowhere → IsTable ps × (0 ≡ taken_count ps) × (0 ≡ whole_count ps)
+blank_is ps n is =
+    subst (λ (xs : List Place). IsTable xs × (0 ≡ taken_count xs) × (0 ≡ whole_count xs)) (sym is) (blank_table n, sym (tally-blank has_slot n refl), sym (tally-blank has_frame n refl))
+
+pub blank_whole : (items new : List Place) (n len : ℕ) → new ≡ replicate n Nowhere → n ≡ length items → len ≡ length items → take len (new ++ drop (length new) items) ≡ replicate n Nowhere
+blank_whole items new n len is count size =
+    let long : length new ≡ n = ap length is ∙ length-replicate {A = Place} n Nowhere in
+    let rest : drop (length new) items ≡ [] = drop_all (length new) items (omega (arith, long, count)) in
+    ap (λ (xs : List Place). take len (new ++ xs)) rest ∙ ap (take len) (append-nil new) ∙ take_all len new (omega (arith, long, count, size)) ∙ is
+
+pub all_blank : (ps : List Place) (i n : ℕ) → n ≤ i → length ps ≡ n → ((k : ℕ) → k < i → place_at ps k ≡ Nowhere) → ps ≡ replicate n Nowhere
+all_blank ps i n done size each =
+    same_lists ps (replicate n Nowhere) (size ∙ sym (length-replicate {A = Place} n Nowhere))
+    (λ k d lt. get_or_default ps k d Nowhere lt ∙ each k (omega (arith, lt, size, done)) ∙ sym (get_or-replicate n k Nowhere d (omega (arith, lt, size))))
+
+pub room_more : (ps : List Place) (i count room : ℕ) → i < length ps → count ≡ taken_count (take i ps) → taken_count ps ≤ room → count + has_slot (place_at ps i) ≤ room
+room_more ps i count room lt is few =
+    let more = tally-more has_slot ps i Nowhere lt in
+    let most = tally-take has_slot ps (i + 1) in
+    omega (arith, more, most, is, few)
+
+pub entries_on : (ps : List Place) (i count count' : ℕ) (into into' : List Entry) → i < length ps → count ≡ taken_count (take i ps) → take count into ≡ entries_of (take i ps)
+    → count' ≡ count + has_slot (place_at ps i) → take count' into' ≡ take count into ++ entry_before i (slot_of (place_at ps i)) []
+    → (count' ≡ taken_count (take (i + 1) ps)) × (take count' into' ≡ entries_of (take (i + 1) ps))
+entries_on ps i count count' into into' lt total are more put = (
+  more ∙ ap (λ (n : ℕ). n + has_slot (place_at ps i)) total ∙ sym (tally-more has_slot ps i Nowhere lt),
+  put ∙ ap (λ (es : List Entry). es ++ entry_before i (slot_of (place_at ps i)) []) are ∙ sym (entries-more ps i Nowhere lt),
+)
+
+pub entries_all : (ps : List Place) (i : ℕ) → length ps ≤ i → take i ps ≡ ps
+entries_all ps i done = take_all i ps done
+
+pub rewritten : {X : Type 0} (items new : List X) (len : ℕ) → length new ≡ length items → len ≡ length items → take len (new ++ drop (length new) items) ≡ new
+rewritten {X = X} items new len long size =
+    ap (λ (xs : List X). take len (new ++ xs)) (drop_all (length new) items (omega (arith, long))) ∙ ap (take len) (append-nil new) ∙ take_all len new (omega (arith, long, size))

@@ -1,0 +1,14 @@
+use Rattle.std.proofs.Common.{◌∙◌, ◌<◌, ◌+◌, arith, rules}
+use Rattle.device.proofs.Moments.{counted_ok}
+use Rattle.migrator.proofs.Saving.{on_err}
+use Rattle.migrator.proofs.Moves.{moved_more}
+use Rattle.migrator.proofs.durable.Durable.move_some.Goals as goal
+
+pub returns-in_err-move_next-clause-unmoved : goal.returns-in_err-move_next-clause-unmoved
+returns-in_err-move_next-clause-unmoved g c =
+    let lt : c.loop.counter < c.args.count = search rules in
+    on_err c.from_residual.result (c.loop.counter + 0, omega (arith, lt), moved_more g.D.Device.disk c.args.self.now c.loop.self c.move_next.new.self c.loop.counter 0 c.loop.invariant.0 c.in_err-move_next.ensures.unmoved)
+
+pub loop-preserved : goal.loop-preserved
+loop-preserved g c =
+    (moved_more g.D.Device.disk c.args.self.now c.loop.self c.move_next.new.self c.loop.counter 1 c.loop.invariant.0 c.in_ok-move_next.ensures.moved, counted_ok c.in_ok-move_next.ensures.cause ∙ c.loop.invariant.1)

@@ -1,0 +1,31 @@
+use Rattle.std.proofs.Common.{◌≡◌, ◌-◌, refl, rules, arith}
+use Rattle.migrator.proofs.FirstBooks.{first_kept, first_sound, first_holds, first_headers, first_working}
+use Rattle.migrator.proofs.durable.Durable.open.Goals as goal
+
+pub invariant_of-store : goal.invariant_of-store
+invariant_of-store g c = (
+  first_kept (g.D.Device.disk c.args.device) (g.D.Device.disk c.read_parts.new.device) c.in-Ok.parts.log c.in-Ok.parts.header c.in-Ok.parts.reserve.directory.items c.in-Ok.parts.reserve.headers.items c.in-Ok.parts.reserve.frozen c.in-Ok.parts.reserve.working
+      c.in-Ok.ensures.looks c.in-Ok.ensures.plan c.in-Ok.ensures.read c.in-Ok.ensures.reserved.frozen c.in-Ok.ensures.reserved.working,
+  c.in-Ok.ensures.home,
+  c.in-Ok.ensures.reserved.directory,
+  c.in-Ok.ensures.reserved.spare,
+)
+
+pub returns-in-Ok-clause-opened : goal.returns-in-Ok-clause-opened
+returns-in-Ok-clause-opened g c =
+    let same : (g.D.Device.disk c.read_parts.new.device).failures ≡ (g.D.Device.disk c.args.device).failures = search rules in
+    let entries : c.in-Ok.parts.header.entries - 0 ≡ c.in-Ok.parts.header.entries = omega arith in
+    record {
+      sound = first_sound (g.D.Device.disk c.args.device) (g.D.Device.disk c.read_parts.new.device) c.in-Ok.parts.log c.in-Ok.parts.header c.in-Ok.parts.reserve.directory.items c.in-Ok.parts.reserve.headers.items c.in-Ok.parts.reserve.frozen c.in-Ok.parts.reserve.working
+          c.in-Ok.ensures.looks c.in-Ok.ensures.plan c.in-Ok.ensures.read c.in-Ok.ensures.reserved.frozen c.in-Ok.ensures.reserved.working c.in-Ok.ensures.durable;
+      holds = first_holds (g.D.Device.disk c.args.device) (g.D.Device.disk c.read_parts.new.device) c.in-Ok.parts.log c.in-Ok.parts.header c.in-Ok.parts.reserve.directory.items c.in-Ok.parts.reserve.headers.items c.in-Ok.parts.reserve.frozen c.in-Ok.parts.reserve.working
+          c.in-Ok.ensures.looks c.in-Ok.ensures.plan c.in-Ok.ensures.read c.in-Ok.ensures.reserved.frozen c.in-Ok.ensures.reserved.working;
+      headers_are = first_headers (g.D.Device.disk c.args.device) (g.D.Device.disk c.read_parts.new.device) c.in-Ok.parts.log c.in-Ok.parts.header c.in-Ok.parts.reserve.directory.items c.in-Ok.parts.reserve.headers.items c.in-Ok.parts.reserve.frozen c.in-Ok.parts.reserve.working
+          c.in-Ok.ensures.looks c.in-Ok.ensures.plan c.in-Ok.ensures.read c.in-Ok.ensures.reserved.frozen c.in-Ok.ensures.reserved.working;
+      working = first_working (g.D.Device.disk c.args.device) (g.D.Device.disk c.read_parts.new.device) c.in-Ok.parts.log c.in-Ok.parts.header c.in-Ok.parts.reserve.directory.items c.in-Ok.parts.reserve.headers.items c.in-Ok.parts.reserve.frozen c.in-Ok.parts.reserve.working
+          c.in-Ok.ensures.looks c.in-Ok.ensures.plan c.in-Ok.ensures.read c.in-Ok.ensures.reserved.frozen c.in-Ok.ensures.reserved.working;
+      frozen = refl;
+      to_move = entries;
+      looks = c.in-Ok.ensures.looks;
+      failures = same;
+    }

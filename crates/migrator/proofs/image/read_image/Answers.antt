@@ -1,0 +1,25 @@
+use Rattle.std.proofs.Common.{◌≡◌, take, subst}
+use Rattle.model.specs.Frame.{headers}
+use Rattle.device.specs.Disk.{Image}
+use Rattle.device.proofs.Images.{agrees_is}
+use Rattle.layout.specs.Spelt.{AreSpelt, frames_read}
+use Rattle.migrator.specs.Opened.{IsBadAt}
+use Rattle.migrator.proofs.Reading.{bad_frame}
+use Rattle.migrator.proofs.image.read_image.Goals as goal
+
+pub returns-in-Ok-read_headers-clause-found : goal.returns-in-Ok-read_headers-clause-found
+returns-in-Ok-read_headers-clause-found g c =
+    let seen = agrees_is (g.D.Device.disk c.find_committed.new.device).seen (g.D.Device.disk c.args.device.now).seen c.find_committed.ensures.reads.seen in
+    record {
+      header = c.in-Ok.ensures.found.0;
+      directory = c.in-Ok.ensures.found.1;
+      spelt = subst (λ (i : Image). AreSpelt i c.args.log.now c.in-Ok.header.age c.in-Ok.header.generation (take c.in-Ok.header.entries c.find_committed.new.directory)) seen c.in-Ok-read_headers.ensures.spelt;
+      headers_are = subst (λ (i : Image). c.read_headers.new.into.items ≡ headers (frames_read i c.args.log.now c.in-Ok.header.generation (take c.in-Ok.header.entries c.find_committed.new.directory))) seen c.in-Ok-read_headers.ensures.headers;
+    }
+
+pub returns-in-Err-clause-refused : goal.returns-in-Err-clause-refused
+returns-in-Err-clause-refused g c =
+    let seen = agrees_is (g.D.Device.disk c.find_committed.new.device).seen (g.D.Device.disk c.args.device.now).seen c.find_committed.ensures.reads.seen in
+    let bad = subst (λ (i : Image). IsBadAt i c.args.log.now c.in-Ok.header (take c.in-Ok.header.entries c.find_committed.new.directory) c.in-Err.ensures.refused.0 c.in-Err.fault) seen c.in-Err.ensures.refused.2 in
+    bad_frame (g.D.Device.disk c.args.device.now).seen (g.D.Device.disk c.args.device.now).sectors c.args.log.now c.in-Ok.header (take c.in-Ok.header.entries c.find_committed.new.directory) c.in-Err.ensures.refused.0 c.in-Err.fault
+    c.requires.plan c.in-Ok.ensures.found.0 c.in-Ok.ensures.found.1 c.in-Err.ensures.refused.1 bad

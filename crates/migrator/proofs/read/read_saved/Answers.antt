@@ -1,0 +1,6 @@
+use Rattle.std.proofs.Common.{◌∙◌, sym}
+use Rattle.migrator.proofs.PlacesApart.{slot_fits}
+use Rattle.migrator.proofs.read.read_saved.Goals as goal
+
+pub read_slot-requires-clause-slot : goal.read_slot-requires-clause-slot
+read_slot-requires-clause-slot g c = slot_fits c.args.log.now c.args.directory.now c.args.number c.in-Some.slot c.requires.directory (sym c.find.ensures ∙ c.in-Some.is)

@@ -1,0 +1,210 @@
+-- A durable store: what it keeps in memory, and what that and the device make.
+use Rattle.std.specs.Prelude.{◌≡◌, ◌⊎◌, ◌==◌, if◌then◌else◌, ℕ, ◌+◌, ◌-◌, ◌<◌, ◌≤◌, Option, Some, None, List, length, option_map, slice_set, take, replicate}
+use Rattle.model.specs.declared.frame.Frame.{Frame}
+use Rattle.model.specs.Frame.{frame_at}
+use Rattle.device.specs.Disk.{Image, Disk}
+use Rattle.layout.specs.declared.directory.Entry.{Entry}
+use Rattle.layout.specs.declared.header.CheckpointHeader.{CheckpointHeader}
+use Rattle.layout.specs.Directory.{IsDirectory, entry_at}
+use Rattle.layout.specs.Header.{IsHeader}
+use Rattle.layout.specs.Image.{frame_in, SavedState, Denotes}
+use Rattle.layout.specs.Spelt.{AreSpelt, state_in}
+use Rattle.layout.specs.Superblock.{Plan, IsPlan}
+use Rattle.frame_io.specs.Frames.{bytes_at}
+use Rattle.home_ranges.specs.Home.{home_place}
+use Rattle.migrator.specs.declared.table.Place.{Place}
+use Rattle.migrator.specs.declared.table.Place.TheVariants.{Nowhere}
+use Rattle.migrator.specs.Table.{place_at, taken_count}
+use Rattle.migrator.specs.Put.{Put, Absent, put_at, put_or, kept_count, overlaid, puts_in, ArePut}
+use Rattle.migrator.specs.Saved.{SavedFrames, kept_of, home_saved, LeavesSaved}
+
+-- what is kept in memory: the committed header with its directory, of whose entries the first moved are home;
+-- where the frames of the checkpoint on its way were put, and how many objects it writes; and where those put since
+pub record Books : Type 0 where
+  pub plan : Plan
+  pub header : CheckpointHeader
+  pub directory : List Entry
+  pub moved : ℕ
+  pub frozen : List Place
+  pub size : Option ℕ
+  pub working : List Place
+
+-- the first of a list of entries are the directory
+abbrev pub books_of : Plan → CheckpointHeader → List Entry → ℕ → List Place → Option ℕ → List Place → Books
+books_of p h es moved frozen size working = record {
+  plan = p;
+  header = h;
+  directory = take h.entries es;
+  moved = moved;
+  frozen = frozen;
+  size = size;
+  working = working;
+}
+
+pub record DurableState (D : Type 0) : Type 0 where
+  pub beneath : D
+  pub books : Books
+
+-- the generation that follows the committed one, and that which frames are put for now
+abbrev pub frozen_generation : Books → ℕ
+frozen_generation b = b.header.generation + 1
+
+abbrev pub generation_after : ℕ → Option ℕ → ℕ
+generation_after generation None = generation + 1
+generation_after generation (Some size) = generation + 1 + 1
+
+abbrev pub working_generation : Books → ℕ
+working_generation b = generation_after b.header.generation b.size
+
+-- ---- the three maps of frames
+
+-- a checkpoint on its way: what was put for it, and how many objects it writes
+pub record Frozen : Type 0 where
+  pub put : List Put
+  pub size : ℕ
+
+-- of how many of them the frame is still to be put
+abbrev pub left_of : Frozen → ℕ
+left_of f = f.size - kept_count f.put
+
+-- what a store holds; to_move counts the saved objects that aren't home
+pub record Stored : Type 0 where
+  pub working : List Put
+  pub frozen : Option Frozen
+  pub saved : SavedFrames
+  pub to_move : ℕ
+
+abbrev pub saved_state : Image → Books → SavedState
+saved_state image b = state_in image b.plan b.header b.directory
+
+abbrev pub frozen_of : Image → Books → ℕ → Frozen
+frozen_of image b size = record { put = puts_in image b.plan (frozen_generation b) b.frozen; size = size }
+
+abbrev pub stored_in : Image → Books → Stored
+stored_in image b = record {
+  working = puts_in image b.plan (working_generation b) b.working;
+  frozen = option_map (frozen_of image b) b.size;
+  saved = kept_of (saved_state image b);
+  to_move = b.header.entries - b.moved;
+}
+
+-- the newest frame of an object: the one put last, else the frozen one, else the saved one
+abbrev pub frozen_put : Option Frozen → ℕ → Put
+frozen_put None n = Absent
+frozen_put (Some f) n = put_at f.put n
+
+abbrev pub newest : Stored → ℕ → Frame
+newest s n = put_or (put_at s.working n) (put_or (frozen_put s.frozen n) (frame_at s.saved.frames n))
+
+-- ---- what always holds
+
+-- the home frame of an entry's object is the one in its slot
+abbrev pub IsHome : Image → Plan → ℕ → List Entry → ℕ → Type 0
+IsHome image p generation es i = bytes_at image (home_place p (entry_at es i).object) p.geometry (entry_at es i).object ≡ frame_in image p generation es (entry_at es i).object
+
+-- a checkpoint is on its way only where all that is saved is home, and has slots enough
+abbrev pub IsRunning : Books → Option ℕ → Type 0
+IsRunning b None = (n : ℕ) → place_at b.frozen n ≡ Nowhere
+IsRunning b (Some size) = (b.header.entries ≡ 0) × (taken_count b.frozen ≤ size) × (size ≤ b.plan.geometry.log)
+
+-- what is kept of the store on so many sectors, whatever failed: no header and no superblock is looked at
+pub record IsKept (size : ℕ) (image : Image) (b : Books) : Type 0 where
+  pub plan : IsPlan b.plan
+  pub inside : b.plan.total ≤ size
+  pub header : IsHeader b.plan.geometry.log b.header
+  pub count : length b.directory ≡ b.header.entries
+  pub directory : IsDirectory b.plan.geometry b.directory
+  pub saved : AreSpelt image b.plan b.header.age b.header.generation b.directory
+  pub few : b.moved ≤ b.header.entries
+  pub moved : (i : ℕ) → i < b.moved → IsHome image b.plan b.header.generation b.directory i
+  pub frozen : ArePut image b.plan (frozen_generation b) b.frozen
+  pub running : IsRunning b b.size
+  pub working : ArePut image b.plan (working_generation b) b.working
+
+-- each crash now leaves what is saved
+abbrev pub LeavesState : Disk → SavedState → Type 0
+LeavesState disk s = (c : Image) → disk.may_leave c → Denotes c disk.sectors s
+
+-- so it is until a publishing fails
+abbrev pub IsSoundOn : Disk → Books → Type 0
+IsSoundOn disk b = LeavesState disk (saved_state disk.seen b)
+
+-- the same but for what was put of one object
+abbrev pub with_working : ℕ → Put → Stored → Stored
+with_working n put s = record s { working = slice_set s.working n put }
+
+abbrev pub with_put : ℕ → Put → Frozen → Frozen
+with_put n put f = record { put = slice_set f.put n put; size = f.size }
+
+abbrev pub with_frozen : ℕ → Put → Stored → Stored
+with_frozen n put s = record s { frozen = option_map (with_put n put) s.frozen }
+
+module _ {D : Type 0} (disk : D → Disk) where
+  abbrev pub stored_of : DurableState D → Stored
+  stored_of s = stored_in (disk s.beneath).seen s.books
+
+  abbrev pub is_sound : DurableState D → Type 0
+  is_sound s = IsSoundOn (disk s.beneath) s.books
+
+-- what was put is frozen, and nothing is put since
+abbrev pub freezing : ℕ → Stored → Stored
+freezing size s = record {
+  working = replicate (length s.working) Absent;
+  frozen = Some (record { put = s.working; size = size });
+  saved = s.saved;
+  to_move = s.to_move;
+}
+
+-- what is saved once the frozen frames are, at an age
+abbrev pub next_saved : ℕ → Frozen → SavedFrames → SavedFrames
+next_saved age f s = record { geometry = s.geometry; frames = overlaid f.put s.frames; generation = s.generation + 1; entries = f.size; age = age }
+
+-- they are saved
+abbrev pub committed : ℕ → Frozen → Stored → Stored
+committed age f s = record { working = s.working; frozen = None; saved = next_saved age f s.saved; to_move = f.size }
+
+-- the header that is committed next, at an age
+abbrev pub next_header : ℕ → Books → CheckpointHeader
+next_header age b = record { sequence = b.header.sequence + 1; generation = b.header.generation + 1; entries = taken_count b.frozen; age = age }
+
+-- from one disk and books to others the same is saved, and nothing was written that it is read from: a crash at any
+-- moment leaves what is saved, if one before would
+pub record GoesOnDisk (old new : Disk) (b c : Books) : Type 0 where
+  pub plan : c.plan ≡ b.plan
+  pub size : new.sectors ≡ old.sectors
+  pub sound : IsSoundOn old b → IsSoundOn new c
+  pub any_moment : IsSoundOn old b → LeavesSaved old new (kept_of (saved_state old.seen b))
+
+abbrev pub GoesOn : {D : Type 0} → (D → Disk) → DurableState D → DurableState D → Type 0
+GoesOn disk old new = GoesOnDisk (disk old.beneath) (disk new.beneath) old.books new.books
+
+-- so many more of the saved objects are home, and nothing else is changed that is looked at
+pub record MovedBy {D : Type 0} (disk : D → Disk) (old new : DurableState D) (count : ℕ) : Type 0 where
+  pub books : new.books ≡ record old.books { moved = old.books.moved + count }
+  pub stored : stored_of disk new ≡ record (stored_of disk old) { to_move = old.books.header.entries - (old.books.moved + count) }
+  pub goes_on : GoesOn disk old new
+
+-- the lesser of two numbers
+abbrev pub IsLesser : ℕ → ℕ → ℕ → Type 0
+IsLesser some count left = (some ≤ count) × (some ≤ left) × ((some ≡ count) ⊎ (some ≡ left))
+
+-- the header that says that all is home
+abbrev pub home_header : CheckpointHeader → CheckpointHeader
+home_header h = record { sequence = h.sequence + 1; generation = h.generation; entries = 0; age = h.age }
+
+-- all is home
+abbrev pub finished : Stored → Stored
+finished s = record { working = s.working; frozen = s.frozen; saved = home_saved s.saved; to_move = 0 }
+
+-- what is saved, and what a store holds, after n more of the saved objects went home
+abbrev pub moved_saved : ℕ → Stored → SavedFrames
+moved_saved n s = if s.to_move - n == 0 then home_saved s.saved else s.saved
+
+abbrev pub moved : ℕ → Stored → Stored
+moved n s = record { working = s.working; frozen = s.frozen; saved = moved_saved n s; to_move = s.to_move - n }
+
+-- the device was read, and nothing was written
+pub record ReadsStore {D : Type 0} (disk : D → Disk) (old new : DurableState D) : Type 0 where
+  pub books : new.books ≡ old.books
+  pub stored : stored_of disk new ≡ stored_of disk old
+  pub goes_on : GoesOn disk old new

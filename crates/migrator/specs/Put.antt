@@ -1,0 +1,84 @@
+-- The frames that were put into a half of the log.
+use Rattle.std.specs.Prelude.{◌≡◌, ◌≢◌, ◌⊎◌, ℕ, ◌+◌, ◌-◌, ◌<◌, ◌≤◌, ◌^◌, List, [], ◌∷◌, length, map, slice_index_or}
+use Rattle.std.specs.List.{range_with_len}
+use Rattle.model.specs.declared.frame.Frame.{Frame}
+use Rattle.model.specs.Frame.{frame_at}
+use Rattle.device.specs.Disk.{Image}
+use Rattle.layout.specs.Frame.{IsFrameOf}
+use Rattle.layout.specs.FrameReader.{frame_from}
+use Rattle.layout.specs.Image.{slot_sector}
+use Rattle.layout.specs.Spelt.{count_of}
+use Rattle.layout.specs.Superblock.{Plan}
+use Rattle.frame_io.specs.Frames.{bytes_at}
+use Rattle.migrator.specs.declared.table.Place.{Place}
+use Rattle.migrator.specs.declared.table.Place.TheVariants.{Nowhere, Torn, Whole}
+use Rattle.migrator.specs.Table.{place_at, IsTable, taken_count}
+
+-- what was put of an object: nothing, or what the device failed to write, or its frame
+pub data Put : Type 0 where
+  Absent : Put
+  Broken : Put
+  Kept : Frame → Put
+
+abbrev pub put_at : List Put → ℕ → Put
+put_at puts n = slice_index_or puts n Absent
+
+-- how many frames an object takes of those that were put, and how many slots
+abbrev pub kept_frame : Put → ℕ
+kept_frame Absent = 0
+kept_frame Broken = 0
+kept_frame (Kept f) = 1
+
+abbrev pub held_slot : Put → ℕ
+held_slot Absent = 0
+held_slot Broken = 1
+held_slot (Kept f) = 1
+
+unfoldable pub sum_of : (Put → ℕ) → List Put → ℕ
+sum_of count [] = 0
+sum_of count (put ∷ puts) = count put + sum_of count puts
+
+-- how many frames were put
+abbrev pub kept_count : List Put → ℕ
+kept_count puts = sum_of kept_frame puts
+
+-- an object has a slot, or there is one left of so many
+abbrev pub HasRoom : ℕ → List Put → ℕ → Type 0
+HasRoom room puts n = (put_at puts n ≢ Absent) ⊎ (sum_of held_slot puts < room)
+
+-- the frame that was put, or else another
+abbrev pub put_or : Put → Frame → Frame
+put_or Absent f = f
+put_or Broken f = f
+put_or (Kept put) f = put
+
+-- frames with those in their place that were put
+unfoldable pub overlaid : List Put → List Frame → List Frame
+overlaid puts fs = map (λ n. put_or (put_at puts n) (frame_at fs n)) (range_with_len 0 (length fs))
+
+-- the greatest age: frames that are put can be kept at it
+abbrev pub most : ℕ
+most = 2 ^ 64 - 1
+
+-- the bytes of the frame of an object in a slot, and the frame that they would be
+abbrev pub slot_bytes : Image → Plan → ℕ → ℕ → ℕ → List ℕ
+slot_bytes image p generation slot n = bytes_at image (slot_sector p generation slot) p.geometry n
+
+abbrev pub slot_frame : Image → Plan → ℕ → ℕ → ℕ → Frame
+slot_frame image p generation slot n = frame_from p.geometry n (slot_bytes image p generation slot n)
+
+abbrev pub put_of : Image → Plan → ℕ → ℕ → Place → Put
+put_of image p generation n Nowhere = Absent
+put_of image p generation n (Torn slot) = Broken
+put_of image p generation n (Whole slot) = Kept (slot_frame image p generation slot n)
+
+-- what was put of each object into the half of a generation
+unfoldable pub puts_in : Image → Plan → ℕ → List Place → List Put
+puts_in image p generation ps = map (λ n. put_of image p generation n (place_at ps n)) (range_with_len 0 (count_of p))
+
+-- the slots of whole places spell frames
+pub record ArePut (image : Image) (p : Plan) (generation : ℕ) (ps : List Place) : Type 0 where
+  pub count : length ps ≡ count_of p
+  pub few : taken_count ps ≤ p.geometry.log
+  pub table : IsTable ps
+  pub spelt : (n s : ℕ) → n < count_of p → place_at ps n ≡ Whole s → IsFrameOf p.geometry most n (slot_bytes image p generation s n) (slot_frame image p generation s n)

@@ -1,0 +1,34 @@
+-- Sectors that nothing saved is read from.
+use Rattle.std.specs.Prelude.{◌≡◌, ◌⊎◌, ℕ, ◌<◌, ◌≤◌, List}
+use Rattle.device.specs.Disk.{Disk}
+use Rattle.device.specs.Calls.{Elsewhere, Tears, IsTorn}
+use Rattle.device.specs.Moments.{LeavesOnly}
+use Rattle.layout.specs.declared.directory.Entry.{Entry}
+use Rattle.layout.specs.declared.extent.Extent.{Extent}
+use Rattle.layout.specs.declared.header.CheckpointHeader.{CheckpointHeader}
+use Rattle.layout.specs.Frame.{frame_length}
+use Rattle.layout.specs.Image.{frame_sector}
+use Rattle.layout.specs.Spelt.{count_of}
+use Rattle.layout.specs.Superblock.{Plan, IsApart}
+use Rattle.ckpt_log.specs.Places.{directory_extent}
+
+-- the sectors of the frame of an object
+abbrev pub frame_extent : Plan → ℕ → List Entry → ℕ → Extent
+frame_extent p generation es n = record { sector = frame_sector p generation es n; length = frame_length p.geometry n }
+
+-- the frames lie in other sectors
+abbrev pub SparesFrames : Plan → ℕ → List Entry → Extent → Type 0
+SparesFrames p generation es e = (n : ℕ) → n < count_of p → IsApart (frame_extent p generation es n) e
+
+-- these sectors are none that a saved state is read from
+pub record Spares (p : Plan) (h : CheckpointHeader) (es : List Entry) (e : Extent) : Type 0 where
+  pub headers : 5 ≤ e.sector
+  pub directory : (h.entries ≡ 0) ⊎ IsApart (directory_extent p h.generation h.entries) e
+  pub frames : SparesFrames p h.generation es e
+
+-- nothing was touched but the n sectors from at on, in which a crash may leave any bytes
+pub record Touches (at n : ℕ) (old new : Disk) : Type 0 where
+  pub size : new.sectors ≡ old.sectors
+  pub elsewhere : Elsewhere at n old.seen new.seen
+  pub crash : Tears at n old new
+  pub any_moment : LeavesOnly old new (λ c. IsTorn at n old c)

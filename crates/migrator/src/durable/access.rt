@@ -1,0 +1,139 @@
+// What a store tells, and what it gives back.
+ghost use Rattle.std.specs.Prelude.{◌≡◌, IfOk};
+ghost use Rattle.device.specs.Calls.{Counts};
+ghost use Rattle.layout.specs.Frame.{frame_of};
+ghost use Rattle.model.specs.Frame.{frame_at};
+ghost use Rattle.frame_io.specs.Frames.{IsObject};
+ghost use Rattle.migrator.specs.Table.{place_at};
+ghost use Rattle.migrator.specs.Put.{put_or, put_of};
+ghost use Rattle.migrator.specs.Durable.{stored_of, newest, working_generation, frozen_generation, ReadsStore};
+
+use crate::durable::Durable;
+use crate::read::{read_again, read_put};
+use crate::table::Place;
+use device::{Device, Failed};
+use layout::{Body, Room};
+use model::ObjectHeader;
+
+/// What is told of the committed checkpoint.
+#[derive(Clone, Copy, PartialEq, Eq, Debug)]
+pub struct Checkpoint {
+    pub generation: u64,
+    pub age: u64,
+    /// How many of its objects lie in the log.
+    pub entries: u64,
+}
+
+impl<D: Device> Durable<D> {
+    /// What is told of the committed checkpoint.
+    pub fn saved(&self) -> Checkpoint
+        ensures generation { result.generation ≡ (stored_of D.disk self.now).saved.generation }
+        ensures age { result.age ≡ (stored_of D.disk self.now).saved.age }
+        ensures entries { result.entries ≡ (stored_of D.disk self.now).saved.entries }
+    {
+        Checkpoint {
+            generation: self.header.generation,
+            age: self.header.age,
+            entries: self.header.entries,
+        }
+    }
+
+    /// Gives the device back, and makes no call of it.
+    pub fn into_device(self) -> D
+        ensures { result ≡ self.beneath }
+    {
+        self.device
+    }
+
+    // Reads the saved frame of an object.
+    fn fetch_saved(&mut self, number: u64, room: &mut Room) -> Result<(ObjectHeader, Body), Failed>
+        requires { IsObject self.old.books.plan.geometry number }
+        ensures found { IfOk result (λ read. frame_of read room.new
+            ≡ frame_at (stored_of D.disk self.old).saved.frames number) }
+        ensures reads { ReadsStore D.disk self.old self.new }
+        ensures cause { Counts (D.disk self.old.beneath) (D.disk self.new.beneath) result }
+    {
+        let header = self.header;
+        let named = &self.directory[..header.entries as usize];
+        read_again(
+            &mut self.device,
+            &self.log,
+            &self.home,
+            header,
+            named,
+            number,
+            room,
+        )
+    }
+
+    // Reads the frozen frame of an object, or else the saved one.
+    fn fetch_frozen(&mut self, number: u64, room: &mut Room) -> Result<(ObjectHeader, Body), Failed>
+        requires { IsObject self.old.books.plan.geometry number }
+        ensures found { IfOk result (λ read. frame_of read room.new
+            ≡ put_or (put_of (D.disk self.old.beneath).seen self.old.books.plan
+            (frozen_generation self.old.books) number (place_at self.old.books.frozen number))
+            (frame_at (stored_of D.disk self.old).saved.frames number)) }
+        ensures reads { ReadsStore D.disk self.old self.new }
+        ensures cause { Counts (D.disk self.old.beneath) (D.disk self.new.beneath) result }
+    {
+        let generation = self.header.generation + 1;
+        match self.frozen.place(number) {
+            Place::Whole(slot) => read_put(
+                &mut self.device,
+                &self.log,
+                generation,
+                slot,
+                number,
+                room,
+            ),
+            Place::Torn(_) => self.fetch_saved(number, room),
+            Place::Nowhere => self.fetch_saved(number, room),
+        }
+    }
+
+    // Reads the frame of an object that was put since the last checkpoint began, or else an older
+    // one.
+    fn fetch_working(
+        &mut self,
+        number: u64,
+        room: &mut Room,
+    ) -> Result<(ObjectHeader, Body), Failed>
+        requires { IsObject self.old.books.plan.geometry number }
+        ensures found { IfOk result (λ read. frame_of read room.new
+            ≡ put_or (put_of (D.disk self.old.beneath).seen self.old.books.plan
+            (working_generation self.old.books) number (place_at self.old.books.working number))
+            (put_or (put_of (D.disk self.old.beneath).seen self.old.books.plan
+            (frozen_generation self.old.books) number (place_at self.old.books.frozen number))
+            (frame_at (stored_of D.disk self.old).saved.frames number))) }
+        ensures reads { ReadsStore D.disk self.old self.new }
+        ensures cause { Counts (D.disk self.old.beneath) (D.disk self.new.beneath) result }
+    {
+        let generation = self.working_generation();
+        match self.working.place(number) {
+            Place::Whole(slot) => read_put(
+                &mut self.device,
+                &self.log,
+                generation,
+                slot,
+                number,
+                room,
+            ),
+            Place::Torn(_) => self.fetch_frozen(number, room),
+            Place::Nowhere => self.fetch_frozen(number, room),
+        }
+    }
+
+    /// Reads the newest frame of an object: the one that was put last, else the frozen one, else
+    /// the saved one. The slots of a node or an annex and the words of a page are left in `room`,
+    /// and no memory is taken. It is refused exactly where the device failed.
+    pub fn fetch(&mut self, number: u64, room: &mut Room) -> Result<(ObjectHeader, Body), Failed>
+        requires { IsObject self.old.books.plan.geometry number }
+        ensures found { IfOk result (λ read. frame_of read room.new
+            ≡ newest (stored_of D.disk self.old) number) }
+        ensures reads { ReadsStore D.disk self.old self.new }
+        ensures cause { Counts (D.disk self.old.beneath) (D.disk self.new.beneath) result }
+    {
+        let _ = &self.device;
+        self.fetch_working(number, room)
+    }
+}

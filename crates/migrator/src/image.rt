@@ -1,0 +1,140 @@
+// Reading an image whole: every saved frame is looked at once.
+ghost use Rattle.std.specs.Prelude.{◌≡◌, ℕ, ◌+◌, ◌<◌, ◌≤◌, ◌∷◌, ◌++◌, [], length, take, IfOk, IfErr, OnOk};
+ghost use Rattle.model.specs.Frame.{headers};
+ghost use Rattle.device.specs.Calls.{Only};
+ghost use Rattle.layout.specs.Directory.{IsDirectory};
+ghost use Rattle.layout.specs.Image.{HasPlan, HasHeader, HasDirectory};
+ghost use Rattle.layout.specs.Spelt.{count_of, IsSpelt, AreSpelt, frame_read, frames_read};
+ghost use Rattle.frame_io.specs.Calls.{ReadsOnly};
+ghost use Rattle.frame_io.specs.Frames.{IsObject};
+ghost use Rattle.migrator.specs.Opened.{IsBadAt, IsBadFor, IsRead, CountsOpen, Looks};
+
+use crate::open_fault::OpenFault;
+use crate::read::{read_saved, read_superblock};
+use ckpt_log::Log;
+use device::Device;
+use frame_io::ReadFault;
+use home_ranges::Home;
+use layout::{CheckpointHeader, Entry, Room, Superblock};
+use model::ObjectHeader;
+
+// Reads the saved frame of an object, and puts its header behind those that are there.
+fn read_header<D: Device>(
+    device: &mut D,
+    log: &Log,
+    home: &Home,
+    header: CheckpointHeader,
+    directory: &[Entry],
+    number: u64,
+    room: &mut Room,
+    headers: &mut Vec<ObjectHeader>,
+) -> Result<(), OpenFault>
+    requires same { home.now ≡ log.now }
+    requires directory { IsDirectory log.now.geometry directory.now }
+    requires object { IsObject log.now.geometry number }
+    requires inside { log.now.total ≤ (D.disk device.old).sectors }
+    ensures spelt { OnOk result (IsSpelt (D.disk device.old).seen log.now header.age
+        header.generation directory.now number) }
+    ensures header { OnOk result (headers.new.items ≡ headers.old.items
+        ++ (frame_read (D.disk device.old).seen log.now header.generation directory.now
+        number).header ∷ []) }
+    ensures refused { IfErr result (λ e. IsBadAt (D.disk device.old).seen log.now header
+        directory.now number e) }
+    ensures reads { ReadsOnly (D.disk device.old) (D.disk device.new) }
+    ensures cause { CountsOpen (D.disk device.old) (D.disk device.new) result }
+{
+    match read_saved(device, log, home, header, directory, number, room) {
+        Ok(read) => match headers.push(read.0) {
+            Ok(()) => Ok(()),
+            Err(_) => Err(OpenFault::NoMemory),
+        },
+        Err(ReadFault::Failed) => Err(OpenFault::Failed),
+        Err(ReadFault::Bad(reason)) => Err(OpenFault::Bad(reason)),
+    }
+}
+
+// Syncs a device, and reads its superblock.
+pub(crate) fn read_plan<D: Device>(device: &mut D) -> Result<Superblock, OpenFault>
+    ensures found { IfOk result (λ s.
+        HasPlan (D.disk device.old).seen (D.disk device.old).sectors s) }
+    ensures durable { OnOk result (Only (D.disk device.new).seen (D.disk device.new)) }
+    ensures refused { IfErr result (λ e.
+        IsBadFor (D.disk device.old).seen (D.disk device.old).sectors e) }
+    ensures looks { Looks (D.disk device.old) (D.disk device.new) }
+    ensures cause { CountsOpen (D.disk device.old) (D.disk device.new) result }
+{
+    match device.sync() {
+        Ok(()) => match read_superblock(device) {
+            Ok(superblock) => Ok(superblock),
+            Err(ReadFault::Failed) => Err(OpenFault::Failed),
+            Err(ReadFault::Bad(reason)) => Err(OpenFault::Bad(reason)),
+        },
+        Err(_) => Err(OpenFault::Failed),
+    }
+}
+
+// Reads the saved frames of all objects, and their headers into an empty list.
+fn read_headers<D: Device>(
+    device: &mut D,
+    log: &Log,
+    home: &Home,
+    header: CheckpointHeader,
+    directory: &[Entry],
+    room: &mut Room,
+    into: &mut Vec<ObjectHeader>,
+) -> Result<(), OpenFault>
+    requires same { home.now ≡ log.now }
+    requires directory { IsDirectory log.now.geometry directory.now }
+    requires inside { log.now.total ≤ (D.disk device.old).sectors }
+    requires none { into.old.items ≡ [] }
+    ensures spelt { OnOk result (AreSpelt (D.disk device.old).seen log.now header.age
+        header.generation directory.now) }
+    ensures headers { OnOk result (into.new.items
+        ≡ headers (frames_read (D.disk device.old).seen log.now header.generation
+        directory.now)) }
+    ensures refused { IfErr result (λ e. (n : ℕ) × (n < count_of log.now)
+        × IsBadAt (D.disk device.old).seen log.now header directory.now n e) }
+    ensures reads { ReadsOnly (D.disk device.old) (D.disk device.new) }
+    ensures cause { CountsOpen (D.disk device.old) (D.disk device.new) result }
+{
+    let geometry = home.geometry();
+    for number in 0..geometry.nodes + geometry.pages {
+        read_header(device, log, home, header, directory, number, room, into)?;
+    }
+    Ok(())
+}
+
+/// Reads what is committed, and every saved frame: the directory into the first of the entries, and
+/// the headers of all frames into an empty list. Each refusal has the least reason that holds.
+pub(crate) fn read_image<D: Device>(
+    device: &mut D,
+    log: &Log,
+    home: &Home,
+    directory: &mut [Entry],
+    room: &mut Room,
+    headers: &mut Vec<ObjectHeader>,
+) -> Result<CheckpointHeader, OpenFault>
+    requires same { home.now ≡ log.now }
+    requires plan { HasPlan (D.disk device.old).seen (D.disk device.old).sectors log.now }
+    requires length { length directory.old ≡ log.now.geometry.log }
+    requires none { headers.old.items ≡ [] }
+    ensures found { IfOk result (λ h.
+        IsRead (D.disk device.old).seen log.now h directory.new headers.new.items) }
+    ensures refused { IfErr result (λ e.
+        IsBadFor (D.disk device.old).seen (D.disk device.old).sectors e) }
+    ensures length { length directory.new ≡ length directory.old }
+    ensures reads { ReadsOnly (D.disk device.old) (D.disk device.new) }
+    ensures cause { CountsOpen (D.disk device.old) (D.disk device.new) result }
+{
+    match log.find_committed(device, directory) {
+        Ok(header) => {
+            let named = &directory[..header.entries as usize];
+            match read_headers(device, log, home, header, named, room, headers) {
+                Ok(()) => Ok(header),
+                Err(fault) => Err(fault),
+            }
+        }
+        Err(ReadFault::Failed) => Err(OpenFault::Failed),
+        Err(ReadFault::Bad(reason)) => Err(OpenFault::Bad(reason)),
+    }
+}

@@ -1,0 +1,17 @@
+// Why a device isn't opened.
+use layout::BadImage;
+use thiserror::Error;
+
+/// Why a device isn't opened.
+#[derive(Clone, Copy, PartialEq, Eq, Debug, Error)]
+pub enum OpenFault {
+    /// The device failed.
+    #[error("the device failed")]
+    Failed,
+    /// Memory ran out.
+    #[error("no memory")]
+    NoMemory,
+    /// What the device holds is no image.
+    #[error("{0}")]
+    Bad(BadImage),
+}

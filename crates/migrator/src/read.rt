@@ -1,0 +1,131 @@
+// Reading what a device holds.
+ghost use Rattle.std.specs.Prelude.{◌≡◌, ◌<◌, ◌≤◌, IfOk, IfErr};
+ghost use Rattle.layout.specs.Directory.{IsDirectory};
+ghost use Rattle.layout.specs.Frame.{IsFrameOf, frame_of};
+ghost use Rattle.layout.specs.Image.{HasPlan, IsBadBy, frame_in};
+ghost use Rattle.frame_io.specs.Calls.{ReadsOnly};
+ghost use Rattle.frame_io.specs.Fault.{CountsFailed};
+ghost use Rattle.frame_io.specs.Frames.{IsObject, IsRefused};
+ghost use Rattle.device.specs.Calls.{Counts};
+ghost use Rattle.layout.specs.Spelt.{IsSpelt, frame_read};
+ghost use Rattle.migrator.specs.Opened.{IsNoPlan};
+ghost use Rattle.migrator.specs.Put.{most, slot_bytes, slot_frame};
+
+use crate::find::find;
+use ckpt_log::Log;
+use device::{Device, Failed, SECTOR_SIZE};
+use frame_io::{ReadFault, read_sectors};
+use home_ranges::Home;
+use layout::{
+    BadImage, Body, CheckpointHeader, Entry, Room, Superblock, decode_superblock, total_in,
+};
+use model::ObjectHeader;
+
+/// Reads the superblock of a device. It is refused by `Failed` exactly where the device failed, and
+/// else by the least of the first three reasons that holds.
+pub(crate) fn read_superblock<D: Device>(device: &mut D) -> Result<Superblock, ReadFault>
+    ensures found { IfOk result (λ s.
+        HasPlan (D.disk device.old).seen (D.disk device.old).sectors s) }
+    ensures refused { IfErr result (λ e.
+        IsNoPlan (D.disk device.old).seen (D.disk device.old).sectors e) }
+    ensures reads { ReadsOnly (D.disk device.old) (D.disk device.new) }
+    ensures cause { CountsFailed (D.disk device.old) (D.disk device.new) result }
+{
+    let sectors = device.sectors();
+    if sectors < 5 {
+        return Err(ReadFault::Bad(BadImage::Small));
+    }
+    let mut sector = [0; SECTOR_SIZE];
+    read_sectors(device, 0, 1, &mut sector)?;
+    if total_in(&sector) > sectors {
+        return Err(ReadFault::Bad(BadImage::Small));
+    }
+    match decode_superblock(&sector) {
+        Ok(superblock) => Ok(superblock),
+        Err(reason) => Err(ReadFault::Bad(reason)),
+    }
+}
+
+/// Reads the saved frame of an object, which lies in the log where the directory says so, and else
+/// at home. The slots of a node or an annex and the words of a page are left in `room`.
+pub(crate) fn read_saved<D: Device>(
+    device: &mut D,
+    log: &Log,
+    home: &Home,
+    header: CheckpointHeader,
+    directory: &[Entry],
+    number: u64,
+    room: &mut Room,
+) -> Result<(ObjectHeader, Body), ReadFault>
+    requires same { home.now ≡ log.now }
+    requires directory { IsDirectory log.now.geometry directory.now }
+    requires object { IsObject log.now.geometry number }
+    requires inside { log.now.total ≤ (D.disk device.old).sectors }
+    ensures found { IfOk result (λ read. IsFrameOf log.now.geometry header.age number
+        (frame_in (D.disk device.new).seen log.now header.generation directory.now number)
+        (frame_of read room.new)) }
+    ensures refused { IfErr result (λ e. IsRefused log.now.geometry header.age number
+        (frame_in (D.disk device.new).seen log.now header.generation directory.now number) e) }
+    ensures reads { ReadsOnly (D.disk device.old) (D.disk device.new) }
+    ensures cause { CountsFailed (D.disk device.old) (D.disk device.new) result }
+{
+    match find(directory, number) {
+        Some(slot) => log.read_slot(device, header.generation, slot, number, header.age, room),
+        None => home.read_frame(device, number, header.age, room),
+    }
+}
+
+/// Reads a frame that was put into a slot of the half of a generation.
+pub(crate) fn read_put<D: Device>(
+    device: &mut D,
+    log: &Log,
+    generation: u64,
+    slot: u64,
+    number: u64,
+    room: &mut Room,
+) -> Result<(ObjectHeader, Body), Failed>
+    requires object { IsObject log.now.geometry number }
+    requires slot { slot < log.now.geometry.log }
+    requires inside { log.now.total ≤ (D.disk device.old).sectors }
+    requires spelt { IsFrameOf log.now.geometry most number
+        (slot_bytes (D.disk device.old).seen log.now generation slot number)
+        (slot_frame (D.disk device.old).seen log.now generation slot number) }
+    ensures found { IfOk result (λ read. frame_of read room.new
+        ≡ slot_frame (D.disk device.old).seen log.now generation slot number) }
+    ensures reads { ReadsOnly (D.disk device.old) (D.disk device.new) }
+    ensures cause { Counts (D.disk device.old) (D.disk device.new) result }
+{
+    match log.read_slot(device, generation, slot, number, u64::MAX, room) {
+        Ok(read) => Ok(read),
+        Err(ReadFault::Failed) => Err(Failed),
+        Err(ReadFault::Bad(_)) => unreachable!(),
+    }
+}
+
+/// Reads a saved frame that was read before.
+pub(crate) fn read_again<D: Device>(
+    device: &mut D,
+    log: &Log,
+    home: &Home,
+    header: CheckpointHeader,
+    directory: &[Entry],
+    number: u64,
+    room: &mut Room,
+) -> Result<(ObjectHeader, Body), Failed>
+    requires same { home.now ≡ log.now }
+    requires directory { IsDirectory log.now.geometry directory.now }
+    requires object { IsObject log.now.geometry number }
+    requires inside { log.now.total ≤ (D.disk device.old).sectors }
+    requires spelt { IsSpelt (D.disk device.old).seen log.now header.age header.generation
+        directory.now number }
+    ensures found { IfOk result (λ read. frame_of read room.new
+        ≡ frame_read (D.disk device.old).seen log.now header.generation directory.now number) }
+    ensures reads { ReadsOnly (D.disk device.old) (D.disk device.new) }
+    ensures cause { Counts (D.disk device.old) (D.disk device.new) result }
+{
+    match read_saved(device, log, home, header, directory, number, room) {
+        Ok(read) => Ok(read),
+        Err(ReadFault::Failed) => Err(Failed),
+        Err(ReadFault::Bad(_)) => unreachable!(),
+    }
+}

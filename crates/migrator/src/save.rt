@@ -1,0 +1,41 @@
+// Making written frames the saved ones.
+ghost use Rattle.std.specs.Prelude.{◌≡◌, ◌⊎◌, List, OnOk};
+ghost use Rattle.device.specs.Calls.{Counts};
+ghost use Rattle.device.specs.Moments.{LeavesOnly};
+ghost use Rattle.layout.specs.Image.{Denotes};
+ghost use Rattle.layout.specs.Spelt.{state_in};
+ghost use Rattle.layout.specs.declared.header.CheckpointHeader.{CheckpointHeader};
+ghost use Rattle.layout.specs.declared.directory.Entry.{Entry};
+ghost use Rattle.migrator.specs.Durable.{LeavesState};
+ghost use Rattle.migrator.specs.Saving.{MaySave, SavesOnly};
+
+use ckpt_log::Log;
+use device::{Device, Failed};
+use layout::{CheckpointHeader, Entry};
+
+/// Writes the directory of a header, and publishes the header. At `Failed` a crash leaves what was
+/// saved before, or what is saved next.
+pub(crate) fn save<D: Device>(
+    device: &mut D,
+    log: &Log,
+    header: CheckpointHeader,
+    entries: &[Entry],
+) -> Result<(), Failed>
+    requires { (h : CheckpointHeader) × (es : List Entry)
+        × MaySave (D.disk device.old) log.now h es header entries.now }
+    ensures saved { OnOk result (LeavesState (D.disk device.new)
+        (state_in (D.disk device.old).seen log.now header entries.now)) }
+    ensures only { SavesOnly log.now header (D.disk device.old).seen (D.disk device.new).seen }
+    ensures size { (D.disk device.new).sectors ≡ (D.disk device.old).sectors }
+    ensures any_moment { (h : CheckpointHeader) (es : List Entry)
+        → MaySave (D.disk device.old) log.now h es header entries.now
+        → LeavesOnly (D.disk device.old) (D.disk device.new)
+        (λ c. Denotes c (D.disk device.old).sectors
+        (state_in (D.disk device.old).seen log.now h es)
+        ⊎ Denotes c (D.disk device.old).sectors
+        (state_in (D.disk device.old).seen log.now header entries.now)) }
+    ensures cause { Counts (D.disk device.old) (D.disk device.new) result }
+{
+    log.write_directory(device, header.generation, entries)?;
+    log.publish(device, header)
+}

@@ -1,0 +1,215 @@
+// Which slots of a half of the log objects have.
+ghost use Rattle.std.specs.Prelude.{◌≡◌, ◌+◌, ◌<◌, ◌≤◌, ◌++◌, [], Some, length, take, replicate, slice_set, IfOk};
+ghost use Rattle.migrator.specs.Table.{place_at, slot_of, slot_for, has_slot, has_frame, taken_count, whole_count, entry_before, entries_of};
+
+use layout::Entry;
+use std::alloc::{AllocError, Global};
+use std::marker::Model;
+
+/// Where the frame of an object lies in a half of the log.
+#[derive(Clone, Copy, PartialEq, Eq, Debug)]
+pub enum Place {
+    /// In no slot.
+    Nowhere,
+    /// It has a slot, which may hold any bytes.
+    Torn(u64),
+    /// In this slot.
+    Whole(u64),
+}
+
+impl Place {
+    // The slot that it has.
+    fn slot(self) -> Option<u64>
+        ensures { result ≡ slot_of self }
+    {
+        match self {
+            Place::Nowhere => None,
+            Place::Torn(slot) => Some(slot),
+            Place::Whole(slot) => Some(slot),
+        }
+    }
+
+    // How many slots it has: one or none.
+    fn slots(self) -> u64
+        ensures count { result ≡ has_slot self }
+        ensures few { result ≤ 1 }
+    {
+        match self {
+            Place::Nowhere => 0,
+            Place::Torn(_) => 1,
+            Place::Whole(_) => 1,
+        }
+    }
+
+    // How many frames it has: one or none.
+    fn frames(self) -> u64
+        ensures count { result ≡ has_frame self }
+        ensures few { result ≤ 1 }
+    {
+        match self {
+            Place::Nowhere => 0,
+            Place::Torn(_) => 0,
+            Place::Whole(_) => 1,
+        }
+    }
+}
+
+/// The places of all objects in a half of the log, by number. No two have the same slot, and the
+/// slots that they have are the first ones.
+#[derive(Drop)]
+pub(crate) struct Table {
+    places: Vec<Place>,
+    /// How many objects have a slot.
+    taken: u64,
+    /// How many of them have their frame in it.
+    whole: u64,
+}
+
+impl Model for Table {
+    ghost use Rattle.std.specs.Prelude.{◌≡◌, List};
+    ghost use Rattle.migrator.specs.declared.table.Place.{Place};
+    ghost use Rattle.migrator.specs.Table.{IsTable, taken_count, whole_count};
+
+    ghost Value = { List Place };
+
+    ghost view = { λ t. t.places.items };
+
+    ghost invariant = { λ t. IsTable t.places.items
+        × (t.taken ≡ taken_count t.places.items)
+        × (t.whole ≡ whole_count t.places.items) };
+}
+
+// Places of so many objects that have no slot.
+fn blank_places(alloc: Global, count: usize) -> Result<Vec<Place>, AllocError>
+    ensures { IfOk result (λ places. places.items ≡ replicate count Place.Nowhere) }
+{
+    let mut places = Vec::with_capacity(alloc, count)?;
+    for _ in 0..count {
+        places.push(Place::Nowhere)?;
+    }
+    Ok(places)
+}
+
+// Takes their slots from all objects.
+fn clear_places(places: &mut [Place])
+    ensures { places.new ≡ replicate (length places.old) Place.Nowhere }
+{
+    for index in 0..places.len() {
+        places[index] = Place::Nowhere;
+    }
+}
+
+// Puts the entry of an object behind those that are there, where it has a slot. Answers how many
+// there are.
+fn push_entry(number: usize, place: Place, into: &mut [Entry], count: usize) -> usize
+    requires room { count + has_slot place ≤ length into.old }
+    ensures count { result ≡ count + has_slot place }
+    ensures entries { take result into.new
+        ≡ take count into.old ++ entry_before number (slot_of place) [] }
+    ensures length { length into.new ≡ length into.old }
+{
+    match place.slot() {
+        None => count,
+        Some(slot) => {
+            into[count] = Entry {
+                object: number as u64,
+                slot,
+            };
+            count + 1
+        }
+    }
+}
+
+// Writes the entries of the objects that have a slot, and answers how many there are.
+fn fill_entries(places: &[Place], into: &mut [Entry]) -> usize
+    requires room { taken_count places.now ≤ length into.old }
+    ensures count { result ≡ taken_count places.now }
+    ensures entries { take result into.new ≡ entries_of places.now }
+    ensures length { length into.new ≡ length into.old }
+{
+    let mut count = 0;
+    for (number, place) in places.iter().enumerate() {
+        count = push_entry(number, *place, into, count);
+    }
+    count
+}
+
+impl Table {
+    /// A table of so many objects that have no slot. Fails only where memory runs out.
+    pub(crate) fn new(alloc: Global, count: usize) -> Result<Table, AllocError>
+        ensures { IfOk result (λ table. table ≡ replicate count Place.Nowhere) }
+    {
+        let places = blank_places(alloc, count)?;
+        Ok(Table {
+            places,
+            taken: 0,
+            whole: 0,
+        })
+    }
+
+    /// The place of an object.
+    pub(crate) fn place(&self, number: u64) -> Place
+        requires { number < length self.now }
+        ensures { result ≡ place_at self.now number }
+    {
+        self.places[number as usize]
+    }
+
+    /// How many objects have a slot.
+    pub(crate) fn taken(&self) -> u64
+        ensures { result ≡ taken_count self.now }
+    {
+        self.taken
+    }
+
+    /// How many objects have their frame in their slot.
+    pub(crate) fn whole(&self) -> u64
+        ensures { result ≡ whole_count self.now }
+    {
+        self.whole
+    }
+
+    /// The slot of an object, or else the next one.
+    pub(crate) fn slot_for(&self, number: u64) -> u64
+        requires { number < length self.now }
+        ensures { result ≡ slot_for self.now number }
+    {
+        match self.place(number) {
+            Place::Nowhere => self.taken,
+            Place::Torn(slot) => slot,
+            Place::Whole(slot) => slot,
+        }
+    }
+
+    /// Puts an object into its slot, or into the next one.
+    pub(crate) fn set(&mut self, number: u64, place: Place)
+        requires known { number < length self.old }
+        requires slot { slot_of place ≡ Some (slot_for self.old number) }
+        ensures { self.new ≡ slice_set self.old number place }
+    {
+        let old = self.place(number);
+        self.taken = self.taken + place.slots() - old.slots();
+        self.whole = self.whole + place.frames() - old.frames();
+        self.places[number as usize] = place;
+    }
+
+    /// Takes their slots from all objects.
+    pub(crate) fn clear(&mut self)
+        ensures { self.new ≡ replicate (length self.old) Place.Nowhere }
+    {
+        clear_places(&mut self.places);
+        self.taken = 0;
+        self.whole = 0;
+    }
+
+    /// Writes the entries of the objects that have a slot, in the order of their numbers, and
+    /// answers how many there are.
+    pub(crate) fn fill(&self, into: &mut [Entry]) -> usize
+        requires room { taken_count self.now ≤ length into.old }
+        ensures count { result ≡ taken_count self.now }
+        ensures entries { take result into.new ≡ entries_of self.now }
+        ensures length { length into.new ≡ length into.old }
+    {
+        fill_entries(&self.places, into)
+    }
+}
