@@ -1,5 +1,5 @@
 -- Over what a walk goes, and what it tells.
-use Rattle.std.specs.Prelude.{◌↔◌, ℕ, ◌<◌, ◌≤◌, ◌==◌, Bool, not, ◌&&◌, if◌then◌else◌, List, Result, Ok, Err, IsErrOf, IsTrue}
+use Rattle.std.specs.Prelude.{ℕ, ◌==◌, Bool, not, ◌&&◌, if◌then◌else◌, List, Result, Ok, Err, IsTrue}
 use Rattle.model.specs.declared.access.Access.{Access}
 use Rattle.model.specs.declared.answer.MemoryFault.{MemoryFault}
 use Rattle.model.specs.declared.answer.MemoryFault.TheVariants.{ReadOnly}
@@ -8,9 +8,7 @@ use Rattle.model.specs.Frame.{objects_of}
 use Rattle.model.specs.Keepable.{IsSoundFrames}
 use Rattle.model.specs.Object.{is_page}
 use Rattle.model.specs.World.{content_at}
-use Rattle.capability.specs.declared.present.PrepareFault.{PrepareFault}
-use Rattle.capability.specs.declared.present.PrepareFault.TheVariants as prepare
-use Rattle.capability.specs.Parts.{Parts, LooksUp, frames_of}
+use Rattle.capability.specs.Parts.{Parts, frames_of}
 use Rattle.address_space.specs.declared.walking.Reached.{Reached}
 
 -- the objects that the frames of a store stand for
@@ -35,11 +33,3 @@ ReachesPage os (Err why) = Unit {0}
 abbrev pub allowed : Bool → Result (ℕ × Access) MemoryFault → Result (ℕ × Access) MemoryFault
 allowed for_write (Ok found) = if for_write && not (found.1.0 == 0) then Err ReadOnly else Ok found
 allowed for_write (Err why) = Err why
-
--- Frames were fetched for a call that may want memory or fail, and nothing else came of it. The parameters are
--- ghost members of a store of present frames.
-pub record Looks {S T : Type 0} (parts : S → Parts) (Leads : S → S → Type 0) (old new : S) (result : Result T PrepareFault) : Type 0 where
-  pub aside : LooksUp parts Leads old new
-  pub later : (parts old).failures ≤ (parts new).failures
-  pub cause : IsErrOf result prepare.Failed ↔ ((parts old).failures < (parts new).failures)
-  pub room : IsErrOf result prepare.LogFull → ⊥

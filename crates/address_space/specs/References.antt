@@ -28,12 +28,6 @@ abbrev pub OverfillsStore : ℕ → List Object → List Bool → ℕ → ℕ �
 OverfillsStore log os touched p address =
     (page : ℕ) × (writable (reached os p address) ≡ Ok page) × (log < touched_count (touching touched (page ∷ [])))
 
--- no object and no number written is another
-pub record IsUnchanged (old new : Parts) : Type 0 where
-  pub headers : new.headers ≡ old.headers
-  pub contents : new.contents ≡ old.contents
-  pub touched : new.touched ≡ old.touched
-
 -- frames that are sound at an age are still sound then
 abbrev pub KeepsSound : Parts → Parts → Type 0
 KeepsSound old new = (age : ℕ) → IsSoundFrames old.geometry age (frames_of old) → IsSoundFrames old.geometry age (frames_of new)

@@ -1,5 +1,5 @@
 -- Frames that stay sound through the calls of a machine.
-use Rattle.std.proofs.Common.{◌≡◌, ℕ, List, Result, Ok, Err, map, refl, sym, ap, ◌∙◌, subst, arith}
+use Rattle.std.proofs.Common.{◌≡◌, ℕ, ◌+◌, List, Result, Ok, Err, map, refl, sym, ap, ◌∙◌, subst, arith}
 use Rattle.std.specs.Prelude.{IsTrue, IfOk}
 use Rattle.model.specs.declared.capability.Cap.{Cap}
 use Rattle.model.specs.declared.capability.Capability.{Capability}
@@ -12,11 +12,15 @@ use Rattle.model.specs.Frame.{current_count, frames_in, held_at, objects_of}
 use Rattle.model.specs.Keepable.{AreCurrent, AreKeepable, IsKeptCap, IsSoundFrames}
 use Rattle.model.specs.Object.{is_annex}
 use Rattle.model.specs.Sound.{IsSound, MayBeHeld}
-use Rattle.model.specs.World.{slot_at, with_slot}
+use Rattle.model.specs.World.{is_running_process, slot_at, with_slot}
 use Rattle.model.specs.Worlds.{f0, small}
 use Rattle.capability.specs.Parts.{Parts, frames_of}
 use Rattle.capability.specs.Plain.{PlainState, fresh_header, fresh_held, parts_of}
 use Rattle.capability.proofs.FreshSound.{fresh_parts_sound}
+use Rattle.gate.proofs.BankStates.{counted_looked}
+use Rattle.gate.proofs.Standing.{LooksAs}
+use Rattle.gate.specs.Invoke.{KeepsSoundFrames}
+use Rattle.space_bank.specs.Banks.{AreCounted, BanksState}
 use Rattle.model_laws.proofs.SoundEdits.{edited_slot}
 use Rattle.model_laws.proofs.SoundOrders.{edited_now}
 use Rattle.model_laws.proofs.SoundParts.{Waits, held_from, nearly_from, nearly_to}
@@ -97,3 +101,27 @@ given_sound_parts p q t small_p sound is count headers contents same same_t afte
     after current
     (subst (λ (g : Geometry). (age : ℕ) → IsKeptCap g age (record { what = Process 1; count = current_count q.headers (Process 1) }) →
     (IsTrue (is_annex (held_at q.contents 2)) → ◌≡◌ {A = ℕ} 1 0 → Process 1 ≡ Void) → AreKeepable g age (frames_of q) → AreKeepable g age (frames_of t)) small_q keepable))
+
+-- a store with the frames and the geometry of another one is as sound, and its processes run as they did
+module _ (old mid : PlainState) (frames : frames_of (parts_of mid) ≡ frames_of (parts_of old)) (geometry : mid.geometry ≡ old.geometry) where
+  at_age : (age : ℕ) → IsSoundFrames old.geometry age (frames_of (parts_of old)) → IsSoundFrames mid.geometry age (frames_of (parts_of mid))
+  at_age age sound =
+      sound_at old.geometry mid.geometry age (frames_of (parts_of mid)) geometry
+      (subst (λ (fs : List Frame). IsSoundFrames old.geometry age fs) (sym frames) sound)
+
+  pub sound_again : ((age : ℕ) × IsSoundFrames old.geometry age (frames_of (parts_of old))) → (age : ℕ) × IsSoundFrames mid.geometry age (frames_of (parts_of mid))
+  sound_again sound = (sound.0, at_age sound.0 sound.1)
+
+  pub runs_again : (p : ℕ) → IsTrue (is_running_process (objects_of (frames_of (parts_of old))) p) → IsTrue (is_running_process (objects_of (frames_of (parts_of mid))) p)
+  runs_again p runs = subst (λ (fs : List Frame). IsTrue (is_running_process (objects_of fs) p)) (sym frames) runs
+
+  -- what keeps the frames of the one sound keeps those of the other
+  pub keeps_again : (new : PlainState) → KeepsSoundFrames (parts_of mid) (parts_of new) → KeepsSoundFrames (parts_of old) (parts_of new)
+  keeps_again new keeps age few sound =
+      subst (λ (g : Geometry). IsSoundFrames g (age + 1) (frames_of (parts_of new))) geometry (keeps age few (at_age age sound))
+
+-- what was counted of banks is what there is after the look that counted it
+pub banks_again : {E : Type 0} (old new : PlainState) → LooksAs (parts_of old) (parts_of new) → (made : Result BanksState E) →
+    IfOk made (AreCounted old.geometry (objects_of (frames_of (parts_of old)))) → IfOk made (AreCounted new.geometry (objects_of (frames_of (parts_of new))))
+banks_again old new looks (Ok s) counted = counted_looked (parts_of old) (parts_of new) s looks counted
+banks_again old new looks (Err e) counted = tt

@@ -1,16 +1,18 @@
 // A process that gives itself address spaces, over which the tests run.
-ghost use Rattle.std.specs.Prelude.{◌≡◌, IfOk, IsTrue, OnOk};
+ghost use Rattle.std.specs.Prelude.{◌≡◌, ℕ, IfOk, IsTrue, OnErr, OnOk};
 ghost use Rattle.model.specs.Frame.{objects_of};
 ghost use Rattle.model.specs.Keepable.{IsSoundFrames};
 ghost use Rattle.model.specs.World.{is_running_process};
 ghost use Rattle.model.specs.Worlds.{f0, small};
 ghost use Rattle.capability.specs.Parts.{frames_of};
 ghost use Rattle.capability.specs.Plain.{parts_of};
+ghost use Rattle.gate.specs.Invoke.{KeepsSoundFrames};
+ghost use Rattle.space_bank.specs.Banks.{AreCounted};
 
 use address_space::{Reached, load, store, walk};
 use capability::{Plain, PrepareFault, PresentFrames, objects};
-use gate::invoke;
 use model::{Capability, Content, Invocation, MAX_AGE, MemoryFault, Operation, Register, State};
+use space_bank::Banks;
 use std::alloc::{AllocError, Global};
 use std::marker::Model;
 use std::process::Abort;
@@ -196,6 +198,35 @@ fn runs(frames: &Plain) -> bool
     }
 }
 
+// Counts the banks, which leaves the frames as they are.
+fn count_banks(alloc: Global, frames: &mut Plain) -> Result<Banks, PrepareFault>
+    requires { (age : ℕ) × IsSoundFrames frames.old.geometry age (frames_of (parts_of frames.old)) }
+    ensures frames { frames_of (parts_of frames.new) ≡ frames_of (parts_of frames.old) }
+    ensures geometry { frames.new.geometry ≡ frames.old.geometry }
+    ensures counted { IfOk result
+        (AreCounted frames.new.geometry (objects_of (frames_of (parts_of frames.new)))) }
+{
+    Banks::count(alloc, frames)
+}
+
+// Carries out an invocation. The frames stay as they are where it is refused.
+fn invoke(alloc: Global, frames: &mut Plain, invocation: Invocation) -> Result<(), Fail>
+    requires sound { (age : ℕ)
+        × IsSoundFrames frames.old.geometry age (frames_of (parts_of frames.old)) }
+    requires runs { IsTrue (is_running_process
+        (objects_of (frames_of (parts_of frames.old))) invocation.process) }
+    ensures done { OnOk result (KeepsSoundFrames (parts_of frames.old) (parts_of frames.new)) }
+    ensures refused { OnErr result
+        (frames_of (parts_of frames.new) ≡ frames_of (parts_of frames.old)) }
+    ensures geometry { frames.new.geometry ≡ frames.old.geometry }
+{
+    let mut banks = count_banks(alloc, frames)?;
+    match gate::invoke(alloc, frames, &mut banks, invocation) {
+        Ok(()) => Ok(()),
+        Err(_) => Err(Fail::new("the call is refused")),
+    }
+}
+
 // The first word delivered to process 1.
 fn told(frames: &Plain) -> u64 {
     if frames.table().count() < 3 {
@@ -236,7 +267,7 @@ impl Machine {
         };
         match invoke(alloc, &mut self.frames, invocation) {
             Ok(()) => self.age += 1,
-            Err(_) => return Err(Fail::new("the call is refused")),
+            Err(fail) => return Err(fail),
         }
         if told(&self.frames) == 0 {
             Ok(())

@@ -8,4 +8,5 @@ mod Edits
 mod FreshWorlds
 mod RootEdits
 mod SoundFrames
+mod Roles
 mod Touched

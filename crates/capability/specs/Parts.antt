@@ -1,5 +1,5 @@
 -- The parts of a store of present frames, and what goes on beside a change.
-use Rattle.std.specs.Prelude.{◌≡◌, ℕ, ◌<◌, ◌≤◌, ◌^◌, Bool, false, List, length, replicate, slice_index_or, slice_set, take, if◌then◌else◌}
+use Rattle.std.specs.Prelude.{◌≡◌, ◌↔◌, ℕ, ◌<◌, ◌≤◌, ◌^◌, Bool, false, List, length, replicate, slice_index_or, slice_set, take, if◌then◌else◌, Result, IsErrOf}
 use Rattle.model.specs.declared.capability.Cap.{Cap}
 use Rattle.model.specs.declared.frame.Frame.{Frame}
 use Rattle.model.specs.declared.frame.ObjectHeader.{ObjectHeader}
@@ -12,6 +12,8 @@ use Rattle.model.specs.Object.{all_slots, role_of, zero_words}
 use Rattle.model.specs.Revoke.{is_member}
 use Rattle.capability.specs.declared.present.Fresh.{Fresh}
 use Rattle.capability.specs.declared.present.Fresh.TheVariants as fresh
+use Rattle.capability.specs.declared.present.PrepareFault.{PrepareFault}
+use Rattle.capability.specs.declared.present.PrepareFault.TheVariants as prepare
 
 -- what a store of present frames is made of: a header and a content for each number, which numbers were
 -- written since the last checkpoint, and how often the device failed
@@ -80,6 +82,20 @@ pub record LooksUp {S : Type 0} (parts : S → Parts) (Leads : S → S → Type 
   pub touched : (parts new).touched ≡ (parts old).touched
   pub geometry : (parts new).geometry ≡ (parts old).geometry
   pub leads : Leads old new
+
+-- Frames were fetched for a call that may want memory or fail, and nothing else came of it. The parameters are
+-- ghost members of a store of present frames.
+pub record Looks {S T : Type 0} (parts : S → Parts) (Leads : S → S → Type 0) (old new : S) (result : Result T PrepareFault) : Type 0 where
+  pub aside : LooksUp parts Leads old new
+  pub later : (parts old).failures ≤ (parts new).failures
+  pub cause : IsErrOf result prepare.Failed ↔ ((parts old).failures < (parts new).failures)
+  pub room : IsErrOf result prepare.LogFull → ⊥
+
+-- no object and no number written is another
+pub record IsUnchanged (old new : Parts) : Type 0 where
+  pub headers : new.headers ≡ old.headers
+  pub contents : new.contents ≡ old.contents
+  pub touched : new.touched ≡ old.touched
 
 -- no number is listed twice
 abbrev pub IsOnce : List ℕ → Type 0

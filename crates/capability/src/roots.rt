@@ -6,10 +6,18 @@ ghost use Rattle.model.specs.Order.{with_root_word, with_space};
 ghost use Rattle.model.specs.Sound.{IsSpace};
 ghost use Rattle.model.specs.World.{root_at, is_process, with_root, with_state};
 ghost use Rattle.capability.specs.Objects.{with_root_in};
-ghost use Rattle.capability.specs.Parts.{KeepsAside, frames_of};
+ghost use Rattle.capability.specs.Parts.{HaveTheirRoles, KeepsAside, frames_of};
 
 use crate::present::PresentFrames;
-use model::{Cap, Capability, Content, State};
+use model::{Cap, Capability, Content, Role, State};
+
+/// Whether a number is that of a process, by its role in the table: it needn't be fetched.
+pub fn is_process<F: PresentFrames>(store: &F, number: u64) -> bool
+    requires { HaveTheirRoles (frames_of (F.parts store.now)) }
+    ensures { result ≡ is_process (objects_of (frames_of (F.parts store.now))) number }
+{
+    matches!(store.table().header(number).role, Role::Root)
+}
 
 /// A word that a process was last delivered. Its root is fetched.
 pub fn word<F: PresentFrames>(store: &F, process: u64, index: usize) -> u64

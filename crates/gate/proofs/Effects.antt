@@ -22,35 +22,35 @@ use Rattle.gate.specs.declared.plan.OrderPlan.{OrderPlan}
 use Rattle.gate.specs.Invoke.{Invokes, IsAsked, IsKernelObject, IsPlanned, Overfills, finished, written_by}
 
 -- an invocation by the capability that is invoked
-abbrev pub invoked_by : List Object → Invocation → Capability → Option Effect
-invoked_by os i c = elim c [
+abbrev pub invoked_by : Geometry → List Object → Invocation → Capability → Option Effect
+invoked_by g os i c = elim c [
   | Start q key ↦ if can_start os i q then Some (through_gate os i q key) else None
   | Resume q ↦ let effect = through_gate os i q 0 in Some (record { objects = consume q effect.objects; written = effect.written })
-  | _ ↦ Some (on_kernel_object os i)
+  | _ ↦ Some (on_kernel_object g os i)
 ]
 
-pub invoke_is : (os : List Object) (i : Invocation) → invoke os i ≡ invoked_by os i (register_at os i.process i.register)
+pub invoke_is : (g : Geometry) (os : List Object) (i : Invocation) → invoke g os i ≡ invoked_by g os i (register_at os i.process i.register)
 unfolding invoke
-invoke_is os i = refl
+invoke_is g os i = refl
 
-object_by : (os : List Object) (i : Invocation) (c : Capability) → IsKernelObject c → invoked_by os i c ≡ Some (on_kernel_object os i)
-object_by os i Void object = refl
-object_by os i (Number n) object = refl
-object_by os i (Page o a) object = refl
-object_by os i (Node o a) object = refl
-object_by os i (Space o h a) object = refl
-object_by os i (Process p) object = refl
-object_by os i (Start p key) object = absurd object
-object_by os i (Resume p) object = absurd object
-object_by os i (Bank b) object = refl
-object_by os i Discrim object = refl
+object_by : (g : Geometry) (os : List Object) (i : Invocation) (c : Capability) → IsKernelObject c → invoked_by g os i c ≡ Some (on_kernel_object g os i)
+object_by g os i Void object = refl
+object_by g os i (Number n) object = refl
+object_by g os i (Page o a) object = refl
+object_by g os i (Node o a) object = refl
+object_by g os i (Space o h a) object = refl
+object_by g os i (Process p) object = refl
+object_by g os i (Start p key) object = absurd object
+object_by g os i (Resume p) object = absurd object
+object_by g os i (Bank b) object = refl
+object_by g os i Discrim object = refl
 
-pub object_invoked : (os : List Object) (i : Invocation) (asked : Asked) → IsAsked os i asked → IsKernelObject asked.invoked → invoke os i ≡ Some (on_kernel_object os i)
-object_invoked os i asked is object = invoke_is os i ∙ ap (invoked_by os i) (sym is.invoked) ∙ object_by os i asked.invoked object
+pub object_invoked : (g : Geometry) (os : List Object) (i : Invocation) (asked : Asked) → IsAsked os i asked → IsKernelObject asked.invoked → invoke g os i ≡ Some (on_kernel_object g os i)
+object_invoked g os i asked is object = invoke_is g os i ∙ ap (invoked_by g os i) (sym is.invoked) ∙ object_by g os i asked.invoked object
 
 -- sound frames after an invocation whose objects are those of its effect
 pub sound_after : (g : Geometry) (age : ℕ) (fs gs : List Frame) (i : Invocation) (e : Effect) → age < 2 ^ 62 → Fits (command.Invoke i) → IsTrue (is_running_process (objects_of fs) i.process) →
-    invoke (objects_of fs) i ≡ Some e → objects_of gs ≡ e.objects → IsSoundFrames g age fs → AreKeepable g (age + 1) gs → AreCurrent gs → IsSoundFrames g (age + 1) gs
+    invoke g (objects_of fs) i ≡ Some e → objects_of gs ≡ e.objects → IsSoundFrames g age fs → AreKeepable g (age + 1) gs → AreCurrent gs → IsSoundFrames g (age + 1) gs
 sound_after g age fs gs i e young fits runs is objects sound keepable current = record {
   keepable = keepable;
   current = current;
@@ -59,17 +59,17 @@ sound_after g age fs gs i e young fits runs is objects sound keepable current = 
 }
 
 -- an invocation that wrote what its effect writes
-pub invokes_by : (i : Invocation) (log : ℕ) (os after : List Object) (touched touched_after : List Bool) (e : Effect) → invoke os i ≡ Some e → after ≡ e.objects →
-    touched_after ≡ touching touched e.written → touched_count touched_after ≤ log → Invokes i log os touched after touched_after
-invokes_by i log os after touched touched_after e is objects written within = (e, is, objects, written, within)
+pub invokes_by : (g : Geometry) (i : Invocation) (os after : List Object) (touched touched_after : List Bool) (e : Effect) → invoke g os i ≡ Some e → after ≡ e.objects →
+    touched_after ≡ touching touched e.written → touched_count touched_after ≤ g.log → Invokes g i os touched after touched_after
+invokes_by g i os after touched touched_after e is objects written within = (e, is, objects, written, within)
 
-pub overfills_by : (i : Invocation) (log : ℕ) (os : List Object) (touched : List Bool) (e : Effect) → invoke os i ≡ Some e → log < touched_count (touching touched e.written) → Overfills i log os touched
-overfills_by i log os touched e is over = (e, is, over)
+pub overfills_by : (g : Geometry) (i : Invocation) (os : List Object) (touched : List Bool) (e : Effect) → invoke g os i ≡ Some e → g.log < touched_count (touching touched e.written) → Overfills g i os touched
+overfills_by g i os touched e is over = (e, is, over)
 
 -- the numbers and the objects of a planned order
 module _ (g : Geometry) (os : List Object) (i : Invocation) (asked : Asked) (plan : OrderPlan) (is : IsAsked os i asked) (planned : IsPlanned g os i plan) where
-  pub planned_written : (on_kernel_object os i).written ≡ written_by i.operation i.process asked.annex plan.change
+  pub planned_written : (on_kernel_object g os i).written ≡ written_by i.operation i.process asked.annex plan.change
   planned_written = ap (λ (e : Effect). e.written) planned.effect ∙ ap (λ (a : ℕ). written_by i.operation i.process a plan.change) (sym is.annex)
 
-  pub planned_objects : (on_kernel_object os i).objects ≡ finished os i.operation i.process plan
+  pub planned_objects : (on_kernel_object g os i).objects ≡ finished os i.operation i.process plan
   planned_objects = ap (λ (e : Effect). e.objects) planned.effect

@@ -32,27 +32,27 @@ effect_through os i gate = record {
 abbrev made : ℕ → ℕ → Bool → Gate
 made q key b = record { process = q; key = key; is_resume = b }
 
-gate_by : (os : List Object) (i : Invocation) (q key : ℕ) (b : Bool) → (b ≡ true → key ≡ 0) → (b || can_start os i q) ≡ true →
-    invoked_by os i (gate_capability (made q key b)) ≡ Some (effect_through os i (made q key b))
+gate_by : (g : Geometry) (os : List Object) (i : Invocation) (q key : ℕ) (b : Bool) → (b ≡ true → key ≡ 0) → (b || can_start os i q) ≡ true →
+    invoked_by g os i (gate_capability (made q key b)) ≡ Some (effect_through os i (made q key b))
 unfolding through_gate
-gate_by os i q key true zeroth can = ap (λ (k : ℕ). Some (effect_through os i (made q k true))) (sym (zeroth refl))
-gate_by os i q key false zeroth can = ap (λ (b : Bool). if b then Some (through_gate os i q key) else None) can
+gate_by g os i q key true zeroth can = ap (λ (k : ℕ). Some (effect_through os i (made q k true))) (sym (zeroth refl))
+gate_by g os i q key false zeroth can = ap (λ (b : Bool). if b then Some (through_gate os i q key) else None) can
 
 -- it is carried out where the gate can be entered
-pub gate_invoked : (os : List Object) (i : Invocation) (asked : Asked) (gate : Gate) → IsAsked os i asked → asked.invoked ≡ gate_capability gate →
-    (gate.is_resume ≡ true → gate.key ≡ 0) → (gate.is_resume || can_start os i gate.process) ≡ true → invoke os i ≡ Some (effect_through os i gate)
-gate_invoked os i asked gate is same zeroth can =
-    invoke_is os i ∙ ap (invoked_by os i) (sym is.invoked ∙ same) ∙ gate_by os i gate.process gate.key gate.is_resume zeroth can
+pub gate_invoked : (g : Geometry) (os : List Object) (i : Invocation) (asked : Asked) (gate : Gate) → IsAsked os i asked → asked.invoked ≡ gate_capability gate →
+    (gate.is_resume ≡ true → gate.key ≡ 0) → (gate.is_resume || can_start os i gate.process) ≡ true → invoke g os i ≡ Some (effect_through os i gate)
+gate_invoked g os i asked gate is same zeroth can =
+    invoke_is g os i ∙ ap (invoked_by g os i) (sym is.invoked ∙ same) ∙ gate_by g os i gate.process gate.key gate.is_resume zeroth can
 
 -- and else stalls
-stalled_by : (os : List Object) (i : Invocation) (q key : ℕ) (b : Bool) → (b || can_start os i q) ≡ false → invoked_by os i (gate_capability (made q key b)) ≡ None
-stalled_by os i q key true can = cc
-stalled_by os i q key false can = ap (λ (b : Bool). if b then Some (through_gate os i q key) else None) can
+stalled_by : (g : Geometry) (os : List Object) (i : Invocation) (q key : ℕ) (b : Bool) → (b || can_start os i q) ≡ false → invoked_by g os i (gate_capability (made q key b)) ≡ None
+stalled_by g os i q key true can = cc
+stalled_by g os i q key false can = ap (λ (b : Bool). if b then Some (through_gate os i q key) else None) can
 
-pub gate_stalled : (os : List Object) (i : Invocation) (asked : Asked) (gate : Gate) → IsAsked os i asked → asked.invoked ≡ gate_capability gate →
-    (gate.is_resume || can_start os i gate.process) ≡ false → invoke os i ≡ None
-gate_stalled os i asked gate is same can =
-    invoke_is os i ∙ ap (invoked_by os i) (sym is.invoked ∙ same) ∙ stalled_by os i gate.process gate.key gate.is_resume can
+pub gate_stalled : (g : Geometry) (os : List Object) (i : Invocation) (asked : Asked) (gate : Gate) → IsAsked os i asked → asked.invoked ≡ gate_capability gate →
+    (gate.is_resume || can_start os i gate.process) ≡ false → invoke g os i ≡ None
+gate_stalled g os i asked gate is same can =
+    invoke_is g os i ∙ ap (invoked_by g os i) (sym is.invoked ∙ same) ∙ stalled_by g os i gate.process gate.key gate.is_resume can
 
 -- a gate is that of a process
 gate_names : (os : List Object) (q key : ℕ) (b : Bool) → NamesItsKind os (gate_capability (made q key b)) → IsTrue (is_process os q)

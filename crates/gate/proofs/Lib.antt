@@ -1,3 +1,8 @@
+mod BankEffects
+mod BankLists
+mod BankOutcomes
+mod BankReplies
+pub mod BankStates
 mod Effects
 mod Entering
 mod Fits

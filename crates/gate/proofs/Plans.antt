@@ -15,17 +15,20 @@ use Rattle.model.specs.declared.object.State.TheVariants.{Available}
 use Rattle.model.specs.declared.order.Arguments.{Arguments}
 use Rattle.model.specs.Invoke.{Effect, deliver, on_kernel_object, reply_of, sent_by}
 use Rattle.model.specs.Object.{free, is_annex, is_free, is_node}
-use Rattle.model.specs.Order.{OrderOutcome, order}
+use Rattle.model.specs.OrderOutcome.{OrderOutcome}
+use Rattle.model.specs.Order.{order}
 use Rattle.model.specs.Sound.{NamesItsKind, object_count}
 use Rattle.model.specs.Text.{Fits}
 use Rattle.model.specs.World.{annex_at, content_at, is_process, is_running_process, register_at, with_state}
 use Rattle.model_laws.proofs.SoundGates.{all_words, held_sent}
-use Rattle.model_laws.proofs.SoundOrders.{IsNow, order_keeps}
+use Rattle.model_laws.proofs.SoundObjects.{order_keeps}
+use Rattle.model_laws.proofs.SoundOrders.{IsNow}
 use Rattle.model_laws.proofs.SoundParts.{IsHeld, Waits, held_to}
 use Rattle.gate.specs.declared.looking.Asked.{Asked}
 use Rattle.gate.specs.declared.plan.Change.{Change}
 use Rattle.gate.specs.declared.plan.Change.TheVariants as change
 use Rattle.gate.specs.declared.plan.OrderPlan.{OrderPlan}
+use Rattle.gate.specs.Banking.{arguments_of}
 use Rattle.gate.specs.Invoke.{IsAsked, IsPlanned, finished, written_by}
 use Rattle.gate.specs.Plan.{ChangesAs, FitsCap, HaveAnnexesOf, IsFor, IsOfProcess, IsWithinObject, MayHold, changed, node_named, outcome_of, process_named, target_of}
 use Rattle.capability.proofs.Frames.{annex_used, node_used, root_used}
@@ -111,10 +114,10 @@ module _ (os : List Object) (c : Capability) (args : Arguments) (kind : NamesIts
       let e : process ≡ n = cc in inside_used os n (root_used (content_at os n) (subst (λ (m : ℕ). is_process os m ≡ true) e (process_there os c kind process for.0)))
 
 -- An invocation of a kernel object, by its operation.
-abbrev state_by : Operation → List Object → ℕ → List Object
+abbrev pub state_by : Operation → List Object → ℕ → List Object
 state_by operation os p = elim operation [ Return ↦ with_state os p Available | _ ↦ os ]
 
-abbrev effect_by : Operation → ℕ → ℕ → OrderOutcome → Effect
+abbrev pub effect_by : Operation → ℕ → ℕ → OrderOutcome → Effect
 effect_by operation p annex outcome = record {
   objects = elim operation [
     | Call ↦ if is_running_process outcome.objects p then deliver outcome.objects p (reply_of outcome) else outcome.objects
@@ -123,32 +126,29 @@ effect_by operation p annex outcome = record {
   written = (elim operation [ Call ↦ p ∷ annex ∷ [] | Return ↦ p ∷ [] | Send ↦ [] ]) ++ outcome.written;
 }
 
-abbrev arguments_of : List Object → Invocation → Arguments
-arguments_of os i = record { first = slice_index i.words 1; second = slice_index i.words 2; capability = slice_index_or (sent_by os i) 0 Void }
-
-effect_is : (os : List Object) (i : Invocation) → on_kernel_object os i
+pub effect_is : (g : Geometry) (os : List Object) (i : Invocation) → on_kernel_object g os i
     ≡ effect_by i.operation i.process (annex_at os i.process)
-    (order (state_by i.operation os i.process) (register_at os i.process i.register) (slice_index i.words 0) (arguments_of os i))
+    (order g (state_by i.operation os i.process) (register_at os i.process i.register) (slice_index i.words 0) (arguments_of os i))
 unfolding on_kernel_object
-effect_is os i = refl
+effect_is g os i = refl
 
-module _ (os : List Object) (p annex : ℕ) (c : Capability) (w : ℕ) (args : Arguments) (plan : OrderPlan)
-    (as_planned : outcome_of os plan ≡ order os c w args)
-    (changes : (us : List Object) → HaveAnnexesOf os us → ChangesAs us plan (order us c w args)) where
-  by_operation : (operation : Operation) → effect_by operation p annex (order (state_by operation os p) c w args)
+module _ (g : Geometry) (os : List Object) (p annex : ℕ) (c : Capability) (w : ℕ) (args : Arguments) (plan : OrderPlan)
+    (as_planned : outcome_of os plan ≡ order g os c w args)
+    (changes : (us : List Object) → HaveAnnexesOf os us → ChangesAs us plan (order g us c w args)) where
+  by_operation : (operation : Operation) → effect_by operation p annex (order g (state_by operation os p) c w args)
       ≡ record { objects = finished os operation p plan; written = written_by operation p annex plan.change }
   by_operation Call = ap (effect_by Call p annex) (sym as_planned)
   by_operation Return =
       let done = changes (with_state os p Available) (λ q. state_annex os p Available q) in
-      ap (λ (us : List Object). let e : Effect = record { objects = us; written = (p ∷ []) ++ (order (with_state os p Available) c w args).written } in e) done.objects
+      ap (λ (us : List Object). let e : Effect = record { objects = us; written = (p ∷ []) ++ (order g (with_state os p Available) c w args).written } in e) done.objects
       ∙ ap (λ (ns : List ℕ). let e : Effect = record { objects = changed (with_state os p Available) plan.change; written = (p ∷ []) ++ ns } in e) done.written
   by_operation Send = ap (effect_by Send p annex) (sym as_planned)
 
 -- an order that is planned comes to what the definitions say
 pub planned : (g : Geometry) (os : List Object) (i : Invocation) (asked : Asked) (plan : OrderPlan) (args : Arguments) → IsNow g os → object_count g < 2 ^ 64 →
     Fits (command.Invoke i) → IsAsked os i asked → args ≡ arguments_of os i → IsFor os asked.invoked args plan.change →
-    outcome_of os plan ≡ order os asked.invoked (slice_index i.words 0) args →
-    ((us : List Object) → HaveAnnexesOf os us → ChangesAs us plan (order us asked.invoked (slice_index i.words 0) args)) → IsPlanned g os i plan
+    outcome_of os plan ≡ order g os asked.invoked (slice_index i.words 0) args →
+    ((us : List Object) → HaveAnnexesOf os us → ChangesAs us plan (order g us asked.invoked (slice_index i.words 0) args)) → IsPlanned g os i plan
 planned g os i asked plan args now few fits is args_are for as_planned changes =
     let held : IsHeld os (Waits os) asked.invoked = subst (IsHeld os (Waits os)) (sym is.invoked) ((now.filled (annex_at os i.process)).slots i.register) in
     let sent : IsHeld os (Waits os) args.capability = subst (IsHeld os (Waits os)) (sym (ap (λ (a : Arguments). a.capability) args_are)) (held_sent g os i 0 now) in
@@ -158,26 +158,26 @@ planned g os i asked plan args now few fits is args_are for as_planned changes =
     let outcome = order_keeps g os asked.invoked (slice_index i.words 0) args now held (record { first = first; second = small; held = sent }) in
     record {
       effect =
-          effect_is os i
-          ∙ ap (λ (c : Capability). effect_by i.operation i.process (annex_at os i.process) (order (state_by i.operation os i.process) c (slice_index i.words 0) (arguments_of os i))) (sym is.invoked)
-          ∙ ap (λ (a : Arguments). effect_by i.operation i.process (annex_at os i.process) (order (state_by i.operation os i.process) asked.invoked (slice_index i.words 0) a)) (sym args_are)
-          ∙ by_operation os i.process (annex_at os i.process) asked.invoked (slice_index i.words 0) args plan as_planned changes i.operation;
+          effect_is g os i
+          ∙ ap (λ (c : Capability). effect_by i.operation i.process (annex_at os i.process) (order g (state_by i.operation os i.process) c (slice_index i.words 0) (arguments_of os i))) (sym is.invoked)
+          ∙ ap (λ (a : Arguments). effect_by i.operation i.process (annex_at os i.process) (order g (state_by i.operation os i.process) asked.invoked (slice_index i.words 0) a)) (sym args_are)
+          ∙ by_operation g os i.process (annex_at os i.process) asked.invoked (slice_index i.words 0) args plan as_planned changes i.operation;
       within = for_within os asked.invoked args kind plan.change for;
       process = for_process os asked.invoked args kind plan.change for;
       target = for_target os asked.invoked args kind (λ p is. (now.frame.annexes p is).0) plan.change for;
       holds = for_holds os asked.invoked args kind g (held_fits g os now.frame.kinds few args.capability (held_to os args.capability sent)) small plan.change for;
       fits = subst (FitsCap g) (sym (ap (λ (o : OrderOutcome). o.capability) as_planned))
-          (held_fits g (order os asked.invoked (slice_index i.words 0) args).objects outcome.now.frame.kinds few (order os asked.invoked (slice_index i.words 0) args).capability
-          (held_to (order os asked.invoked (slice_index i.words 0) args).objects (order os asked.invoked (slice_index i.words 0) args).capability outcome.held));
+          (held_fits g (order g os asked.invoked (slice_index i.words 0) args).objects outcome.now.frame.kinds few (order g os asked.invoked (slice_index i.words 0) args).capability
+          (held_to (order g os asked.invoked (slice_index i.words 0) args).objects (order g os asked.invoked (slice_index i.words 0) args).capability outcome.held));
     }
 
 -- the same after a look at the objects
 pub planned_looked : (g : Geometry) (os us : List Object) (i : Invocation) (asked : Asked) (plan : OrderPlan) (args : Arguments) → us ≡ os → IsNow g os → object_count g < 2 ^ 64 →
     Fits (command.Invoke i) → IsAsked os i asked → args ≡ arguments_of os i → IsFor us asked.invoked args plan.change →
-    outcome_of us plan ≡ order us asked.invoked (slice_index i.words 0) args →
-    ((vs : List Object) → HaveAnnexesOf us vs → ChangesAs vs plan (order vs asked.invoked (slice_index i.words 0) args)) → IsPlanned g os i plan
+    outcome_of us plan ≡ order g us asked.invoked (slice_index i.words 0) args →
+    ((vs : List Object) → HaveAnnexesOf us vs → ChangesAs vs plan (order g vs asked.invoked (slice_index i.words 0) args)) → IsPlanned g os i plan
 planned_looked g os us i asked plan args same now few fits is args_are for as_planned changes =
     planned g os i asked plan args now few fits is args_are
     (subst (λ (vs : List Object). IsFor vs asked.invoked args plan.change) same for)
-    (subst (λ (vs : List Object). outcome_of vs plan ≡ order vs asked.invoked (slice_index i.words 0) args) same as_planned)
+    (subst (λ (vs : List Object). outcome_of vs plan ≡ order g vs asked.invoked (slice_index i.words 0) args) same as_planned)
     (λ vs have. changes vs (subst (λ (ws : List Object). HaveAnnexesOf ws vs) (sym same) have))

@@ -1,5 +1,5 @@
 -- What an invocation comes to over a store of present frames.
-use Rattle.std.specs.Prelude.{◌≡◌, ◌↔◌, ℕ, ◌+◌, ◌^◌, ◌<◌, ◌≤◌, Bool, List, [], ◌∷◌, ◌++◌, length, Some, Result, IsErrOf, if◌then◌else◌, slice_set}
+use Rattle.std.specs.Prelude.{◌≡◌, ℕ, ◌+◌, ◌^◌, ◌<◌, ◌≤◌, Bool, List, [], ◌∷◌, ◌++◌, length, Some, if◌then◌else◌, slice_set}
 use Rattle.std.specs.Option.{option_to_list}
 use Rattle.model.specs.declared.capability.Capability.{Capability}
 use Rattle.model.specs.declared.capability.Capability.TheVariants.{Start, Resume}
@@ -16,7 +16,7 @@ use Rattle.model.specs.Revoke.{consume}
 use Rattle.model.specs.World.{annex_at, register_at, is_running_process, with_state}
 use Rattle.capability.specs.declared.present.PrepareFault.{PrepareFault}
 use Rattle.capability.specs.declared.present.PrepareFault.TheVariants as prepare
-use Rattle.capability.specs.Parts.{Parts, LooksUp, frames_of}
+use Rattle.capability.specs.Parts.{Parts, frames_of}
 use Rattle.gate.specs.declared.fault.InvokeFault.{InvokeFault}
 use Rattle.gate.specs.declared.fault.InvokeFault.TheVariants as fault
 use Rattle.gate.specs.declared.gates.Gate.{Gate}
@@ -31,24 +31,16 @@ fault_of prepare.NoMemory = fault.NoMemory
 fault_of prepare.LogFull = fault.LogFull
 fault_of prepare.Failed = fault.Failed
 
--- Frames were fetched for a call that may want memory or fail, and nothing else came of it. The parameters are
--- ghost members of a store of present frames.
-pub record Looks {S T : Type 0} (parts : S → Parts) (Leads : S → S → Type 0) (old new : S) (result : Result T PrepareFault) : Type 0 where
-  pub aside : LooksUp parts Leads old new
-  pub later : (parts old).failures ≤ (parts new).failures
-  pub cause : IsErrOf result prepare.Failed ↔ ((parts old).failures < (parts new).failures)
-  pub room : IsErrOf result prepare.LogFull → ⊥
-
 -- the objects after an invocation, and the numbers that it touched, which half of the log holds
-abbrev pub Invokes : Invocation → ℕ → List Object → List Bool → List Object → List Bool → Type 0
-Invokes i log before touched after touched_after =
-    (effect : Effect) × (invoke before i ≡ Some effect) × (after ≡ effect.objects)
-    × (touched_after ≡ touching touched effect.written) × (touched_count touched_after ≤ log)
+abbrev pub Invokes : Geometry → Invocation → List Object → List Bool → List Object → List Bool → Type 0
+Invokes g i before touched after touched_after =
+    (effect : Effect) × (invoke g before i ≡ Some effect) × (after ≡ effect.objects)
+    × (touched_after ≡ touching touched effect.written) × (touched_count touched_after ≤ g.log)
 
 -- an invocation that would write more numbers than half of the log holds
-abbrev pub Overfills : Invocation → ℕ → List Object → List Bool → Type 0
-Overfills i log before touched =
-    (effect : Effect) × (invoke before i ≡ Some effect) × (log < touched_count (touching touched effect.written))
+abbrev pub Overfills : Geometry → Invocation → List Object → List Bool → Type 0
+Overfills g i before touched =
+    (effect : Effect) × (invoke g before i ≡ Some effect) × (g.log < touched_count (touching touched effect.written))
 
 -- a capability that isn't a gate
 abbrev pub IsKernelObject : Capability → Type 0
@@ -90,7 +82,7 @@ pub record IsAsked (os : List Object) (i : Invocation) (asked : Asked) : Type 0 
 
 -- an order that is planned comes to what the definitions say, in objects that there are, and puts only what may be kept
 pub record IsPlanned (g : Geometry) (os : List Object) (i : Invocation) (plan : OrderPlan) : Type 0 where
-  pub effect : on_kernel_object os i ≡ record {
+  pub effect : on_kernel_object g os i ≡ record {
     objects = finished os i.operation i.process plan;
     written = written_by i.operation i.process (annex_at os i.process) plan.change;
   }
@@ -103,12 +95,6 @@ pub record IsPlanned (g : Geometry) (os : List Object) (i : Invocation) (plan : 
 -- frames that are sound at an age are sound at the next
 abbrev pub KeepsSoundFrames : Parts → Parts → Type 0
 KeepsSoundFrames old new = (age : ℕ) → age < 2 ^ 62 → IsSoundFrames old.geometry age (frames_of old) → IsSoundFrames old.geometry (age + 1) (frames_of new)
-
--- no object and no number written is another
-pub record IsUnchanged (old new : Parts) : Type 0 where
-  pub headers : new.headers ≡ old.headers
-  pub contents : new.contents ≡ old.contents
-  pub touched : new.touched ≡ old.touched
 
 -- the capabilities that a gate receives of those that are sent: with a call the last is the right to answer
 abbrev pub received : Invocation → List Capability → List Capability

@@ -7,7 +7,8 @@ use Rattle.model.specs.declared.geometry.Geometry.{Geometry}
 use Rattle.model.specs.declared.object.Object.{Object}
 use Rattle.model.specs.declared.order.Arguments.{Arguments}
 use Rattle.model.specs.Capability.{named}
-use Rattle.model.specs.Order.{OrderOutcome, with_root_word, with_space}
+use Rattle.model.specs.OrderOutcome.{OrderOutcome}
+use Rattle.model.specs.Order.{IsNoBankOrder, with_root_word, with_space}
 use Rattle.model.specs.Revoke.{consume}
 use Rattle.model.specs.Keepable.{IsKeptCap}
 use Rattle.model.specs.Object.{is_node}
@@ -77,13 +78,13 @@ IsFor os c args (change.RootWord process index word) = (index < 4) × (process_n
 IsFor os c args (change.SetState process state) = process_named c ≡ Some process
 IsFor os c args (change.Space process held) = (process_named c ≡ Some process) × (held ≡ args.capability) × IsSpace held
 
--- a capability whose orders need no object, and no access
-abbrev pub IsPlain : Capability → Type 0
-IsPlain (Page o a) = ⊥
-IsPlain (Node o a) = ⊥
-IsPlain (Space o h a) = ⊥
-IsPlain (Process p) = ⊥
-IsPlain _ = Unit {0}
+-- a capability whose orders need no object, and no access; what a bank doesn't know is refused without a look
+abbrev pub IsPlain : Capability → ℕ → Type 0
+IsPlain (Page o a) w = ⊥
+IsPlain (Node o a) w = ⊥
+IsPlain (Space o h a) w = ⊥
+IsPlain (Process p) w = ⊥
+IsPlain c w = IsNoBankOrder c w
 
 -- a change of a word, slot or register that its object has
 abbrev pub IsWithinObject : Change → Type 0

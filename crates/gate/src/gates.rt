@@ -7,9 +7,9 @@ ghost use Rattle.model.specs.Keepable.{AreCurrent, AreKeepable, IsSoundFrames};
 ghost use Rattle.model.specs.Machine.{touching, touched_count};
 ghost use Rattle.model.specs.Text.{Fits};
 ghost use Rattle.model.specs.World.{annex_at, is_process, is_running_process};
-ghost use Rattle.capability.specs.Parts.{KeepsAside, frames_of};
+ghost use Rattle.capability.specs.Parts.{IsUnchanged, KeepsAside, frames_of};
 ghost use Rattle.std.specs.List.{All};
-ghost use Rattle.gate.specs.Invoke.{entered, gate_capability, received, written_through, Invokes, IsAsked, IsUnchanged, KeepsSoundFrames, Overfills};
+ghost use Rattle.gate.specs.Invoke.{entered, gate_capability, received, written_through, Invokes, IsAsked, KeepsSoundFrames, Overfills};
 ghost use Rattle.gate.specs.Plan.{FitsCap};
 
 use crate::delivery::deliver;
@@ -185,13 +185,13 @@ pub fn invoke_gate<F: PresentFrames>(
     requires asked { IsAsked (objects_of (frames_of (F.parts store.old))) invocation.now asked }
     requires gate { asked.invoked ≡ gate_capability gate }
     requires key { gate.is_resume ≡ true → gate.key ≡ 0 }
-    ensures done { OnOk result (Invokes invocation.now (F.parts store.old).geometry.log
+    ensures done { OnOk result (Invokes (F.parts store.old).geometry invocation.now
         (objects_of (frames_of (F.parts store.old))) (F.parts store.old).touched
         (objects_of (frames_of (F.parts store.new))) (F.parts store.new).touched) }
     ensures stalled { IsErrOf result InvokeFault.Stalled
-        → invoke (objects_of (frames_of (F.parts store.old))) invocation.now ≡ None }
+        → invoke (F.parts store.old).geometry (objects_of (frames_of (F.parts store.old))) invocation.now ≡ None }
     ensures full { IsErrOf result InvokeFault.LogFull
-        → Overfills invocation.now (F.parts store.old).geometry.log
+        → Overfills (F.parts store.old).geometry invocation.now
         (objects_of (frames_of (F.parts store.old))) (F.parts store.old).touched }
     ensures sound { OnOk result (KeepsSoundFrames (F.parts store.old) (F.parts store.new)) }
     ensures unchanged { OnErr result (IsUnchanged (F.parts store.old) (F.parts store.new)) }

@@ -4,15 +4,18 @@ ghost use Rattle.model.specs.Frame.{objects_of};
 ghost use Rattle.model.specs.Invoke.{invoke};
 ghost use Rattle.model.specs.Keepable.{IsSoundFrames};
 ghost use Rattle.model.specs.World.{is_running_process};
-ghost use Rattle.capability.specs.Parts.{frames_of};
-ghost use Rattle.gate.specs.Invoke.{Invokes, IsUnchanged, KeepsSoundFrames, Overfills};
+ghost use Rattle.capability.specs.Parts.{IsUnchanged, frames_of};
+ghost use Rattle.space_bank.specs.Banks.{AreCounted};
+ghost use Rattle.gate.specs.Invoke.{Invokes, KeepsSoundFrames, Overfills};
 
+use crate::banking::{bank_order, invoke_bank};
 use crate::fault::InvokeFault;
 use crate::gates::{Gate, invoke_gate};
 use crate::kernel_object::invoke_object;
 use crate::looking::{ask, numbers_fit};
 use capability::PresentFrames;
 use model::{Capability, Invocation};
+use space_bank::Banks;
 use std::alloc::Global;
 
 /// Carries out the invocation of a capability by a running process (EROS, KeyKOS: call, return and
@@ -21,7 +24,7 @@ use std::alloc::Global;
 /// What is sent is read first. Through a gate, a start or resume capability, it is delivered to
 /// another process; a resume capability works once, and is void from then on wherever it is held.
 /// Any other capability is a kernel object, whose order is carried out and, where it was called,
-/// answered.
+/// answered. What is counted of banks beside the objects stays what there is.
 ///
 /// An error changes nothing: `Stalled` exactly where the process that would be started isn't
 /// available, `LogFull` exactly where the numbers written since the last checkpoint with those that
@@ -30,22 +33,27 @@ use std::alloc::Global;
 pub fn invoke<F: PresentFrames>(
     alloc: Global,
     store: &mut F,
+    banks: &mut Banks,
     invocation: Invocation,
 ) -> Result<(), InvokeFault>
     requires sound { (age : ℕ) × IsSoundFrames (F.parts store.old).geometry age
         (frames_of (F.parts store.old)) }
     requires process { IsTrue (is_running_process
         (objects_of (frames_of (F.parts store.old))) invocation.process) }
+    requires counted { AreCounted (F.parts store.old).geometry
+        (objects_of (frames_of (F.parts store.old))) banks.old }
 
-    ensures done { OnOk result (Invokes invocation (F.parts store.old).geometry.log
+    ensures done { OnOk result (Invokes (F.parts store.old).geometry invocation
         (objects_of (frames_of (F.parts store.old))) (F.parts store.old).touched
         (objects_of (frames_of (F.parts store.new))) (F.parts store.new).touched) }
     ensures stalled { IsErrOf result InvokeFault.Stalled
-        → invoke (objects_of (frames_of (F.parts store.old))) invocation ≡ None }
+        → invoke (F.parts store.old).geometry (objects_of (frames_of (F.parts store.old))) invocation ≡ None }
     ensures full { IsErrOf result InvokeFault.LogFull
-        → Overfills invocation (F.parts store.old).geometry.log
+        → Overfills (F.parts store.old).geometry invocation
         (objects_of (frames_of (F.parts store.old))) (F.parts store.old).touched }
     ensures sound { OnOk result (KeepsSoundFrames (F.parts store.old) (F.parts store.new)) }
+    ensures counted { AreCounted (F.parts store.new).geometry
+        (objects_of (frames_of (F.parts store.new))) banks.new }
     ensures unchanged { OnErr result (IsUnchanged (F.parts store.old) (F.parts store.new)) }
     ensures cause { IsErrOf result InvokeFault.Failed
         ↔ ((F.parts store.old).failures < (F.parts store.new).failures) }
@@ -73,6 +81,13 @@ pub fn invoke<F: PresentFrames>(
             };
             invoke_gate(alloc, store, &invocation, asked, gate)
         }
+        Capability::Bank(bank) => match bank_order(invocation.words[0]) {
+            Some(order) => {
+                let call = asked.of_bank(&invocation, bank, order);
+                invoke_bank(alloc, store, banks, &invocation, call)
+            }
+            None => invoke_object(alloc, store, &invocation, asked),
+        },
         _ => invoke_object(alloc, store, &invocation, asked),
     }
 }

@@ -1,14 +1,15 @@
 // Invocations of kernel objects.
-ghost use Rattle.std.specs.Prelude.{◌≡◌, ◌↔◌, ◌+◌, ◌<◌, ◌≤◌, ◌^◌, ℕ, [], ◌∷◌, length, Some, IfOk, OnOk, OnErr, IsErrOf, IsTrue};
+ghost use Rattle.std.specs.Prelude.{◌≡◌, ◌↔◌, ◌+◌, ◌<◌, ◌≤◌, ◌^◌, ℕ, [], ◌∷◌, length, slice_index, Some, IfOk, OnOk, OnErr, IsErrOf, IsTrue};
 ghost use Rattle.model.specs.declared.command.Command.TheVariants as command;
 ghost use Rattle.model.specs.Frame.{header_at, objects_of};
 ghost use Rattle.model.specs.Invoke.{deliver, ordered, reply_of, sent_by};
 ghost use Rattle.model.specs.Keepable.{AreCurrent, AreKeepable, IsSoundFrames};
 ghost use Rattle.model.specs.Machine.{touching, touched_count};
+ghost use Rattle.model.specs.Order.{IsNoBankOrder};
 ghost use Rattle.model.specs.Text.{Fits};
 ghost use Rattle.model.specs.World.{annex_at, is_process, is_running_process, register_at};
-ghost use Rattle.capability.specs.Parts.{KeepsAside, frames_of};
-ghost use Rattle.gate.specs.Invoke.{finished, replied_to, written_by, AreAnnounced, Invokes, IsAsked, IsKernelObject, IsPlanned, IsUnchanged, KeepsSoundFrames, Looks, Overfills};
+ghost use Rattle.capability.specs.Parts.{IsUnchanged, KeepsAside, Looks, frames_of};
+ghost use Rattle.gate.specs.Invoke.{finished, replied_to, written_by, AreAnnounced, Invokes, IsAsked, IsKernelObject, IsPlanned, KeepsSoundFrames, Overfills};
 ghost use Rattle.gate.specs.Plan.{changed, outcome_of, target_of, FitsCap, IsOfProcess, IsWithinObject, MayHold};
 
 use crate::change::make;
@@ -70,8 +71,8 @@ fn announce<F: PresentFrames>(
     }
 }
 
-// Gives a process that called the reply, where it still runs.
-fn reply<F: PresentFrames>(store: &mut F, process: u64, plan: OrderPlan)
+/// Gives a process that called the reply, where it still runs.
+pub fn reply<F: PresentFrames>(store: &mut F, process: u64, plan: OrderPlan)
     requires root_fetched { F.IsFetched store.old process }
     requires root_announced { F.IsAnnounced store.old process }
     requires annex_fetched { F.IsFetched store.old
@@ -158,6 +159,7 @@ fn plan_order<F: PresentFrames>(
     requires fits { Fits (command.Invoke invocation.now) }
     requires few { length (F.parts store.old).headers < 2 ^ 64 }
     requires asked { IsAsked (objects_of (frames_of (F.parts store.old))) invocation.now asked }
+    requires order { IsNoBankOrder asked.invoked (slice_index invocation.now.words 0) }
     ensures planned { IfOk result (λ plan. IsPlanned (F.parts store.old).geometry (objects_of (frames_of (F.parts store.old))) invocation.now plan) }
     ensures looks { Looks F.parts F.LeadsTo store.old store.new result }
 {
@@ -171,8 +173,8 @@ fn plan_order<F: PresentFrames>(
     Ok(plan(store, asked.invoked, order, arguments))
 }
 
-/// An invocation of a kernel object by a running process: the order is carried out and, where it
-/// was called, its reply delivered.
+/// An invocation of a kernel object, which asks no bank, by a running process: the order is carried
+/// out and, where it was called, its reply delivered.
 pub fn invoke_object<F: PresentFrames>(
     alloc: Global,
     store: &mut F,
@@ -187,12 +189,13 @@ pub fn invoke_object<F: PresentFrames>(
     requires few { length (F.parts store.old).headers < 2 ^ 64 }
     requires asked { IsAsked (objects_of (frames_of (F.parts store.old))) invocation.now asked }
     requires object { IsKernelObject asked.invoked }
-    ensures done { OnOk result (Invokes invocation.now (F.parts store.old).geometry.log
+    requires order { IsNoBankOrder asked.invoked (slice_index invocation.now.words 0) }
+    ensures done { OnOk result (Invokes (F.parts store.old).geometry invocation.now
         (objects_of (frames_of (F.parts store.old))) (F.parts store.old).touched
         (objects_of (frames_of (F.parts store.new))) (F.parts store.new).touched) }
     ensures stalled { IsErrOf result InvokeFault.Stalled → ⊥ }
     ensures full { IsErrOf result InvokeFault.LogFull
-        → Overfills invocation.now (F.parts store.old).geometry.log
+        → Overfills (F.parts store.old).geometry invocation.now
         (objects_of (frames_of (F.parts store.old))) (F.parts store.old).touched }
     ensures sound { OnOk result (KeepsSoundFrames (F.parts store.old) (F.parts store.new)) }
     ensures unchanged { OnErr result (IsUnchanged (F.parts store.old) (F.parts store.new)) }

@@ -1,6 +1,7 @@
 //! Invocations of capabilities.
 #![tactic(auto)]
 
+mod banking;
 mod change;
 mod delivery;
 mod fault;

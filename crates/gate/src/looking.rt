@@ -1,17 +1,21 @@
 // What an invocation reads before anything changes.
-ghost use Rattle.std.specs.Prelude.{◌≡◌, ℕ, ◌<◌, ◌^◌, length, Some, IfOk, OnOk, IsTrue};
+ghost use Rattle.std.specs.Prelude.{◌≡◌, ℕ, ◌<◌, ◌^◌, List, length, slice_index, Some, IfOk, OnOk, IsTrue};
 ghost use Rattle.model.specs.Capability.{named};
 ghost use Rattle.model.specs.Frame.{objects_of};
 ghost use Rattle.model.specs.Keepable.{AreKeepable};
+ghost use Rattle.model.specs.declared.object.Object.{Object};
 ghost use Rattle.model.specs.Object.{is_annex};
+ghost use Rattle.model.specs.Order.{bank_order};
 ghost use Rattle.model.specs.Sound.{NamesItsKind};
 ghost use Rattle.model.specs.World.{annex_at, content_at, is_process};
-ghost use Rattle.capability.specs.Parts.{frames_of};
-ghost use Rattle.gate.specs.Invoke.{IsAsked, Looks};
+ghost use Rattle.capability.specs.Parts.{Looks, frames_of};
+ghost use Rattle.gate.specs.Banking.{AsksBank};
+ghost use Rattle.gate.specs.Invoke.{IsAsked};
 ghost use Rattle.gate.specs.Plan.{process_named};
 
+use crate::banking::BankCall;
 use capability::{PrepareFault, PresentFrames, objects};
-use model::{Capability, Invocation};
+use model::{Arguments, BankOrder, Capability, Invocation};
 use std::alloc::Global;
 
 /// What an invocation sends, as it is before anything changes.
@@ -21,6 +25,29 @@ pub struct Asked {
     pub annex: u64,
     pub invoked: Capability,
     pub sent: [Capability; 4],
+}
+
+impl Asked {
+    /// What is asked of a bank, where one is invoked.
+    pub fn of_bank(&self, invocation: &Invocation, bank: u64, order: BankOrder) -> BankCall
+        ensures { (os : List Object) → IsAsked os invocation.now self.now
+            → self.now.invoked ≡ Capability.Bank bank
+            → bank_order (slice_index invocation.now.words 0) ≡ Some order
+            → AsksBank os invocation.now result }
+    {
+        BankCall {
+            operation: invocation.operation,
+            process: invocation.process,
+            annex: self.annex,
+            bank,
+            order,
+            arguments: Arguments {
+                first: invocation.words[1],
+                second: invocation.words[2],
+                capability: self.sent[0],
+            },
+        }
+    }
 }
 
 /// Fetches one object.

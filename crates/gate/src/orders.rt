@@ -1,9 +1,10 @@
 // Orders on kernel objects.
 ghost use Rattle.std.specs.Prelude.{◌≡◌, ℕ, List, Some, IsTrue};
+ghost use Rattle.model.specs.declared.geometry.Geometry.{Geometry};
 ghost use Rattle.model.specs.declared.object.Object.{Object};
 ghost use Rattle.model.specs.Capability.{access_bits, named, tag_of};
 ghost use Rattle.model.specs.Frame.{objects_of};
-ghost use Rattle.model.specs.Order.{order};
+ghost use Rattle.model.specs.Order.{order, IsNoBankOrder};
 ghost use Rattle.model.specs.World.{annex_at, is_process};
 ghost use Rattle.capability.specs.Parts.{frames_of};
 ghost use Rattle.gate.specs.Plan.{outcome_of, process_named, ChangesAs, HaveAnnexesOf, IsFor, IsPlain};
@@ -30,10 +31,10 @@ const CLASSIFY: u64 = 1;
 fn on_space(object: u64, height: u8, access: Access, word: u64, arguments: Arguments) -> OrderPlan
     ensures only { (os : List Object)
         → IsFor os (Capability.Space object height access) arguments result.change }
-    ensures outcome { (os : List Object) → outcome_of os result
-        ≡ order os (Capability.Space object height access) word arguments }
-    ensures change { (os : List Object)
-        → ChangesAs os result (order os (Capability.Space object height access) word arguments) }
+    ensures outcome { (g : Geometry) (os : List Object) → outcome_of os result
+        ≡ order g os (Capability.Space object height access) word arguments }
+    ensures change { (g : Geometry) (os : List Object)
+        → ChangesAs os result (order g os (Capability.Space object height access) word arguments) }
 {
     if word != REDUCE_SPACE {
         return OrderPlan::refused(ResultCode::NoOrder);
@@ -81,11 +82,12 @@ fn access_bits(capability: Capability) -> u64
 // What an order on a capability comes to that needs no object for it.
 #[tactic(auto, unfolding(model::specs::Order::order))]
 fn on_plain(word: u64, capability: Capability, arguments: Arguments) -> OrderPlan
-    requires { IsPlain capability }
+    requires { IsPlain capability word }
     ensures only { (os : List Object) → IsFor os capability arguments result.change }
-    ensures outcome { (os : List Object) → outcome_of os result
-        ≡ order os capability word arguments }
-    ensures change { (os : List Object) → ChangesAs os result (order os capability word arguments) }
+    ensures outcome { (g : Geometry) (os : List Object) → outcome_of os result
+        ≡ order g os capability word arguments }
+    ensures change { (g : Geometry) (os : List Object)
+        → ChangesAs os result (order g os capability word arguments) }
 {
     match capability {
         Capability::Number(number) if word == READ_NUMBER => OrderPlan::told(number, 0),
@@ -98,7 +100,7 @@ fn on_plain(word: u64, capability: Capability, arguments: Arguments) -> OrderPla
     }
 }
 
-/// What an order on a kernel object comes to. The word says which order. The object is fetched, and
+/// What an order on a kernel object comes to, which isn't one of a bank. The word says which order. The object is fetched, and
 /// of a process its annex too.
 #[tactic(auto, unfolding(model::specs::Order::order))]
 pub fn plan<F: PresentFrames>(
@@ -110,15 +112,16 @@ pub fn plan<F: PresentFrames>(
     requires fetched { (n : ℕ) → named capability ≡ Some n → F.IsFetched store.now n }
     requires process { (p : ℕ) → process_named capability ≡ Some p
         → IsTrue (is_process (objects_of (frames_of (F.parts store.now))) p) }
+    requires known { IsNoBankOrder capability word }
     requires annex { (p : ℕ) → process_named capability ≡ Some p
         → F.IsFetched store.now (annex_at (objects_of (frames_of (F.parts store.now))) p) }
     ensures only { IsFor (objects_of
         (frames_of (F.parts store.now))) capability arguments result.change }
-    ensures outcome { outcome_of (objects_of (frames_of (F.parts store.now))) result
-        ≡ order (objects_of (frames_of (F.parts store.now))) capability word arguments }
-    ensures change { (os : List Object)
+    ensures outcome { (g : Geometry) → outcome_of (objects_of (frames_of (F.parts store.now))) result
+        ≡ order g (objects_of (frames_of (F.parts store.now))) capability word arguments }
+    ensures change { (g : Geometry) (os : List Object)
         → HaveAnnexesOf (objects_of (frames_of (F.parts store.now))) os
-        → ChangesAs os result (order os capability word arguments) }
+        → ChangesAs os result (order g os capability word arguments) }
 {
     match capability {
         Capability::Page { object, access } => match page_order(word) {

@@ -1,6 +1,12 @@
 -- Runs over the world F0.
 use Rattle.std.proofs.Common.{◌≡◌, ℕ, Bool, List, Option, None, Result, Err, refl, sym, ap, ◌∙◌, subst}
-use Rattle.capability.specs.Plain.{PlainState, world_of}
+use Rattle.capability.specs.Parts.{LooksUp}
+use Rattle.capability.specs.Plain.{GoesOn, PlainState, parts_of, world_of}
+use Rattle.model.specs.declared.capability.Cap.{Cap}
+use Rattle.model.specs.declared.frame.ObjectHeader.{ObjectHeader}
+use Rattle.model.specs.declared.object.Content.{Content}
+use Rattle.model.specs.Frame.{frames_in}
+use Rattle.model.specs.Keepable.{world_at}
 use Rattle.model.specs.declared.geometry.Geometry.{Geometry}
 use Rattle.model.specs.Machine.{Saved, Machine, Up, untouched}
 use Rattle.model.specs.World.{World}
@@ -12,6 +18,13 @@ use Rattle.script.specs.declared.fault.RunFault.TheVariants as run_fault
 use Rattle.jobs.specs.declared.fault.Fault.{Fault}
 use Rattle.jobs.specs.declared.fault.Fault.TheVariants as fault
 use Rattle.jobs.specs.FirstWorld.{first_machine, RunsFirst}
+
+-- the same world after a look
+pub looked_world : (p q : PlainState) → LooksUp parts_of GoesOn p q → world_of q ≡ world_of p
+looked_world p q looks =
+    ap (λ (hs : List ObjectHeader). world_at q.age (frames_in hs q.contents)) looks.headers
+    ∙ ap (λ (cs : List (Content Cap)). world_at q.age (frames_in p.headers cs)) looks.contents
+    ∙ ap (λ (age : ℕ). world_at age (frames_in p.headers p.contents)) looks.leads.1
 
 abbrev up_at : World → List Bool → Saved → ℕ → Machine
 up_at w touched saved to_move = Up (record { now = w; touched = touched; frozen = None; saved = saved; to_move = to_move })

@@ -6,6 +6,7 @@ ghost use Rattle.jobs.specs.FirstWorld.{RunsFirst};
 use crate::fault::Fault;
 use capability::Plain;
 use script::first_run;
+use space_bank::Banks;
 use std::alloc::Global;
 use std::io::{Read, Write};
 
@@ -24,7 +25,10 @@ pub fn run_first<R: Read, W: Write>(
     let Ok(mut plain) = Plain::f0(alloc) else {
         return Err(Fault::NoMemory);
     };
-    match first_run(alloc, &mut plain, reader, writer) {
+    let Ok(mut banks) = Banks::count(alloc, &mut plain) else {
+        return Err(Fault::NoMemory);
+    };
+    match first_run(alloc, &mut plain, &mut banks, reader, writer) {
         Ok(()) => Ok(()),
         Err(fault) => Err(Fault::of_run(fault)),
     }

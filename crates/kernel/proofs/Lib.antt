@@ -1,3 +1,5 @@
-mod Roles
+mod Counted
+mod MemoryServing
+mod MemorySteps
 mod Serving
 mod Steps

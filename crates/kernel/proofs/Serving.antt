@@ -87,13 +87,13 @@ serves_looked age after old mid new c a same failures serves = record {
   cause = subst (λ (n : ℕ). (a ≡ answer.Refused refusal.Fault) ↔ (n < new.failures)) failures serves.cause;
 }
 
-abbrev standing : ℕ → Option Frozen → Saved → ℕ → List Object → List Bool → Machine
+abbrev pub standing : ℕ → Option Frozen → Saved → ℕ → List Object → List Bool → Machine
 standing age frozen saved to_move os ts = Up (record { now = record { objects = os; age = age }; touched = ts; frozen = frozen; saved = saved; to_move = to_move })
 
 -- an invocation that was carried out
 pub done_serves : (age : ℕ) (old new : Parts) (i : Invocation) → age < 2 ^ 62 → is_process (objects_of (frames_of old)) i.process ≡ true →
     is_running_process (objects_of (frames_of old)) i.process ≡ true → IsSoundFrames old.geometry age (frames_of old) →
-    Invokes i old.geometry.log (objects_of (frames_of old)) old.touched (objects_of (frames_of new)) new.touched → KeepsSoundFrames old new → new.geometry ≡ old.geometry →
+    Invokes old.geometry i (objects_of (frames_of old)) old.touched (objects_of (frames_of new)) new.touched → KeepsSoundFrames old new → new.geometry ≡ old.geometry →
     old.failures ≤ new.failures → (old.failures < new.failures → ⊥) → Serves age old (command.Invoke i) answer.Done (age + 1) new
 done_serves age old new i young process running sound invokes keeps geometry later stayed = record {
   step = λ frozen saved to_move other.
@@ -122,7 +122,7 @@ module _ (age : ℕ) (old mid new : Parts) (i : Invocation) (same : AreSame old 
   running_then : is_running_process (objects_of (frames_of mid)) i.process ≡ true
   running_then = ap (λ (fs : List Frame). is_running_process (objects_of fs) i.process) (same_frames old mid same) ∙ running
 
-  pub done_after : Invokes i mid.geometry.log (objects_of (frames_of mid)) mid.touched (objects_of (frames_of new)) new.touched → KeepsSoundFrames mid new → new.geometry ≡ mid.geometry →
+  pub done_after : Invokes mid.geometry i (objects_of (frames_of mid)) mid.touched (objects_of (frames_of new)) new.touched → KeepsSoundFrames mid new → new.geometry ≡ mid.geometry →
       mid.failures ≤ new.failures → (mid.failures < new.failures → ⊥) → Serves age old (command.Invoke i) answer.Done (age + 1) new
   done_after invokes keeps geometry later stayed =
       serves_looked age (age + 1) old mid new (command.Invoke i) answer.Done same failures
@@ -136,13 +136,13 @@ module _ (age : ℕ) (old mid new : Parts) (i : Invocation) (same : AreSame old 
       serves_looked age age old mid new (command.Invoke i) (answer.Refused why) same failures
       (refused_serves age mid new (command.Invoke i) why unchanged (same_sound old mid same age sound) later cause step)
 
-  pub stalled_after : invoke (objects_of (frames_of mid)) i ≡ None → AreSame mid new → mid.failures ≤ new.failures → (mid.failures < new.failures → ⊥) →
+  pub stalled_after : invoke mid.geometry (objects_of (frames_of mid)) i ≡ None → AreSame mid new → mid.failures ≤ new.failures → (mid.failures < new.failures → ⊥) →
       Serves age old (command.Invoke i) (answer.Refused refusal.Stalled) age new
   stalled_after none unchanged later stayed =
       refused_after refusal.Stalled unchanged later (told_cause refusal.Stalled (λ e. cc) stayed)
       (λ frozen saved to_move other. stalled_step mid.geometry _ i process_then running_then young none)
 
-  pub full_after : Overfills i mid.geometry.log (objects_of (frames_of mid)) mid.touched → AreSame mid new → mid.failures ≤ new.failures → (mid.failures < new.failures → ⊥) →
+  pub full_after : Overfills mid.geometry i (objects_of (frames_of mid)) mid.touched → AreSame mid new → mid.failures ≤ new.failures → (mid.failures < new.failures → ⊥) →
       Serves age old (command.Invoke i) (answer.Refused refusal.LogFull) age new
   full_after over unchanged later stayed =
       refused_after refusal.LogFull unchanged later (told_cause refusal.LogFull (λ e. cc) stayed)

@@ -39,17 +39,17 @@ module _ (g : Geometry) (s : Running) (i : Invocation) where
     | Some effect ↦ unless (not (overfills g s.touched effect.written)) refusal.LogFull None
   ])))
 
-  refusal_is : refusal_of g s (command.Invoke i) ≡ in_order (is_process s.now.objects i.process) (is_running_process s.now.objects i.process) (nat_lt s.now.age (2 ^ 62)) (invoke s.now.objects i)
+  refusal_is : refusal_of g s (command.Invoke i) ≡ in_order (is_process s.now.objects i.process) (is_running_process s.now.objects i.process) (nat_lt s.now.age (2 ^ 62)) (invoke g s.now.objects i)
   unfolding refusal_of
   refusal_is = refl
 
   by : (a b c : Bool) (o : Option Effect) → is_process s.now.objects i.process ≡ a → is_running_process s.now.objects i.process ≡ b → nat_lt s.now.age (2 ^ 62) ≡ c →
-      invoke s.now.objects i ≡ o → refusal_of g s (command.Invoke i) ≡ in_order a b c o
+      invoke g s.now.objects i ≡ o → refusal_of g s (command.Invoke i) ≡ in_order a b c o
   by a b c o as_a as_b as_c as_o =
       refusal_is
-      ∙ ap (λ (x : Bool). in_order x (is_running_process s.now.objects i.process) (nat_lt s.now.age (2 ^ 62)) (invoke s.now.objects i)) as_a
-      ∙ ap (λ (x : Bool). in_order a x (nat_lt s.now.age (2 ^ 62)) (invoke s.now.objects i)) as_b
-      ∙ ap (λ (x : Bool). in_order a b x (invoke s.now.objects i)) as_c
+      ∙ ap (λ (x : Bool). in_order x (is_running_process s.now.objects i.process) (nat_lt s.now.age (2 ^ 62)) (invoke g s.now.objects i)) as_a
+      ∙ ap (λ (x : Bool). in_order a x (nat_lt s.now.age (2 ^ 62)) (invoke g s.now.objects i)) as_b
+      ∙ ap (λ (x : Bool). in_order a b x (invoke g s.now.objects i)) as_c
       ∙ ap (in_order a b c) as_o
 
   gives_way_rest : (b c : Bool) (o : Option Effect) → gives_way (in_order true b c o) ≡ true
@@ -65,8 +65,8 @@ module _ (g : Geometry) (s : Running) (i : Invocation) where
   -- want of memory may stand in place of whatever comes after a process was found
   pub no_memory_step : is_process s.now.objects i.process ≡ true → Step g (Up s) (command.Invoke i) (answer.Refused refusal.NoMemory) (Up s)
   no_memory_step process = inr (inl (
-    ap gives_way (by true (is_running_process s.now.objects i.process) (nat_lt s.now.age (2 ^ 62)) (invoke s.now.objects i) process refl refl refl)
-        ∙ gives_way_rest (is_running_process s.now.objects i.process) (nat_lt s.now.age (2 ^ 62)) (invoke s.now.objects i),
+    ap gives_way (by true (is_running_process s.now.objects i.process) (nat_lt s.now.age (2 ^ 62)) (invoke g s.now.objects i) process refl refl refl)
+        ∙ gives_way_rest (is_running_process s.now.objects i.process) (nat_lt s.now.age (2 ^ 62)) (invoke g s.now.objects i),
     refl,
     refl,
   ))
@@ -75,9 +75,9 @@ module _ (g : Geometry) (s : Running) (i : Invocation) where
   pub early_step : (why : Refusal) → IsEarly s.now.objects i.process (Some why) → (why ≡ refusal.Fault → ⊥) → Step g (Up s) (command.Invoke i) (answer.Refused why) (Up s)
   early_step refusal.NoProcess early other =
       refused_step g s (command.Invoke i) refusal.NoProcess
-      (by false (is_running_process s.now.objects i.process) (nat_lt s.now.age (2 ^ 62)) (invoke s.now.objects i) early refl refl refl)
+      (by false (is_running_process s.now.objects i.process) (nat_lt s.now.age (2 ^ 62)) (invoke g s.now.objects i) early refl refl refl)
   early_step refusal.NotRunning early other =
-      refused_step g s (command.Invoke i) refusal.NotRunning (by true false (nat_lt s.now.age (2 ^ 62)) (invoke s.now.objects i) early.0 early.1 refl refl)
+      refused_step g s (command.Invoke i) refusal.NotRunning (by true false (nat_lt s.now.age (2 ^ 62)) (invoke g s.now.objects i) early.0 early.1 refl refl)
   early_step refusal.NoMemory early other = no_memory_step early
   early_step refusal.Fault early other = absurd (other refl)
   early_step _ early other = absurd early
@@ -86,16 +86,16 @@ module _ (g : Geometry) (s : Running) (i : Invocation) where
     pub worn_step : 2 ^ 62 ≤ s.now.age → Step g (Up s) (command.Invoke i) (answer.Refused refusal.Worn) (Up s)
     worn_step old =
         let past : nat_lt s.now.age (2 ^ 62) ≡ false = grind (arith, nat_tests) in
-        refused_step g s (command.Invoke i) refusal.Worn (by true true false (invoke s.now.objects i) process running past refl)
+        refused_step g s (command.Invoke i) refusal.Worn (by true true false (invoke g s.now.objects i) process running past refl)
 
     module _ (young : s.now.age < 2 ^ 62) where
       test_young : nat_lt s.now.age (2 ^ 62) ≡ true
       test_young = grind (arith, nat_tests)
 
-      pub stalled_step : invoke s.now.objects i ≡ None → Step g (Up s) (command.Invoke i) (answer.Refused refusal.Stalled) (Up s)
+      pub stalled_step : invoke g s.now.objects i ≡ None → Step g (Up s) (command.Invoke i) (answer.Refused refusal.Stalled) (Up s)
       stalled_step none = refused_step g s (command.Invoke i) refusal.Stalled (by true true true None process running test_young none)
 
-      pub full_step : (e : Effect) → invoke s.now.objects i ≡ Some e → g.log < touched_count (touching s.touched e.written) →
+      pub full_step : (e : Effect) → invoke g s.now.objects i ≡ Some e → g.log < touched_count (touching s.touched e.written) →
           Step g (Up s) (command.Invoke i) (answer.Refused refusal.LogFull) (Up s)
       full_step e is over =
           let overfull : overfills g s.touched e.written ≡ true = grind (arith, nat_tests) in
@@ -108,11 +108,11 @@ module _ (g : Geometry) (s : Running) (i : Invocation) where
         | Some effect ↦ record { answer = answer.Done; after = writing s effect.objects (s.now.age + 1) effect.written }
       ]
 
-      done_by_effect : (e : Effect) → invoke s.now.objects i ≡ Some e → carried_out g s (command.Invoke i) ≡ after_invoking (Some e)
+      done_by_effect : (e : Effect) → invoke g s.now.objects i ≡ Some e → carried_out g s (command.Invoke i) ≡ after_invoking (Some e)
       unfolding carried_out
       done_by_effect e is = ap after_invoking is
 
-      pub invoke_step : (e : Effect) → invoke s.now.objects i ≡ Some e → touched_count (touching s.touched e.written) ≤ g.log →
+      pub invoke_step : (e : Effect) → invoke g s.now.objects i ≡ Some e → touched_count (touching s.touched e.written) ≤ g.log →
           Step g (Up s) (command.Invoke i) answer.Done (Up (writing s e.objects (s.now.age + 1) e.written))
       invoke_step e is within =
           let fits : overfills g s.touched e.written ≡ false = grind (arith, nat_tests) in

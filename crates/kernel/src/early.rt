@@ -3,20 +3,12 @@ ghost use Rattle.std.specs.Prelude.{◌≡◌, ◌↔◌, ◌<◌, ◌≤◌, So
 ghost use Rattle.model.specs.Frame.{objects_of};
 ghost use Rattle.model.specs.Keepable.{IsSoundFrames};
 ghost use Rattle.model.specs.World.{is_process};
-ghost use Rattle.capability.specs.Parts.{HaveTheirRoles, LooksUp, frames_of};
+ghost use Rattle.capability.specs.Parts.{LooksUp, frames_of};
 ghost use Rattle.kernel.specs.Machine.{IsEarly};
 
 use capability::{PrepareFault, PresentFrames, objects, roots};
-use model::{Refusal, Role, State};
+use model::{Refusal, State};
 use std::alloc::Global;
-
-// Whether a number is that of a process, by its role: it needn't be fetched.
-fn is_process<F: PresentFrames>(store: &F, number: u64) -> bool
-    requires { HaveTheirRoles (frames_of (F.parts store.now)) }
-    ensures { result ≡ is_process (objects_of (frames_of (F.parts store.now))) number }
-{
-    matches!(store.table().header(number).role, Role::Root)
-}
 
 /// The refusal of a command by a process that isn't running, if there is one. Whether there is such
 /// a process is told before memory is wanted.
@@ -34,7 +26,7 @@ pub fn early<F: PresentFrames>(
     ensures cause { (result ≡ Some Refusal.Fault)
         ↔ ((F.parts store.old).failures < (F.parts store.new).failures) }
 {
-    if !is_process(store, process) {
+    if !roots::is_process(store, process) {
         return Some(Refusal::NoProcess);
     }
     match objects::fetch(store, alloc, &[process]) {

@@ -3,7 +3,9 @@
 
 mod early;
 mod invocation;
+mod memory;
 mod showing;
 
 pub use invocation::invoke;
+pub use memory::{load, store};
 pub use showing::show;

@@ -1,28 +1,26 @@
 // The step of showing an object.
-ghost use Rattle.std.specs.Prelude.{◌≡◌, ◌<◌, IfOk, IsTrue, length, if◌then◌else◌};
+ghost use Rattle.std.specs.Prelude.{◌≡◌, ◌<◌, IfOk, IsTrue, length, if◌then◌else◌, slice_index};
 ghost use Rattle.model.specs.declared.command.Command.TheVariants as command;
 ghost use Rattle.model.specs.Frame.{objects_of};
 ghost use Rattle.model.specs.Keepable.{AreKeepable, IsSoundFrames};
 ghost use Rattle.model.specs.Step.{shown};
-ghost use Rattle.model.specs.Bank.{usage as usage_of};
 ghost use Rattle.model.specs.Object.{is_annex, is_bank, slots_in};
 ghost use Rattle.model.specs.World.{content_at};
-ghost use Rattle.capability.specs.Parts.{HaveTheirRoles, LooksUp, frames_of};
-ghost use Rattle.gate.specs.Invoke.{Looks};
+ghost use Rattle.capability.specs.Parts.{Looks, LooksUp, frames_of};
+ghost use Rattle.space_bank.specs.Banks.{AreCounted};
 ghost use Rattle.kernel.specs.Machine.{Serves};
 
-use capability::{PrepareFault, PresentFrames, objects, usage, view};
+use capability::{PrepareFault, PresentFrames, objects, view};
 use model::{Answer, Capability, Content, Refusal, Slots};
+use space_bank::Banks;
 use std::alloc::Global;
 
-// The usage of an object with that content, which is 0 where it is no bank.
-fn used_by<F: PresentFrames>(store: &F, content: &Content<Capability>, number: u64) -> u64
-    requires { HaveTheirRoles (frames_of (F.parts store.now)) }
-    ensures { result ≡ (if is_bank content.now then usage_of
-        (objects_of (frames_of (F.parts store.now))) number else 0) }
+// The usage of an object with that content, as it is counted, which is 0 where it is no bank.
+fn used_by(banks: &Banks, content: &Content<Capability>, number: u64) -> u64
+    ensures { result ≡ (if is_bank content.now then slice_index banks.now.usages number else 0) }
 {
     match content {
-        Content::Bank { .. } => usage(store, number),
+        Content::Bank { .. } => banks.usage(number),
         _ => 0,
     }
 }
@@ -52,11 +50,14 @@ fn registers_of<F: PresentFrames>(
 fn shown<F: PresentFrames>(
     alloc: Global,
     store: &mut F,
+    banks: &Banks,
     age: u64,
     number: u64,
 ) -> Result<Answer, PrepareFault>
     requires sound { IsSoundFrames (F.parts store.old).geometry age
         (frames_of (F.parts store.old)) }
+    requires counted { AreCounted (F.parts store.old).geometry
+        (objects_of (frames_of (F.parts store.old))) banks.now }
     requires known { number < length (F.parts store.old).headers }
     ensures answer { IfOk result (λ answer. answer ≡ shown (objects_of (frames_of (F.parts store.old))) number) }
     ensures looks { Looks F.parts F.LeadsTo store.old store.new result }
@@ -65,7 +66,7 @@ fn shown<F: PresentFrames>(
     let Ok(object) = view::object(alloc, store, number) else {
         return Err(PrepareFault::NoMemory);
     };
-    let used = used_by(store, &object.content, number);
+    let used = used_by(banks, &object.content, number);
     let registers = match &object.content {
         Content::Root(root) => Some(registers_of(alloc, store, root.annex)?),
         _ => None,
@@ -82,8 +83,17 @@ fn shown<F: PresentFrames>(
 ///
 /// It is refused by `BadNumber` where no object has the number, by `NoMemory` where memory ran out,
 /// and by `Fault` exactly where the device failed.
-pub fn show<F: PresentFrames>(alloc: Global, store: &mut F, age: u64, number: u64) -> Answer
-    requires { IsSoundFrames (F.parts store.old).geometry age (frames_of (F.parts store.old)) }
+pub fn show<F: PresentFrames>(
+    alloc: Global,
+    store: &mut F,
+    banks: &Banks,
+    age: u64,
+    number: u64,
+) -> Answer
+    requires sound { IsSoundFrames (F.parts store.old).geometry age
+        (frames_of (F.parts store.old)) }
+    requires counted { AreCounted (F.parts store.old).geometry
+        (objects_of (frames_of (F.parts store.old))) banks.now }
     ensures serves { Serves age (F.parts store.old) (command.Show number) result age
         (F.parts store.new) }
     ensures aside { LooksUp F.parts F.LeadsTo store.old store.new }
@@ -91,7 +101,7 @@ pub fn show<F: PresentFrames>(alloc: Global, store: &mut F, age: u64, number: u6
     if number >= store.table().count() {
         return Answer::Refused(Refusal::BadNumber);
     }
-    match shown(alloc, store, age, number) {
+    match shown(alloc, store, banks, age, number) {
         Ok(answer) => answer,
         Err(PrepareFault::Failed) => Answer::Refused(Refusal::Fault),
         Err(PrepareFault::NoMemory) => Answer::Refused(Refusal::NoMemory),

@@ -5,11 +5,13 @@ use Rattle.model.specs.declared.command.Invocation.{Invocation}
 use Rattle.model.specs.declared.command.Message.{Message}
 use Rattle.model.specs.declared.command.Operation.{Operation}
 use Rattle.model.specs.declared.command.Operation.TheVariants.{Call, Return, Send}
+use Rattle.model.specs.declared.geometry.Geometry.{Geometry}
 use Rattle.model.specs.declared.object.Object.{Object}
 use Rattle.model.specs.declared.object.State.TheVariants.{Available, Running, Waiting}
 use Rattle.model.specs.Object.{is_available}
 use Rattle.model.specs.World.{root_at, annex_at, register_at, with_root, with_state, with_slots_from, is_running_process}
-use Rattle.model.specs.Order.{OrderOutcome, order, code_number}
+use Rattle.model.specs.OrderOutcome.{OrderOutcome, code_number}
+use Rattle.model.specs.Order.{order}
 use Rattle.model.specs.Revoke.{consume}
 
 -- a process gets a message: its words and key, and from register 28 on the capabilities; it is running
@@ -65,14 +67,14 @@ replied os i outcome = elim i.operation [
 ]
 
 -- what the order of an invocation of a kernel object comes to
-abbrev pub ordered : List Object → Invocation → OrderOutcome
-ordered os i = order (after_order os i) (register_at os i.process i.register) (slice_index i.words 0)
+abbrev pub ordered : Geometry → List Object → Invocation → OrderOutcome
+ordered g os i = order g (after_order os i) (register_at os i.process i.register) (slice_index i.words 0)
     (record { first = slice_index i.words 1; second = slice_index i.words 2; capability = slice_index_or (sent_by os i) 0 Void })
 
 -- an invocation of a kernel object
-unfoldable pub on_kernel_object : List Object → Invocation → Effect
-on_kernel_object os i =
-    let outcome = ordered os i in
+unfoldable pub on_kernel_object : Geometry → List Object → Invocation → Effect
+on_kernel_object g os i =
+    let outcome = ordered g os i in
     record {
       objects = replied outcome.objects i outcome;
       written = (elim i.operation [ Call ↦ i.process ∷ annex_at os i.process ∷ [] | Return ↦ i.process ∷ [] | Send ↦ [] ]) ++ outcome.written;
@@ -84,9 +86,9 @@ can_start os i q = is_available (root_at os q).state || (is_return i.operation &
 
 -- An invocation, or nothing where it stalls. What is sent is read first, then the invoker's state
 -- changes, then comes the order or the delivery; a resume capability is consumed last.
-unfoldable pub invoke : List Object → Invocation → Option Effect
-invoke os i = elim (register_at os i.process i.register) [
+unfoldable pub invoke : Geometry → List Object → Invocation → Option Effect
+invoke g os i = elim (register_at os i.process i.register) [
   | Start q key ↦ if can_start os i q then Some (through_gate os i q key) else None
   | Resume q ↦ let effect = through_gate os i q 0 in Some (record { objects = consume q effect.objects; written = effect.written })
-  | _ ↦ Some (on_kernel_object os i)
+  | _ ↦ Some (on_kernel_object g os i)
 ]

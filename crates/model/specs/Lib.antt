@@ -7,7 +7,9 @@ pub mod Sound
 pub mod Keepable
 pub mod Revoke
 pub mod Walk
+pub mod OrderOutcome
 pub mod Order
+pub mod Banking
 pub mod Invoke
 pub mod Machine
 pub mod Step

@@ -1,62 +1,28 @@
-use Rattle.std.specs.Prelude.{ℕ, ◌==◌, nat_lt, Bool, true, false, not, ◌||◌, if◌then◌else◌, Option, None, Some, List, [], ◌∷◌, slice_index, slice_set, bit_or}
+use Rattle.std.specs.Prelude.{◌≡◌, ℕ, ◌==◌, nat_lt, Bool, true, false, not, ◌||◌, if◌then◌else◌, Option, None, Some, List, [], ◌∷◌, slice_index, slice_set, bit_or}
 use Rattle.model.specs.declared.access.Access.{Access}
 use Rattle.model.specs.declared.capability.Capability.{Capability}
 use Rattle.model.specs.declared.capability.Capability.TheVariants.{Void, Number, Page, Node, Space, Process, Start, Resume, Bank, Discrim}
+use Rattle.model.specs.declared.geometry.Geometry.{Geometry}
 use Rattle.model.specs.declared.object.Object.{Object}
 use Rattle.model.specs.declared.object.Root.{Root}
 use Rattle.model.specs.declared.object.State.{State}
 use Rattle.model.specs.declared.object.State.TheVariants.{Available, Running}
 use Rattle.model.specs.declared.order.Arguments.{Arguments}
-use Rattle.model.specs.declared.order.ResultCode.{ResultCode}
 use Rattle.model.specs.declared.order.ResultCode.TheVariants as code
 use Rattle.model.specs.declared.order.PageOrder.{PageOrder}
 use Rattle.model.specs.declared.order.PageOrder.TheVariants as page
 use Rattle.model.specs.declared.order.NodeOrder.{NodeOrder}
 use Rattle.model.specs.declared.order.NodeOrder.TheVariants as node
+use Rattle.model.specs.declared.order.BankOrder.{BankOrder}
+use Rattle.model.specs.declared.order.BankOrder.TheVariants as bank
 use Rattle.model.specs.declared.order.ProcessOrder.{ProcessOrder}
 use Rattle.model.specs.declared.order.ProcessOrder.TheVariants as process
+use Rattle.model.specs.Banking.{on_bank}
 use Rattle.model.specs.Capability.{union, diminished, access_bits, tag_of}
 use Rattle.model.specs.Object.{state_number}
+use Rattle.model.specs.OrderOutcome.{OrderOutcome, refused, told, given, wrote}
 use Rattle.model.specs.World.{word_at, slot_at, root_at, annex_at, register_at, with_word, with_slot, with_root, with_state}
 use Rattle.model.specs.Revoke.{consume}
-
--- what comes of an order: the result words after the code, the result capability, the objects, and the numbers written
-pub record OrderOutcome : Type 0 where
-  pub code : ResultCode
-  pub words : List ℕ
-  pub capability : Capability
-  pub objects : List Object
-  pub written : List ℕ
-
--- a result code as the first result word
-abbrev pub code_number : ResultCode → ℕ
-code_number code.Done = 0
-code_number code.NoOrder = 1
-code_number code.NoAccess = 2
-code_number code.BadIndex = 3
-code_number code.BadCapability = 4
-code_number code.Limit = 5
-code_number code.NoFrame = 6
-code_number code.TooDeep = 7
-code_number code.VoidCapability = 8
-code_number code.NotFromThisBank = 9
-code_number code.PrimeBank = 10
-
--- an order that isn't carried out changes and tells nothing
-abbrev pub refused : List Object → ResultCode → OrderOutcome
-refused os why = record { code = why; words = 0 ∷ 0 ∷ 0 ∷ []; capability = Void; objects = os; written = [] }
-
--- one that tells two words
-abbrev pub told : List Object → ℕ → ℕ → OrderOutcome
-told os first second = record { code = code.Done; words = first ∷ second ∷ 0 ∷ []; capability = Void; objects = os; written = [] }
-
--- one that gives a capability
-abbrev pub given : List Object → Capability → OrderOutcome
-given os c = record { code = code.Done; words = 0 ∷ 0 ∷ 0 ∷ []; capability = c; objects = os; written = [] }
-
--- one that writes an object
-abbrev pub wrote : List Object → ℕ → OrderOutcome
-wrote os n = record { code = code.Done; words = 0 ∷ 0 ∷ 0 ∷ []; capability = Void; objects = os; written = n ∷ [] }
 
 -- the orders by the first word sent
 abbrev pub page_order : ℕ → Option PageOrder
@@ -72,6 +38,17 @@ process_order w =
     if w == 1 then Some process.GetRegister else if w == 2 then Some process.PutRegister else if w == 3 then Some process.GetWord
     else if w == 4 then Some process.PutWord else if w == 5 then Some process.MakeStart else if w == 6 then Some process.GetState
     else if w == 7 then Some process.SetState else if w == 8 then Some process.GetSpace else if w == 9 then Some process.SetSpace else None
+
+abbrev pub bank_order : ℕ → Option BankOrder
+bank_order w =
+    if w == 1 then Some bank.NewPage else if w == 2 then Some bank.NewNode else if w == 3 then Some bank.NewProcess
+    else if w == 4 then Some bank.NewBank else if w == 5 then Some bank.Free else if w == 6 then Some bank.Destroy
+    else if w == 7 then Some bank.ReturnToParent else if w == 8 then Some bank.Remaining else None
+
+-- what isn't asked of a bank
+abbrev pub IsNoBankOrder : Capability → ℕ → Type 0
+IsNoBankOrder (Bank b) w = bank_order w ≡ None
+IsNoBankOrder _ w = Unit {0}
 
 -- whether a word is an access that a capability may be reduced by: read-only, or read-only and weak
 abbrev pub reduces : ℕ → Bool
@@ -136,19 +113,19 @@ on_process os p process.GetSpace args = given os (root_at os p).space
 on_process os p process.SetSpace args =
     if is_space args.capability then wrote (with_root os p (with_space (root_at os p) args.capability)) p else refused os code.BadCapability
 
--- What an order does. Every order on void is refused as such. A bank takes no order yet. A start or
+-- What an order does. Every order on void is refused as such. A start or
 -- resume capability is no kernel object, and is never asked here.
-unfoldable pub order : List Object → Capability → ℕ → Arguments → OrderOutcome
-order os Void w args = refused os code.VoidCapability
-order os (Number n) w args = if w == 1 then told os n 0 else refused os code.NoOrder
-order os (Page o a) w args = elim (page_order w) [ None ↦ refused os code.NoOrder | Some asked ↦ on_page os o a asked args ]
-order os (Node o a) w args = elim (node_order w) [ None ↦ refused os code.NoOrder | Some asked ↦ on_node os o a asked args ]
-order os (Space o h a) w args =
+unfoldable pub order : Geometry → List Object → Capability → ℕ → Arguments → OrderOutcome
+order g os Void w args = refused os code.VoidCapability
+order g os (Number n) w args = if w == 1 then told os n 0 else refused os code.NoOrder
+order g os (Page o a) w args = elim (page_order w) [ None ↦ refused os code.NoOrder | Some asked ↦ on_page os o a asked args ]
+order g os (Node o a) w args = elim (node_order w) [ None ↦ refused os code.NoOrder | Some asked ↦ on_node os o a asked args ]
+order g os (Space o h a) w args =
     if w == 3
     then (if reduces args.first then given os (Space o h (union a args.first)) else refused os code.BadIndex)
     else refused os code.NoOrder
-order os (Process p) w args = elim (process_order w) [ None ↦ refused os code.NoOrder | Some asked ↦ on_process os p asked args ]
-order os (Start p key) w args = refused os code.NoOrder
-order os (Resume p) w args = refused os code.NoOrder
-order os (Bank b) w args = refused os code.NoOrder
-order os Discrim w args = if w == 1 then told os (tag_of args.capability) (access_bits args.capability) else refused os code.NoOrder
+order g os (Process p) w args = elim (process_order w) [ None ↦ refused os code.NoOrder | Some asked ↦ on_process os p asked args ]
+order g os (Start p key) w args = refused os code.NoOrder
+order g os (Resume p) w args = refused os code.NoOrder
+order g os (Bank b) w args = elim (bank_order w) [ None ↦ refused os code.NoOrder | Some asked ↦ on_bank g os b asked args ]
+order g os Discrim w args = if w == 1 then told os (tag_of args.capability) (access_bits args.capability) else refused os code.NoOrder

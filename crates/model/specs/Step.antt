@@ -46,7 +46,7 @@ of_running os p next = unless (is_process os p) refusal.NoProcess (unless (is_ru
 -- the first refusal that applies, or none, of a command to a machine that is up
 unfoldable pub refusal_of : Geometry → Running → Command → Option Refusal
 refusal_of g s (command.Invoke i) =
-    of_running s.now.objects i.process (unless (nat_lt s.now.age (2 ^ 62)) refusal.Worn (elim (invoke s.now.objects i) [
+    of_running s.now.objects i.process (unless (nat_lt s.now.age (2 ^ 62)) refusal.Worn (elim (invoke g s.now.objects i) [
       | None ↦ Some refusal.Stalled
       | Some effect ↦ unless (not (overfills g s.touched effect.written)) refusal.LogFull None
     ]))
@@ -135,7 +135,7 @@ commits s = elim s.frozen [
 
 -- a command that isn't refused, carried out
 unfoldable pub carried_out : Geometry → Running → Command → Outcome
-carried_out g s (command.Invoke i) = elim (invoke s.now.objects i) [
+carried_out g s (command.Invoke i) = elim (invoke g s.now.objects i) [
   | None ↦ outcome answer.Done s
   | Some effect ↦ outcome answer.Done (writing s effect.objects (s.now.age + 1) effect.written)
 ]

@@ -20,4 +20,4 @@ pub use frame::{Frame, ObjectHeader};
 pub use geometry::{Geometry, MAX_AGE};
 pub use line::Line;
 pub use object::{Content, Object, Role, Root, State};
-pub use order::{Arguments, NodeOrder, PageOrder, ProcessOrder, ResultCode};
+pub use order::{Arguments, BankOrder, NodeOrder, PageOrder, ProcessOrder, ResultCode};

@@ -1,6 +1,6 @@
 // What kernel objects are asked, and what comes of it.
 ghost use Rattle.std.specs.Prelude.{◌≡◌};
-ghost use Rattle.model.specs.Order.{code_number};
+ghost use Rattle.model.specs.OrderOutcome.{code_number};
 
 use crate::capability::Capability;
 
@@ -50,6 +50,19 @@ pub enum ProcessOrder {
     SetState = 7,
     GetSpace = 8,
     SetSpace = 9,
+}
+
+/// What a bank capability is asked (EROS, KeyKOS: space bank).
+#[derive(Clone, Copy, PartialEq, Eq, Debug)]
+pub enum BankOrder {
+    NewPage = 1,
+    NewNode = 2,
+    NewProcess = 3,
+    NewBank = 4,
+    Free = 5,
+    Destroy = 6,
+    ReturnToParent = 7,
+    Remaining = 8,
 }
 
 /// What an order is given: the second and third word sent, and the first capability.

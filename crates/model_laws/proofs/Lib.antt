@@ -1,10 +1,20 @@
+pub mod InvocationFrame
 pub mod SoundEdits
 pub mod SoundGates
 pub mod SoundOrders
 pub mod SoundParts
 pub mod SoundWorlds
 pub mod Spelling
+pub mod BankTree
+pub mod NumberLists
+pub mod BankUsage
+pub mod BankRescind
+pub mod BankFreed
+pub mod BankReturn
+pub mod SoundBanks
+pub mod SoundObjects
+pub mod BankWrites
 mod Revoking
 mod Touching
-mod Usage
+pub mod Usage
 mod WorkedRows

@@ -66,7 +66,7 @@ edited_trans g W os us vs a b = record {
 
 -- a slot
 
-alike_slot : (b i : ℕ) (k : Capability) (c : Content Capability) → AreAlike (record { owner = b; content = c }) (record { owner = b; content = with_slot_in c i k })
+pub alike_slot : (b i : ℕ) (k : Capability) (c : Content Capability) → AreAlike (record { owner = b; content = c }) (record { owner = b; content = with_slot_in c i k })
 alike_slot b i k (content.Node slots) = record { owner = refl; role = refl; annex = refl; limit = refl }
 alike_slot b i k (content.Annex slots) = record { owner = refl; role = refl; annex = refl; limit = refl }
 alike_slot b i k c = record { owner = refl; role = refl; annex = refl; limit = refl }
@@ -110,7 +110,7 @@ edited_slot g W os n i k h held differ =
 
 -- a word
 
-alike_word : (b i w : ℕ) (c : Content Capability) → AreAlike (record { owner = b; content = c }) (record { owner = b; content = with_word_in c i w })
+pub alike_word : (b i w : ℕ) (c : Content Capability) → AreAlike (record { owner = b; content = c }) (record { owner = b; content = with_word_in c i w })
 alike_word b i w (content.Page words) = record { owner = refl; role = refl; annex = refl; limit = refl }
 alike_word b i w c = record { owner = refl; role = refl; annex = refl; limit = refl }
 
@@ -142,7 +142,7 @@ edited_word g W os n i w h fits =
 
 -- a root
 
-alike_root : (b : ℕ) (r : Root Capability) (c : Content Capability) → IsTrue (is_root c) → r.annex ≡ (root_in c).annex
+pub alike_root : (b : ℕ) (r : Root Capability) (c : Content Capability) → IsTrue (is_root c) → r.annex ≡ (root_in c).annex
     → AreAlike (record { owner = b; content = c }) (record { owner = b; content = content.Root r })
 alike_root b r (content.Root old) is e = record { owner = refl; role = refl; annex = e; limit = refl }
 alike_root b r c is e = cc

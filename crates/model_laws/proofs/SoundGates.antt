@@ -19,7 +19,7 @@ use Rattle.model.specs.declared.order.ResultCode.TheVariants as code
 use Rattle.model.specs.Object.{is_available, is_running, is_waiting}
 use Rattle.model.specs.World.{root_at, annex_at, register_at, is_process, is_running_process, with_slot, with_root, with_state, with_slots_from}
 use Rattle.model.specs.Revoke.{consume}
-use Rattle.model.specs.Order.{OrderOutcome, code_number}
+use Rattle.model.specs.OrderOutcome.{OrderOutcome, code_number}
 use Rattle.model.specs.declared.command.Message.{Message}
 use Rattle.model.specs.Invoke.{Effect, deliver, sent_by, is_return, sent_to_gate, after_gate, after_order, through_gate, reply_of, replied, ordered, on_kernel_object, can_start, invoke}
 use Rattle.model.specs.Text.{Fits}
@@ -27,7 +27,8 @@ use Rattle.model_laws.specs.Laws.{InvocationKeepsSound}
 use Rattle.model_laws.proofs.Usage.{SameFrame, frame_refl, tests_at}
 use Rattle.model_laws.proofs.SoundParts.{IsHeld, IsNearlySound, Waits, state_at, held_on, held_void, nearly_weaken, nearly_from, nearly_to}
 use Rattle.model_laws.proofs.SoundEdits.{IsEdited, IsRootOf, But, at_set, edited_slot, edited_trans, frame_root, nearly_root, nearly_consume, root_same, root_other, state_consume}
-use Rattle.model_laws.proofs.SoundOrders.{IsNow, IsOutcome, root_now, nearly_state, state_other, order_keeps}
+use Rattle.model_laws.proofs.SoundObjects.{order_keeps}
+use Rattle.model_laws.proofs.SoundOrders.{IsNow, IsOutcome, root_now, nearly_state, state_other}
 
 -- states
 
@@ -63,7 +64,7 @@ state_same : (os : List Object) (p : ℕ) (s : State) → IsTrue (is_process os 
 unfolding with_state
 state_same os p s is = ap (λ (r : Root Capability). r.state) (root_same os p _ is)
 
-after_state : (g : Geometry) (os : List Object) (p : ℕ) (s : State) → IsNow g os → IsTrue (is_running_process os p) → IsAfter g os (with_state os p s)
+pub after_state : (g : Geometry) (os : List Object) (p : ℕ) (s : State) → IsNow g os → IsTrue (is_running_process os p) → IsAfter g os (with_state os p s)
 after_state g os p s h runs =
     let parts = and_parts (is_process os p) (is_running (state_at os p)) runs in
     let kept = λ (x : ℕ) (w : Waits os x). ap is_waiting (state_other os p x s (other_than_running os p x parts.1 w)) ∙ w in
@@ -282,8 +283,8 @@ replied_keeps g i o h = go i.operation
     go Return = h.now
     go Send = h.now
 
-ordered_keeps : (g : Geometry) (os : List Object) (i : Invocation) → IsNow g os → Fits (command.Invoke i) → IsTrue (is_running_process os i.process)
-    → IsOutcome g (ordered os i)
+pub ordered_keeps : (g : Geometry) (os : List Object) (i : Invocation) → IsNow g os → Fits (command.Invoke i) → IsTrue (is_running_process os i.process)
+    → IsOutcome g (ordered g os i)
 ordered_keeps g os i h fits runs =
     let a = after_order_keeps g os i h runs in
     order_keeps g (after_order os i) (register_at os i.process i.register) (slice_index i.words 0)
@@ -296,14 +297,14 @@ ordered_keeps g os i h fits runs =
     })
 
 kernel_keeps : (g : Geometry) (os : List Object) (i : Invocation) → IsNow g os → Fits (command.Invoke i) → IsTrue (is_running_process os i.process)
-    → IsNow g (on_kernel_object os i).objects
+    → IsNow g (on_kernel_object g os i).objects
 unfolding on_kernel_object
-kernel_keeps g os i h fits runs = replied_keeps g i (ordered os i) (ordered_keeps g os i h fits runs)
+kernel_keeps g os i h fits runs = replied_keeps g i (ordered g os i) (ordered_keeps g os i h fits runs)
 
 -- invocations
 
 invoked_now : (g : Geometry) (os : List Object) (i : Invocation) (e : Effect) → IsNow g os → Fits (command.Invoke i) → IsTrue (is_running_process os i.process)
-    → invoke os i ≡ Some e → IsNow g e.objects
+    → invoke g os i ≡ Some e → IsNow g e.objects
 unfolding invoke
 invoked_now g os i e h fits runs done = go (register_at os i.process i.register) ((h.filled (annex_at os i.process)).slots i.register) done
   where
@@ -318,11 +319,11 @@ invoked_now g os i e h fits runs done = go (register_at os i.process i.register)
         → (elim c [
           | Start q key ↦ if can_start os i q then Some (through_gate os i q key) else None
           | Resume q ↦ let effect = through_gate os i q 0 in Some (record { objects = consume q effect.objects; written = effect.written })
-          | _ ↦ Some (on_kernel_object os i)
+          | _ ↦ Some (on_kernel_object g os i)
         ]) ≡ Some e → IsNow g e.objects
     go (Start q key) held same = start q key (can_start os i q) refl held same
     go (Resume q) held same = from _ (resume_keeps g os i q h fits runs held.names.0) same
-    go c held same = from (on_kernel_object os i) (kernel_keeps g os i h fits runs) same
+    go c held same = from (on_kernel_object g os i) (kernel_keeps g os i h fits runs) same
 
 pub invocation_keeps : InvocationKeepsSound
 invocation_keeps g w i e sound fits runs young done =

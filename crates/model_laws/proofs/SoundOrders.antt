@@ -25,7 +25,8 @@ use Rattle.model.specs.World.{content_at, word_at, slot_at, root_at, annex_at, r
 use Rattle.model.specs.Revoke.{consume}
 use Rattle.model.specs.Sound.{HasShape, IsSpace}
 use Rattle.model.specs.declared.order.Arguments.{Arguments}
-use Rattle.model.specs.Order.{OrderOutcome, refused, told, given, wrote, page_order, node_order, process_order, reduces, fetched, stored, is_space, with_root_word, with_space, on_page, on_node, on_process, order}
+use Rattle.model.specs.OrderOutcome.{OrderOutcome, refused, told, given, wrote}
+use Rattle.model.specs.Order.{page_order, node_order, process_order, reduces, fetched, stored, is_space, with_root_word, with_space, on_page, on_node, on_process, order}
 use Rattle.model_laws.proofs.SoundParts.{IsHeld, IsNearlySound, Waits, state_at, held_void, nearly_weaken}
 use Rattle.model_laws.proofs.SoundEdits.{IsEdited, IsRootOf, But, at_set, edited_slot, edited_word, edited_root, nearly_root, nearly_consume, root_other, state_consume}
 
@@ -46,19 +47,19 @@ pub record AreArguments (os : List Object) (args : Arguments) : Type 0 where
   pub second : args.second < 2 ^ 64
   pub held : IsHeld os (Waits os) args.capability
 
-three_words : (a b c : ℕ) → a < 2 ^ 64 → b < 2 ^ 64 → c < 2 ^ 64 → (i : ℕ) → slice_index (a ∷ b ∷ c ∷ []) i < 2 ^ 64
+pub three_words : (a b c : ℕ) → a < 2 ^ 64 → b < 2 ^ 64 → c < 2 ^ 64 → (i : ℕ) → slice_index (a ∷ b ∷ c ∷ []) i < 2 ^ 64
 three_words a b c p q r zero = p
 three_words a b c p q r (suc zero) = q
 three_words a b c p q r (suc (suc zero)) = r
 three_words a b c p q r (suc (suc (suc i))) = omega arith
 
-refused_keeps : (g : Geometry) (os : List Object) (why : ResultCode) → IsNow g os → IsOutcome g (refused os why)
+pub refused_keeps : (g : Geometry) (os : List Object) (why : ResultCode) → IsNow g os → IsOutcome g (refused os why)
 refused_keeps g os why h = record { now = h; count = refl; words = three_words 0 0 0 (omega arith) (omega arith) (omega arith); held = held_void os (Waits os) }
 
-told_keeps : (g : Geometry) (os : List Object) (a b : ℕ) → IsNow g os → a < 2 ^ 64 → b < 2 ^ 64 → IsOutcome g (told os a b)
+pub told_keeps : (g : Geometry) (os : List Object) (a b : ℕ) → IsNow g os → a < 2 ^ 64 → b < 2 ^ 64 → IsOutcome g (told os a b)
 told_keeps g os a b h p q = record { now = h; count = refl; words = three_words a b 0 p q (omega arith); held = held_void os (Waits os) }
 
-given_keeps : (g : Geometry) (os : List Object) (c : Capability) → IsNow g os → IsHeld os (Waits os) c → IsOutcome g (given os c)
+pub given_keeps : (g : Geometry) (os : List Object) (c : Capability) → IsNow g os → IsHeld os (Waits os) c → IsOutcome g (given os c)
 given_keeps g os c h held = record { now = h; count = refl; words = three_words 0 0 0 (omega arith) (omega arith) (omega arith); held = held }
 
 wrote_keeps : (g : Geometry) (os : List Object) (n : ℕ) → IsNow g os → IsOutcome g (wrote os n)
@@ -67,7 +68,7 @@ wrote_keeps g os n h = record { now = h; count = refl; words = three_words 0 0 0
 pub edited_now : (g : Geometry) (os us : List Object) → IsEdited g (Waits os) os us → IsNow g us
 edited_now g os us e = nearly_weaken g (Waits os) (Waits us) us (λ p w. ap is_waiting (e.states p) ∙ w) e.sound
 
-either : (g : Geometry) (b : Bool) (x y : OrderOutcome) → (b ≡ true → IsOutcome g x) → (b ≡ false → IsOutcome g y) → IsOutcome g (if b then x else y)
+pub either : (g : Geometry) (b : Bool) (x y : OrderOutcome) → (b ≡ true → IsOutcome g x) → (b ≡ false → IsOutcome g y) → IsOutcome g (if b then x else y)
 either g true x y p q = p refl
 either g false x y p q = q refl
 
@@ -76,7 +77,7 @@ either g false x y p q = q refl
 one_of_two : (w : ℕ) → reduces w ≡ true → (w ≡ 1) ⊎ (w ≡ 3)
 one_of_two w e = elim (or_cases (w == 1) (w == 3) e) [ inl f ↦ inl (eqb-true w 1 f) | inr f ↦ inr (eqb-true w 3 f) ]
 
-access_union : (a : Access) (w : ℕ) → IsAccess a → reduces w ≡ true → IsAccess (union a w)
+pub access_union : (a : Access) (w : ℕ) → IsAccess a → reduces w ≡ true → IsAccess (union a w)
 access_union a w is e = go a.0 w is (one_of_two w e)
   where
     go : (x y : ℕ) → (x ≡ 0) ⊎ (x ≡ 1) ⊎ (x ≡ 3) → (y ≡ 1) ⊎ (y ≡ 3) → (bit_or x y ≡ 0) ⊎ (bit_or x y ≡ 1) ⊎ (bit_or x y ≡ 3)
@@ -87,7 +88,7 @@ access_union a w is e = go a.0 w is (one_of_two w e)
     go x y (inr (inr p)) (inl q) = rw (p, q) (inr (inr refl))
     go x y (inr (inr p)) (inr q) = rw (p, q) (inr (inr refl))
 
-access_fits : (a : Access) → IsAccess a → a.0 < 2 ^ 64
+pub access_fits : (a : Access) → IsAccess a → a.0 < 2 ^ 64
 access_fits a is = grind arith
 
 weak_is_access : IsAccess weak
@@ -110,7 +111,7 @@ held_fetched os W a c h = go (a.0 == 3)
 
 -- pages
 
-on_page_keeps : (g : Geometry) (os : List Object) (o : ℕ) (a : Access) (asked : PageOrder) (args : Arguments) → IsNow g os
+pub on_page_keeps : (g : Geometry) (os : List Object) (o : ℕ) (a : Access) (asked : PageOrder) (args : Arguments) → IsNow g os
     → IsHeld os (Waits os) (Page o a) → AreArguments os args → IsOutcome g (on_page os o a asked args)
 unfolding on_page
 on_page_keeps g os o a page.Read args h held fits =
@@ -146,7 +147,7 @@ height_fits k e =
     let below = ltb-true k 5 (not-false (nat_lt k 5) parts.1) in
     (grind arith, omega arith)
 
-on_node_keeps : (g : Geometry) (os : List Object) (o : ℕ) (a : Access) (asked : NodeOrder) (args : Arguments) → IsNow g os
+pub on_node_keeps : (g : Geometry) (os : List Object) (o : ℕ) (a : Access) (asked : NodeOrder) (args : Arguments) → IsNow g os
     → IsHeld os (Waits os) (Node o a) → AreArguments os args → IsOutcome g (on_node os o a asked args)
 unfolding on_node
 on_node_keeps g os o a node.Fetch args h held fits =
@@ -209,7 +210,7 @@ space_fits (Page o a) e = tt
 space_fits (Space o k a) e = tt
 space_fits c e = cc
 
-on_process_keeps : (g : Geometry) (os : List Object) (p : ℕ) (asked : ProcessOrder) (args : Arguments) → IsNow g os
+pub on_process_keeps : (g : Geometry) (os : List Object) (p : ℕ) (asked : ProcessOrder) (args : Arguments) → IsNow g os
     → IsTrue (is_process os p) → AreArguments os args → IsOutcome g (on_process os p asked args)
 unfolding on_process
 on_process_keeps g os p process.GetRegister args h is fits =
@@ -262,47 +263,3 @@ on_process_keeps g os p process.SetSpace args h is fits =
       is_space = space_fits args.capability e;
     }) refl)))
     (λ _. refused_keeps g os _ h)
-
--- any capability
-
-asked_keeps : {A : Type 0} (g : Geometry) (found : Option A) (x : OrderOutcome) (f : A → OrderOutcome) → IsOutcome g x → ((a : A) → IsOutcome g (f a))
-    → IsOutcome g (elim found [ None ↦ x | Some a ↦ f a ])
-asked_keeps g None x f p q = p
-asked_keeps g (Some a) x f p q = q a
-
-tag_fits : (c : Capability) → tag_of c < 2 ^ 64
-tag_fits Void = omega arith
-tag_fits c = omega arith
-
-bits_fit : (c : Capability) → IsWellFormed c → access_bits c < 2 ^ 64
-bits_fit (Page o a) h = access_fits a h
-bits_fit (Node o a) h = access_fits a h
-bits_fit (Space o k a) h = access_fits a h.2
-bits_fit c h = omega arith
-
--- an order of a held capability keeps sound objects sound
-pub order_keeps : (g : Geometry) (os : List Object) (c : Capability) (w : ℕ) (args : Arguments) → IsNow g os → IsHeld os (Waits os) c
-    → AreArguments os args → IsOutcome g (order os c w args)
-unfolding order
-order_keeps g os Void w args h held fits = refused_keeps g os _ h
-order_keeps g os (Number n) w args h held fits = either g (w == 1) _ _ (λ _. told_keeps g os n 0 h held.well_formed (omega arith)) (λ _. refused_keeps g os _ h)
-order_keeps g os (Page o a) w args h held fits =
-    asked_keeps g (page_order w) _ (λ asked. on_page os o a asked args) (refused_keeps g os _ h) (λ asked. on_page_keeps g os o a asked args h held fits)
-order_keeps g os (Node o a) w args h held fits =
-    asked_keeps g (node_order w) _ (λ asked. on_node os o a asked args) (refused_keeps g os _ h) (λ asked. on_node_keeps g os o a asked args h held fits)
-order_keeps g os (Space o k a) w args h held fits =
-    either g (w == 3) _ _
-    (λ _. either g (reduces args.first) _ _
-    (λ e. given_keeps g os (Space o k (union a args.first)) h (record {
-      well_formed = (held.well_formed.0, held.well_formed.1, access_union a args.first held.well_formed.2 e);
-      names = held.names;
-    }))
-    (λ _. refused_keeps g os _ h))
-    (λ _. refused_keeps g os _ h)
-order_keeps g os (Process p) w args h held fits =
-    asked_keeps g (process_order w) _ (λ asked. on_process os p asked args) (refused_keeps g os _ h) (λ asked. on_process_keeps g os p asked args h held.names fits)
-order_keeps g os Discrim w args h held fits =
-    either g (w == 1) _ _
-    (λ _. told_keeps g os (tag_of args.capability) (access_bits args.capability) h (tag_fits args.capability) (bits_fit args.capability fits.held.well_formed))
-    (λ _. refused_keeps g os _ h)
-order_keeps g os c w args h held fits = refused_keeps g os _ h

@@ -31,19 +31,19 @@ holds_replicate P (suc n) c d new old zero = new
 holds_replicate P (suc n) c d new old (suc j) = holds_replicate P n c d new old j
 
 -- a new node holds no capability, and a new page only 0
-holds_void : (P : Capability → Type 0) → P Void → (i : ℕ) → P (slice_index_or (all_slots Void) i Void)
+pub holds_void : (P : Capability → Type 0) → P Void → (i : ℕ) → P (slice_index_or (all_slots Void) i Void)
 unfolding all_slots
 holds_void P void i = holds_replicate P 32 Void Void void void i
 
-zero_words_fit : (i : ℕ) → slice_index zero_words i < 2 ^ 64
+pub zero_words_fit : (i : ℕ) → slice_index zero_words i < 2 ^ 64
 unfolding zero_words
 zero_words_fit i = holds_replicate (λ n. n < 2 ^ 64) 512 0 0 (omega arith) (omega arith) i
 
-zero_words_length : length zero_words ≡ 512
+pub zero_words_length : length zero_words ≡ 512
 unfolding zero_words
 zero_words_length = refl
 
-all_slots_length : length (all_slots Void) ≡ 32
+pub all_slots_length : length (all_slots Void) ≡ 32
 unfolding all_slots
 all_slots_length = refl
 

@@ -74,7 +74,7 @@ last_checks g s None = Some refusal.Stalled
 last_checks g s (Some effect) = unless (not (overfills g s.touched effect.written)) refusal.LogFull None
 
 refusal_is : (g : Geometry) (s : Running) (i : Invocation) (e : Effect) →
-    IsTrue (is_running_process s.now.objects i.process) → s.now.age < 2 ^ 62 → invoke s.now.objects i ≡ Some e →
+    IsTrue (is_running_process s.now.objects i.process) → s.now.age < 2 ^ 62 → invoke g s.now.objects i ≡ Some e →
     refusal_of g s (command.Invoke i) ≡ unless (not (overfills g s.touched e.written)) refusal.LogFull None
 unfolding refusal_of
 refusal_is g s i e p young effect =

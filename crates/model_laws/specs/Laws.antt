@@ -25,7 +25,7 @@ use Rattle.model.specs.Worlds.{small, f0, i0}
 abbrev pub InvocationKeepsSound : Type 0
 InvocationKeepsSound = (g : Geometry) (w : World) (i : Invocation) (e : Effect) →
     IsSound g w → Fits (command.Invoke i) → IsTrue (is_running_process w.objects i.process) → w.age < 2 ^ 62 →
-    invoke w.objects i ≡ Some e → IsSound g (record { objects = e.objects; age = w.age + 1 })
+    invoke g w.objects i ≡ Some e → IsSound g (record { objects = e.objects; age = w.age + 1 })
 
 -- to diminish twice is to diminish once
 abbrev pub DiminishesOnce : Type 0
@@ -57,7 +57,7 @@ TouchesWritten = (touched : List Bool) (written : List ℕ) (n : ℕ) → n < le
 -- touched with those it writes are more than half of the log holds
 abbrev pub LogFullIsExact : Type 0
 LogFullIsExact = (g : Geometry) (s : Running) (i : Invocation) (e : Effect) →
-    IsTrue (is_running_process s.now.objects i.process) → s.now.age < 2 ^ 62 → invoke s.now.objects i ≡ Some e →
+    IsTrue (is_running_process s.now.objects i.process) → s.now.age < 2 ^ 62 → invoke g s.now.objects i ≡ Some e →
     (refusal_of g s (command.Invoke i) ≡ Some refusal.LogFull) ↔ (g.log < touched_count (touching s.touched e.written))
 
 -- no two commands share a spelling

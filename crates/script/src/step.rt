@@ -5,19 +5,21 @@ ghost use Rattle.model.specs.declared.answer.Answer.TheVariants.{Done};
 ghost use Rattle.model.specs.declared.command.Command.TheVariants as command;
 ghost use Rattle.model.specs.Machine.{Saved};
 ghost use Rattle.model.specs.Step.{Step};
-ghost use Rattle.script.specs.Plain.{IsSoundStore, aged, knows, machine_of};
+ghost use Rattle.script.specs.Plain.{IsCounted, IsSoundStore, aged, knows, machine_of};
 
+use crate::memory::{load, store};
 use capability::Plain;
 use model::{Answer, Command, Invocation, Operation};
+use space_bank::Banks;
 use std::alloc::Global;
 
-/// The commands that a run knows: `show`, and some of the invocations or all.
+/// The commands that a run knows: `show`, and some of the others.
 #[derive(Clone, Copy)]
 pub enum Known {
     /// Calls alone.
     Calls,
-    /// Calls, returns and sends.
-    Invocations,
+    /// Calls, returns and sends, loads and stores: all that needs no checkpoint.
+    InMemory,
 }
 
 impl Known {
@@ -26,8 +28,20 @@ impl Known {
         ensures { result ≡ knows self (command.Invoke invocation.now) }
     {
         match (self, invocation.operation) {
-            (Known::Invocations, _) | (Known::Calls, Operation::Call) => true,
+            (Known::InMemory, _) | (Known::Calls, Operation::Call) => true,
             (Known::Calls, Operation::Return | Operation::Send) => false,
+        }
+    }
+
+    // Whether the run knows loads and stores.
+    fn has_memory(self) -> bool
+        ensures loads { (process address : ℕ) → result ≡ knows self (command.Load process address) }
+        ensures stores { (process address word : ℕ) →
+            result ≡ knows self (command.Store process address word) }
+    {
+        match self {
+            Known::InMemory => true,
+            Known::Calls => false,
         }
     }
 }
@@ -44,36 +58,47 @@ fn count(plain: &mut Plain, answer: &Answer)
 }
 
 // An invocation.
-fn invoke(alloc: Global, plain: &mut Plain, invocation: Invocation) -> Answer
-    requires { IsSoundStore plain.old }
+fn invoke(alloc: Global, plain: &mut Plain, banks: &mut Banks, invocation: Invocation) -> Answer
+    requires sound { IsSoundStore plain.old }
+    requires counted { IsCounted plain.old banks.old }
     ensures step { (saved : Saved) (to_move : ℕ) →
         Step plain.old.geometry (machine_of plain.old saved to_move) (command.Invoke invocation)
         result (machine_of plain.new saved to_move) }
     ensures geometry { plain.new.geometry ≡ plain.old.geometry }
     ensures sound { IsSoundStore plain.new }
+    ensures counted { IsCounted plain.new banks.new }
 {
     let age = plain.age();
-    let answer = kernel::invoke(alloc, plain, age, invocation);
+    let answer = kernel::invoke(alloc, plain, banks, age, invocation);
     count(plain, &answer);
     answer
 }
 
 // The text of an object.
-fn show(alloc: Global, plain: &mut Plain, number: u64) -> Answer
-    requires { IsSoundStore plain.old }
+fn show(alloc: Global, plain: &mut Plain, banks: &Banks, number: u64) -> Answer
+    requires sound { IsSoundStore plain.old }
+    requires counted { IsCounted plain.old banks.now }
     ensures step { (saved : Saved) (to_move : ℕ) →
         Step plain.old.geometry (machine_of plain.old saved to_move) (command.Show number)
         result (machine_of plain.new saved to_move) }
     ensures geometry { plain.new.geometry ≡ plain.old.geometry }
     ensures sound { IsSoundStore plain.new }
+    ensures counted { IsCounted plain.new banks.now }
 {
     let age = plain.age();
-    kernel::show(alloc, plain, age, number)
+    kernel::show(alloc, plain, banks, age, number)
 }
 
 /// The answer to a command that is known, and nothing to any other, which changes nothing.
-pub fn step(alloc: Global, known: Known, plain: &mut Plain, command: &Command) -> Option<Answer>
-    requires { IsSoundStore plain.old }
+pub fn step(
+    alloc: Global,
+    known: Known,
+    plain: &mut Plain,
+    banks: &mut Banks,
+    command: &Command,
+) -> Option<Answer>
+    requires sound { IsSoundStore plain.old }
+    requires counted { IsCounted plain.old banks.old }
     ensures known { IsSome result ↔ IsTrue (knows known command.now) }
     ensures step { IfSome result (λ answer. (saved : Saved) (to_move : ℕ) →
         Step plain.old.geometry (machine_of plain.old saved to_move) command.now
@@ -81,12 +106,21 @@ pub fn step(alloc: Global, known: Known, plain: &mut Plain, command: &Command) -
     ensures other { result ≡ None → plain.new ≡ plain.old }
     ensures geometry { plain.new.geometry ≡ plain.old.geometry }
     ensures sound { IsSoundStore plain.new }
+    ensures counted { IsCounted plain.new banks.new }
 {
     match command {
         Command::Invoke(invocation) if known.has(invocation) => {
-            Some(invoke(alloc, plain, *invocation))
+            Some(invoke(alloc, plain, banks, *invocation))
         }
-        Command::Show { number } => Some(show(alloc, plain, *number)),
+        Command::Show { number } => Some(show(alloc, plain, banks, *number)),
+        Command::Load { process, address } if known.has_memory() => {
+            Some(load(alloc, plain, *process, *address))
+        }
+        Command::Store {
+            process,
+            address,
+            value,
+        } if known.has_memory() => Some(store(alloc, plain, *process, *address, *value)),
         _ => None,
     }
 }

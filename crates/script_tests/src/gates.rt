@@ -225,10 +225,9 @@ register 1 process 1\nregister 2 bank 0\nregister 3 start 3 7\nregister 4 proces
 
 #[test]
 fn every_other_command_is_a_bad_line(rt: HostRuntime) -> Result<(), Fail> {
-    let script = b"load 1 0\nstore 1 0 5\nevict 5\ncheckpoint\nstabilize 1\ncommit\nmigrate 1\n\
-restart\ncut\nshow 4\n";
+    let script = b"evict 5\ncheckpoint\nstabilize 1\ncommit\nmigrate 1\nrestart\ncut\nshow 4\n";
     let expected = b"bad line\nbad line\nbad line\nbad line\nbad line\nbad line\nbad line\n\
-bad line\nbad line\nannex 4 owner 0\nend\n";
+annex 4 owner 0\nend\n";
     runs(&rt, rt.alloc(), script, expected)
 }
 

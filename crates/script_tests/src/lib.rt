@@ -5,6 +5,8 @@
 #[cfg(test)]
 mod answers;
 #[cfg(test)]
+mod banks;
+#[cfg(test)]
 mod frames;
 #[cfg(test)]
 mod gates;
@@ -12,6 +14,8 @@ mod gates;
 mod kinds;
 #[cfg(test)]
 mod lines;
+#[cfg(test)]
+mod memory;
 #[cfg(test)]
 mod orders;
 #[cfg(test)]

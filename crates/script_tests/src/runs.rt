@@ -1,5 +1,5 @@
 // Runs of scripts, and readers and writers that fail.
-use crate::worlds::first_world;
+use crate::worlds::{count_banks, first_world};
 use script::{RunFault, first_run};
 use std::alloc::Global;
 use std::io;
@@ -9,9 +9,10 @@ use std::test::Fail;
 // What is written for a script over the world F0.
 fn answers_to(alloc: Global, script: &[u8]) -> Result<Vec<u8>, Fail> {
     let mut plain = first_world(alloc)?;
+    let mut banks = count_banks(alloc, &mut plain)?;
     let mut reader = script;
     let mut answers = Vec::new(alloc);
-    first_run(alloc, &mut plain, &mut reader, &mut answers)?;
+    first_run(alloc, &mut plain, &mut banks, &mut reader, &mut answers)?;
     Ok(answers)
 }
 
@@ -63,10 +64,10 @@ bank 0 owner 0 limit 1000 used 4\nend\n";
 fn bad_lines_are_answered(rt: HostRuntime) -> Result<(), Fail> {
     let script =
         b"show  5\nshow 01\ncall 1 32 0 0 0 0 0 0 0 0\nshow 5\r\nshow 18446744073709551616\n\
-return 1 0 0 0 0 0 0 0 0 0\nsend 1 0 0 0 0 0 0 0 0 0\ncheckpoint\n\n# a comment\nshow 5";
+return 1 0 0 0 0 0 0 0 0 0\nsend 1 0 0 0 0 0 0 0 0 0\ncheckpoint\nstore 1 0 9\n\n# a comment\nshow 5";
     let answers = answers_to(rt.alloc(), script)?;
     let expected =
-        b"bad line\nbad line\nbad line\nbad line\nbad line\nbad line\nbad line\nbad line\n\
+        b"bad line\nbad line\nbad line\nbad line\nbad line\nbad line\nbad line\nbad line\nbad line\n\
 node 5 owner 0\nend\n";
     assert_eq!(rt; answers.as_slice(), expected.as_slice());
     Ok(())
@@ -104,11 +105,12 @@ impl Read for Failing<'_> {
 fn a_failing_reader_ends_the_run(rt: HostRuntime) -> Result<(), Fail> {
     let alloc = rt.alloc();
     let mut plain = first_world(alloc)?;
+    let mut banks = count_banks(alloc, &mut plain)?;
     let mut reader = Failing {
         rest: b"show 5\nsho",
     };
     let mut answers = Vec::new(alloc);
-    let outcome = first_run(alloc, &mut plain, &mut reader, &mut answers);
+    let outcome = first_run(alloc, &mut plain, &mut banks, &mut reader, &mut answers);
     assert_eq!(rt; outcome, Err(RunFault::Read));
     assert_eq!(rt; answers.as_slice(), b"node 5 owner 0\nend\n".as_slice());
     Ok(())
@@ -140,9 +142,10 @@ fn a_failing_writer_ends_the_run(rt: HostRuntime) -> Result<(), Fail> {
     let alloc = rt.alloc();
     for room in 0..19 {
         let mut plain = first_world(alloc)?;
+        let mut banks = count_banks(alloc, &mut plain)?;
         let mut reader = b"show 5\n".as_slice();
         let mut writer = Full { room };
-        let outcome = first_run(alloc, &mut plain, &mut reader, &mut writer);
+        let outcome = first_run(alloc, &mut plain, &mut banks, &mut reader, &mut writer);
         assert_eq!(rt; outcome, Err(RunFault::Write));
     }
     Ok(())

@@ -4,13 +4,14 @@ ghost use Rattle.model.specs.Frame.{objects_of};
 ghost use Rattle.model.specs.World.{is_running_process};
 ghost use Rattle.capability.specs.Parts.{frames_of};
 ghost use Rattle.capability.specs.Plain.{parts_of};
-ghost use Rattle.script.specs.Plain.{IsSoundStore};
+ghost use Rattle.script.specs.Plain.{IsCounted, IsSoundStore};
 
-use crate::worlds::{register, second_world};
+use crate::worlds::{count_banks, register, second_world};
 use capability::{Plain, PrepareFault, PresentFrames, objects};
 use gate::InvokeFault;
 use model::{Answer, Invocation, Operation, State};
 use script::print_answer;
+use space_bank::Banks;
 use std::alloc::Global;
 use std::process::Abort;
 use std::test::Fail;
@@ -43,19 +44,23 @@ fn invoke(
     rt: &impl Abort,
     alloc: Global,
     plain: &mut Plain,
+    banks: &mut Banks,
     invocation: Invocation,
 ) -> Result<(), InvokeFault>
-    requires { IsSoundStore plain.old }
+    requires sound { IsSoundStore plain.old }
+    requires counted { IsCounted plain.old banks.old }
 {
     is_running(rt, plain, invocation.process);
-    gate::invoke(alloc, plain, invocation)
+    gate::invoke(alloc, plain, banks, invocation)
 }
 
 #[test]
 fn an_invocation_is_carried_out(rt: HostRuntime) -> Result<(), Fail> {
     let alloc = rt.alloc();
     let mut plain = second_world(alloc)?;
-    assert_eq!(rt; invoke(&rt, alloc, &mut plain, starting(&rt)), Ok(()));
+    let mut banks = count_banks(alloc, &mut plain)?;
+    let outcome = invoke(&rt, alloc, &mut plain, &mut banks, starting(&rt));
+    assert_eq!(rt; outcome, Ok(()));
     Ok(())
 }
 
@@ -63,8 +68,9 @@ fn an_invocation_is_carried_out(rt: HostRuntime) -> Result<(), Fail> {
 fn a_step_of_an_invocation_is_done(rt: HostRuntime) -> Result<(), Fail> {
     let alloc = rt.alloc();
     let mut plain = second_world(alloc)?;
+    let mut banks = count_banks(alloc, &mut plain)?;
     let age = plain.age();
-    let answer = kernel::invoke(alloc, &mut plain, age, starting(&rt));
+    let answer = kernel::invoke(alloc, &mut plain, &mut banks, age, starting(&rt));
     assert!(rt; matches!(answer, Answer::Done));
     Ok(())
 }
@@ -73,8 +79,9 @@ fn a_step_of_an_invocation_is_done(rt: HostRuntime) -> Result<(), Fail> {
 fn a_step_of_showing_tells_the_object(rt: HostRuntime) -> Result<(), Fail> {
     let alloc = rt.alloc();
     let mut plain = second_world(alloc)?;
+    let mut banks = count_banks(alloc, &mut plain)?;
     let age = plain.age();
-    let answer = kernel::show(alloc, &mut plain, age, 0);
+    let answer = kernel::show(alloc, &mut plain, &banks, age, 0);
     let mut text = Vec::new(alloc);
     print_answer(&answer, &mut text)?;
     assert_eq!(rt;

@@ -41,7 +41,7 @@ returns-then-not-can_enter-clause-stalled g c is =
     let now = g.F.PresentFrames.parts c.look_at_process.new.store in
     let looks : LooksAs old now = record { headers = c.in_ok-annex.ensures.looks.aside.headers; contents = c.in_ok-annex.ensures.looks.aside.contents; geometry = c.in_ok-annex.ensures.looks.aside.geometry } in
     let i = c.args.invocation.now in
-    gate_stalled (objects_of (frames_of old)) i c.args.asked c.args.gate c.requires.asked c.requires.gate
+    gate_stalled old.geometry (objects_of (frames_of old)) i c.args.asked c.args.gate c.requires.asked c.requires.gate
     (sym (c.if-not-can_enter.ensures ∙ ap (λ (us : List Object). c.args.gate.is_resume || can_start us i c.args.gate.process) (looked_objects old now looks)))
 
 pub announce-requires-clause-keepable : goal.announce-requires-clause-keepable
@@ -67,13 +67,13 @@ returns-in_err-announce-clause-full g c =
     let i = c.args.invocation.now in
     let os = objects_of (frames_of old) in
     let can = sym (c.if-not-can_enter.ensures ∙ ap (λ (us : List Object). c.args.gate.is_resume || can_start us i c.args.gate.process) (looked_objects old now looks)) in
-    let invoked = gate_invoked os i c.args.asked c.args.gate c.requires.asked c.requires.gate c.requires.key can in
+    let invoked = gate_invoked old.geometry os i c.args.asked c.args.gate c.requires.asked c.requires.gate c.requires.key can in
     let effect = effect_through os i c.args.gate in
     let p = err_from_is_err_and c.from_residual-in_err-announce.result c.from_residual-in_err-announce.ensures.1 in
     rw (p.1, p.2) (λ is.
     let over = c.in_err-announce.ensures.full (full_fault _ is) in
     let here = rw (c.in_ok-annex.ensures.looks.aside.geometry, c.in_ok-annex.ensures.looks.aside.touched) at over in
-    overfills_by i old.geometry.log os old.touched effect invoked
+    overfills_by old.geometry i os old.touched effect invoked
     (subst (λ (a : ℕ). old.geometry.log < touched_count (touching old.touched (written_through i.operation i.process c.args.gate.process a))) c.in_ok-annex.ensures.annex.0 here))
 
 pub enter-requires-clause-receiver : goal.enter-requires-clause-receiver
@@ -117,12 +117,12 @@ returns-clause-done g c =
     let i = c.args.invocation.now in
     let os = objects_of (frames_of old) in
     let can = sym (c.if-not-can_enter.ensures ∙ ap (λ (us : List Object). c.args.gate.is_resume || can_start us i c.args.gate.process) (looked_objects old now looks)) in
-    let invoked = gate_invoked os i c.args.asked c.args.gate c.requires.asked c.requires.gate c.requires.key can in
+    let invoked = gate_invoked old.geometry os i c.args.asked c.args.gate c.requires.asked c.requires.gate c.requires.key can in
     let effect = effect_through os i c.args.gate in
     let new = g.F.PresentFrames.parts c.enter.new.store in
     let objects = c.enter.ensures.objects ∙ ap (λ (us : List Object). entered us i c.args.gate c.args.asked.sent) (looked_objects old mid there)
     ∙ ap (λ (cs : List Capability). entered os i c.args.gate cs) c.requires.asked.sent in
-    invokes_by i old.geometry.log os (objects_of (frames_of new)) old.touched new.touched effect invoked objects
+    invokes_by old.geometry i os (objects_of (frames_of new)) old.touched new.touched effect invoked objects
     (c.enter.ensures.aside.touched ∙ c.in_ok-announce.ensures.touched
     ∙ ap (λ (ts : List Bool). touching ts (written_through i.operation i.process c.args.gate.process c.in_ok-annex.annex)) c.in_ok-annex.ensures.looks.aside.touched
     ∙ ap (λ (a : ℕ). touching old.touched (written_through i.operation i.process c.args.gate.process a)) c.in_ok-annex.ensures.annex.0)
@@ -139,7 +139,7 @@ returns-clause-sound g c age young sound =
     let i = c.args.invocation.now in
     let os = objects_of (frames_of old) in
     let can = sym (c.if-not-can_enter.ensures ∙ ap (λ (us : List Object). c.args.gate.is_resume || can_start us i c.args.gate.process) (looked_objects old now looks)) in
-    let invoked = gate_invoked os i c.args.asked c.args.gate c.requires.asked c.requires.gate c.requires.key can in
+    let invoked = gate_invoked old.geometry os i c.args.asked c.args.gate c.requires.asked c.requires.gate c.requires.key can in
     let effect = effect_through os i c.args.gate in
     let new = g.F.PresentFrames.parts c.enter.new.store in
     let objects = c.enter.ensures.objects ∙ ap (λ (us : List Object). entered us i c.args.gate c.args.asked.sent) (looked_objects old mid there)

@@ -56,7 +56,7 @@ returns-in_err-announce-clause-full g c =
     rw (p.1, p.2) (λ is.
     let over = c.in_err-announce.ensures.full (full_fault _ is) in
     let here = rw (c.in_ok-plan.ensures.looks.aside.geometry, c.in_ok-plan.ensures.looks.aside.touched) at over in
-    overfills_by i old.geometry.log os old.touched (on_kernel_object os i) (object_invoked os i c.args.asked c.requires.asked c.requires.object)
+    overfills_by old.geometry i os old.touched (on_kernel_object old.geometry os i) (object_invoked old.geometry os i c.args.asked c.requires.asked c.requires.object)
     (subst (λ (ns : List ℕ). old.geometry.log < touched_count (touching old.touched ns)) (sym written) here))
 
 pub finish-requires-clause-calls : goal.finish-requires-clause-calls
@@ -89,8 +89,8 @@ returns-clause-done g c =
     let plan = c.in_ok-plan.plan in
     let written = planned_written old.geometry os i c.args.asked plan c.requires.asked c.in_ok-plan.ensures.planned in
     let new = g.F.PresentFrames.parts c.finish.new.store in
-    invokes_by i old.geometry.log os (objects_of (frames_of new)) old.touched new.touched (on_kernel_object os i)
-    (object_invoked os i c.args.asked c.requires.asked c.requires.object)
+    invokes_by old.geometry i os (objects_of (frames_of new)) old.touched new.touched (on_kernel_object old.geometry os i)
+    (object_invoked old.geometry os i c.args.asked c.requires.asked c.requires.object)
     (c.finish.ensures.objects ∙ ap (λ (us : List Object). finished us i.operation i.process plan) (looked_objects old mid there)
     ∙ sym (planned_objects old.geometry os i c.args.asked plan c.requires.asked c.in_ok-plan.ensures.planned))
     (c.finish.ensures.aside.touched ∙ c.in_ok-announce.ensures.touched
@@ -114,8 +114,8 @@ returns-clause-sound g c age young sound =
     let holds = subst (λ (h : Geometry). MayHold h (objects_of (frames_of mid)) plan.change) (sym there.geometry)
     (subst (λ (us : List Object). MayHold old.geometry us plan.change) (sym (looked_objects old mid there)) planned.holds) in
     let fits = subst (λ (h : Geometry). FitsCap h plan.capability) (sym there.geometry) planned.fits in
-    sound_after old.geometry age (frames_of old) (frames_of new) i (on_kernel_object os i) young c.requires.fits c.requires.running
-    (object_invoked os i c.args.asked c.requires.asked c.requires.object)
+    sound_after old.geometry age (frames_of old) (frames_of new) i (on_kernel_object old.geometry os i) young c.requires.fits c.requires.running
+    (object_invoked old.geometry os i c.args.asked c.requires.asked c.requires.object)
     (c.finish.ensures.objects ∙ ap (λ (us : List Object). finished us i.operation i.process plan) (looked_objects old mid there)
     ∙ sym (planned_objects old.geometry os i c.args.asked plan c.requires.asked planned))
     sound

@@ -29,4 +29,4 @@ returns-clause-planned g c =
     (ap (λ (fs : List Frame). objects_of fs) (same_frames old now looks.headers looks.contents))
     (now_sound old c.requires.sound) (few_objects old c.requires.sound c.requires.few) c.requires.fits c.requires.asked
     (ap (λ (cs : List Capability). let a : Arguments = record { first = slice_index words 1; second = slice_index words 2; capability = slice_index_or cs 0 Void } in a) c.requires.asked.sent)
-    c.plan.ensures.only c.plan.ensures.outcome c.plan.ensures.change
+    c.plan.ensures.only (c.plan.ensures.outcome old.geometry) (c.plan.ensures.change old.geometry)

@@ -5,7 +5,7 @@ use Rattle.script.proofs.Turns.{begun, goes_on, fails_writing, fails_reading, en
 use Rattle.script.proofs.plain.run.Goals as goal
 
 pub loop-init : goal.loop-init
-loop-init g c = record { geometry = refl; sound = c.requires; run = λ saved to_move. begun c.args.plain.now.geometry (knows c.args.known) _ _ _ }
+loop-init g c = record { geometry = refl; sound = c.requires.sound; counted = c.requires.counted; run = λ saved to_move. begun c.args.plain.now.geometry (knows c.args.known) _ _ _ }
 
 pub returns-in_err-line-clause-run : goal.returns-in_err-line-clause-run
 returns-in_err-line-clause-run g c saved to_move =
@@ -27,6 +27,7 @@ pub loop-preserved : goal.loop-preserved
 loop-preserved g c = record {
   geometry = c.in_ok-take.ensures.geometry ∙ c.loop.invariant.geometry;
   sound = c.in_ok-take.ensures.sound;
+  counted = c.in_ok-take.ensures.counted;
   run = λ saved to_move.
       let turn = c.in_ok-take.ensures.turn saved to_move in
       goes_on c.args.plain.now.geometry _ c.loop.invariant.geometry (knows c.args.known) _ _ _ _ _ _ _ _ _ (c.loop.invariant.run saved to_move)

@@ -1,6 +1,6 @@
 use Rattle.std.proofs.Common.{sym, ap, ◌∙◌}
-use Rattle.kernel.proofs.Roles.{is_root_role, no_root_role, process_by_role, role_there}
-use Rattle.kernel.proofs.early.is_process.Goals as goal
+use Rattle.capability.proofs.Roles.{is_root_role, no_root_role, process_by_role, role_there}
+use Rattle.capability.proofs.roots.is_process.Goals as goal
 
 pub returns-in-Root : goal.returns-in-Root
 returns-in-Root g c =

@@ -1,0 +1,367 @@
+-- What a bank frees or destroys, and what that leaves of the usage of each bank.
+use Rattle.std.proofs.Common.{◌≡◌, ◌≢◌, inl, inr, ℕ, zero, suc, ◌+◌, ◌-◌, ◌==◌, ◌<◌, ◌≤◌, nat_eq, Bool, true, false, not, ◌&&◌, ◌||◌, List, [], ◌∷◌, length, get_or, All, refl, sym, ap, subst, arith, ◌∙◌}
+use Rattle.std.specs.Prelude.{if◌then◌else◌, IsTrue}
+use Rattle.std.specs.List.Sorted.{IsStrictlyIncreasing}
+use Rattle.std.proofs.lemmas.Bool.{false≢true, cases_Bool, cases_eq, cases_lt, and_parts, false_from_ne_true, eq-eqb, eqb-true, not-true, or_cases, or_left, or_right}
+use Rattle.std.proofs.lemmas.List.{get_or_past}
+use Rattle.model.specs.declared.capability.Capability.{Capability}
+use Rattle.model.specs.declared.capability.Capability.TheVariants.{Page, Node, Process}
+use Rattle.model.specs.declared.geometry.Geometry.{Geometry}
+use Rattle.model.specs.declared.object.Content.{Content}
+use Rattle.model.specs.declared.object.Content.TheVariants as content
+use Rattle.model.specs.declared.object.Object.{Object}
+use Rattle.model.specs.Object.{free, is_free, is_page, is_node, is_root, is_annex, is_bank}
+use Rattle.model.specs.World.{object_at, content_at, owner_at, annex_at, is_process}
+use Rattle.model.specs.Bank.{chain, is_under, usage}
+use Rattle.model.specs.Banking.{freed_by, under, owned_by}
+use Rattle.model.specs.Revoke.{is_member, rescind}
+use Rattle.model.specs.Sound.{NamesItsKind}
+use Rattle.model_laws.proofs.SoundParts.{IsFramed}
+use Rattle.model_laws.proofs.SoundOrders.{IsNow}
+use Rattle.model_laws.proofs.BankTree.{IsTree, tree_of, member_head, member_tail, chain_zero, chain_unfolds, chain_longer, chain_itself, chain_nonempty, owner_bank}
+use Rattle.model_laws.proofs.NumberLists.{AllDiffer, member_cases, no_member, only_member, all_members, found_in, stands_in, filter_once, filter_rises}
+use Rattle.model_laws.proofs.BankRescind.{IsClosedSet, lost_together, used_owner, used_where, usage_rescinded}
+
+-- what isn't free is one of the objects
+pub used_within : (os : List Object) (n : ℕ) → is_free (content_at os n) ≡ false → n < length os
+used_within os n used = elim (cases_lt n (length os)) [
+  | inl lt ↦ lt
+  | inr past ↦ let f : true ≡ false = sym (ap (λ (o : Object). is_free o.content) (get_or_past os n free past)) ∙ used in absurd (false≢true (sym f))
+]
+
+-- a set of objects that goes together, each of which is there once
+pub record IsGivenUp (os : List Object) (set : List ℕ) : Type 0 where
+  pub closed : IsClosedSet os set
+  pub once : AllDiffer set
+  pub used : (n : ℕ) → is_member set n ≡ true → is_free (content_at os n) ≡ false
+
+pub given_up_within : (os : List Object) (set : List ℕ) → IsGivenUp os set → (n : ℕ) → is_member set n ≡ true → n < length os
+given_up_within os set h n member = used_within os n (h.used n member)
+
+-- where a bank is above all of them or above none, what's left of its usage and what goes are what it was
+pub usage_given_up : (os : List Object) (set : List ℕ) → IsTree os → IsGivenUp os set → (x : ℕ) → is_member set x ≡ false
+    → (above : Bool) → ((n : ℕ) → is_member set n ≡ true → is_under os x (object_at os n) ≡ above)
+    → usage (rescind set os) x + (if above then length set else 0) ≡ usage os x
+usage_given_up os set tree h x stays above each =
+    subst (λ k. usage (rescind set os) x + k ≡ usage os x) (lost_together os set x above h.once (given_up_within os set h) each)
+    (usage_rescinded os set tree h.closed x stays)
+
+-- two numbers where a test differs
+pub differ_where : (test : Content Capability → Bool) (os : List Object) (m n : ℕ) → test (content_at os m) ≡ true → test (content_at os n) ≡ false → m ≢ n
+differ_where test os m n is isnt same = false≢true (sym isnt ∙ (ap (λ (k : ℕ). test (content_at os k)) (sym same) ∙ is))
+
+-- what one kind of content isn't
+
+root_no_annex : (c : Content Capability) → is_root c ≡ true → is_annex c ≡ false
+root_no_annex (content.Annex r) e = absurd (false≢true e)
+root_no_annex c e = refl
+
+root_no_bank : (c : Content Capability) → is_root c ≡ true → is_bank c ≡ false
+root_no_bank (content.Bank l) e = absurd (false≢true e)
+root_no_bank c e = refl
+
+annex_no_bank : (c : Content Capability) → is_annex c ≡ true → is_bank c ≡ false
+annex_no_bank (content.Bank l) e = absurd (false≢true e)
+annex_no_bank c e = refl
+
+page_no_other : (c : Content Capability) → is_page c ≡ true → (is_bank c ≡ false) × (is_root c ≡ false) × (is_annex c ≡ false)
+page_no_other (content.Page w) e = (refl, refl, refl)
+page_no_other c e = cc
+
+node_no_other : (c : Content Capability) → is_node c ≡ true → (is_bank c ≡ false) × (is_root c ≡ false) × (is_annex c ≡ false)
+node_no_other (content.Node w) e = (refl, refl, refl)
+node_no_other c e = cc
+
+-- the objects that a bank frees: its own, and none of them a bank
+pub record IsFreedSet (os : List Object) (b : ℕ) (set : List ℕ) : Type 0 where
+  pub given_up : IsGivenUp os set
+  pub owner : (n : ℕ) → is_member set n ≡ true → owner_at os n ≡ b
+  pub no_bank : (n : ℕ) → is_member set n ≡ true → is_bank (content_at os n) ≡ false
+
+module _ (g : Geometry) (os : List Object) (h : IsFramed g os) where
+  -- a number that isn't a bank's is no member's owner, nor 0
+  no_bank_closed : (set : List ℕ) → ((n : ℕ) → is_member set n ≡ true → is_bank (content_at os n) ≡ false)
+      → ((p : ℕ) → IsTrue (is_process os p) → is_member set (annex_at os p) ≡ is_member set p) → IsClosedSet os set
+  no_bank_closed set none annexes = record {
+    prime = false_from_ne_true (is_member set 0) (λ e. false≢true (sym (none 0 e) ∙ h.prime.0));
+    annexes = annexes;
+    owned = λ n used e. absurd (false≢true (sym (none (owner_at os n) e) ∙ h.owners n (λ gone. false≢true (sym used ∙ gone))));
+  }
+
+  only : (P : ℕ → Type 0) (o n : ℕ) → P o → is_member (o ∷ []) n ≡ true → P n
+  only P o n here e = subst P (sym (only_member o n e)) here
+
+  pair : (P : ℕ → Type 0) (o a n : ℕ) → P o → P a → is_member (o ∷ a ∷ []) n ≡ true → P n
+  pair P o a n first second e = elim (member_cases o (a ∷ []) n e) [ inl same ↦ subst P (sym same) first | inr later ↦ only P a n second later ]
+
+  -- a page or a node
+  single_freed : (o : ℕ) → is_free (content_at os o) ≡ false → is_bank (content_at os o) ≡ false → is_root (content_at os o) ≡ false
+      → is_annex (content_at os o) ≡ false → IsFreedSet os (owner_at os o) (o ∷ [])
+  single_freed o used no_bank no_root no_annex = record {
+    given_up = record {
+      closed = no_bank_closed (o ∷ []) (λ n e. only (λ m. is_bank (content_at os m) ≡ false) o n no_bank e)
+          (λ p is. no_member o [] (annex_at os p) (differ_where is_annex os (annex_at os p) o (h.annexes p is).0 no_annex) refl
+          ∙ sym (no_member o [] p (differ_where is_root os p o is no_root) refl));
+      once = (refl, tt);
+      used = λ n e. only (λ m. is_free (content_at os m) ≡ false) o n used e;
+    };
+    owner = λ n e. only (λ m. owner_at os m ≡ owner_at os o) o n refl e;
+    no_bank = λ n e. only (λ m. is_bank (content_at os m) ≡ false) o n no_bank e;
+  }
+
+  -- a process and its annex are two
+  pub annex_differs : (p : ℕ) → IsTrue (is_process os p) → annex_at os p ≢ p
+  annex_differs p is = differ_where is_annex os (annex_at os p) p (h.annexes p is).0 (root_no_annex (content_at os p) is)
+
+  process_freed : (p : ℕ) → IsTrue (is_process os p) → IsFreedSet os (owner_at os p) (p ∷ annex_at os p ∷ [])
+  process_freed p is =
+      let a = annex_at os p in
+      let known = h.annexes p is in
+      let none = λ (n : ℕ) (e : is_member (p ∷ a ∷ []) n ≡ true). pair (λ m. is_bank (content_at os m) ≡ false) p a n (root_no_bank (content_at os p) is) (annex_no_bank (content_at os a) known.0) e in
+      record {
+        given_up = record {
+          closed = no_bank_closed (p ∷ a ∷ []) none both;
+          once = (no_member a [] p (λ e. annex_differs p is (sym e)) refl, (refl, tt));
+          used = λ n e. pair (λ m. is_free (content_at os m) ≡ false) p a n (used_where is_root refl (content_at os p) is) (used_where is_annex refl (content_at os a) known.0) e;
+        };
+        owner = λ n e. pair (λ m. owner_at os m ≡ owner_at os p) p a n refl known.1 e;
+        no_bank = none;
+      }
+    where
+      both : (q : ℕ) → IsTrue (is_process os q) → is_member (p ∷ annex_at os p ∷ []) (annex_at os q) ≡ is_member (p ∷ annex_at os p ∷ []) q
+      both q iq = elim (cases_eq q p) [
+        | inl same ↦
+            rw same (or_right (nat_eq (annex_at os p) p) (is_member (annex_at os p ∷ []) (annex_at os p)) (member_head (annex_at os p) (annex_at os p) [] refl)
+            ∙ sym (member_head p p (annex_at os p ∷ []) refl))
+        | inr other ↦
+            no_member p (annex_at os p ∷ []) (annex_at os q)
+            (differ_where is_annex os (annex_at os q) p (h.annexes q iq).0 (root_no_annex (content_at os p) is))
+            (no_member (annex_at os p) [] (annex_at os q) (λ e. other (h.one_root q p iq is e)) refl)
+            ∙ sym (no_member p (annex_at os p ∷ []) q other (no_member (annex_at os p) [] q
+            (λ e. differ_where is_annex os (annex_at os p) q (h.annexes p is).0 (root_no_annex (content_at os q) iq) (sym e)) refl))
+      ]
+
+  -- what a capability frees is given up together
+  pub freed_set : (c : Capability) (n : ℕ) (ns : List ℕ) → NamesItsKind os c → freed_by os c ≡ n ∷ ns → IsFreedSet os (owner_at os n) (n ∷ ns)
+  freed_set (Page o a) n ns names e = go (a.0 == 0) e
+    where
+      go : (t : Bool) → (if t then o ∷ [] else []) ≡ n ∷ ns → IsFreedSet os (owner_at os n) (n ∷ ns)
+      go false e = cc
+      go true e =
+          let others = page_no_other (content_at os o) names in
+          subst (λ xs. IsFreedSet os (owner_at os (get_or xs 0 0)) xs) e (single_freed o (used_where is_page refl (content_at os o) names) others.0 others.1 others.2)
+  freed_set (Node o a) n ns names e = go (a.0 == 0) e
+    where
+      go : (t : Bool) → (if t then o ∷ [] else []) ≡ n ∷ ns → IsFreedSet os (owner_at os n) (n ∷ ns)
+      go false e = cc
+      go true e =
+          let others = node_no_other (content_at os o) names in
+          subst (λ xs. IsFreedSet os (owner_at os (get_or xs 0 0)) xs) e (single_freed o (used_where is_node refl (content_at os o) names) others.0 others.1 others.2)
+  freed_set (Process p) n ns names e = subst (λ xs. IsFreedSet os (owner_at os (get_or xs 0 0)) xs) e (process_freed p names)
+  freed_set c n ns names e = cc
+
+-- what isn't free is under a bank where the chain of its owner passes through it
+pub under_owner : (os : List Object) (x n : ℕ) → is_free (content_at os n) ≡ false → is_under os x (object_at os n) ≡ is_member (chain os (owner_at os n)) x
+under_owner os x n used = rw used refl
+
+-- what is freed is among the objects, each number once
+pub freed_within : (g : Geometry) (os : List Object) (c : Capability) (n : ℕ) (ns : List ℕ) → IsNow g os → freed_by os c ≡ n ∷ ns → NamesItsKind os c
+    → All (λ m. m < length os) (n ∷ ns)
+freed_within g os c n ns h frees names =
+    all_members (λ m. m < length os) (n ∷ ns) (given_up_within os (n ∷ ns) (freed_set g os h.frame c n ns names frees).given_up)
+
+pub freed_once : (g : Geometry) (os : List Object) (c : Capability) (n : ℕ) (ns : List ℕ) → IsNow g os → freed_by os c ≡ n ∷ ns → NamesItsKind os c
+    → AllDiffer (n ∷ ns)
+freed_once g os c n ns h frees names = (freed_set g os h.frame c n ns names frees).given_up.once
+
+-- what is left of a bank's usage after a free, with what is freed, is what it was
+usage_freed_both : (g : Geometry) (os : List Object) (c : Capability) (b n : ℕ) (ns : List ℕ) → IsNow g os → owner_at os n ≡ b → freed_by os c ≡ n ∷ ns
+    → NamesItsKind os c → (x : ℕ) → IsTrue (is_bank (content_at os x))
+    → usage (rescind (n ∷ ns) os) x + (if is_member (chain os b) x then length (n ∷ ns) else 0) ≡ usage os x
+usage_freed_both g os c b n ns h own frees names x bank =
+    let set = freed_set g os h.frame c n ns names frees in
+    usage_given_up os (n ∷ ns) (tree_of g os h.frame) set.given_up x
+    (false_from_ne_true (is_member (n ∷ ns) x) (λ e. false≢true (sym (set.no_bank x e) ∙ bank)))
+    (is_member (chain os b) x)
+    (λ m e. under_owner os x m (set.given_up.used m e) ∙ ap (λ (k : ℕ). is_member (chain os k) x) (set.owner m e ∙ own))
+
+-- the usage of a bank after a free
+pub usage_freed : (g : Geometry) (os : List Object) (c : Capability) (b n : ℕ) (ns : List ℕ) → IsNow g os → owner_at os n ≡ b → freed_by os c ≡ n ∷ ns
+    → NamesItsKind os c → (x : ℕ) → IsTrue (is_bank (content_at os x))
+    → usage (rescind (n ∷ ns) os) x ≡ usage os x - (if is_member (chain os b) x then length (n ∷ ns) else 0)
+usage_freed g os c b n ns h own frees names x bank = omega (arith, usage_freed_both g os c b n ns h own frees names x bank)
+
+-- what is freed isn't more than was used
+pub freed_fits : (g : Geometry) (os : List Object) (c : Capability) (b n : ℕ) (ns : List ℕ) → IsNow g os → owner_at os n ≡ b → freed_by os c ≡ n ∷ ns
+    → NamesItsKind os c → (x : ℕ) → IsTrue (is_bank (content_at os x)) → (if is_member (chain os b) x then length (n ∷ ns) else 0) ≤ usage os x
+freed_fits g os c b n ns h own frees names x bank = omega (arith, usage_freed_both g os c b n ns h own frees names x bank)
+
+-- the lists of what is under a bank and of what it owns
+
+pub under_once : (os : List Object) (b : ℕ) → AllDiffer (under os b)
+unfolding under
+under_once os b = filter_once (λ n. (n == b) || is_under os b (object_at os n)) 0 (length os)
+
+pub owned_once : (os : List Object) (b : ℕ) → AllDiffer (owned_by os b)
+unfolding owned_by
+owned_once os b = filter_once (λ n. not (is_free (content_at os n)) && (owner_at os n == b)) 0 (length os)
+
+pub under_found : (os : List Object) (b n : ℕ) → is_member (under os b) n ≡ true → (n < length os) × (((n == b) || is_under os b (object_at os n)) ≡ true)
+unfolding under
+under_found os b n e = let found = found_in (λ n. (n == b) || is_under os b (object_at os n)) 0 (length os) n e in (omega (arith, found.1), found.2)
+
+pub under_stands : (os : List Object) (b n : ℕ) → n < length os → ((n == b) || is_under os b (object_at os n)) ≡ true → is_member (under os b) n ≡ true
+unfolding under
+under_stands os b n below passes = stands_in (λ n. (n == b) || is_under os b (object_at os n)) 0 (length os) n (omega arith) (omega (arith, below)) passes
+
+-- what a bank owns: the numbers below the length that aren't free and have it as their owner
+pub owned_found : (os : List Object) (b n : ℕ) → is_member (owned_by os b) n ≡ true → (n < length os) × (is_free (content_at os n) ≡ false) × (owner_at os n ≡ b)
+unfolding owned_by
+owned_found os b n e =
+    let found = found_in (λ n. not (is_free (content_at os n)) && (owner_at os n == b)) 0 (length os) n e in
+    let parts = and_parts (not (is_free (content_at os n))) (owner_at os n == b) found.2 in
+    (omega (arith, found.1), not-true (is_free (content_at os n)) parts.0, eqb-true (owner_at os n) b parts.1)
+
+-- in order and among the objects
+pub under_rises : (os : List Object) (b : ℕ) → IsStrictlyIncreasing (under os b)
+unfolding under
+under_rises os b = filter_rises (λ n. (n == b) || is_under os b (object_at os n)) 0 (length os)
+
+pub owned_rises : (os : List Object) (b : ℕ) → IsStrictlyIncreasing (owned_by os b)
+unfolding owned_by
+owned_rises os b = filter_rises (λ n. not (is_free (content_at os n)) && (owner_at os n == b)) 0 (length os)
+
+pub under_within : (os : List Object) (b : ℕ) → All (λ n. n < length os) (under os b)
+under_within os b = all_members (λ n. n < length os) (under os b) (λ n e. (under_found os b n e).0)
+
+pub owned_within : (os : List Object) (b : ℕ) → All (λ n. n < length os) (owned_by os b)
+owned_within os b = all_members (λ n. n < length os) (owned_by os b) (λ n e. (owned_found os b n e).0)
+
+-- what holds of the prime bank, and of each other bank whose owner it holds of, holds of every bank
+pub tree_induction : (os : List Object) → IsTree os → (P : ℕ → Type 0) → P 0
+    → ((c : ℕ) → IsTrue (is_bank (content_at os c)) → c ≢ 0 → P (owner_at os c) → P c)
+    → (b : ℕ) → IsTrue (is_bank (content_at os b)) → P b
+tree_induction os t P base step b is = go (length (chain os b)) b is (omega arith)
+  where
+    go : (k c : ℕ) → IsTrue (is_bank (content_at os c)) → length (chain os c) ≤ k → P c
+    go zero c is short = absurd (omega (arith, short, chain_nonempty os t c is))
+    go (suc k) c is short = elim (cases_eq c 0) [
+      | inl end ↦ subst P (sym end) base
+      | inr on ↦ step c is on (go k (owner_at os c) (owner_bank os t c is) (omega (arith, short, chain_longer os t c is on)))
+    ]
+
+module _ (g : Geometry) (os : List Object) (h : IsFramed g os) (b : ℕ) (is : IsTrue (is_bank (content_at os b))) (on : b ≢ 0) where
+  tree : IsTree os
+  tree = tree_of g os h
+
+  under_used : (n : ℕ) → is_member (under os b) n ≡ true → is_free (content_at os n) ≡ false
+  under_used n e = elim (or_cases (n == b) (is_under os b (object_at os n)) (under_found os b n e).1) [
+    | inl same ↦ used_where is_bank refl (content_at os n) (ap (λ (k : ℕ). is_bank (content_at os k)) (eqb-true n b same) ∙ is)
+    | inr below ↦ not-true (is_free (content_at os n)) (and_parts (not (is_free (content_at os n))) (is_member (chain os (owner_at os n)) b) below).0
+  ]
+
+  -- what isn't free and has the bank in its owner's chain is under it
+  under_chain : (n : ℕ) → is_free (content_at os n) ≡ false → is_member (chain os (owner_at os n)) b ≡ true → is_member (under os b) n ≡ true
+  under_chain n used passes =
+      under_stands os b n (used_within os n used) (or_right (n == b) (is_under os b (object_at os n)) (under_owner os b n used ∙ passes))
+
+  -- a bank with it in its chain is it or under it
+  under_bank : (c : ℕ) → IsTrue (is_bank (content_at os c)) → is_member (chain os c) b ≡ true → is_member (under os b) c ≡ true
+  under_bank c bank passes = elim (cases_eq c b) [
+    | inl same ↦
+        under_stands os b c (used_within os c (used_where is_bank refl (content_at os c) bank))
+        (or_left (c == b) (is_under os b (object_at os c)) (eq-eqb c b same))
+    | inr other ↦ elim (cases_eq c 0) [
+      | inl end ↦ absurd (false≢true (sym (ap (λ xs. is_member xs b) (chain_zero os c end) ∙ member_tail b c [] (λ e. other (sym e))) ∙ passes))
+      | inr far ↦
+          under_chain c (used_where is_bank refl (content_at os c) bank)
+          (sym (ap (λ xs. is_member xs b) (chain_unfolds os tree c bank far) ∙ member_tail b c (chain os (owner_at os c)) (λ e. other (sym e))) ∙ passes)
+    ]
+  ]
+
+  -- and one that is it or under it has it in its chain
+  bank_under : (c : ℕ) → IsTrue (is_bank (content_at os c)) → is_member (under os b) c ≡ true → is_member (chain os c) b ≡ true
+  bank_under c bank e = elim (cases_eq c b) [
+    | inl same ↦ subst (λ k. is_member (chain os k) b ≡ true) (sym same) (chain_itself os tree b is)
+    | inr other ↦ elim (or_cases (c == b) (is_under os b (object_at os c)) (under_found os b c e).1) [
+      | inl same ↦ absurd (other (eqb-true c b same))
+      | inr below ↦
+          let passes : is_member (chain os (owner_at os c)) b ≡ true = sym (under_owner os b c (under_used c e)) ∙ below in
+          elim (cases_eq c 0) [
+            | inl end ↦
+                let prime : owner_at os c ≡ 0 = ap (λ (k : ℕ). owner_at os k) end ∙ h.prime.1 in
+                subst (λ k. is_member (chain os k) b ≡ true) (prime ∙ sym end) passes
+            | inr far ↦ ap (λ xs. is_member xs b) (chain_unfolds os tree c bank far) ∙ (member_tail b c (chain os (owner_at os c)) (λ e. other (sym e)) ∙ passes)
+          ]
+    ]
+  ]
+
+  -- a bank that isn't destroyed with it is above what is under it where it's above it
+  above_alike : (x : ℕ) → is_member (under os b) x ≡ false → (c : ℕ) → IsTrue (is_bank (content_at os c)) → is_member (chain os c) b ≡ true
+      → is_member (chain os c) x ≡ is_member (chain os (owner_at os b)) x
+  above_alike x stays =
+      tree_induction os tree (λ c. is_member (chain os c) b ≡ true → is_member (chain os c) x ≡ is_member (chain os (owner_at os b)) x)
+      (λ e. absurd (false≢true (sym (ap (λ xs. is_member xs b) (chain_zero os 0 refl) ∙ member_tail b 0 [] on) ∙ e)))
+      (λ c bank far above passes.
+      let other : x ≢ c = λ e. false≢true (sym stays ∙ (ap (λ (k : ℕ). is_member (under os b) k) e ∙ under_bank c bank passes)) in
+      ap (λ xs. is_member xs x) (chain_unfolds os tree c bank far) ∙ (member_tail x c (chain os (owner_at os c)) other ∙ elim (cases_eq c b) [
+        | inl same ↦ ap (λ (k : ℕ). is_member (chain os (owner_at os k)) x) same
+        | inr differ ↦
+            above (sym (ap (λ xs. is_member xs b) (chain_unfolds os tree c bank far) ∙ member_tail b c (chain os (owner_at os c)) (λ e. differ (sym e))) ∙ passes)
+      ]))
+
+  under_alike : (x n : ℕ) → is_member (under os b) x ≡ false → is_member (under os b) n ≡ true
+      → is_under os x (object_at os n) ≡ is_member (chain os (owner_at os b)) x
+  under_alike x n stays e =
+      let used = under_used n e in
+      under_owner os x n used ∙ elim (or_cases (n == b) (is_under os b (object_at os n)) (under_found os b n e).1) [
+        | inl same ↦ ap (λ (k : ℕ). is_member (chain os (owner_at os k)) x) (eqb-true n b same)
+        | inr below ↦
+            above_alike x stays (owner_at os n) (used_owner os tree n used) (sym (under_owner os b n used) ∙ below)
+      ]
+
+  -- what is no bank is under it where the chain of its owner passes through it
+  under_other : (n : ℕ) → is_free (content_at os n) ≡ false → is_bank (content_at os n) ≡ false → is_member (under os b) n ≡ is_member (chain os (owner_at os n)) b
+  under_other n used none = elim (cases_Bool (is_member (chain os (owner_at os n)) b)) [
+    | inl passes ↦ under_chain n used passes ∙ sym passes
+    | inr apart ↦
+        false_from_ne_true (is_member (under os b) n) (λ e. elim (or_cases (n == b) (is_under os b (object_at os n)) (under_found os b n e).1) [
+          | inl same ↦ false≢true (sym none ∙ (ap (λ (k : ℕ). is_bank (content_at os k)) (eqb-true n b same) ∙ is))
+          | inr below ↦ false≢true (sym apart ∙ (sym (under_owner os b n used) ∙ below))
+        ])
+        ∙ sym apart
+  ]
+
+  -- a bank and all under it can be given up
+  pub under_given_up : IsGivenUp os (under os b)
+  under_given_up = record {
+    closed = record {
+      prime = false_from_ne_true (is_member (under os b) 0) (λ e.
+          false≢true (sym (ap (λ xs. is_member xs b) (chain_zero os 0 refl) ∙ member_tail b 0 [] on) ∙ bank_under 0 h.prime.0 e));
+      annexes = λ p process.
+          let known = h.annexes p process in
+          under_other (annex_at os p) (used_where is_annex refl (content_at os (annex_at os p)) known.0) (annex_no_bank (content_at os (annex_at os p)) known.0)
+          ∙ (ap (λ (k : ℕ). is_member (chain os k) b) known.1
+          ∙ sym (under_other p (used_where is_root refl (content_at os p) process) (root_no_bank (content_at os p) process)));
+      owned = λ n used e. under_chain n used (bank_under (owner_at os n) (used_owner os tree n used) e);
+    };
+    once = under_once os b;
+    used = under_used;
+  }
+
+  usage_destroyed_both : (x : ℕ) → is_member (under os b) x ≡ false
+      → usage (rescind (under os b) os) x + (if is_member (chain os (owner_at os b)) x then length (under os b) else 0) ≡ usage os x
+  usage_destroyed_both x stays =
+      usage_given_up os (under os b) tree under_given_up x stays (is_member (chain os (owner_at os b)) x) (λ n e. under_alike x n stays e)
+
+-- the usage of a bank that stays where another is destroyed
+pub usage_destroyed : (g : Geometry) (os : List Object) (b : ℕ) → IsNow g os → IsTrue (is_bank (content_at os b)) → b ≢ 0
+    → (x : ℕ) → is_member (under os b) x ≡ false
+    → usage (rescind (under os b) os) x ≡ usage os x - (if is_member (chain os (owner_at os b)) x then length (under os b) else 0)
+usage_destroyed g os b h is on x stays = omega (arith, usage_destroyed_both g os h.frame b is on x stays)
+
+-- what is destroyed isn't more than was used
+pub destroyed_fits : (g : Geometry) (os : List Object) (b : ℕ) → IsNow g os → IsTrue (is_bank (content_at os b)) → b ≢ 0
+    → (x : ℕ) → is_member (under os b) x ≡ false
+    → (if is_member (chain os (owner_at os b)) x then length (under os b) else 0) ≤ usage os x
+destroyed_fits g os b h is on x stays = omega (arith, usage_destroyed_both g os h.frame b is on x stays)

@@ -1,0 +1,364 @@
+-- What banks give up: sets of objects that can go together, and the usage that goes with them.
+use Rattle.std.proofs.Common.{◌≡◌, ◌≢◌, ◌⊎◌, inl, inr, ℕ, zero, suc, ◌+◌, ◌==◌, ◌<◌, ◌≤◌, nat_eq, Bool, true, false, not, ◌&&◌, cond, Option, None, Some, List, [], ◌∷◌, length, map, get_or, refl, sym, ap, subst, arith, zero-add, add-zero, ◌∙◌}
+use Rattle.std.specs.Prelude.{if◌then◌else◌, IsTrue}
+use Rattle.std.specs.List.{count_by, enumerate_from}
+use Rattle.std.proofs.lemmas.Bool.{false≢true, cases_Bool, cases_eq, false_from_ne_true, eq-eqb, ne_eqb, not_from_false, or_left, or_right}
+use Rattle.std.proofs.lemmas.List.{length-map}
+use Rattle.std.proofs.lemmas.List.FromFn.{length-enumerate_from}
+use Rattle.std.proofs.lemmas.List.Sums.{sum_by-cons}
+use Rattle.model.specs.declared.capability.Capability.{Capability}
+use Rattle.model.specs.declared.capability.Capability.TheVariants.{Void, Number, Page, Node, Space, Process, Start, Resume, Bank, Discrim}
+use Rattle.model.specs.declared.geometry.Geometry.{Geometry}
+use Rattle.model.specs.declared.object.Content.{Content}
+use Rattle.model.specs.declared.object.Content.TheVariants as content
+use Rattle.model.specs.declared.object.Object.{Object}
+use Rattle.model.specs.Object.{free, is_free, is_root, is_annex, is_bank, is_waiting, role_of, root_in, map_content}
+use Rattle.model.specs.Capability.{named}
+use Rattle.model.specs.World.{object_at, content_at, owner_at, annex_at, is_process}
+use Rattle.model.specs.Bank.{chain, chain_within, is_under, usage}
+use Rattle.model.specs.Revoke.{void_where, without, is_member, names_member, rescind}
+use Rattle.model.specs.Sound.{IsOfKind, IsSpace}
+use Rattle.model_laws.proofs.Usage.{AreAlike, SameTests, same_tests}
+use Rattle.model_laws.proofs.SoundParts.{IsHeld, IsFilled, IsFramed, Waits, state_at, held_void}
+use Rattle.model_laws.proofs.SoundEdits.{at_map}
+use Rattle.model_laws.proofs.SoundOrders.{IsNow}
+use Rattle.model_laws.proofs.Revoking.{at_rescind}
+use Rattle.model_laws.proofs.BankTree.{IsTree, tree_of}
+use Rattle.model_laws.proofs.NumberLists.{AllDiffer}
+
+-- objects that can be given up together: not the prime bank, a process with its annex, a bank with all that it owns
+pub record IsClosedSet (os : List Object) (set : List ℕ) : Type 0 where
+  pub prime : is_member set 0 ≡ false
+  pub annexes : (p : ℕ) → IsTrue (is_process os p) → is_member set (annex_at os p) ≡ is_member set p
+  pub owned : (n : ℕ) → is_free (content_at os n) ≡ false → is_member set (owner_at os n) ≡ true → is_member set n ≡ true
+
+-- a test that a free content fails, where it is passed
+pub used_where : (test : Content Capability → Bool) → test content.Free ≡ false → (c : Content Capability) → test c ≡ true → is_free c ≡ false
+used_where test fails content.Free is = absurd (false≢true (sym fails ∙ is))
+used_where test fails c is = refl
+
+-- what isn't free is owned by a bank
+pub used_owner : (os : List Object) → IsTree os → (n : ℕ) → is_free (content_at os n) ≡ false → IsTrue (is_bank (content_at os (owner_at os n)))
+used_owner os tree n used = tree.owners n (λ gone. false≢true (sym used ∙ gone))
+
+-- counts over numbered objects
+
+-- two counts come to a third where they do at each number
+pub count_both : {X : Type 0} (p q r : ℕ × X → Bool) (k : ℕ) (xs ys : List X) (d : X) → length ys ≡ length xs
+    → ((i j : ℕ) → j ≡ k + i → cond (p (j, get_or ys i d)) 1 0 + cond (q (j, get_or xs i d)) 1 0 ≡ cond (r (j, get_or xs i d)) 1 0)
+    → count_by p (enumerate_from k ys) + count_by q (enumerate_from k xs) ≡ count_by r (enumerate_from k xs)
+count_both p q r k [] [] d e each = omega arith
+count_both p q r k (x ∷ xs) (y ∷ ys) d e each =
+    let rest = count_both p q r (k + 1) xs ys d (omega arith) (λ i j is. each (suc i) j (omega arith)) in
+    rw (sum_by-cons (λ z. cond (p z) 1 0) (k, y) (enumerate_from (k + 1) ys), sum_by-cons (λ z. cond (q z) 1 0) (k, x) (enumerate_from (k + 1) xs), sum_by-cons (λ z. cond (r z) 1 0) (k, x) (enumerate_from (k + 1) xs))
+    (omega (arith, rest, each 0 k (omega arith)))
+count_both p q r k xs ys d e each = absurd (omega arith)
+
+-- a test that fails at each number
+pub count_none : {X : Type 0} (p : ℕ × X → Bool) (xs : List X) (d : X) → ((i : ℕ) → p (i, get_or xs i d) ≡ false) → count_by p (enumerate_from 0 xs) ≡ 0
+count_none p xs d fails =
+    omega (arith, count_both p p p 0 xs xs d refl (λ i j e. let same : i ≡ j = omega (arith, e) in rw (same, fails j) refl))
+
+-- two tests that agree at each number
+pub count_same : {X : Type 0} (p q : ℕ × X → Bool) (xs : List X) (d : X) → ((i : ℕ) → p (i, get_or xs i d) ≡ q (i, get_or xs i d))
+    → count_by p (enumerate_from 0 xs) ≡ count_by q (enumerate_from 0 xs)
+count_same p q xs d agree =
+    omega (
+      arith,
+      count_none (λ z. false) xs d (λ i. refl),
+      count_both (λ z. false) p q 0 xs xs d refl (λ i j e. let same : i ≡ j = omega (arith, e) in rw (same, agree j) (zero-add _)),
+    )
+
+-- what stays and what goes
+
+-- an object with some capabilities put void is alike
+pub alike_without : (goes : Capability → Bool) (o : Object) → AreAlike o (without goes o)
+alike_without goes o = cases o.owner o.content
+  where
+    cases : (b : ℕ) (c : Content Capability) → AreAlike (record { owner = b; content = c }) (record { owner = b; content = map_content (void_where goes) c })
+    cases b content.Free = record { owner = refl; role = refl; annex = refl; limit = refl }
+    cases b c = record { owner = refl; role = refl; annex = refl; limit = refl }
+
+module _ (os : List Object) (set : List ℕ) where
+  went_object : (n : ℕ) → is_member set n ≡ true → object_at (rescind set os) n ≡ free
+  went_object n e = at_rescind set os n ∙ ap (λ (b : Bool). if b then free else without (names_member set) (object_at os n)) e
+
+  kept_object : (n : ℕ) → is_member set n ≡ false → object_at (rescind set os) n ≡ without (names_member set) (object_at os n)
+  kept_object n e = at_rescind set os n ∙ ap (λ (b : Bool). if b then free else without (names_member set) (object_at os n)) e
+
+  pub kept_alike : (n : ℕ) → is_member set n ≡ false → AreAlike (object_at os n) (object_at (rescind set os) n)
+  kept_alike n e = subst (λ o. AreAlike (object_at os n) o) (sym (kept_object n e)) (alike_without (names_member set) (object_at os n))
+
+  pub kept_tests : (n : ℕ) → is_member set n ≡ false → SameTests (content_at os n) (content_at (rescind set os) n)
+  kept_tests n e = same_tests (content_at os n) (content_at (rescind set os) n) (kept_alike n e).role
+
+  -- what isn't free afterwards is no member
+  stays_where : (test : Content Capability → Bool) → test content.Free ≡ false → (n : ℕ) → test (content_at (rescind set os) n) ≡ true → is_member set n ≡ false
+  stays_where test fails n is =
+      false_from_ne_true (is_member set n) (λ e. false≢true (sym fails ∙ (sym (ap (λ (o : Object). test o.content) (went_object n e)) ∙ is)))
+
+  pub length_rescind : length (rescind set os) ≡ length os
+  unfolding rescind
+  length_rescind = length-map (enumerate_from 0 os) _ ∙ length-enumerate_from 0 os
+
+-- what goes of the usage of a bank with a set
+unfoldable pub lost : List Object → List ℕ → ℕ → ℕ
+lost os set x = count_by (λ p. is_member set p.0 && is_under os x p.1) (enumerate_from 0 os)
+
+module _ (os : List Object) (set : List ℕ) (tree : IsTree os) (closed : IsClosedSet os set) where
+  owner_stays : (n : ℕ) → is_free (content_at os n) ≡ false → is_member set n ≡ false → is_member set (owner_at os n) ≡ false
+  owner_stays n used stays = false_from_ne_true (is_member set (owner_at os n)) (λ e. false≢true (sym stays ∙ closed.owned n used e))
+
+  -- the chain of a bank that stays is as it was
+  chain_within_kept : (k b : ℕ) → IsTrue (is_bank (content_at os b)) → is_member set b ≡ false → chain_within k (rescind set os) b ≡ chain_within k os b
+  chain_within_kept zero b is stays = refl
+  chain_within_kept (suc k) b is stays =
+      let used = used_where is_bank refl (content_at os b) is in
+      rw (kept_alike os set b stays).owner (rw (chain_within_kept k (owner_at os b) (used_owner os tree b used) (owner_stays b used stays)) refl)
+
+  pub chain_kept : (b : ℕ) → IsTrue (is_bank (content_at os b)) → is_member set b ≡ false → chain (rescind set os) b ≡ chain os b
+  unfolding chain
+  chain_kept b is stays = chain_within_kept 16 b is stays
+
+  -- what stays is under the banks that it was under, and what goes under none
+  under_kept : (x n : ℕ) → is_member set n ≡ false → is_under (rescind set os) x (object_at (rescind set os) n) ≡ is_under os x (object_at os n)
+  under_kept x n stays = elim (cases_Bool (is_free (content_at os n))) [
+    | inl gone ↦ rw ((kept_tests os set n stays).free, gone) refl
+    | inr used ↦ rw (
+      (kept_tests os set n stays).free,
+      used,
+      (kept_alike os set n stays).owner,
+      chain_kept (owner_at os n) (used_owner os tree n used) (owner_stays n used stays),
+    ) refl
+  ]
+
+  under_went : (x n : ℕ) → is_member set n ≡ true → is_under (rescind set os) x (object_at (rescind set os) n) ≡ false
+  under_went x n goes = rw (went_object os set n goes) refl
+
+  -- at each number what stays and what goes come to what was
+  sums_up : (itself now before goes : Bool) → (goes ≡ false → now ≡ before) → (goes ≡ true → now ≡ false) → (goes ≡ true → itself ≡ false)
+      → cond (not itself && now) 1 0 + cond (goes && before) 1 0 ≡ cond (not itself && before) 1 0
+  sums_up itself now before true same none other = rw (none refl, other refl) (zero-add _)
+  sums_up itself now before false same none other = rw (same refl) (add-zero _)
+
+  -- what is left of a bank's usage, with what goes, is what it was
+  pub usage_rescinded : (x : ℕ) → is_member set x ≡ false → usage (rescind set os) x + lost os set x ≡ usage os x
+  unfolding usage lost
+  usage_rescinded x stays =
+      count_both (λ p. not (p.0 == x) && is_under (rescind set os) x p.1) (λ p. is_member set p.0 && is_under os x p.1)
+      (λ p. not (p.0 == x) && is_under os x p.1) 0 os (rescind set os) free (length_rescind os set)
+      (λ i j e.
+      let same : i ≡ j = omega (arith, e) in
+      rw same (sums_up (j == x) (is_under (rescind set os) x (object_at (rescind set os) j)) (is_under os x (object_at os j)) (is_member set j)
+      (λ kept. under_kept x j kept) (λ goes. under_went x j goes)
+      (λ goes. ne_eqb j x (λ at. false≢true (sym stays ∙ (ap (λ (m : ℕ). is_member set m) (sym at) ∙ goes))))))
+
+-- usage doesn't rise
+usage_falls : (os : List Object) (set : List ℕ) → IsTree os → IsClosedSet os set → (x : ℕ) → is_member set x ≡ false
+    → usage (rescind set os) x ≤ usage os x
+usage_falls os set tree closed x stays = omega (arith, usage_rescinded os set tree closed x stays)
+
+-- the frame after a rescind
+framed_rescind : (g : Geometry) (os : List Object) (set : List ℕ) → IsFramed g os → IsClosedSet os set → IsFramed g (rescind set os)
+framed_rescind g os set h closed =
+    let tree = tree_of g os h in
+    let stays = stays_where os set in
+    let t = kept_tests os set in
+    let alike = kept_alike os set in
+    record {
+      size = length_rescind os set ∙ h.size;
+      kinds = λ n. elim (cases_Bool (is_member set n)) [
+        | inl goes ↦ subst (λ o. IsOfKind g n o.content) (sym (went_object os set n goes)) tt
+        | inr kept ↦ (t n kept).kind g n (h.kinds n)
+      ];
+      annexes = λ p is.
+          let kept = stays is_root refl p is in
+          let was = sym (t p kept).root ∙ is in
+          let known = h.annexes p was in
+          let with_it : is_member set (annex_at os p) ≡ false = closed.annexes p was ∙ kept in
+          rw (alike p kept).annex ((t (annex_at os p) with_it).annex ∙ known.0, (alike (annex_at os p) with_it).owner ∙ (known.1 ∙ sym (alike p kept).owner));
+      one_root = λ p q is iq same.
+          let kept = stays is_root refl p is in
+          let other = stays is_root refl q iq in
+          h.one_root p q (sym (t p kept).root ∙ is) (sym (t q other).root ∙ iq) (sym (alike p kept).annex ∙ (same ∙ (alike q other).annex));
+      some_root = λ a is.
+          let kept = stays is_annex refl a is in
+          let found = h.some_root a (sym (t a kept).annex ∙ is) in
+          let with_it : is_member set found.0 ≡ false = sym (closed.annexes found.0 found.1) ∙ (ap (λ (m : ℕ). is_member set m) found.2 ∙ kept) in
+          (found.0, (t found.0 with_it).root ∙ found.1, (alike found.0 with_it).annex ∙ found.2);
+      unowned = λ n is. elim (cases_Bool (is_member set n)) [
+        | inl goes ↦ ap (λ (o : Object). o.owner) (went_object os set n goes)
+        | inr kept ↦ (alike n kept).owner ∙ h.unowned n (sym (t n kept).free ∙ is)
+      ];
+      owners = λ n is.
+          let used = false_from_ne_true (is_free (content_at (rescind set os) n)) is in
+          let kept = stays (λ c. not (is_free c)) refl n (not_from_false _ used) in
+          let was : is_free (content_at os n) ≡ false = sym (t n kept).free ∙ used in
+          rw (alike n kept).owner ((t (owner_at os n) (owner_stays os set tree closed n was kept)).bank ∙ used_owner os tree n was);
+      prime = ((t 0 closed.prime).bank ∙ h.prime.0, (alike 0 closed.prime).owner ∙ h.prime.1);
+      chains = λ b is.
+          let kept = stays is_bank refl b is in
+          let was = sym (t b kept).bank ∙ is in
+          rw (chain_kept os set tree closed b was kept) (h.chains b was);
+      limits = λ b is.
+          let kept = stays is_bank refl b is in
+          let was = sym (t b kept).bank ∙ is in
+          rw (alike b kept).limit (omega (arith, usage_falls os set tree closed b kept, h.limits b was));
+    }
+
+-- what the objects hold after a rescind
+
+-- an object of the same role, and a process in the same state
+pub record IsAsBefore (os us : List Object) (n : ℕ) : Type 0 where
+  pub role : role_of (content_at us n) ≡ role_of (content_at os n)
+  pub state : state_at us n ≡ state_at os n
+
+-- a capability may be held still where what it names is as before
+pub held_as_before : (os us : List Object) (c : Capability) → ((n : ℕ) → named c ≡ Some n → IsAsBefore os us n) → IsHeld os (Waits os) c → IsHeld us (Waits us) c
+held_as_before os us Void f h = record { well_formed = h.well_formed; names = h.names }
+held_as_before os us (Number n) f h = record { well_formed = h.well_formed; names = h.names }
+held_as_before os us (Page o a) f h = record { well_formed = h.well_formed; names = rw (same_tests (content_at os o) (content_at us o) (f o refl).role).page h.names }
+held_as_before os us (Node o a) f h = record { well_formed = h.well_formed; names = rw (same_tests (content_at os o) (content_at us o) (f o refl).role).node h.names }
+held_as_before os us (Space o k a) f h = record { well_formed = h.well_formed; names = rw (same_tests (content_at os o) (content_at us o) (f o refl).role).node h.names }
+held_as_before os us (Process p) f h = record { well_formed = h.well_formed; names = rw (same_tests (content_at os p) (content_at us p) (f p refl).role).root h.names }
+held_as_before os us (Start p key) f h = record { well_formed = h.well_formed; names = rw (same_tests (content_at os p) (content_at us p) (f p refl).role).root h.names }
+held_as_before os us (Resume p) f h = record {
+  well_formed = h.well_formed;
+  names = (rw (same_tests (content_at os p) (content_at us p) (f p refl).role).root h.names.0, ap is_waiting (f p refl).state ∙ h.names.1);
+}
+held_as_before os us (Bank b) f h = record { well_formed = h.well_formed; names = rw (same_tests (content_at os b) (content_at us b) (f b refl).role).bank h.names }
+held_as_before os us Discrim f h = record { well_formed = h.well_formed; names = h.names }
+
+state_map : (f : Capability → Capability) (c : Content Capability) → (root_in (map_content f c)).state ≡ (root_in c).state
+state_map f content.Free = refl
+state_map f c = refl
+
+module _ (os : List Object) (set : List ℕ) where
+  kept_as_before : (n : ℕ) → is_member set n ≡ false → IsAsBefore os (rescind set os) n
+  kept_as_before n e = record {
+    role = (kept_alike os set n e).role;
+    state = ap (λ (o : Object). (root_in o.content).state) (kept_object os set n e) ∙ state_map (void_where (names_member set)) (content_at os n);
+  }
+
+  abbrev Holds : Capability → Type 0
+  Holds c = IsHeld (rescind set os) (Waits (rescind set os)) c
+
+  abbrev cleared : Capability → Capability
+  cleared = void_where (names_member set)
+
+  held_rescind : (c : Capability) → IsHeld os (Waits os) c → Holds (cleared c)
+  held_rescind c h = go (names_member set c) refl
+    where
+      go : (b : Bool) → names_member set c ≡ b → Holds (if b then Void else c)
+      go true e = held_void (rescind set os) (Waits (rescind set os))
+      go false e =
+          held_as_before os (rescind set os) c
+          (λ n is. kept_as_before n (sym (ap (λ (o : Option ℕ). elim o [ None ↦ false | Some m ↦ is_member set m ]) is) ∙ e)) h
+
+  space_rescind : (c : Capability) → IsSpace c → IsSpace (cleared c)
+  space_rescind c h = go (names_member set c)
+    where
+      go : (b : Bool) → IsSpace (if b then Void else c)
+      go true = tt
+      go false = h
+
+  slots_rescind : (slots : List Capability) (i : ℕ) → IsHeld os (Waits os) (get_or slots i Void) → Holds (get_or (map cleared slots) i Void)
+  slots_rescind slots i h = rw (at_map cleared slots i Void refl) (held_rescind (get_or slots i Void) h)
+
+  filled_cleared : (c : Content Capability) → IsFilled os (Waits os) c → IsFilled (rescind set os) (Waits (rescind set os)) (map_content cleared c)
+  filled_cleared (content.Node s) h = record {
+    shape = length-map s cleared ∙ h.shape;
+    words = h.words;
+    slots = λ i. slots_rescind s i (h.slots i);
+    register_0 = λ e. cc;
+    space = held_void _ _;
+    is_space = tt;
+  }
+  filled_cleared (content.Annex s) h = record {
+    shape = length-map s cleared ∙ h.shape;
+    words = h.words;
+    slots = λ i. slots_rescind s i (h.slots i);
+    register_0 = λ e. at_map cleared s 0 Void refl ∙ ap cleared (h.register_0 refl);
+    space = held_void _ _;
+    is_space = tt;
+  }
+  filled_cleared (content.Root r) h = record {
+    shape = h.shape;
+    words = h.words;
+    slots = λ i. held_void _ _;
+    register_0 = λ e. refl;
+    space = held_rescind r.space h.space;
+    is_space = space_rescind r.space h.is_space;
+  }
+  filled_cleared c h = record {
+    shape = h.shape;
+    words = h.words;
+    slots = λ i. held_void _ _;
+    register_0 = λ e. refl;
+    space = held_void _ _;
+    is_space = tt;
+  }
+
+  filled_free : IsFilled (rescind set os) (Waits (rescind set os)) content.Free
+  filled_free = record { shape = tt; words = λ i. omega arith; slots = λ i. held_void _ _; register_0 = λ e. refl; space = held_void _ _; is_space = tt }
+
+  filled_rescind : (n : ℕ) → IsFilled os (Waits os) (content_at os n) → IsFilled (rescind set os) (Waits (rescind set os)) (content_at (rescind set os) n)
+  filled_rescind n h = elim (cases_Bool (is_member set n)) [
+    | inl goes ↦ subst (λ o. IsFilled (rescind set os) (Waits (rescind set os)) o.content) (sym (went_object os set n goes)) filled_free
+    | inr kept ↦ subst (λ o. IsFilled (rescind set os) (Waits (rescind set os)) o.content) (sym (kept_object os set n kept)) (filled_cleared (content_at os n) h)
+  ]
+
+-- sound objects are sound where a closed set is given up
+pub rescinded_now : (g : Geometry) (os : List Object) (set : List ℕ) → IsNow g os → IsClosedSet os set → IsNow g (rescind set os)
+rescinded_now g os set h closed = record {
+  frame = framed_rescind g os set h.frame closed;
+  filled = λ n. filled_rescind os set n (h.filled n);
+}
+
+-- how much goes with a set
+
+none_before : (m k : ℕ) (xs : List Object) → m < k → count_by (λ p. p.0 == m) (enumerate_from k xs) ≡ 0
+none_before m k [] e = refl
+none_before m k (x ∷ xs) e =
+    rw (sum_by-cons (λ (z : ℕ × Object). cond (z.0 == m) 1 0) (k, x) (enumerate_from (k + 1) xs), ne_eqb k m (λ same. omega (arith, e, same)))
+    (zero-add _ ∙ none_before m (k + 1) xs (omega (arith, e)))
+
+one_within : (m k : ℕ) (xs : List Object) → k ≤ m → m < k + length xs → count_by (λ p. p.0 == m) (enumerate_from k xs) ≡ 1
+one_within m k [] from below = absurd (omega (arith, from, below))
+one_within m k (x ∷ xs) from below =
+    rw (sum_by-cons (λ (z : ℕ × Object). cond (z.0 == m) 1 0) (k, x) (enumerate_from (k + 1) xs))
+    (elim (cases_eq k m) [
+      | inl same ↦ rw (eq-eqb k m same, none_before m (k + 1) xs (omega (arith, same))) refl
+      | inr other ↦ rw (ne_eqb k m other) (zero-add _ ∙ one_within m (k + 1) xs (grind (arith, from, other)) (omega (arith, below)))
+    ])
+
+-- a list of numbers of objects, each once, has as many as there are
+pub count_members : (os : List Object) (set : List ℕ) → AllDiffer set → ((n : ℕ) → is_member set n ≡ true → n < length os)
+    → count_by (λ p. is_member set p.0) (enumerate_from 0 os) ≡ length set
+count_members os [] once below = count_none (λ p. false) os free (λ i. refl)
+count_members os (m ∷ ms) once below =
+    let first = one_within m 0 os (omega arith) (omega (arith, below m (or_left (nat_eq m m) (is_member ms m) (eq-eqb m m refl)))) in
+    let rest = count_members os ms once.1 (λ n is. below n (or_right (nat_eq n m) (is_member ms n) is)) in
+    let both = count_both (λ p. p.0 == m) (λ p. is_member ms p.0) (λ p. is_member (m ∷ ms) p.0) 0 os os free refl (λ i j e. apart j (cases_eq j m)) in
+    omega (arith, first, rest, both)
+  where
+    apart : (j : ℕ) → (j ≡ m) ⊎ (j ≢ m) → cond (j == m) 1 0 + cond (is_member ms j) 1 0 ≡ cond (is_member (m ∷ ms) j) 1 0
+    apart j (inl same) = rw (same, once.0, eq-eqb m m refl) refl
+    apart j (inr other) = rw (ne_eqb j m other) (zero-add _)
+
+-- where a bank is above all of a set or above none of it, so much of its usage goes
+pub lost_together : (os : List Object) (set : List ℕ) (x : ℕ) (above : Bool) → AllDiffer set → ((n : ℕ) → is_member set n ≡ true → n < length os)
+    → ((n : ℕ) → is_member set n ≡ true → is_under os x (object_at os n) ≡ above) → lost os set x ≡ (if above then length set else 0)
+unfolding lost
+lost_together os set x true once below each =
+    count_same (λ p. is_member set p.0 && is_under os x p.1) (λ p. is_member set p.0) os free (λ i. go i (is_member set i) refl) ∙ count_members os set once below
+  where
+    go : (i : ℕ) (b : Bool) → is_member set i ≡ b → (b && is_under os x (object_at os i)) ≡ b
+    go i true e = each i e
+    go i false e = refl
+lost_together os set x false once below each =
+    count_none (λ p. is_member set p.0 && is_under os x p.1) os free (λ i. go i (is_member set i) refl)
+  where
+    go : (i : ℕ) (b : Bool) → is_member set i ≡ b → (b && is_under os x (object_at os i)) ≡ false
+    go i true e = each i e
+    go i false e = refl

@@ -1,0 +1,337 @@
+-- A bank that is returned to its parent, and that what banks give up leaves objects sound.
+use Rattle.std.proofs.Common.{◌≡◌, ◌≢◌, inl, inr, ℕ, zero, suc, ◌+◌, ◌-◌, ◌==◌, ◌≤◌, nat_eq, Bool, true, false, not, ◌&&◌, ◌||◌, List, [], ◌∷◌, length, refl, sym, ap, subst, arith, add-zero, ◌∙◌}
+use Rattle.std.specs.Prelude.{if◌then◌else◌, IsTrue}
+use Rattle.std.proofs.lemmas.Bool.{false≢true, cases_Bool, cases_eq, and_right, or_right, false_from_ne_true, eq-eqb, ne_eqb, eqb-true, eqb-false}
+use Rattle.std.proofs.lemmas.List.{length-map}
+use Rattle.std.proofs.lemmas.Map.Views.{Contains-from_any}
+use Rattle.model.specs.declared.capability.Capability.{Capability}
+use Rattle.model.specs.declared.capability.Capability.TheVariants.{Void}
+use Rattle.model.specs.declared.geometry.Geometry.{Geometry}
+use Rattle.model.specs.declared.object.Content.{Content}
+use Rattle.model.specs.declared.object.Content.TheVariants as content
+use Rattle.model.specs.declared.object.Object.{Object}
+use Rattle.model.specs.declared.order.Arguments.{Arguments}
+use Rattle.model.specs.declared.order.BankOrder.TheVariants as bank
+use Rattle.model.specs.Object.{free, is_free, is_root, is_annex, is_bank, role_of, root_in, limit_in}
+use Rattle.model.specs.OrderOutcome.{made}
+use Rattle.model.specs.World.{object_at, content_at, owner_at, slot_at, root_at, annex_at}
+use Rattle.model.specs.Bank.{chain, chain_within, is_under, usage}
+use Rattle.model.specs.Banking.{freed_by, under, owned_by, handed_on, inherited, freed, on_bank}
+use Rattle.model.specs.Revoke.{is_member, rescind}
+use Rattle.model.specs.Sound.{IsOfKind}
+use Rattle.model_laws.proofs.SoundParts.{IsHeld, IsFilled, IsFramed, Waits, held_to, held_void}
+use Rattle.model_laws.proofs.SoundEdits.{at_map}
+use Rattle.model_laws.proofs.SoundOrders.{IsNow, IsOutcome, AreArguments, three_words, refused_keeps, either}
+use Rattle.model_laws.proofs.BankTree.{IsTree, tree_of, member_tail, chain_prime, chain_unfolds, chain_longer, chain_once, chain_itself, chain_nonempty, chain_length, chain_owner_length, owner_bank}
+use Rattle.model_laws.proofs.NumberLists.{AllDiffer, no_member, only_member}
+use Rattle.model_laws.proofs.BankRescind.{count_both, count_none, held_as_before, rescinded_now, used_owner, used_where}
+use Rattle.model_laws.proofs.BankFreed.{IsGivenUp, differ_where, freed_set, owned_found, owned_once, tree_induction, under_given_up, under_owner, usage_given_up}
+
+-- who owns what a bank owned
+abbrev pub heir : ℕ → ℕ → ℕ → ℕ
+heir b parent n = if n == b then parent else n
+
+heir_of : (b parent n : ℕ) → n ≡ b → heir b parent n ≡ parent
+heir_of b parent n e = rw (eq-eqb n b e) refl
+
+heir_other : (b parent n : ℕ) → n ≢ b → heir b parent n ≡ n
+heir_other b parent n e = rw (ne_eqb n b e) refl
+
+handed_content : (b parent : ℕ) (o : Object) → (handed_on b parent o).content ≡ o.content
+handed_content b parent o = go (not (is_free o.content) && (o.owner == b))
+  where
+    go : (t : Bool) → (if t then record { owner = parent; content = o.content } else o).content ≡ o.content
+    go true = refl
+    go false = refl
+
+handed_owner : (b parent : ℕ) (o : Object) → b ≢ 0 → (is_free o.content ≡ true → o.owner ≡ 0) → (handed_on b parent o).owner ≡ heir b parent o.owner
+handed_owner b parent o on unowned = go (is_free o.content) refl
+  where
+    go : (t : Bool) → is_free o.content ≡ t → (if not t && (o.owner == b) then record { owner = parent; content = o.content } else o).owner ≡ heir b parent o.owner
+    go true gone = sym (heir_other b parent o.owner (λ e. on (sym e ∙ unowned gone)))
+    go false used = kept (o.owner == b)
+      where
+        kept : (t : Bool) → (if t then record { owner = parent; content = o.content } else o).owner ≡ (if t then parent else o.owner)
+        kept true = refl
+        kept false = refl
+
+-- the objects after a bank's are handed on
+module _ (os : List Object) (t : IsTree os) (b : ℕ) (is : IsTrue (is_bank (content_at os b))) (on : b ≢ 0) where
+  pub inherited_object : (n : ℕ) → object_at (inherited os b) n ≡ handed_on b (owner_at os b) (object_at os n)
+  unfolding inherited
+  inherited_object n = at_map (handed_on b (owner_at os b)) os n free refl
+
+  pub inherited_content : (n : ℕ) → content_at (inherited os b) n ≡ content_at os n
+  inherited_content n = ap (λ (o : Object). o.content) (inherited_object n) ∙ handed_content b (owner_at os b) (object_at os n)
+
+  pub inherited_owner : (n : ℕ) → owner_at (inherited os b) n ≡ heir b (owner_at os b) (owner_at os n)
+  inherited_owner n = ap (λ (o : Object). o.owner) (inherited_object n) ∙ handed_owner b (owner_at os b) (object_at os n) on (t.unowned n)
+
+  pub length_inherited : length (inherited os b) ≡ length os
+  unfolding inherited
+  length_inherited = length-map os (handed_on b (owner_at os b))
+
+  -- a bank doesn't own itself
+  parent_other : owner_at os b ≢ b
+  parent_other e =
+      false≢true (sym (chain_once os t b is on) ∙ (ap (λ (k : ℕ). is_member (chain os k) b) e ∙ chain_itself os t b is))
+
+  heir_differs : (n : ℕ) → heir b (owner_at os b) n ≢ b
+  heir_differs n e = elim (cases_eq n b) [
+    | inl same ↦ parent_other (sym (heir_of b (owner_at os b) n same) ∙ e)
+    | inr other ↦ other (sym (heir_other b (owner_at os b) n other) ∙ e)
+  ]
+
+  heir_bank : (n : ℕ) → IsTrue (is_bank (content_at os n)) → IsTrue (is_bank (content_at os (heir b (owner_at os b) n)))
+  heir_bank n bank = elim (cases_eq n b) [
+    | inl same ↦ rw (heir_of b (owner_at os b) n same) (owner_bank os t b is)
+    | inr other ↦ rw (heir_other b (owner_at os b) n other) bank
+  ]
+
+  -- the bank is in no chain but its own
+  no_heir_within : (k n : ℕ) → is_member (chain_within k (inherited os b) (heir b (owner_at os b) n)) b ≡ false
+  no_heir_within zero n = refl
+  no_heir_within (suc k) n = elim (cases_eq (heir b (owner_at os b) n) 0) [
+    | inl end ↦ rw (end, ne_eqb b 0 on) refl
+    | inr far ↦
+        rw (ne_eqb (heir b (owner_at os b) n) 0 far, inherited_owner (heir b (owner_at os b) n))
+        (member_tail b (heir b (owner_at os b) n) _ (λ e. heir_differs n (sym e)) ∙ no_heir_within k (owner_at os (heir b (owner_at os b) n)))
+  ]
+
+  -- all others are in the chains that they were in
+  heir_within : (x : ℕ) → x ≢ b → (c : ℕ) → IsTrue (is_bank (content_at os c)) → (k : ℕ) → length (chain os c) ≤ k
+      → is_member (chain_within k (inherited os b) (heir b (owner_at os b) c)) x ≡ is_member (chain os c) x
+  heir_within x differ =
+      tree_induction os t
+      (λ c. (k : ℕ) → length (chain os c) ≤ k → is_member (chain_within k (inherited os b) (heir b (owner_at os b) c)) x ≡ is_member (chain os c) x)
+      base step
+    where
+      base : (k : ℕ) → length (chain os 0) ≤ k → is_member (chain_within k (inherited os b) (heir b (owner_at os b) 0)) x ≡ is_member (chain os 0) x
+      base zero short = absurd (omega (arith, short, chain_nonempty os t 0 t.prime.0))
+      base (suc k) short = rw (heir_other b (owner_at os b) 0 (λ e. on (sym e)), chain_prime os) refl
+
+      step : (c : ℕ) → IsTrue (is_bank (content_at os c)) → c ≢ 0
+          → ((k : ℕ) → length (chain os (owner_at os c)) ≤ k → is_member (chain_within k (inherited os b) (heir b (owner_at os b) (owner_at os c))) x ≡ is_member (chain os (owner_at os c)) x)
+          → (k : ℕ) → length (chain os c) ≤ k → is_member (chain_within k (inherited os b) (heir b (owner_at os b) c)) x ≡ is_member (chain os c) x
+      step c bank far above zero short = absurd (omega (arith, short, chain_nonempty os t c bank))
+      step c bank far above (suc k) short = elim (cases_eq c b) [
+        | inl same ↦
+            ap (λ (n : ℕ). is_member (chain_within (suc k) (inherited os b) n) x)
+            (heir_of b (owner_at os b) c same ∙ (ap (λ (n : ℕ). owner_at os n) (sym same)
+            ∙ sym (heir_other b (owner_at os b) (owner_at os c) (λ e. parent_other (ap (λ (n : ℕ). owner_at os n) (sym same) ∙ e)))))
+            ∙ (above (suc k) (omega (arith, short, chain_longer os t c bank far))
+            ∙ sym (ap (λ xs. is_member xs x) (chain_unfolds os t c bank far) ∙ member_tail x c (chain os (owner_at os c)) (λ e. differ (e ∙ same))))
+        | inr other ↦
+            rw (heir_other b (owner_at os b) c other, ne_eqb c 0 far, inherited_owner c, chain_unfolds os t c bank far)
+            (ap (λ (rest : Bool). nat_eq x c || rest) (above k (omega (arith, short, chain_longer os t c bank far))))
+      ]
+
+  chain_heir : (x c : ℕ) → x ≢ b → IsTrue (is_bank (content_at os c)) → is_member (chain (inherited os b) (heir b (owner_at os b) c)) x ≡ is_member (chain os c) x
+  unfolding chain
+  chain_heir x c differ bank = heir_within x differ c bank 16 (chain_length os c)
+
+  no_heir : (n : ℕ) → is_member (chain (inherited os b) (heir b (owner_at os b) n)) b ≡ false
+  unfolding chain
+  no_heir n = no_heir_within 16 n
+
+  has_prime : (c : ℕ) → IsTrue (is_bank (content_at os c)) → is_member (chain os c) 0 ≡ true
+  has_prime =
+      tree_induction os t (λ c. is_member (chain os c) 0 ≡ true) (rw (chain_prime os) refl)
+      (λ c bank far above. rw (chain_unfolds os t c bank far) (or_right (nat_eq 0 c) (is_member (chain os (owner_at os c)) 0) above))
+
+  -- the bank's own chain still ends in the prime bank
+  own_chain : is_member (chain (inherited os b) b) 0 ≡ true
+  unfolding chain
+  own_chain =
+      rw (ne_eqb b 0 on, inherited_owner b)
+      (or_right (nat_eq 0 b) _
+      (heir_within 0 (λ e. on (sym e)) (owner_at os b) (owner_bank os t b is) 15 (omega (arith, chain_owner_length os t b is on)) ∙ has_prime (owner_at os b) (owner_bank os t b is)))
+
+  inherited_chain : (c : ℕ) → IsTrue (is_bank (content_at os c)) → is_member (chain (inherited os b) c) 0 ≡ true
+  inherited_chain c bank = elim (cases_eq c b) [
+    | inl same ↦ subst (λ n. is_member (chain (inherited os b) n) 0 ≡ true) (sym same) own_chain
+    | inr other ↦
+        subst (λ n. is_member (chain (inherited os b) n) 0 ≡ true) (heir_other b (owner_at os b) c other) (chain_heir 0 c (λ e. on (sym e)) bank ∙ has_prime c bank)
+  ]
+
+  -- the others' usage is as it was, and the bank has none
+  under_heir : (x n : ℕ) → x ≢ b → is_under (inherited os b) x (object_at (inherited os b) n) ≡ is_under os x (object_at os n)
+  under_heir x n differ = elim (cases_Bool (is_free (content_at os n))) [
+    | inl gone ↦ rw (inherited_content n, gone) refl
+    | inr used ↦ rw (inherited_content n, inherited_owner n, used) (chain_heir x (owner_at os n) differ (used_owner os t n used))
+  ]
+
+  no_under : (n : ℕ) → is_under (inherited os b) b (object_at (inherited os b) n) ≡ false
+  no_under n = rw (inherited_owner n) (and_right (not (is_free (content_at (inherited os b) n))) _ (no_heir (owner_at os n)))
+
+  pub usage_inherited : (x : ℕ) → x ≢ b → usage (inherited os b) x ≡ usage os x
+  unfolding usage
+  usage_inherited x differ =
+      omega (
+        arith,
+        count_none (λ p. false) os free (λ i. refl),
+        count_both (λ p. not (p.0 == x) && is_under (inherited os b) x p.1) (λ p. false) (λ p. not (p.0 == x) && is_under os x p.1) 0 os (inherited os b) free length_inherited
+            (λ i j e. let same : i ≡ j = omega (arith, e) in rw (same, under_heir x j differ) (add-zero _)),
+      )
+
+  usage_none : usage (inherited os b) b ≡ 0
+  unfolding usage
+  usage_none =
+      count_none (λ p. not (p.0 == b) && is_under (inherited os b) b p.1) (inherited os b) free (λ i. and_right (not (i == b)) _ (no_under i))
+
+-- the frame after a bank's objects are handed on
+pub framed_inherited : (g : Geometry) (os : List Object) (b : ℕ) → IsFramed g os → IsTrue (is_bank (content_at os b)) → b ≢ 0 → IsFramed g (inherited os b)
+framed_inherited g os b h is on =
+    let t = tree_of g os h in
+    let same = inherited_content os t b is on in
+    let owner = inherited_owner os t b is on in
+    let annex = λ (p : ℕ). ap (λ (c : Content Capability). (root_in c).annex) (same p) in
+    record {
+      size = length_inherited os t b is on ∙ h.size;
+      kinds = λ n. subst (λ c. IsOfKind g n c) (sym (same n)) (h.kinds n);
+      annexes = λ p process.
+          let known = h.annexes p (ap is_root (sym (same p)) ∙ process) in
+          rw (annex p) (
+            ap is_annex (same (annex_at os p)) ∙ known.0,
+            owner (annex_at os p) ∙ (ap (λ (k : ℕ). heir b (owner_at os b) k) known.1 ∙ sym (owner p)),
+          );
+      one_root = λ p q first second e.
+          h.one_root p q (ap is_root (sym (same p)) ∙ first) (ap is_root (sym (same q)) ∙ second) (sym (annex p) ∙ (e ∙ annex q));
+      some_root = λ a e.
+          let found = h.some_root a (ap is_annex (sym (same a)) ∙ e) in
+          (found.0, ap is_root (same found.0) ∙ found.1, annex found.0 ∙ found.2);
+      unowned = λ n e.
+          owner n ∙ (ap (λ (k : ℕ). heir b (owner_at os b) k) (h.unowned n (ap is_free (sym (same n)) ∙ e)) ∙ heir_other b (owner_at os b) 0 (λ z. on (sym z)));
+      owners = λ n e.
+          rw (owner n) (ap is_bank (same (heir b (owner_at os b) (owner_at os n))) ∙ heir_bank os t b is on (owner_at os n) (h.owners n (λ z. e (ap is_free (same n) ∙ z))));
+      prime = (
+        ap is_bank (same 0) ∙ h.prime.0,
+        owner 0 ∙ (ap (λ (k : ℕ). heir b (owner_at os b) k) h.prime.1 ∙ heir_other b (owner_at os b) 0 (λ z. on (sym z))),
+      );
+      chains = λ c bank.
+          Contains-from_any (λ x y e. eqb-true x y e) 0 (chain (inherited os b) c) (inherited_chain os t b is on c (ap is_bank (sym (same c)) ∙ bank));
+      limits = λ c bank. elim (cases_eq c b) [
+        | inl own ↦ rw own (omega (arith, usage_none os t b is on))
+        | inr other ↦
+            let limit : limit_in (content_at (inherited os b) c) ≡ limit_in (content_at os c) = ap limit_in (same c) in
+            rw limit (omega (arith, usage_inherited os t b is on c other, h.limits c (ap is_bank (sym (same c)) ∙ bank)))
+      ];
+    }
+
+-- sound objects are sound where a bank's are handed on
+pub inherited_now : (g : Geometry) (os : List Object) (b : ℕ) → IsNow g os → IsTrue (is_bank (content_at os b)) → b ≢ 0 → IsNow g (inherited os b)
+inherited_now g os b h is on =
+    let same = inherited_content os (tree_of g os h.frame) b is on in
+    let held = λ (c : Capability) (may : IsHeld os (Waits os) c).
+    held_as_before os (inherited os b) c (λ n e. record { role = ap role_of (same n); state = ap (λ (c : Content Capability). (root_in c).state) (same n) }) may
+    in
+    record {
+      frame = framed_inherited g os b h.frame is on;
+      filled = λ n.
+          subst (λ c. IsFilled (inherited os b) (Waits (inherited os b)) c) (sym (same n)) (record {
+            shape = (h.filled n).shape;
+            words = (h.filled n).words;
+            slots = λ i. held (slot_at os n i) ((h.filled n).slots i);
+            register_0 = (h.filled n).register_0;
+            space = held (root_at os n).space (h.filled n).space;
+            is_space = (h.filled n).is_space;
+          });
+    }
+
+-- then the bank can be given up alone
+alone_given_up : (g : Geometry) (os : List Object) (b : ℕ) → IsFramed g os → IsTrue (is_bank (content_at os b)) → b ≢ 0 → IsGivenUp (inherited os b) (b ∷ [])
+alone_given_up g os b h is on =
+    let t = tree_of g os h in
+    let after = framed_inherited g os b h is on in
+    let bank : is_bank (content_at (inherited os b) b) ≡ true = ap is_bank (inherited_content os t b is on b) ∙ is in
+    record {
+      closed = record {
+        prime = no_member b [] 0 (λ e. on (sym e)) refl;
+        annexes = λ p process.
+            no_member b [] (annex_at (inherited os b) p)
+            (differ_where is_annex (inherited os b) (annex_at (inherited os b) p) b (after.annexes p process).0 (bank_no_annex (content_at (inherited os b) b) bank)) refl
+            ∙ sym (no_member b [] p (differ_where is_root (inherited os b) p b process (bank_no_root (content_at (inherited os b) b) bank)) refl);
+        owned = λ n used e.
+            absurd (heir_differs os t b is on (owner_at os n) (sym (inherited_owner os t b is on n) ∙ only_member b (owner_at (inherited os b) n) e));
+      };
+      once = (refl, tt);
+      used = λ n e.
+          subst (λ k. is_free (content_at (inherited os b) k) ≡ false) (sym (only_member b n e)) (used_where is_bank refl (content_at (inherited os b) b) bank);
+    }
+  where
+    bank_no_annex : (c : Content Capability) → is_bank c ≡ true → is_annex c ≡ false
+    bank_no_annex (content.Annex r) e = absurd (false≢true e)
+    bank_no_annex c e = refl
+
+    bank_no_root : (c : Content Capability) → is_bank c ≡ true → is_root c ≡ false
+    bank_no_root (content.Root r) e = absurd (false≢true e)
+    bank_no_root c e = refl
+
+-- sound objects are sound where a bank is returned
+pub returned_now : (g : Geometry) (os : List Object) (b : ℕ) → IsNow g os → IsTrue (is_bank (content_at os b)) → b ≢ 0 → IsNow g (rescind (b ∷ []) (inherited os b))
+returned_now g os b h is on = rescinded_now g (inherited os b) (b ∷ []) (inherited_now g os b h is on) (alone_given_up g os b h.frame is on).closed
+
+usage_returned_both : (g : Geometry) (os : List Object) (b : ℕ) → IsNow g os → IsTrue (is_bank (content_at os b)) → b ≢ 0
+    → (x : ℕ) → x ≢ b
+    → usage (rescind (b ∷ []) (inherited os b)) x + (if is_member (chain os (owner_at os b)) x then 1 else 0) ≡ usage os x
+usage_returned_both g os b h is on x differ =
+    let t = tree_of g os h.frame in
+    let alone = alone_given_up g os b h.frame is on in
+    usage_given_up (inherited os b) (b ∷ []) (tree_of g (inherited os b) (framed_inherited g os b h.frame is on)) alone x
+    (no_member b [] x differ refl) (is_member (chain os (owner_at os b)) x)
+    (λ n e.
+    under_owner (inherited os b) x n (alone.used n e)
+    ∙ (ap (λ (k : ℕ). is_member (chain (inherited os b) (owner_at (inherited os b) k)) x) (only_member b n e)
+    ∙ (ap (λ (k : ℕ). is_member (chain (inherited os b) k) x) (inherited_owner os t b is on b) ∙ chain_heir os t b is on x (owner_at os b) differ (owner_bank os t b is))))
+    ∙ usage_inherited os t b is on x differ
+
+-- the usage of a bank where another is returned to its parent
+pub usage_returned : (g : Geometry) (os : List Object) (b : ℕ) → IsNow g os → IsTrue (is_bank (content_at os b)) → b ≢ 0
+    → (x : ℕ) → x ≢ b
+    → usage (rescind (b ∷ []) (inherited os b)) x ≡ usage os x - (if is_member (chain os (owner_at os b)) x then 1 else 0)
+usage_returned g os b h is on x differ = omega (arith, usage_returned_both g os b h is on x differ)
+
+-- what is returned isn't more than was used
+pub returned_fits : (g : Geometry) (os : List Object) (b : ℕ) → IsNow g os → IsTrue (is_bank (content_at os b)) → b ≢ 0
+    → (x : ℕ) → x ≢ b → (if is_member (chain os (owner_at os b)) x then 1 else 0) ≤ usage os x
+returned_fits g os b h is on x differ = omega (arith, usage_returned_both g os b h is on x differ)
+
+-- the bank isn't among what it owns
+pub returned_once : (g : Geometry) (os : List Object) (b : ℕ) → IsNow g os → IsTrue (is_bank (content_at os b)) → b ≢ 0 → AllDiffer (b ∷ owned_by os b)
+returned_once g os b h is on = (
+  false_from_ne_true (is_member (owned_by os b) b) (λ e. parent_other os (tree_of g os h.frame) b is on (owned_found os b b e).2),
+  owned_once os b,
+)
+
+-- outcomes
+
+-- an outcome that gives nothing
+void_keeps : (g : Geometry) (os : List Object) (written : List ℕ) → IsNow g os → IsOutcome g (made os written Void)
+void_keeps g os written h = record { now = h; count = refl; words = three_words 0 0 0 (omega arith) (omega arith) (omega arith); held = held_void os (Waits os) }
+
+module _ (g : Geometry) (os : List Object) (b : ℕ) (args : Arguments) (h : IsNow g os) (is : IsTrue (is_bank (content_at os b))) (fits : AreArguments os args) where
+  -- a free keeps sound objects sound
+  pub freed_keeps : IsOutcome g (on_bank g os b bank.Free args)
+  unfolding on_bank
+  freed_keeps = go (freed_by os args.capability) refl
+    where
+      go : (ns : List ℕ) → freed_by os args.capability ≡ ns → IsOutcome g (freed os b ns)
+      go [] e = refused_keeps g os _ h
+      go (n ∷ ns) e =
+          either g (owner_at os n == b) _ _
+          (λ own. void_keeps g _ _
+          (rescinded_now g os (n ∷ ns) h (freed_set g os h.frame args.capability n ns (held_to os args.capability fits.held).1 e).given_up.closed))
+          (λ other. refused_keeps g os _ h)
+
+  -- so does the end of a bank with all under it
+  pub destroyed_keeps : IsOutcome g (on_bank g os b bank.Destroy args)
+  unfolding on_bank
+  destroyed_keeps =
+      either g (b == 0) _ _ (λ prime. refused_keeps g os _ h)
+      (λ on. void_keeps g _ _ (rescinded_now g os (under os b) h (under_given_up g os h.frame b is (eqb-false b 0 on)).closed))
+
+  -- and a bank's return to its parent
+  pub returned_keeps : IsOutcome g (on_bank g os b bank.ReturnToParent args)
+  unfolding on_bank
+  returned_keeps =
+      either g (b == 0) _ _ (λ prime. refused_keeps g os _ h) (λ on. void_keeps g _ _ (returned_now g os b h is (eqb-false b 0 on)))

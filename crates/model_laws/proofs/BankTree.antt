@@ -1,0 +1,274 @@
+-- The tree of banks: chains and what is in them.
+use Rattle.std.proofs.Common.{◌≡◌, ◌≢◌, inl, inr, ℕ, zero, suc, ◌<◌, ◌≤◌, true, false, ◌||◌, List, [], ◌∷◌, length, refl, sym, ap, subst, arith, ◌∙◌}
+use Rattle.std.specs.Prelude.{IsTrue, slice_index_or}
+use Rattle.std.specs.List.{Contains}
+use Rattle.std.proofs.lemmas.Bool.{cases_eq, eq-eqb, ne_eqb, false_from_ne_true}
+use Rattle.std.proofs.lemmas.List.{get_or-set_same, get_or-set_other, length-set}
+use Rattle.model.specs.declared.capability.Capability.{Capability}
+use Rattle.model.specs.declared.geometry.Geometry.{Geometry}
+use Rattle.model.specs.declared.object.Content.{Content}
+use Rattle.model.specs.declared.object.Content.TheVariants as content
+use Rattle.model.specs.declared.object.Object.{Object}
+use Rattle.model.specs.Object.{free, is_bank, is_free}
+use Rattle.model.specs.World.{object_at, content_at, owner_at}
+use Rattle.model.specs.Bank.{chain, chain_within}
+use Rattle.model.specs.Banking.{with_new}
+use Rattle.model.specs.Revoke.{is_member}
+use Rattle.model_laws.proofs.SoundParts.{IsFramed}
+
+-- every object that isn't free is owned by a bank, and every bank's chain ends in the prime bank
+pub record IsTree (os : List Object) : Type 0 where
+  pub unowned : (n : ℕ) → IsTrue (is_free (content_at os n)) → owner_at os n ≡ 0
+  pub owners : (n : ℕ) → is_free (content_at os n) ≢ true → IsTrue (is_bank (content_at os (owner_at os n)))
+  pub prime : IsTrue (is_bank (content_at os 0)) × (owner_at os 0 ≡ 0)
+  pub chains : (b : ℕ) → IsTrue (is_bank (content_at os b)) → Contains (chain os b) 0
+
+-- the tree of framed objects
+pub tree_of : (g : Geometry) (os : List Object) → IsFramed g os → IsTree os
+tree_of g os h = record { unowned = h.unowned; owners = h.owners; prime = h.prime; chains = h.chains }
+
+-- a bank isn't free
+pub bank_used : (c : Content Capability) → IsTrue (is_bank c) → is_free c ≢ true
+bank_used (content.Bank limit) is gone = cc
+bank_used c is gone = cc
+
+-- lists of numbers
+
+contains_tail : (x y : ℕ) (xs : List ℕ) → x ≢ y → Contains (x ∷ xs) y → Contains xs y
+contains_tail x y xs differ h = go h.0 h.1 h.2
+  where
+    go : (k : ℕ) → k < length (x ∷ xs) → slice_index_or (x ∷ xs) k y ≡ y → Contains xs y
+    go zero lt e = absurd (differ e)
+    go (suc k) lt e = (k, omega arith, e)
+
+contains_more : (x y : ℕ) (xs : List ℕ) → Contains xs y → Contains (x ∷ xs) y
+contains_more x y xs h = (suc h.0, omega (arith, h.1), h.2)
+
+-- a member other than the first is one of the rest
+pub member_tail : (x b : ℕ) (xs : List ℕ) → x ≢ b → is_member (b ∷ xs) x ≡ is_member xs x
+member_tail x b xs differ = ap (λ t. t || is_member xs x) (ne_eqb x b differ)
+
+-- the first is a member
+pub member_head : (x b : ℕ) (xs : List ℕ) → x ≡ b → is_member (b ∷ xs) x ≡ true
+member_head x b xs same = ap (λ t. t || is_member xs x) (eq-eqb x b same)
+
+-- chains of so many banks
+
+within_end : (os : List Object) (k b : ℕ) → b ≡ 0 → chain_within (suc k) os b ≡ b ∷ []
+within_end os k b end = rw (eq-eqb b 0 end) refl
+
+within_on : (os : List Object) (k b : ℕ) → b ≢ 0 → chain_within (suc k) os b ≡ b ∷ chain_within k os (owner_at os b)
+within_on os k b on = rw (ne_eqb b 0 on) refl
+
+within_stays : (os : List Object) (k b : ℕ) → Contains (chain_within k os b) 0 → chain_within (suc k) os b ≡ chain_within k os b
+within_stays os zero b ends = absurd (omega (arith, ends.1))
+within_stays os (suc k) b ends = elim (cases_eq b 0) [
+  | inl end ↦ within_end os (suc k) b end ∙ sym (within_end os k b end)
+  | inr on ↦
+      let above = contains_tail b 0 (chain_within k os (owner_at os b)) on (subst (λ xs. Contains xs 0) (within_on os k b on) ends) in
+      within_on os (suc k) b on ∙ (ap (λ xs. b ∷ xs) (within_stays os k (owner_at os b) above) ∙ sym (within_on os k b on))
+]
+
+within_short : (os : List Object) (k b : ℕ) → length (chain_within (suc k) os b) ≤ k → chain_within (suc k) os b ≡ chain_within k os b
+within_short os zero b short = absurd (omega arith)
+within_short os (suc k) b short = elim (cases_eq b 0) [
+  | inl end ↦ within_end os (suc k) b end ∙ sym (within_end os k b end)
+  | inr on ↦
+      let long = ap (λ (xs : List ℕ). length xs) (within_on os (suc k) b on) in
+      let above : length (chain_within (suc k) os (owner_at os b)) ≤ k = omega (arith, short, long) in
+      within_on os (suc k) b on ∙ (ap (λ xs. b ∷ xs) (within_short os k (owner_at os b) above) ∙ sym (within_on os k b on))
+]
+
+within_length : (os : List Object) (k b : ℕ) → length (chain_within k os b) ≤ k
+within_length os zero b = omega arith
+within_length os (suc k) b = elim (cases_eq b 0) [
+  | inl end ↦ omega (arith, ap (λ (xs : List ℕ). length xs) (within_end os k b end))
+  | inr on ↦ omega (arith, ap (λ (xs : List ℕ). length xs) (within_on os k b on), within_length os k (owner_at os b))
+]
+
+within_on_same : (os us : List Object) (k b : ℕ) → ((x : ℕ) → is_member (chain_within k os b) x ≡ true → owner_at us x ≡ owner_at os x)
+    → chain_within k us b ≡ chain_within k os b
+within_on_same os us zero b same = refl
+within_on_same os us (suc k) b same = elim (cases_eq b 0) [
+  | inl end ↦ within_end us k b end ∙ sym (within_end os k b end)
+  | inr on ↦
+      let here : owner_at us b ≡ owner_at os b = same b (ap (λ xs. is_member xs b) (within_on os k b on) ∙ member_head b b (chain_within k os (owner_at os b)) refl) in
+      let above : (x : ℕ) → is_member (chain_within k os (owner_at os b)) x ≡ true → owner_at us x ≡ owner_at os x =
+      λ x in_rest. elim (cases_eq x b) [
+        | inl e ↦ rw e here
+        | inr differ ↦ same x (ap (λ xs. is_member xs x) (within_on os k b on) ∙ (member_tail x b (chain_within k os (owner_at os b)) differ ∙ in_rest))
+      ]
+      in
+      within_on us k b on ∙ (ap (λ c. b ∷ chain_within k us c) here
+      ∙ (ap (λ xs. b ∷ xs) (within_on_same os us k (owner_at os b) above) ∙ sym (within_on os k b on)))
+]
+
+-- lists of objects with the same owners along the chain of a bank have the same chain of it
+pub chain_on : (os us : List Object) (b : ℕ) → ((x : ℕ) → is_member (chain os b) x ≡ true → owner_at us x ≡ owner_at os x) → chain us b ≡ chain os b
+unfolding chain
+chain_on os us b same = within_on_same os us 16 b same
+
+-- no chain is longer than 16
+pub chain_length : (os : List Object) (b : ℕ) → length (chain os b) ≤ 16
+unfolding chain
+chain_length os b = within_length os 16 b
+
+-- the chain of the prime bank
+pub chain_prime : (os : List Object) → chain os 0 ≡ 0 ∷ []
+unfolding chain
+chain_prime os = within_end os 15 0 refl
+
+-- the same, of a number that is 0
+pub chain_zero : (os : List Object) (b : ℕ) → b ≡ 0 → chain os b ≡ b ∷ []
+unfolding chain
+chain_zero os b end = within_end os 15 b end
+
+-- a chain that isn't as long as it may be goes on from what the bank owns
+chain_below : (os us : List Object) (n b : ℕ) → n ≢ 0 → owner_at us n ≡ b → chain us b ≡ chain os b → length (chain os b) < 16 → chain us n ≡ n ∷ chain os b
+unfolding chain
+chain_below os us n b on is same short =
+    let fits : length (chain_within 16 us b) ≤ 15 = omega (arith, short, ap (λ (xs : List ℕ). length xs) same) in
+    within_on us 15 n on ∙ (ap (λ c. n ∷ chain_within 15 us c) is ∙ ap (λ xs. n ∷ xs) (sym (within_short us 15 b fits) ∙ same))
+
+module _ (os : List Object) (t : IsTree os) where
+  -- the owner of a bank is a bank
+  pub owner_bank : (b : ℕ) → IsTrue (is_bank (content_at os b)) → IsTrue (is_bank (content_at os (owner_at os b)))
+  owner_bank b is = t.owners b (bank_used (content_at os b) is)
+
+  -- the chain of a bank is the bank and the chain of its owner
+  pub chain_unfolds : (b : ℕ) → IsTrue (is_bank (content_at os b)) → b ≢ 0 → chain os b ≡ b ∷ chain os (owner_at os b)
+  unfolding chain
+  chain_unfolds b is on =
+      let above = contains_tail b 0 (chain_within 15 os (owner_at os b)) on (subst (λ xs. Contains xs 0) (within_on os 15 b on) (t.chains b is)) in
+      within_on os 15 b on ∙ ap (λ xs. b ∷ xs) (sym (within_stays os 15 (owner_at os b) above))
+
+  -- what holds of a bank, and of the owner of each bank that it holds of, holds all along the chain
+  pub chain_climbs : (P : ℕ → Type 0) → ((c : ℕ) → IsTrue (is_bank (content_at os c)) → c ≢ 0 → P c → P (owner_at os c))
+      → (b x : ℕ) → IsTrue (is_bank (content_at os b)) → P b → is_member (chain os b) x ≡ true → P x
+  unfolding chain
+  chain_climbs P climbs b x is here member = go 16 b is here member
+    where
+      go : (k c : ℕ) → IsTrue (is_bank (content_at os c)) → P c → is_member (chain_within k os c) x ≡ true → P x
+      go zero c is here member = cc
+      go (suc k) c is here member = elim (cases_eq x c) [
+        | inl e ↦ subst P (sym e) here
+        | inr differ ↦ elim (cases_eq c 0) [
+          | inl end ↦
+              let none : false ≡ true = sym (ap (λ xs. is_member xs x) (within_end os k c end) ∙ member_tail x c [] differ) ∙ member in
+              cc
+          | inr on ↦
+              go k (owner_at os c) (owner_bank c is) (climbs c is on here)
+              (sym (ap (λ xs. is_member xs x) (within_on os k c on) ∙ member_tail x c (chain_within k os (owner_at os c)) differ) ∙ member)
+        ]
+      ]
+
+  -- a chain of a bank has banks alone
+  pub chain_banks : (b x : ℕ) → IsTrue (is_bank (content_at os b)) → is_member (chain os b) x ≡ true → IsTrue (is_bank (content_at os x))
+  chain_banks b x is member = chain_climbs (λ c. IsTrue (is_bank (content_at os c))) (λ c bank on here. owner_bank c bank) b x is is member
+
+  -- the chain of an owner is one shorter
+  pub chain_longer : (b : ℕ) → IsTrue (is_bank (content_at os b)) → b ≢ 0 → length (chain os b) ≡ suc (length (chain os (owner_at os b)))
+  chain_longer b is on = ap (λ (xs : List ℕ). length xs) (chain_unfolds b is on)
+
+  -- a chain has a bank
+  pub chain_nonempty : (b : ℕ) → IsTrue (is_bank (content_at os b)) → 1 ≤ length (chain os b)
+  chain_nonempty b is = elim (cases_eq b 0) [
+    | inl end ↦ omega (arith, ap (λ (xs : List ℕ). length xs) (chain_zero os b end))
+    | inr on ↦ omega (arith, chain_longer b is on)
+  ]
+
+  -- the chain of an owner is shorter than the longest
+  pub chain_owner_length : (b : ℕ) → IsTrue (is_bank (content_at os b)) → b ≢ 0 → length (chain os (owner_at os b)) < 16
+  chain_owner_length b is on = omega (arith, chain_longer b is on, chain_length os b)
+
+  -- no chain is longer than that of a bank that it's in
+  pub chain_shorter : (b x : ℕ) → IsTrue (is_bank (content_at os b)) → is_member (chain os b) x ≡ true → length (chain os x) ≤ length (chain os b)
+  chain_shorter b x is member =
+      chain_climbs (λ c. length (chain os c) ≤ length (chain os b)) (λ c bank on here. omega (arith, here, chain_longer c bank on)) b x is (omega arith) member
+
+  -- no bank is twice in a chain
+  pub chain_once : (b : ℕ) → IsTrue (is_bank (content_at os b)) → b ≢ 0 → is_member (chain os (owner_at os b)) b ≡ false
+  chain_once b is on =
+      false_from_ne_true (is_member (chain os (owner_at os b)) b)
+      (λ twice. omega (arith, chain_longer b is on, chain_shorter (owner_at os b) b (owner_bank b is) twice))
+
+  -- a bank is in its own chain
+  pub chain_itself : (b : ℕ) → IsTrue (is_bank (content_at os b)) → is_member (chain os b) b ≡ true
+  chain_itself b is = elim (cases_eq b 0) [
+    | inl end ↦ ap (λ xs. is_member xs b) (chain_zero os b end) ∙ member_head b b [] refl
+    | inr on ↦ ap (λ xs. is_member xs b) (chain_unfolds b is on) ∙ member_head b b (chain os (owner_at os b)) refl
+  ]
+
+-- a new object at a free number
+
+-- what stands at its number
+pub at_new : (os : List Object) (n b : ℕ) (c : Content Capability) → n < length os → object_at (with_new os n b c) n ≡ record { owner = b; content = c }
+unfolding with_new
+at_new os n b c inside = get_or-set_same os n (record { owner = b; content = c }) free inside
+
+-- what stands at any other
+pub at_other : (os : List Object) (n b : ℕ) (c : Content Capability) (x : ℕ) → x ≢ n → object_at (with_new os n b c) x ≡ object_at os x
+unfolding with_new
+at_other os n b c x differ = get_or-set_other os n x (record { owner = b; content = c }) free differ
+
+-- there are as many objects
+pub length_new : (os : List Object) (n b : ℕ) (c : Content Capability) → length (with_new os n b c) ≡ length os
+unfolding with_new
+length_new os n b c = length-set os n (record { owner = b; content = c })
+
+-- the number of a bank isn't a free one
+pub bank_not_free : (os : List Object) (x n : ℕ) → IsTrue (is_bank (content_at os x)) → IsTrue (is_free (content_at os n)) → x ≢ n
+bank_not_free os x n is gone same = bank_used (content_at os x) is (ap (λ (m : ℕ). is_free (content_at os m)) same ∙ gone)
+
+-- an object of a bank at a number that is free; a bank only where the chain isn't as long as it may be
+module _ (os : List Object) (n b : ℕ) (c : Content Capability) (t : IsTree os) (bank : IsTrue (is_bank (content_at os b))) (inside : n < length os)
+    (unused : IsTrue (is_free (content_at os n))) (used : is_free c ≡ false) (short : IsTrue (is_bank c) → length (chain os b) < 16) where
+  bank_kept : (x : ℕ) → IsTrue (is_bank (content_at os x)) → object_at (with_new os n b c) x ≡ object_at os x
+  bank_kept x is = at_other os n b c x (bank_not_free os x n is unused)
+
+  -- a bank stays a bank
+  pub new_bank_kept : (x : ℕ) → IsTrue (is_bank (content_at os x)) → IsTrue (is_bank (content_at (with_new os n b c) x))
+  new_bank_kept x is = ap (λ (o : Object). is_bank o.content) (bank_kept x is) ∙ is
+
+  -- the chains of the banks that were there are the same
+  pub chain_new : (x : ℕ) → IsTrue (is_bank (content_at os x)) → chain (with_new os n b c) x ≡ chain os x
+  chain_new x is =
+      chain_on os (with_new os n b c) x (λ y member. ap (λ (o : Object). o.owner) (bank_kept y (chain_banks os t x y is member)))
+
+  -- that of a new bank goes on from its owner
+  pub chain_new_bank : IsTrue (is_bank c) → chain (with_new os n b c) n ≡ n ∷ chain os b
+  chain_new_bank is =
+      chain_below os (with_new os n b c) n b (λ e. bank_not_free os 0 n t.prime.0 unused (sym e))
+      (ap (λ (o : Object). o.owner) (at_new os n b c inside)) (chain_new b bank) (short is)
+
+  -- the banks are a tree still
+  pub tree_new : IsTree (with_new os n b c)
+  tree_new = record {
+    unowned = λ x gone. elim (cases_eq x n) [
+      | inl e ↦
+          let no_more : true ≡ false = sym gone ∙ (ap (λ (m : ℕ). is_free (content_at (with_new os n b c) m)) e
+          ∙ (ap (λ (o : Object). is_free o.content) (at_new os n b c inside) ∙ used)) in
+          cc
+      | inr differ ↦
+          let same = at_other os n b c x differ in
+          ap (λ (o : Object). o.owner) same ∙ t.unowned x (sym (ap (λ (o : Object). is_free o.content) same) ∙ gone)
+    ];
+    owners = λ x is. elim (cases_eq x n) [
+      | inl e ↦
+          let owner : owner_at (with_new os n b c) x ≡ b = ap (λ (m : ℕ). owner_at (with_new os n b c) m) e ∙ ap (λ (o : Object). o.owner) (at_new os n b c inside) in
+          rw owner (new_bank_kept b bank)
+      | inr differ ↦
+          let same = at_other os n b c x differ in
+          let owner : owner_at (with_new os n b c) x ≡ owner_at os x = ap (λ (o : Object). o.owner) same in
+          rw owner (new_bank_kept (owner_at os x) (t.owners x (λ e. is (ap (λ (o : Object). is_free o.content) same ∙ e))))
+    ];
+    prime = (new_bank_kept 0 t.prime.0, ap (λ (o : Object). o.owner) (bank_kept 0 t.prime.0) ∙ t.prime.1);
+    chains = λ x is. elim (cases_eq x n) [
+      | inl e ↦
+          let new_is : IsTrue (is_bank c) = sym (ap (λ (o : Object). is_bank o.content) (at_new os n b c inside)) ∙ (ap (λ (m : ℕ). is_bank (content_at (with_new os n b c) m)) (sym e) ∙ is) in
+          rw (e, chain_new_bank new_is) (contains_more n 0 (chain os b) (t.chains b bank))
+      | inr differ ↦
+          let was : IsTrue (is_bank (content_at os x)) = sym (ap (λ (o : Object). is_bank o.content) (at_other os n b c x differ)) ∙ is in
+          rw (chain_new x was) (t.chains x was)
+    ];
+  }

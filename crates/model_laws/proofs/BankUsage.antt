@@ -1,0 +1,252 @@
+-- Usage after a new object, and what a bank is asked where the frame is the same.
+use Rattle.std.proofs.Common.{◌≡◌, ◌≢◌, inl, inr, ℕ, suc, ◌+◌, ◌==◌, ◌<◌, ◌≤◌, Bool, true, false, not, ◌&&◌, ◌||◌, cond, List, [], ◌∷◌, length, map, get_or, refl, sym, ap, subst, arith, ◌∙◌}
+use Rattle.std.specs.Prelude.{IsTrue, if◌then◌else◌, nat_eq, nat_le, nat_lt}
+use Rattle.std.specs.List.{fold, enumerate_from, filter, list_any, list_all, range_with_len}
+use Rattle.std.proofs.lemmas.Bool.{cases_eq, eq-eqb, ne_eqb, and_right, false_from_ne_true}
+use Rattle.model.specs.declared.capability.Capability.{Capability}
+use Rattle.model.specs.declared.capability.Capability.TheVariants.{Void, Page, Node, Process, Bank}
+use Rattle.model.specs.declared.geometry.Geometry.{Geometry}
+use Rattle.model.specs.declared.object.Content.{Content}
+use Rattle.model.specs.declared.object.Content.TheVariants as content
+use Rattle.model.specs.declared.object.Object.{Object}
+use Rattle.model.specs.declared.order.Arguments.{Arguments}
+use Rattle.model.specs.declared.order.BankOrder.{BankOrder}
+use Rattle.model.specs.declared.order.BankOrder.TheVariants as bank
+use Rattle.model.specs.declared.order.ResultCode.{ResultCode}
+use Rattle.model.specs.declared.order.ResultCode.TheVariants as code
+use Rattle.model.specs.Capability.{full}
+use Rattle.model.specs.Object.{free, is_bank, is_free, limit_in}
+use Rattle.model.specs.World.{object_at, content_at, owner_at}
+use Rattle.model.specs.Bank.{chain, is_under, usage}
+use Rattle.model.specs.OrderOutcome.{OrderOutcome, refused, made}
+use Rattle.model.specs.Banking.{are_free, free_nodes, free_pages, has_room, with_new, new_page, new_node, allocated, process_allocated, bank_allocated, freed_by, freed, under, owned_by, left_of, least, remaining, on_bank}
+use Rattle.model.specs.Revoke.{is_member, rescind}
+use Rattle.model_laws.proofs.Usage.{SameFrame, tests_at, chain_same, under_same, usage_same}
+use Rattle.model_laws.proofs.BankTree.{IsTree, bank_not_free, chain_banks, chain_new, at_new, at_other, length_new}
+
+abbrev one_if : Bool → ℕ
+one_if b = cond b 1 0
+
+-- Two lists that are counted alike but at one number: there the second counts so many more.
+fold_one : {X : Type 0} (p q : ℕ × X → Bool) (n more a e k : ℕ) (xs ys : List X) (d : X) → (n < k → e ≡ a + more) → (k ≤ n → e ≡ a)
+    → length ys ≡ length xs → n < k + length xs
+    → ((i j : ℕ) → j ≡ k + i → j ≢ n → p (j, get_or ys i d) ≡ q (j, get_or xs i d))
+    → ((i j : ℕ) → j ≡ k + i → j ≡ n → cond (p (j, get_or ys i d)) 1 0 ≡ cond (q (j, get_or xs i d)) 1 0 + more)
+    → fold (λ s x. s + cond (p x) 1 0) e (enumerate_from k ys) ≡ fold (λ s x. s + cond (q x) 1 0) a (enumerate_from k xs) + more
+fold_one p q n more a e k [] [] d past before size inside same one = past (omega arith)
+fold_one p q n more a e k (x ∷ xs) (y ∷ ys) d past before size inside same one =
+    fold_one p q n more (a + cond (q (k, x)) 1 0) (e + cond (p (k, y)) 1 0) (k + 1) xs ys d
+    (λ lt. elim (cases_eq k n) [
+      | inl at ↦ omega (arith, one 0 k (omega arith) at, before (omega arith))
+      | inr differ ↦ omega (arith, ap one_if (same 0 k (omega arith) differ), past (omega arith))
+    ])
+    (λ le. omega (arith, ap one_if (same 0 k (omega arith) (λ at. omega arith)), before (omega arith)))
+    (omega arith) (omega arith)
+    (λ i j at differ. same (suc i) j (omega arith) differ)
+    (λ i j at is. one (suc i) j (omega arith) is)
+fold_one p q n more a e k xs ys d past before size inside same one = absurd (omega arith)
+
+-- a list in which nothing is counted
+fold_none : {X : Type 0} (p : ℕ × X → Bool) (a k : ℕ) (xs : List X) (d : X) → ((i j : ℕ) → j ≡ k + i → p (j, get_or xs i d) ≡ false)
+    → fold (λ s x. s + cond (p x) 1 0) a (enumerate_from k xs) ≡ a
+fold_none p a k [] d none = refl
+fold_none p a k (x ∷ xs) d none =
+    let head : one_if (p (k, x)) ≡ 0 = ap one_if (none 0 k (omega arith)) in
+    fold_none p (a + cond (p (k, x)) 1 0) (k + 1) xs d (λ i j at. none (suc i) j (omega arith)) ∙ omega (arith, head)
+
+-- an object of a bank at a number that is free
+module _ (os : List Object) (n b : ℕ) (c : Content Capability) (t : IsTree os) (bank : IsTrue (is_bank (content_at os b))) (inside : n < length os)
+    (unused : IsTrue (is_free (content_at os n))) (used : is_free c ≡ false) (short : IsTrue (is_bank c) → length (chain os b) < 16) where
+  kept_chain : (x : ℕ) → IsTrue (is_bank (content_at os x)) → chain (with_new os n b c) x ≡ chain os x
+  kept_chain = chain_new os n b c t bank inside unused used short
+
+  -- what was there is under the same banks
+  under_kept : (x y : ℕ) → y ≢ n → is_under (with_new os n b c) x (object_at (with_new os n b c) y) ≡ is_under os x (object_at os y)
+  under_kept x y differ = ap (is_under (with_new os n b c) x) (at_other os n b c y differ) ∙ go (is_free (content_at os y)) refl
+    where
+      go : (gone : Bool) → is_free (content_at os y) ≡ gone → is_under (with_new os n b c) x (object_at os y) ≡ is_under os x (object_at os y)
+      go true e = rw e refl
+      go false e = rw (kept_chain (owner_at os y) (t.owners y (λ f. let no_more : false ≡ true = sym e ∙ f in cc))) refl
+
+  -- nothing is under a free number
+  under_none : (y : ℕ) → is_under os n (object_at os y) ≡ false
+  under_none y = go (is_free (content_at os y)) refl
+    where
+      go : (gone : Bool) → is_free (content_at os y) ≡ gone → is_under os n (object_at os y) ≡ false
+      go true e = rw e refl
+      go false e =
+          let owner = t.owners y (λ f. let no_more : false ≡ true = sym e ∙ f in cc) in
+          rw e (false_from_ne_true (is_member (chain os (owner_at os y)) n)
+          (λ member. bank_not_free os n n (chain_banks os t (owner_at os y) n owner member) unused refl))
+
+  -- a new object is under its bank and what that is under
+  under_new : (x : ℕ) → is_under (with_new os n b c) x (object_at (with_new os n b c) n) ≡ is_member (chain os b) x
+  under_new x =
+      ap (is_under (with_new os n b c) x) (at_new os n b c inside)
+      ∙ (ap (λ gone. not gone && list_any (nat_eq x) (chain (with_new os n b c) b)) used
+      ∙ ap (λ xs. is_member xs x) (kept_chain b bank))
+
+  -- a new object counts once more at its bank and at each that this is under
+  pub usage_new : (x : ℕ) → IsTrue (is_bank (content_at os x)) → usage (with_new os n b c) x ≡ usage os x + (if is_member (chain os b) x then 1 else 0)
+  unfolding usage
+  usage_new x is =
+      fold_one (λ p. not (p.0 == x) && is_under (with_new os n b c) x p.1) (λ p. not (p.0 == x) && is_under os x p.1)
+      n (if is_member (chain os b) x then 1 else 0) 0 0 0 os (with_new os n b c) free
+      (λ lt. absurd (omega arith)) (λ le. refl) (length_new os n b c) (omega arith)
+      (λ i j at differ. ap (λ u. not (j == x) && u) (under_kept x i (λ e. differ (omega arith))))
+      (λ i j at here.
+      let in_list : get_or (with_new os n b c) i free ≡ object_at (with_new os n b c) n = ap (λ (m : ℕ). object_at (with_new os n b c) m) (omega arith) in
+      let in_old : get_or os i free ≡ object_at os n = ap (λ (m : ℕ). object_at os m) (omega arith) in
+      let apart : (n == x) ≡ false = ne_eqb n x (λ e. bank_not_free os x n is unused (sym e)) in
+      rw (here, in_list, in_old, apart, under_new x, unused) (omega arith))
+
+  -- a new bank has used nothing
+  pub usage_new_bank : IsTrue (is_bank c) → usage (with_new os n b c) n ≡ 0
+  unfolding usage
+  usage_new_bank is =
+      fold_none (λ p. not (p.0 == n) && is_under (with_new os n b c) n p.1) 0 0 (with_new os n b c) free
+      (λ i j at. elim (cases_eq i n) [
+        | inl e ↦ let here : (j == n) ≡ true = eq-eqb j n (omega arith) in rw here refl
+        | inr differ ↦ and_right (not (j == n)) (is_under (with_new os n b c) n (object_at (with_new os n b c) i)) (under_kept n i differ ∙ under_none i)
+      ])
+
+-- Where the frame is the same, a bank is asked alike.
+
+-- what two outcomes tell is the same, and the same numbers are written
+pub record SameOutcome (x y : OrderOutcome) : Type 0 where
+  pub code : y.code ≡ x.code
+  pub words : y.words ≡ x.words
+  pub capability : y.capability ≡ x.capability
+  pub written : y.written ≡ x.written
+
+filter_alike : {X : Type 0} (p q : X → Bool) (xs : List X) → ((x : X) → q x ≡ p x) → filter q xs ≡ filter p xs
+filter_alike p q [] same = refl
+filter_alike p q (x ∷ xs) same = rw (same x, filter_alike p q xs same) refl
+
+all_alike : {X : Type 0} (p q : X → Bool) (xs : List X) → ((x : X) → q x ≡ p x) → list_all q xs ≡ list_all p xs
+all_alike p q [] same = refl
+all_alike p q (x ∷ xs) same = rw (same x, all_alike p q xs same) refl
+
+map_alike : {X Y : Type 0} (f h : X → Y) (xs : List X) → ((x : X) → h x ≡ f x) → map h xs ≡ map f xs
+map_alike f h [] same = refl
+map_alike f h (x ∷ xs) same = rw (same x, map_alike f h xs same) refl
+
+module _ (os us : List Object) (s : SameFrame os us) where
+  free_alike : (ns : List ℕ) → are_free us ns ≡ are_free os ns
+  free_alike ns = filter_alike (λ n. is_free (content_at os n)) (λ n. is_free (content_at us n)) ns (λ n. (tests_at os us s n).free)
+
+  nodes_alike : (g : Geometry) → free_nodes g us ≡ free_nodes g os
+  unfolding free_nodes
+  nodes_alike g = free_alike (range_with_len 0 g.nodes)
+
+  pages_alike : (g : Geometry) → free_pages g us ≡ free_pages g os
+  unfolding free_pages
+  pages_alike g = free_alike (range_with_len g.nodes g.pages)
+
+  room_alike : (b count : ℕ) → has_room us b count ≡ has_room os b count
+  unfolding has_room
+  room_alike b count =
+      ap (λ xs. list_all (λ c. nat_le (usage us c + count) (limit_in (content_at us c))) xs) (chain_same os us s b)
+      ∙ all_alike (λ c. nat_le (usage os c + count) (limit_in (content_at os c))) (λ c. nat_le (usage us c + count) (limit_in (content_at us c))) (chain os b)
+      (λ c. rw (usage_same os us s c, (s.alike c).limit) refl)
+
+  freed_alike : (c : Capability) → freed_by us c ≡ freed_by os c
+  freed_alike (Process p) = rw (s.alike p).annex refl
+  freed_alike c = refl
+
+  under_alike : (b : ℕ) → under us b ≡ under os b
+  unfolding under
+  under_alike b =
+      ap (λ k. filter (λ n. (n == b) || is_under us b (object_at us n)) (range_with_len 0 k)) s.size
+      ∙ filter_alike (λ n. (n == b) || is_under os b (object_at os n)) (λ n. (n == b) || is_under us b (object_at us n)) (range_with_len 0 (length os))
+      (λ n. ap (λ u. (n == b) || u) (under_same os us s b (object_at os n) (object_at us n) (s.alike n)))
+
+  owned_alike : (b : ℕ) → owned_by us b ≡ owned_by os b
+  unfolding owned_by
+  owned_alike b =
+      ap (λ k. filter (λ n. not (is_free (content_at us n)) && (owner_at us n == b)) (range_with_len 0 k)) s.size
+      ∙ filter_alike (λ n. not (is_free (content_at os n)) && (owner_at os n == b)) (λ n. not (is_free (content_at us n)) && (owner_at us n == b))
+      (range_with_len 0 (length os)) (λ n. rw ((tests_at os us s n).free, (s.alike n).owner) refl)
+
+  left_alike : (b : ℕ) → left_of us b ≡ left_of os b
+  left_alike b = rw ((s.alike b).limit, usage_same os us s b) refl
+
+  remaining_alike : (b : ℕ) → remaining us b ≡ remaining os b
+  unfolding remaining
+  remaining_alike b =
+      rw (left_alike b, chain_same os us s b) (ap (least (left_of os b)) (map_alike (left_of os) (left_of us) (chain os b) left_alike))
+
+  same_refused : (why : ResultCode) → SameOutcome (refused os why) (refused us why)
+  same_refused why = record { code = refl; words = refl; capability = refl; written = refl }
+
+  same_made : (ps qs : List Object) (ns : List ℕ) (c : Capability) → SameOutcome (made ps ns c) (made qs ns c)
+  same_made ps qs ns c = record { code = refl; words = refl; capability = refl; written = refl }
+
+  same_either : (x y : Bool) (p q v w : OrderOutcome) → y ≡ x → SameOutcome p q → SameOutcome v w → SameOutcome (if x then p else v) (if y then q else w)
+  same_either true true p q v w e h k = h
+  same_either false false p q v w e h k = k
+  same_either x y p q v w e h k = cc
+
+  same_allocated : (b : ℕ) (c : Content Capability) (named : ℕ → Capability) (ns ms : List ℕ) → ms ≡ ns → SameOutcome (allocated os b ns c named) (allocated us b ms c named)
+  same_allocated b c named ns ms e = subst (λ ks. SameOutcome (allocated os b ns c named) (allocated us b ks c named)) (sym e) (go ns)
+    where
+      go : (ks : List ℕ) → SameOutcome (allocated os b ks c named) (allocated us b ks c named)
+      go [] = same_refused code.NoFrame
+      go (k ∷ ks) = same_made (with_new os k b c) (with_new us k b c) (k ∷ []) (named k)
+
+  same_process : (b : ℕ) (ns ms : List ℕ) → ms ≡ ns → SameOutcome (process_allocated os b ns) (process_allocated us b ms)
+  same_process b ns ms e = subst (λ ks. SameOutcome (process_allocated os b ns) (process_allocated us b ks)) (sym e) (go ns)
+    where
+      go : (ks : List ℕ) → SameOutcome (process_allocated os b ks) (process_allocated us b ks)
+      go [] = same_refused code.NoFrame
+      go (p ∷ []) = same_refused code.NoFrame
+      go (p ∷ a ∷ ks) = record { code = refl; words = refl; capability = refl; written = refl }
+
+  same_bank : (b limit : ℕ) (ns ms : List ℕ) → ms ≡ ns → SameOutcome (bank_allocated os b ns limit) (bank_allocated us b ms limit)
+  same_bank b limit ns ms e = subst (λ ks. SameOutcome (bank_allocated os b ns limit) (bank_allocated us b ks limit)) (sym e) (go ns)
+    where
+      go : (ks : List ℕ) → SameOutcome (bank_allocated os b ks limit) (bank_allocated us b ks limit)
+      go [] = same_refused code.NoFrame
+      go (k ∷ ks) =
+          same_either (nat_lt (length (chain os b)) 16) (nat_lt (length (chain us b)) 16) _ _ _ _
+          (ap (λ (xs : List ℕ). nat_lt (length xs) 16) (chain_same os us s b))
+          (same_made (with_new os k b (content.Bank limit)) (with_new us k b (content.Bank limit)) (k ∷ []) (Bank k)) (same_refused code.TooDeep)
+
+  same_freed : (b : ℕ) (ns ms : List ℕ) → ms ≡ ns → SameOutcome (freed os b ns) (freed us b ms)
+  same_freed b ns ms e = subst (λ ks. SameOutcome (freed os b ns) (freed us b ks)) (sym e) (go ns)
+    where
+      go : (ks : List ℕ) → SameOutcome (freed os b ks) (freed us b ks)
+      go [] = same_refused code.BadCapability
+      go (k ∷ ks) =
+          same_either (owner_at os k == b) (owner_at us k == b) _ _ _ _ (ap (λ (o : ℕ). o == b) (s.alike k).owner)
+          (same_made (rescind (k ∷ ks) os) (rescind (k ∷ ks) us) (k ∷ ks) Void) (same_refused code.NotFromThisBank)
+
+  -- a bank that is asked where the frame is the same tells and writes the same
+  pub on_bank_same : (g : Geometry) (b : ℕ) (asked : BankOrder) (args : Arguments) → SameOutcome (on_bank g os b asked args) (on_bank g us b asked args)
+  unfolding on_bank
+  on_bank_same g b bank.NewPage args =
+      same_either (has_room os b 1) (has_room us b 1) _ _ _ _ (room_alike b 1)
+      (same_allocated b new_page (λ n. Page n full) (free_pages g os) (free_pages g us) (pages_alike g)) (same_refused code.Limit)
+  on_bank_same g b bank.NewNode args =
+      same_either (has_room os b 1) (has_room us b 1) _ _ _ _ (room_alike b 1)
+      (same_allocated b new_node (λ n. Node n full) (free_nodes g os) (free_nodes g us) (nodes_alike g)) (same_refused code.Limit)
+  on_bank_same g b bank.NewProcess args =
+      same_either (has_room os b 2) (has_room us b 2) _ _ _ _ (room_alike b 2)
+      (same_process b (free_nodes g os) (free_nodes g us) (nodes_alike g)) (same_refused code.Limit)
+  on_bank_same g b bank.NewBank args =
+      same_either (has_room os b 1) (has_room us b 1) _ _ _ _ (room_alike b 1)
+      (same_bank b args.first (free_nodes g os) (free_nodes g us) (nodes_alike g)) (same_refused code.Limit)
+  on_bank_same g b bank.Free args =
+      same_freed b (freed_by os args.capability) (freed_by us args.capability) (freed_alike args.capability)
+  on_bank_same g b bank.Destroy args =
+      same_either (b == 0) (b == 0) _ _ _ _ refl (same_refused code.PrimeBank)
+      (record { code = refl; words = refl; capability = refl; written = under_alike b })
+  on_bank_same g b bank.ReturnToParent args =
+      same_either (b == 0) (b == 0) _ _ _ _ refl (same_refused code.PrimeBank)
+      (record { code = refl; words = refl; capability = refl; written = ap (λ (ns : List ℕ). b ∷ ns) (owned_alike b) })
+  on_bank_same g b bank.Remaining args = record {
+    code = refl;
+    words = rw (remaining_alike b, usage_same os us s b, (s.alike b).limit) refl;
+    capability = refl;
+    written = refl;
+  }

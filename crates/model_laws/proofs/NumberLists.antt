@@ -1,0 +1,72 @@
+-- Lists of numbers: their members, and the numbers of a range that pass a test.
+use Rattle.std.proofs.Common.{◌≡◌, ◌≢◌, ◌⊎◌, inl, inr, ℕ, zero, suc, ◌+◌, ◌<◌, ◌≤◌, nat_eq, Bool, true, false, cond, List, [], ◌∷◌, get_or, All, refl, sym, ap, arith, ◌∙◌}
+use Rattle.std.specs.List.{filter, range_with_len}
+use Rattle.std.specs.List.Sorted.{IsStrictlyIncreasing}
+use Rattle.std.proofs.lemmas.Bool.{false≢true, cases_eq, false_from_ne_true, eq-eqb, ne_eqb, eqb-true, or_cases, or_from, or_right}
+use Rattle.std.proofs.lemmas.List.Folds.{list_any_at}
+use Rattle.std.proofs.lemmas.List.FromFn.{length-range_with_len, get_or-range_with_len}
+use Rattle.std.proofs.lemmas.List.Kept.{IsStrictlyIncreasing-filter}
+use Rattle.model.specs.Revoke.{is_member}
+use Rattle.model_laws.proofs.BankTree.{member_head}
+
+-- no number is twice in a list
+abbrev pub AllDiffer : List ℕ → Type 0
+AllDiffer [] = Unit {0}
+AllDiffer (n ∷ ns) = (is_member ns n ≡ false) × AllDiffer ns
+
+pub member_cases : (m : ℕ) (ms : List ℕ) (n : ℕ) → is_member (m ∷ ms) n ≡ true → (n ≡ m) ⊎ (is_member ms n ≡ true)
+member_cases m ms n e = elim (or_cases (nat_eq n m) (is_member ms n) e) [ inl same ↦ inl (eqb-true n m same) | inr later ↦ inr later ]
+
+pub no_member : (m : ℕ) (ms : List ℕ) (n : ℕ) → n ≢ m → is_member ms n ≡ false → is_member (m ∷ ms) n ≡ false
+no_member m ms n other none = or_from (nat_eq n m) (is_member ms n) (ne_eqb n m other) none
+
+-- the one member of a list of one
+pub only_member : (o n : ℕ) → is_member (o ∷ []) n ≡ true → n ≡ o
+only_member o n e = elim (member_cases o [] n e) [ inl same ↦ same | inr later ↦ absurd (false≢true later) ]
+
+-- what holds of each member holds at each place
+pub all_members : (P : ℕ → Type 0) (xs : List ℕ) → ((n : ℕ) → is_member xs n ≡ true → P n) → All P xs
+all_members P xs each k d within = each (get_or xs k d) (list_any_at (nat_eq (get_or xs k d)) xs k d within (eq-eqb (get_or xs k d) (get_or xs k d) refl))
+
+-- what passes a test among the numbers from a on
+
+pub found_in : (f : ℕ → Bool) (a count n : ℕ) → is_member (filter f (range_with_len a count)) n ≡ true → (a ≤ n) × (n < a + count) × (f n ≡ true)
+found_in f a zero n e = absurd (false≢true e)
+found_in f a (suc count) n e =
+    go (f a) refl (λ more. let found = found_in f (a + 1) count n more in (omega (arith, found.0), omega (arith, found.1), found.2)) e
+  where
+    go : (t : Bool) → f a ≡ t
+        → (is_member (filter f (range_with_len (a + 1) count)) n ≡ true → (a ≤ n) × (n < a + suc count) × (f n ≡ true))
+        → is_member (cond t (a ∷ filter f (range_with_len (a + 1) count)) (filter f (range_with_len (a + 1) count))) n ≡ true
+        → (a ≤ n) × (n < a + suc count) × (f n ≡ true)
+    go true passes later e = elim (member_cases a (filter f (range_with_len (a + 1) count)) n e) [
+      | inl same ↦ (omega (arith, same), omega (arith, same), ap f same ∙ passes)
+      | inr more ↦ later more
+    ]
+    go false fails later e = later e
+
+pub stands_in : (f : ℕ → Bool) (a count n : ℕ) → a ≤ n → n < a + count → f n ≡ true → is_member (filter f (range_with_len a count)) n ≡ true
+stands_in f a zero n from below passes = absurd (omega (arith, from, below))
+stands_in f a (suc count) n from below passes = elim (cases_eq n a) [
+  | inl same ↦ rw (sym (ap f same) ∙ passes) (member_head n a (filter f (range_with_len (a + 1) count)) same)
+  | inr other ↦ go (f a) (stands_in f (a + 1) count n (grind (arith, from, other)) (omega (arith, below)) passes)
+]
+  where
+    go : (t : Bool) → is_member (filter f (range_with_len (a + 1) count)) n ≡ true
+        → is_member (cond t (a ∷ filter f (range_with_len (a + 1) count)) (filter f (range_with_len (a + 1) count))) n ≡ true
+    go true e = or_right (nat_eq n a) (is_member (filter f (range_with_len (a + 1) count)) n) e
+    go false e = e
+
+pub filter_once : (f : ℕ → Bool) (a count : ℕ) → AllDiffer (filter f (range_with_len a count))
+filter_once f a zero = tt
+filter_once f a (suc count) = go (f a) (filter_once f (a + 1) count)
+  where
+    go : (t : Bool) → AllDiffer (filter f (range_with_len (a + 1) count)) → AllDiffer (cond t (a ∷ filter f (range_with_len (a + 1) count)) (filter f (range_with_len (a + 1) count)))
+    go true rest = (false_from_ne_true (is_member (filter f (range_with_len (a + 1) count)) a) (λ e. omega (arith, (found_in f (a + 1) count a e).0)), rest)
+    go false rest = rest
+
+-- what passes stands in order
+pub filter_rises : (f : ℕ → Bool) (a count : ℕ) → IsStrictlyIncreasing (filter f (range_with_len a count))
+filter_rises f a count = IsStrictlyIncreasing-filter f (range_with_len a count) (λ k within.
+    let inside : k + 1 < count = omega (arith, within, length-range_with_len a count) in
+    rw (get_or-range_with_len a count k 0 (omega (arith, inside)), get_or-range_with_len a count (k + 1) 0 inside) (omega arith))

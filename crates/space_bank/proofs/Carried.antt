@@ -1,0 +1,124 @@
+-- What new objects of a bank leave.
+use Rattle.std.proofs.Common.{◌≡◌, ◌≢◌, ℕ, ◌+◌, ◌<◌, Bool, false, List, length, refl, sym, ap, subst, arith, ◌∙◌}
+use Rattle.std.specs.Prelude.{IsTrue, slice_set}
+use Rattle.model.specs.declared.capability.Capability.{Capability}
+use Rattle.model.specs.declared.capability.Capability.TheVariants.{Void}
+use Rattle.model.specs.declared.geometry.Geometry.{Geometry}
+use Rattle.model.specs.declared.object.Content.{Content}
+use Rattle.model.specs.declared.object.Content.TheVariants as content
+use Rattle.model.specs.declared.object.Object.{Object}
+use Rattle.model.specs.declared.object.Role.TheVariants as role
+use Rattle.model.specs.Bank.{chain}
+use Rattle.model.specs.Banking.{new_annex, new_root, with_new}
+use Rattle.model.specs.Frame.{header_at, objects_of}
+use Rattle.model.specs.Keepable.{AreCurrent, AreKeepable}
+use Rattle.model.specs.Object.{is_bank, is_free}
+use Rattle.model.specs.World.{content_at}
+use Rattle.model_laws.proofs.BankTree.{at_other}
+use Rattle.capability.specs.declared.present.Fresh.{Fresh}
+use Rattle.capability.specs.declared.present.Fresh.TheVariants as fresh
+use Rattle.capability.specs.Parts.{FreshFits, Parts, frames_of, fresh_content}
+use Rattle.capability.proofs.Frames.{length_objects}
+use Rattle.capability.proofs.Keeping.{keepable_later}
+use Rattle.space_bank.specs.Banks.{AreCounted, BanksState}
+use Rattle.space_bank.specs.Carrying.{CarriesOut, IsAlone, MayServe, marks_of}
+use Rattle.space_bank.specs.Chains.{IsRaised}
+use Rattle.space_bank.proofs.Standing.{free_header, serve_framed, serve_tree}
+use Rattle.space_bank.proofs.Tallies.{IsTaken, counted_alone, counted_bank, counted_two}
+
+-- a number is marked as taken, and nothing else is another
+pub record IsMade (s t : BanksState) (n : ℕ) : Type 0 where
+  pub nodes : length t.free_nodes ≡ length s.free_nodes
+  pub pages : length t.free_pages ≡ length s.free_pages
+  pub marks : marks_of t ≡ slice_set (marks_of s) n false
+  pub kept : t ≡ record s { free_nodes = t.free_nodes; free_pages = t.free_pages }
+
+-- more is accounted for, and then a number taken
+pub taken_one : (banks : List ℕ) (count : ℕ) (s r t : BanksState) (n : ℕ) → IsRaised banks count s.usages r.usages → r ≡ record s { usages = r.usages }
+    → IsMade r t n → IsTaken banks count s t (slice_set (marks_of s) n false)
+taken_one banks count s r t n raised kept made = record {
+  usages = subst (λ (us : List ℕ). IsRaised banks count s.usages us) (sym (ap (λ (k : BanksState). k.usages) made.kept)) raised;
+  nodes = made.nodes ∙ ap (λ (k : BanksState). length k.free_nodes) kept;
+  pages = made.pages ∙ ap (λ (k : BanksState). length k.free_pages) kept;
+  limits = ap (λ (k : BanksState). k.limits) made.kept ∙ ap (λ (k : BanksState). k.limits) kept;
+  room = ap (λ (k : BanksState). k.room) made.kept ∙ ap (λ (k : BanksState). k.room) kept;
+  marks_are = made.marks ∙ ap (λ (k : BanksState). slice_set (marks_of k) n false) kept;
+}
+
+-- and one more
+pub taken_two : (banks : List ℕ) (count : ℕ) (s r t : BanksState) (marks : List Bool) (n : ℕ) → IsTaken banks count s r marks → IsMade r t n
+    → IsTaken banks count s t (slice_set marks n false)
+taken_two banks count s r t marks n taken made = record {
+  usages = subst (λ (us : List ℕ). IsRaised banks count s.usages us) (sym (ap (λ (k : BanksState). k.usages) made.kept)) taken.usages;
+  nodes = made.nodes ∙ taken.nodes;
+  pages = made.pages ∙ taken.pages;
+  limits = ap (λ (k : BanksState). k.limits) made.kept ∙ taken.limits;
+  room = ap (λ (k : BanksState). k.room) made.kept ∙ taken.room;
+  marks_are = made.marks ∙ ap (λ (bs : List Bool). slice_set bs n false) taken.marks_are;
+}
+
+-- what is free beside a new object has the role of what is free
+pub still_free : (g : Geometry) (age : ℕ) (p q : Parts) (n m b : ℕ) (c : Content Capability) → AreKeepable g age (frames_of q) → length q.headers ≡ length p.headers
+    → objects_of (frames_of q) ≡ with_new (objects_of (frames_of p)) n b c → m < length p.headers → m ≢ n
+    → IsTrue (is_free (content_at (objects_of (frames_of p)) m)) → (header_at q.headers m).role ≡ role.Free
+still_free g age p q n m b c k count objects known two unused =
+    free_header g age q k m (omega arith)
+    (ap (λ (os : List Object). is_free (content_at os m)) objects ∙ (ap (λ (o : Object). is_free o.content) (at_other (objects_of (frames_of p)) n b c m two) ∙ unused))
+
+pub alone_fits : (f : Fresh) → IsAlone f → FreshFits f
+alone_fits fresh.Page is = tt
+alone_fits fresh.Node is = tt
+alone_fits f is = absurd is
+
+alone_used : (f : Fresh) → IsAlone f → is_free (fresh_content Void f) ≡ false
+alone_used fresh.Page is = refl
+alone_used fresh.Node is = refl
+alone_used f is = absurd is
+
+alone_plain : (f : Fresh) → IsAlone f → is_bank (fresh_content Void f) ≡ false
+alone_plain fresh.Page is = refl
+alone_plain fresh.Node is = refl
+alone_plain f is = absurd is
+
+module _ (p : Parts) (s : BanksState) (b : ℕ) (asks : MayServe p s b) (q : Parts) (us : List Object) (u : BanksState) (objects : objects_of (frames_of q) ≡ us)
+    (current : AreCurrent (frames_of p) → AreCurrent (frames_of q))
+    (keepable : (age : ℕ) → AreKeepable p.geometry age (frames_of p) → AreKeepable p.geometry age (frames_of q)) where
+  carried : AreCounted p.geometry us u → CarriesOut p q u
+  carried counted = record {
+    counted = subst (λ (os : List Object). AreCounted p.geometry os u) (sym objects) counted;
+    current = current asks.sound.1.current;
+    keepable = λ age few k. keepable_later p.geometry age (age + 1) (frames_of q) (omega arith) (keepable age k);
+  }
+
+module _ (p : Parts) (s : BanksState) (b : ℕ) (asks : MayServe p s b) (n : ℕ) (known : n < length p.headers)
+    (unused : IsTrue (is_free (content_at (objects_of (frames_of p)) n))) (q : Parts) (current : AreCurrent (frames_of p) → AreCurrent (frames_of q)) where
+  abbrev before : List Object
+  before = objects_of (frames_of p)
+
+  inside : n < length before
+  inside = omega (arith, length_objects p.headers p.contents)
+
+  pub alone_carried : (f : Fresh) (u : BanksState) → IsAlone f → objects_of (frames_of q) ≡ with_new before n b (fresh_content Void f)
+      → ((age : ℕ) → FreshFits f → AreKeepable p.geometry age (frames_of p) → AreKeepable p.geometry age (frames_of q))
+      → IsTaken (chain before b) 1 s u (slice_set (marks_of s) n false) → CarriesOut p q u
+  alone_carried f u alone objects keepable taken =
+      carried p s b asks q (with_new before n b (fresh_content Void f)) u objects current (λ age k. keepable age (alone_fits f alone) k)
+      (counted_alone p.geometry before (serve_framed p s b asks).size (serve_tree p s b asks) s asks.counted b asks.bank n inside unused (fresh_content Void f) u
+      (alone_used f alone) (alone_plain f alone) taken)
+
+  pub bank_carried : (limit : ℕ) (u v : BanksState) → objects_of (frames_of q) ≡ with_new before n b (content.Bank limit)
+      → ((age : ℕ) → AreKeepable p.geometry age (frames_of p) → AreKeepable p.geometry age (frames_of q))
+      → length (chain before b) < 16 → n < p.geometry.nodes → IsTaken (chain before b) 1 s u (slice_set (marks_of s) n false)
+      → v ≡ record u { usages = slice_set u.usages n 0; limits = slice_set u.limits n limit } → CarriesOut p q v
+  bank_carried limit u v objects keepable short place taken is =
+      carried p s b asks q (with_new before n b (content.Bank limit)) v objects current keepable
+      (counted_bank p.geometry before (serve_framed p s b asks).size (serve_tree p s b asks) s asks.counted b asks.bank n inside unused limit u v short place taken is)
+
+  pub process_carried : (m : ℕ) (u : BanksState) → objects_of (frames_of q) ≡ with_new (with_new before n b (new_root m)) m b new_annex
+      → ((age : ℕ) → AreKeepable p.geometry age (frames_of p) → AreKeepable p.geometry age (frames_of q))
+      → m < length p.headers → m ≢ n → IsTrue (is_free (content_at before m))
+      → IsTaken (chain before b) 2 s u (slice_set (slice_set (marks_of s) n false) m false) → CarriesOut p q u
+  process_carried m u objects keepable within two unused_too taken =
+      carried p s b asks q (with_new (with_new before n b (new_root m)) m b new_annex) u objects current keepable
+      (counted_two p.geometry before (serve_framed p s b asks).size (serve_tree p s b asks) s asks.counted b asks.bank n inside unused
+      (new_root m) new_annex m u refl refl refl refl (omega (arith, length_objects p.headers p.contents)) two unused_too taken)

@@ -1,0 +1,117 @@
+-- What is counted, a number at a time.
+use Rattle.std.proofs.Common.{◌≡◌, ◌+◌, ◌<◌, ◌≤◌, ◌^◌, ◌++◌, ◌∙◌, ℕ, false, List, [], ◌∷◌, length, map, inl, inr, refl, sym, ap, subst, zero-add, arith}
+use Rattle.std.specs.Prelude.{IsTrue, Some, slice_index}
+use Rattle.std.specs.Option.{SomeIff}
+use Rattle.std.specs.List.{range_with_len}
+use Rattle.std.proofs.lemmas.Bool.{cases_lt}
+use Rattle.std.proofs.lemmas.List.FromFn.{get_or-map-range_with_len, length-map-range_with_len, map-range_with_len_more}
+use Rattle.model.specs.declared.capability.Cap.{Cap}
+use Rattle.model.specs.declared.capability.Capability.{Capability}
+use Rattle.model.specs.declared.frame.Frame.{Frame}
+use Rattle.model.specs.declared.frame.ObjectHeader.{ObjectHeader}
+use Rattle.model.specs.declared.geometry.Geometry.{Geometry}
+use Rattle.model.specs.declared.object.Content.{Content}
+use Rattle.model.specs.declared.object.Content.TheVariants as content
+use Rattle.model.specs.declared.object.Object.{Object}
+use Rattle.model.specs.Bank.{usage}
+use Rattle.model.specs.Frame.{conveyed, frames_in, held_at, objects_of}
+use Rattle.model.specs.Object.{is_bank, is_free, limit_in, map_content}
+use Rattle.model.specs.Sound.{object_count}
+use Rattle.model.specs.World.{content_at}
+use Rattle.capability.specs.Parts.{Parts, frames_of}
+use Rattle.capability.proofs.Frames.{content_there}
+use Rattle.space_bank.specs.Banks.{AreCounted, BanksState}
+use Rattle.space_bank.specs.Counting.{AreMarked}
+
+-- what is no bank has no limit
+pub limit_of_other : (c : Content Capability) → is_bank c ≡ false → limit_in c ≡ 0
+limit_of_other content.Free other = refl
+limit_of_other (content.Page words) other = refl
+limit_of_other (content.Node slots) other = refl
+limit_of_other (content.Root r) other = refl
+limit_of_other (content.Annex registers) other = refl
+limit_of_other (content.Bank limit) other = cc
+
+limit_of_map : (f : Cap → Capability) (c : Content Cap) → limit_in (map_content f c) ≡ limit_in c
+limit_of_map f content.Free = refl
+limit_of_map f (content.Page words) = refl
+limit_of_map f (content.Node slots) = refl
+limit_of_map f (content.Root r) = refl
+limit_of_map f (content.Annex registers) = refl
+limit_of_map f (content.Bank limit) = refl
+
+pub no_limit : (c : Content Cap) → ((x : ℕ) → c ≡ content.Bank x → ⊥) → limit_in c ≡ 0
+no_limit content.Free bank = refl
+no_limit (content.Page words) bank = refl
+no_limit (content.Node slots) bank = refl
+no_limit (content.Root r) bank = refl
+no_limit (content.Annex registers) bank = refl
+no_limit (content.Bank limit) bank = absurd (bank limit refl)
+
+-- the limit of what is held at a number
+pub limit_held : (p : Parts) (n : ℕ) (c : Content Cap) → n < length p.headers → c ≡ held_at p.contents n →
+    limit_in c ≡ limit_in (content_at (objects_of (frames_of p)) n)
+limit_held p n c known is =
+    sym (limit_of_map (conveyed p.headers) c) ∙ sym (ap (λ (d : Content Capability). limit_in d) (content_there p n known c (sym is)))
+
+-- a look leaves the objects as they were
+pub objects_looked : (old now : Parts) → now.headers ≡ old.headers → now.contents ≡ old.contents → objects_of (frames_of now) ≡ objects_of (frames_of old)
+objects_looked old now headers contents =
+    ap (λ (fs : List Frame). objects_of fs)
+    (ap (λ (hs : List ObjectHeader). frames_in hs now.contents) headers ∙ ap (frames_in old.headers) contents)
+
+-- a look that didn't fail leaves the count of failures
+pub never_failed : (old mid now : ℕ) → mid ≡ old → mid ≤ now → (mid < now → ⊥) → now ≡ old
+never_failed old mid now so later never = elim (cases_lt mid now) [
+  | inl more ↦ absurd (never more)
+  | inr same ↦ omega arith
+]
+
+-- one limit more, read after a look
+pub limits_more : (old now : Parts) (n limit : ℕ) (limits new : List ℕ) → now.headers ≡ old.headers → now.contents ≡ old.contents →
+    limit ≡ limit_in (content_at (objects_of (frames_of now)) n) →
+    limits ≡ map (λ m. limit_in (content_at (objects_of (frames_of old)) m)) (range_with_len 0 n) → new ≡ limits ++ limit ∷ [] →
+    new ≡ map (λ m. limit_in (content_at (objects_of (frames_of old)) m)) (range_with_len 0 (n + 1))
+limits_more old now n limit limits new headers contents is so more =
+    let f : ℕ → ℕ = λ m. limit_in (content_at (objects_of (frames_of old)) m) in
+    let here : limit ≡ f n = is ∙ ap (λ (os : List Object). limit_in (content_at os n)) (objects_looked old now headers contents) in
+    more
+    ∙ ap (λ (xs : List ℕ). xs ++ limit ∷ []) so
+    ∙ ap (λ (m : ℕ). map f (range_with_len 0 n) ++ m ∷ []) here
+    ∙ sym (map-range_with_len_more f 0 n n (zero-add n))
+
+-- numbers of nodes and pages fit, since there is a header for each
+pub numbers_fit : (p : Parts) (hs : List ObjectHeader) (h : Geometry) (count : ℕ) → hs ≡ p.headers → count ≡ length hs → count < 2 ^ 64 → h ≡ p.geometry →
+    length p.headers ≡ object_count p.geometry → h.nodes + h.pages < 2 ^ 64
+numbers_fit p hs h count table is fits same all =
+    omega (arith, ap (λ (ks : List ObjectHeader). length ks) table, ap (λ (k : Geometry). k.nodes) same, ap (λ (k : Geometry). k.pages) same)
+
+pub room_told : (count room : ℕ) → SomeIff (Some room) (count + 2 < 2 ^ 64) (count + 2) → room ≡ count + 2
+room_told count room is = is.1
+
+-- what is counted, part by part
+module _ (g : Geometry) (os : List Object) (s : BanksState) (below : (b : ℕ) → IsTrue (is_bank (content_at os b)) → b < g.nodes) where
+  counted_parts : AreMarked os 0 g.nodes s.free_nodes → AreMarked os g.nodes g.pages s.free_pages → length s.usages ≡ g.nodes →
+      ((b : ℕ) → IsTrue (is_bank (content_at os b)) → slice_index s.usages b ≡ usage os b) →
+      s.limits ≡ map (λ n. limit_in (content_at os n)) (range_with_len 0 g.nodes) → object_count g + 2 ≤ s.room → AreCounted g os s
+  counted_parts nodes pages size usages limits room =
+      let f : ℕ → ℕ = λ n. limit_in (content_at os n) in
+      record {
+        nodes = nodes.size;
+        pages = pages.size;
+        node = λ n inside. nodes.each n inside ∙ ap (λ (m : ℕ). is_free (content_at os m)) (zero-add n);
+        page = pages.each;
+        usage_each = size;
+        limit_each = ap length limits ∙ length-map-range_with_len f 0 g.nodes;
+        usage = usages;
+        limit = λ b bank. ap (λ (xs : List ℕ). slice_index xs b) limits ∙ get_or-map-range_with_len f 0 g.nodes b b 0 (below b bank) (zero-add b);
+        room = room;
+      }
+
+  pub counted_from : (h : Geometry) → h ≡ g → AreMarked os 0 h.nodes s.free_nodes → AreMarked os h.nodes h.pages s.free_pages → length s.usages ≡ h.nodes →
+      ((b : ℕ) → IsTrue (is_bank (content_at os b)) → slice_index s.usages b ≡ usage os b) →
+      s.limits ≡ map (λ n. limit_in (content_at os n)) (range_with_len 0 g.nodes) → object_count g + 2 ≤ s.room → AreCounted g os s
+  counted_from h is nodes pages size =
+      counted_parts (subst (λ (k : Geometry). AreMarked os 0 k.nodes s.free_nodes) is nodes)
+      (subst (λ (k : Geometry). AreMarked os k.nodes k.pages s.free_pages) is pages)
+      (size ∙ ap (λ (k : Geometry). k.nodes) is)

@@ -1,0 +1,259 @@
+-- What is left of what is counted, where objects are given up.
+use Rattle.std.proofs.Common.{◌≡◌, inl, inr, ℕ, zero, suc, ◌+◌, ◌-◌, ◌^◌, ◌<◌, ◌≤◌, ◌++◌, Bool, true, false, List, [], ◌∷◌, drop, map, take, length, refl, sym, ap, subst, arith, ◌∙◌, zero-add}
+use Rattle.std.specs.Prelude.{IsTrue, if◌then◌else◌, nat_eq, slice_index, slice_index_or}
+use Rattle.std.specs.List.{All, enumerate_from}
+use Rattle.std.proofs.lemmas.Bool.{cases_Bool, cases_lt, eq-eqb, false_from_ne_true, false≢true}
+use Rattle.std.proofs.lemmas.List.{get_or-map, get_or_past, length-map, take_rest}
+use Rattle.std.proofs.lemmas.List.FromFn.{get_or-enumerate_from, length-enumerate_from}
+use Rattle.std.proofs.lemmas.List.Folds.{list_any_at}
+use Rattle.model.specs.declared.capability.Capability.{Capability}
+use Rattle.model.specs.declared.geometry.Geometry.{Geometry}
+use Rattle.model.specs.declared.object.Content.{Content}
+use Rattle.model.specs.declared.object.Content.TheVariants as content
+use Rattle.model.specs.declared.object.Object.{Object}
+use Rattle.model.specs.Bank.{chain, usage}
+use Rattle.model.specs.Frame.{header_at, objects_of}
+use Rattle.model.specs.Keepable.{AreCurrent, AreKeepable}
+use Rattle.model.specs.Object.{free, is_bank, is_free, limit_in, map_content}
+use Rattle.model.specs.Revoke.{is_member, names_member, rescind, void_where, without}
+use Rattle.model.specs.World.{content_at, object_at}
+use Rattle.model_laws.proofs.NumberLists.{AllDiffer}
+use Rattle.model_laws.proofs.BankTree.{chain_banks, member_tail}
+use Rattle.capability.specs.Parts.{AreGivenUp, IsOnce, KeepsAside, Parts, frames_of}
+use Rattle.space_bank.specs.Banks.{AreCounted, BanksState, KeepsObjects}
+use Rattle.space_bank.specs.Carrying.{CarriesOut, MayGiveUp, MayServe, marks_of}
+use Rattle.space_bank.specs.Chains.{IsRaised}
+use Rattle.space_bank.specs.Free.{is_marked}
+use Rattle.space_bank.proofs.Standing.{few_allocations, few_calls, serve_count, serve_tree}
+use Rattle.space_bank.proofs.Tallies.{counted_from, marks_counted}
+
+-- lists of numbers
+
+pub member_at : (ns : List ℕ) (i : ℕ) → i < length ns → is_member ns (slice_index ns i) ≡ true
+member_at ns i inside = list_any_at (nat_eq (slice_index ns i)) ns i 0 inside (eq-eqb (slice_index ns i) (slice_index ns i) refl)
+
+pub once_of_differ : (ns : List ℕ) → AllDiffer ns → IsOnce ns
+once_of_differ [] differ i inside = absurd (omega arith)
+once_of_differ (n ∷ ns) differ zero inside = refl
+once_of_differ (n ∷ ns) differ (suc i) inside =
+    member_tail (slice_index ns i) n (take i ns)
+    (λ e. false≢true (sym differ.0 ∙ (ap (λ m. is_member ns m) (sym e) ∙ member_at ns i (omega arith))))
+    ∙ once_of_differ ns differ.1 i (omega arith)
+
+-- contents after a rescind
+
+abbrev after : List ℕ → ℕ × Object → Object
+after set e = if is_member set e.0 then free else without (names_member set) e.1
+
+pub gone_at : (set : List ℕ) (os : List Object) (n : ℕ) → object_at (rescind set os) n ≡ (if is_member set n then free else without (names_member set) (object_at os n))
+unfolding rescind
+gone_at set os n = elim (cases_lt n (length os)) [
+  | inl inside ↦
+      let at : n < length (enumerate_from 0 os) = rw (length-enumerate_from 0 os) inside in
+      get_or-map (after set) (enumerate_from 0 os) n (0, free) free at
+      ∙ ap (after set) (get_or-enumerate_from 0 os n (0, free) inside ∙ ap (λ (m : ℕ). (m, object_at os n)) (zero-add n))
+  | inr past ↦
+      let long = length-map (enumerate_from 0 os) (after set) in
+      get_or_past (map (after set) (enumerate_from 0 os)) n free (omega (arith, long, length-enumerate_from 0 os))
+      ∙ sym (rw (get_or_past os n free past) (either (is_member set n)))
+]
+  where
+    either : (b : Bool) → (if b then free else free) ≡ free
+    either true = refl
+    either false = refl
+
+free_mapped : (f : Capability → Capability) (c : Content Capability) → is_free (map_content f c) ≡ is_free c
+free_mapped f content.Free = refl
+free_mapped f (content.Page words) = refl
+free_mapped f (content.Node slots) = refl
+free_mapped f (content.Root r) = refl
+free_mapped f (content.Annex registers) = refl
+free_mapped f (content.Bank limit) = refl
+
+bank_mapped : (f : Capability → Capability) (c : Content Capability) → is_bank (map_content f c) ≡ is_bank c
+bank_mapped f content.Free = refl
+bank_mapped f (content.Page words) = refl
+bank_mapped f (content.Node slots) = refl
+bank_mapped f (content.Root r) = refl
+bank_mapped f (content.Annex registers) = refl
+bank_mapped f (content.Bank limit) = refl
+
+limit_mapped : (f : Capability → Capability) (c : Content Capability) → limit_in (map_content f c) ≡ limit_in c
+limit_mapped f content.Free = refl
+limit_mapped f (content.Page words) = refl
+limit_mapped f (content.Node slots) = refl
+limit_mapped f (content.Root r) = refl
+limit_mapped f (content.Annex registers) = refl
+limit_mapped f (content.Bank limit) = refl
+
+module _ (set : List ℕ) (os : List Object) (n : ℕ) where
+  went : is_member set n ≡ true → object_at (rescind set os) n ≡ free
+  went e = gone_at set os n ∙ ap (λ (b : Bool). if b then free else without (names_member set) (object_at os n)) e
+
+  kept : is_member set n ≡ false → object_at (rescind set os) n ≡ without (names_member set) (object_at os n)
+  kept e = gone_at set os n ∙ ap (λ (b : Bool). if b then free else without (names_member set) (object_at os n)) e
+
+  -- the members are free, and the others what they were
+  pub free_gone : is_free (content_at (rescind set os) n) ≡ (if is_member set n then true else is_free (content_at os n))
+  free_gone = elim (cases_Bool (is_member set n)) [
+    | inl e ↦ rw e (ap (λ (o : Object). is_free o.content) (went e))
+    | inr e ↦ rw e (ap (λ (o : Object). is_free o.content) (kept e) ∙ free_mapped (void_where (names_member set)) (content_at os n))
+  ]
+
+  pub used_stays : is_free (content_at (rescind set os) n) ≡ false → is_member set n ≡ false
+  used_stays used = false_from_ne_true (is_member set n) (λ e. false≢true (sym used ∙ ap (λ (o : Object). is_free o.content) (went e)))
+
+  pub bank_stays : IsTrue (is_bank (content_at (rescind set os) n)) → is_member set n ≡ false
+  bank_stays is = false_from_ne_true (is_member set n) (λ e. false≢true (sym (ap (λ (o : Object). is_bank o.content) (went e)) ∙ is))
+
+  pub bank_was : IsTrue (is_bank (content_at (rescind set os) n)) → IsTrue (is_bank (content_at os n))
+  bank_was is =
+      sym (ap (λ (o : Object). is_bank o.content) (kept (bank_stays is)) ∙ bank_mapped (void_where (names_member set)) (content_at os n)) ∙ is
+
+  pub limit_was : IsTrue (is_bank (content_at (rescind set os) n)) → limit_in (content_at (rescind set os) n) ≡ limit_in (content_at os n)
+  limit_was is =
+      ap (λ (o : Object). limit_in o.content) (kept (bank_stays is)) ∙ limit_mapped (void_where (names_member set)) (content_at os n)
+
+-- The chain of a bank accounts for so many fewer, and a set is marked as free.
+pub record IsReleased (banks : List ℕ) (count : ℕ) (s t : BanksState) (set : List ℕ) : Type 0 where
+  pub usages : IsRaised banks count t.usages s.usages
+  pub nodes : length t.free_nodes ≡ length s.free_nodes
+  pub pages : length t.free_pages ≡ length s.free_pages
+  pub limits : t.limits ≡ s.limits
+  pub room : t.room ≡ s.room
+  pub marks : (n : ℕ) → is_marked (marks_of t) n ≡ (if is_member set n then true else is_marked (marks_of s) n)
+
+-- A set of objects that have the contents of those that are counted is given up.
+pub counted_gone : (g : Geometry) (os vs : List Object) (s t : BanksState) (set banks : List ℕ) (count : ℕ) → AreCounted g os s
+    → ((n : ℕ) → content_at vs n ≡ content_at os n) → IsReleased banks count s t set
+    → ((x : ℕ) → IsTrue (is_bank (content_at os x)) → is_member set x ≡ false → usage (rescind set vs) x + (if is_member banks x then count else 0) ≡ usage os x)
+    → AreCounted g (rescind set vs) t
+counted_gone g os vs s t set banks count counted same released usages =
+    counted_from g os (rescind set vs) s t counted
+    (record {
+      nodes = released.nodes;
+      pages = released.pages;
+      usages = sym released.usages.size;
+      limits = ap (λ (xs : List ℕ). length xs) released.limits;
+      room = released.room;
+    })
+    (λ n known.
+    released.marks n
+    ∙ (ap (λ (b : Bool). if is_member set n then true else b) (marks_counted g os s counted n known ∙ ap (λ (c : Content Capability). is_free c) (sym (same n)))
+    ∙ sym (free_gone set vs n)))
+    (λ x is.
+    let was = was_bank x is in
+    omega (arith, released.usages.each x, counted.usage x was, usages x was (bank_stays set vs x is)))
+    (λ x is.
+    ap (λ (xs : List ℕ). slice_index xs x) released.limits
+    ∙ (counted.limit x (was_bank x is) ∙ (ap (λ (c : Content Capability). limit_in c) (sym (same x)) ∙ sym (limit_was set vs x is))))
+  where
+    was_bank : (x : ℕ) → IsTrue (is_bank (content_at (rescind set vs) x)) → IsTrue (is_bank (content_at os x))
+    was_bank x is = ap (λ (c : Content Capability). is_bank c) (sym (same x)) ∙ bank_was set vs x is
+
+-- counts can rise
+module _ (p : Parts) (s : BanksState) (b : ℕ) (asks : MayServe p s b) (n : ℕ) (known : n < length p.headers) where
+  pub serve_allocations : (header_at p.headers n).allocations < 2 ^ 64 - 1
+  serve_allocations = omega (arith, few_allocations p.geometry asks.sound.0 p asks.sound.1.keepable n known, asks.sound.1.sound.age)
+
+  pub serve_calls : (header_at p.headers n).calls < 2 ^ 64 - 1
+  serve_calls = omega (arith, few_calls p.geometry asks.sound.0 p asks.sound.1.keepable n known, asks.sound.1.sound.age)
+
+-- what the banks of the chain account for is enough
+pub enough_used : (p : Parts) (s : BanksState) (above : ℕ) (list : List ℕ) → MayServe p s above → MayGiveUp (objects_of (frames_of p)) above list
+    → (x : ℕ) → is_member (chain (objects_of (frames_of p)) above) x ≡ true → length list ≤ slice_index s.usages x
+enough_used p s above list asks gives x member =
+    let os = objects_of (frames_of p) in
+    let bank = chain_banks os (serve_tree p s above asks) above x asks.bank member in
+    let all : (if is_member (chain os above) x then length list else 0) ≡ length list = rw member refl in
+    omega (arith, asks.counted.usage x bank, gives.lowered x bank (gives.apart x member), all)
+
+-- what lies beside the objects where a set is given up
+module _ {S : Type 0} (parts : S → Parts) (Fetched Announced : S → ℕ → Type 0) (Leads : S → S → Type 0) where
+  pub ended_aside : (old new : S) (set : List ℕ) (vs : List Object) → AreGivenUp set (parts old) (parts new) → objects_of (frames_of (parts new)) ≡ rescind set vs
+      → ((n : ℕ) → is_member set n ≡ false → Fetched old n → Fetched new n) → ((n : ℕ) → is_member set n ≡ false → Announced old n → Announced new n)
+      → Leads old new → KeepsObjects parts Fetched Announced Leads old new
+  ended_aside old new set vs given objects fetched announced leads = record {
+    count = given.header_count;
+    touched = given.touched;
+    geometry = given.geometry;
+    failures = given.failures;
+    fetched = λ n used f. fetched n (stays n used) f;
+    announced = λ n used f. announced n (stays n used) f;
+    leads = leads;
+  }
+    where
+      stays : (n : ℕ) → is_free (content_at (objects_of (frames_of (parts new))) n) ≡ false → is_member set n ≡ false
+      stays n used = used_stays set vs n (sym (ap (λ (os : List Object). is_free (content_at os n)) objects) ∙ used)
+
+  pub aside_then_ended : (twice : (s t u : S) → Leads s t → Leads t u → Leads s u) (old mid new : S) → KeepsAside parts Fetched Announced Leads old mid
+      → KeepsObjects parts Fetched Announced Leads mid new → KeepsObjects parts Fetched Announced Leads old new
+  aside_then_ended twice old mid new a b = record {
+    count = b.count ∙ a.count;
+    touched = b.touched ∙ a.touched;
+    geometry = b.geometry ∙ a.geometry;
+    failures = b.failures ∙ a.failures;
+    fetched = λ n used f. b.fetched n used (a.fetched n f);
+    announced = λ n used f. b.announced n used (a.announced n f);
+    leads = twice old mid new a.leads b.leads;
+  }
+
+  pub aside_alone : (old new : S) → KeepsAside parts Fetched Announced Leads old new → KeepsObjects parts Fetched Announced Leads old new
+  aside_alone old new a = record {
+    count = a.count;
+    touched = a.touched;
+    geometry = a.geometry;
+    failures = a.failures;
+    fetched = λ n used f. a.fetched n f;
+    announced = λ n used f. a.announced n f;
+    leads = a.leads;
+  }
+
+-- the rest of a list, as a slice of it
+pub rest_is : (xs ys : List ℕ) (i : ℕ) → xs ≡ ys → take (length xs - i) (drop i xs) ≡ drop i ys
+rest_is xs ys i same = take_rest xs i ∙ ap (λ (zs : List ℕ). drop i zs) same
+
+-- each number of a list has an object
+abbrev pub AreKnown : Parts → List ℕ → Type 0
+AreKnown p list = All (λ n. n < length p.headers) list
+
+module _ (p : Parts) (s : BanksState) (b : ℕ) (asks : MayServe p s b) (list : List ℕ) (known : AreKnown p list) where
+  pub list_allocations : All (λ n. (header_at p.headers n).allocations < 2 ^ 64 - 1) list
+  list_allocations k d inside = serve_allocations p s b asks (slice_index_or list k d) (known k d inside)
+
+  pub list_calls : All (λ n. (header_at p.headers n).calls < 2 ^ 64 - 1) list
+  list_calls k d inside = serve_calls p s b asks (slice_index_or list k d) (known k d inside)
+
+  pub list_marks : All (λ n. n < length s.free_nodes + length s.free_pages) list
+  list_marks k d inside = omega (arith, known k d inside, serve_count p s b asks, asks.counted.nodes, asks.counted.pages)
+
+-- fewer are accounted for, and then numbers are marked as free
+pub released_then : (banks : List ℕ) (count : ℕ) (s r v : BanksState) (nodes pages : List Bool) (set : List ℕ) → IsRaised banks count r.usages s.usages
+    → r ≡ record s { usages = r.usages } → v ≡ r → length nodes ≡ length v.free_nodes → length pages ≡ length v.free_pages
+    → ((n : ℕ) → is_marked (nodes ++ pages) n ≡ (if is_member set n then true else is_marked (v.free_nodes ++ v.free_pages) n))
+    → IsReleased banks count s (record v { free_nodes = nodes; free_pages = pages }) set
+released_then banks count s r v nodes pages set raised kept same nodes_same pages_same marks = record {
+  usages = subst (λ (us : List ℕ). IsRaised banks count us s.usages) (sym (ap (λ (k : BanksState). k.usages) same)) raised;
+  nodes = nodes_same ∙ (ap (λ (k : BanksState). length k.free_nodes) same ∙ ap (λ (k : BanksState). length k.free_nodes) kept);
+  pages = pages_same ∙ (ap (λ (k : BanksState). length k.free_pages) same ∙ ap (λ (k : BanksState). length k.free_pages) kept);
+  limits = ap (λ (k : BanksState). k.limits) same ∙ ap (λ (k : BanksState). k.limits) kept;
+  room = ap (λ (k : BanksState). k.room) same ∙ ap (λ (k : BanksState). k.room) kept;
+  marks = λ n.
+      marks n
+      ∙ ap (λ (b : Bool). if is_member set n then true else b)
+      (ap (λ (k : BanksState). is_marked (marks_of k) n) same ∙ ap (λ (k : BanksState). is_marked (marks_of k) n) kept);
+}
+
+-- what is left once a list is given up
+pub ended_carried : (p q : Parts) (s t : BanksState) (above : ℕ) (list : List ℕ) → MayServe p s above → MayGiveUp (objects_of (frames_of p)) above list
+    → IsReleased (chain (objects_of (frames_of p)) above) (length list) s t list → objects_of (frames_of q) ≡ rescind list (objects_of (frames_of p))
+    → AreCurrent (frames_of q) → ((age : ℕ) → age + 1 < 2 ^ 64 → AreKeepable p.geometry age (frames_of p) → AreKeepable p.geometry (age + 1) (frames_of q))
+    → CarriesOut p q t
+ended_carried p q s t above list asks gives released objects current keepable =
+    let os = objects_of (frames_of p) in
+    record {
+      counted = subst (λ (us : List Object). AreCounted p.geometry us t) (sym objects)
+          (counted_gone p.geometry os os s t list (chain os above) (length list) asks.counted (λ n. refl) released gives.lowered);
+      current = current;
+      keepable = keepable;
+    }

@@ -1,0 +1,96 @@
+-- What orders give up may be given up.
+use Rattle.std.proofs.Common.{◌≡◌, ◌≢◌, inl, inr, ℕ, ◌<◌, ◌≤◌, ◌==◌, true, false, not, List, [], ◌∷◌, drop, length, refl, sym, ap, arith, ◌∙◌}
+use Rattle.std.specs.Prelude.{IsTrue, nat_eq, slice_index}
+use Rattle.std.specs.List.{list_any}
+use Rattle.std.proofs.lemmas.Bool.{and_parts, cases_eq, eq-eqb, eqb-true, false_from_ne_true, false≢true, or_cases, or_left}
+use Rattle.std.proofs.lemmas.List.{length-drop}
+use Rattle.model.specs.declared.capability.Capability.{Capability}
+use Rattle.model.specs.declared.geometry.Geometry.{Geometry}
+use Rattle.model.specs.declared.object.Object.{Object}
+use Rattle.model.specs.Bank.{chain, is_under}
+use Rattle.model.specs.Banking.{freed_by, under}
+use Rattle.model.specs.Frame.{objects_of}
+use Rattle.model.specs.Object.{is_bank, is_free}
+use Rattle.model.specs.Revoke.{is_member}
+use Rattle.model.specs.Sound.{NamesItsKind}
+use Rattle.model.specs.World.{content_at, object_at, owner_at}
+use Rattle.model_laws.proofs.BankFreed.{destroyed_fits, freed_fits, freed_set, under_found, under_once, under_stands, usage_destroyed, usage_freed, used_within}
+use Rattle.model_laws.proofs.BankRescind.{used_where}
+use Rattle.model_laws.proofs.BankTree.{IsTree, chain_banks, chain_longer, chain_nonempty, chain_once, chain_shorter, chain_zero, owner_bank, tree_of}
+use Rattle.model_laws.proofs.SoundOrders.{IsNow}
+use Rattle.capability.specs.Parts.{Parts, frames_of}
+use Rattle.space_bank.specs.Banks.{BanksState}
+use Rattle.space_bank.specs.Carrying.{IsFreedOf, MayGiveUp, MayServe}
+use Rattle.space_bank.proofs.Ending.{once_of_differ}
+use Rattle.space_bank.proofs.Standing.{serve_tree}
+
+-- what a capability frees, where a bank owns it
+freed_list : (g : Geometry) (os : List Object) (b : ℕ) (c : Capability) (list : List ℕ) → IsNow g os → IsTrue (is_bank (content_at os b)) → NamesItsKind os c
+    → freed_by os c ≡ list → 0 < length list → owner_at os (slice_index list 0) ≡ b → MayGiveUp os b list
+freed_list g os b c [] h is names frees some own = absurd (omega arith)
+freed_list g os b c (n ∷ ns) h is names frees some own =
+    let set = freed_set g os h.frame c n ns names frees in
+    record {
+      once = once_of_differ (n ∷ ns) set.given_up.once;
+      apart = λ x above.
+          false_from_ne_true (is_member (n ∷ ns) x)
+          (λ member. false≢true (sym (set.no_bank x member) ∙ chain_banks os (tree_of g os h.frame) b x is above));
+      lowered = λ x bank stays. omega (arith, usage_freed g os c b n ns h own frees names x bank, freed_fits g os c b n ns h own frees names x bank);
+    }
+
+pub freed_gives : (g : Geometry) (os : List Object) (b : ℕ) (list : List ℕ) → IsNow g os → IsTrue (is_bank (content_at os b)) → IsFreedOf os b list → MayGiveUp os b list
+freed_gives g os b list h is freed = freed_list g os b freed.sent list h is freed.held.1 freed.frees freed.some freed.owner
+
+-- no bank above another is under it
+module _ (os : List Object) (t : IsTree os) (b : ℕ) (is : IsTrue (is_bank (content_at os b))) (on : b ≢ 0) where
+  no_loop : (x : ℕ) → is_member (chain os (owner_at os b)) x ≡ true → is_member (chain os (owner_at os x)) b ≡ true → ⊥
+  no_loop x above below =
+      let bank = chain_banks os t (owner_at os b) x (owner_bank os t b is) above in
+      let up = chain_shorter os t (owner_at os b) x (owner_bank os t b is) above in
+      let down = chain_shorter os t (owner_at os x) b (owner_bank os t x bank) below in
+      let longer = chain_longer os t b is on in
+      elim (cases_eq x 0) [
+        | inr far ↦ omega (arith, up, down, longer, chain_longer os t x bank far)
+        | inl end ↦
+            let prime : owner_at os x ≡ 0 = ap (λ (m : ℕ). owner_at os m) end ∙ t.prime.1 in
+            let one : length (chain os (owner_at os x)) ≡ 1 = ap (λ (xs : List ℕ). length xs) (chain_zero os (owner_at os x) prime) ∙ refl in
+            omega (arith, one, down, longer, chain_nonempty os t (owner_at os b) (owner_bank os t b is))
+      ]
+
+  pub above_apart : (x : ℕ) → is_member (chain os (owner_at os b)) x ≡ true → is_member (under os b) x ≡ false
+  above_apart x above = false_from_ne_true (is_member (under os b) x) (λ member.
+      elim (or_cases (x == b) (is_under os b (object_at os x)) (under_found os b x member).1) [
+        | inl same ↦
+            let e = eqb-true x b same in
+            false≢true (sym (chain_once os t b is on) ∙ (ap (λ (m : ℕ). is_member (chain os (owner_at os b)) m) (sym e) ∙ above))
+        | inr below ↦
+            no_loop x above (and_parts (not (is_free (content_at os x))) (list_any (nat_eq b) (chain os (owner_at os x))) below).1
+      ])
+
+-- a bank with all that is under it
+pub destroyed_gives : (g : Geometry) (os : List Object) (b : ℕ) → IsNow g os → IsTrue (is_bank (content_at os b)) → b ≢ 0 → MayGiveUp os (owner_at os b) (under os b)
+destroyed_gives g os b h is on = record {
+  once = once_of_differ (under os b) (under_once os b);
+  apart = above_apart os (tree_of g os h.frame) b is on;
+  lowered = λ x bank stays. omega (arith, usage_destroyed g os b h is on x stays, destroyed_fits g os b h is on x stays);
+}
+
+member_some : (xs : List ℕ) (x : ℕ) → is_member xs x ≡ true → 0 < length xs
+member_some [] x member = absurd (false≢true member)
+member_some (y ∷ ys) x member = omega arith
+
+-- a bank is under itself, so the list begins within what it stands in
+pub under_within : (p : Parts) (s : BanksState) (b : ℕ) (list : List ℕ) (skip : ℕ) → MayServe p s b → drop skip list ≡ under (objects_of (frames_of p)) b → skip ≤ length list
+under_within p s b list skip asks is =
+    let os = objects_of (frames_of p) in
+    let inside = used_within os b (used_where is_bank refl (content_at os b) asks.bank) in
+    let some = member_some (under os b) b (under_stands os b b inside (or_left (b == b) (is_under os b (object_at os b)) (eq-eqb b b refl))) in
+    omega (arith, some, length-drop skip list, ap (λ (xs : List ℕ). length xs) is)
+
+-- the bank that owns a bank may be served too
+pub serve_parent : (p : Parts) (s : BanksState) (b parent : ℕ) → MayServe p s b → parent ≡ owner_at (objects_of (frames_of p)) b → MayServe p s parent
+serve_parent p s b parent asks is = record {
+  sound = asks.sound;
+  counted = asks.counted;
+  bank = rw is (owner_bank (objects_of (frames_of p)) (serve_tree p s b asks) b asks.bank);
+}

@@ -1,0 +1,16 @@
+mod Carried
+mod Climbs
+mod Counts
+mod Done
+mod Ending
+mod Found
+mod Giving
+mod Lists
+mod Marks
+mod Owners
+mod Plans
+mod Returning
+mod Standing
+mod Tallies
+mod Used
+mod Walks

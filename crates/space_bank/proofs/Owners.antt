@@ -1,0 +1,65 @@
+-- Objects that are handed on to another bank, one after another.
+use Rattle.std.proofs.Common.{◌≡◌, inl, inr, ℕ, ◌+◌, ◌<◌, ◌||◌, Bool, true, false, List, [], take, length, refl, sym, ap, ◌∙◌}
+use Rattle.std.specs.Prelude.{if◌then◌else◌, nat_eq, slice_index, slice_set}
+use Rattle.std.proofs.lemmas.Bool.{cases_eq, eq-eqb, ne_eqb}
+use Rattle.std.proofs.lemmas.List.{get_or-set_other, get_or-set_same, length-set}
+use Rattle.std.proofs.lemmas.List.Folds.{list_any_more}
+use Rattle.model.specs.declared.capability.Capability.{Capability}
+use Rattle.model.specs.declared.object.Content.{Content}
+use Rattle.model.specs.declared.object.Object.{Object}
+use Rattle.model.specs.Object.{free, is_free}
+use Rattle.model.specs.Revoke.{is_member}
+use Rattle.model.specs.World.{content_at, object_at}
+use Rattle.space_bank.specs.Carrying.{AreHandedOn}
+
+-- an object with another owner, where it is handed on
+abbrev pub handed : Bool → ℕ → Object → Object
+handed goes b o = if goes then record { owner = b; content = o.content } else o
+
+pub handed_content : (goes : Bool) (b : ℕ) (o : Object) → (handed goes b o).content ≡ o.content
+handed_content true b o = refl
+handed_content false b o = refl
+
+-- objects that are handed on hold what they held
+pub handed_same : (list : List ℕ) (b : ℕ) (os us : List Object) → AreHandedOn list b os us → (n : ℕ) → content_at us n ≡ content_at os n
+handed_same list b os us are n = ap (λ (o : Object). o.content) (are.each n) ∙ handed_content (is_member list n) b (object_at os n)
+
+pub handed_used : (list : List ℕ) (b : ℕ) (os us : List Object) → AreHandedOn list b os us → (n : ℕ) → is_free (content_at os n) ≡ false → is_free (content_at us n) ≡ false
+handed_used list b os us are n used = ap (λ (c : Content Capability). is_free c) (handed_same list b os us are n) ∙ used
+
+pub handed_none : (b : ℕ) (os : List Object) → AreHandedOn [] b os os
+handed_none b os = record { size = refl; each = λ n. refl }
+
+-- one more of a list
+pub handed_more : (list : List ℕ) (i b : ℕ) (os us vs : List Object) → i < length list → slice_index list i < length us → AreHandedOn (take i list) b os us
+    → vs ≡ slice_set us (slice_index list i) (record { owner = b; content = content_at us (slice_index list i) }) → AreHandedOn (take (i + 1) list) b os vs
+handed_more list i b os us vs inside known are is =
+    let m = slice_index list i in
+    let next : Object = record { owner = b; content = content_at us m } in
+    record {
+      size = ap (λ (xs : List Object). length xs) is ∙ (length-set us m next ∙ are.size);
+      each = λ n.
+          let more : is_member (take (i + 1) list) n ≡ (is_member (take i list) n || nat_eq n m) = list_any_more (nat_eq n) list i 0 inside in
+          ap (λ (xs : List Object). object_at xs n) is
+          ∙ elim (cases_eq n m) [
+            | inl e ↦
+                let now : is_member (take (i + 1) list) n ≡ true = more ∙ (ap (λ b. is_member (take i list) n || b) (eq-eqb n m e) ∙ either (is_member (take i list) n)) in
+                let here : object_at (slice_set us m next) n ≡ next = ap (λ (k : ℕ). object_at (slice_set us m next) k) e ∙ get_or-set_same us m next free known in
+                here
+                ∙ (ap (λ (c : Content Capability). let o : Object = record { owner = b; content = c } in o)
+                (handed_same (take i list) b os us are m ∙ ap (λ (k : ℕ). content_at os k) (sym e))
+                ∙ sym (ap (λ (goes : Bool). handed goes b (object_at os n)) now))
+            | inr differ ↦
+                let same : is_member (take (i + 1) list) n ≡ is_member (take i list) n =
+                more ∙ (ap (λ b. is_member (take i list) n || b) (ne_eqb n m differ) ∙ neither (is_member (take i list) n)) in
+                get_or-set_other us m n next free differ ∙ (are.each n ∙ sym (ap (λ (goes : Bool). handed goes b (object_at os n)) same))
+          ];
+    }
+  where
+    either : (b : Bool) → (b || true) ≡ true
+    either true = refl
+    either false = refl
+
+    neither : (b : Bool) → (b || false) ≡ b
+    neither true = refl
+    neither false = refl

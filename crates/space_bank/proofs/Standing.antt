@@ -1,0 +1,131 @@
+-- What sound frames that are counted tell of their objects.
+use Rattle.std.proofs.Common.{◌≡◌, ◌≢◌, inl, inr, ℕ, ◌+◌, ◌^◌, ◌<◌, ◌≤◌, Bool, true, false, List, [], ◌∷◌, length, refl, sym, ap, arith, ◌∙◌}
+use Rattle.std.specs.Prelude.{IsTrue, nat_le, slice_index}
+use Rattle.std.specs.List.{list_all}
+use Rattle.std.proofs.lemmas.Bool.{and_parts, cases_eq, leb-true}
+use Rattle.model.specs.declared.capability.Cap.{Cap}
+use Rattle.model.specs.declared.capability.Capability.{Capability}
+use Rattle.model.specs.declared.frame.Frame.{Frame}
+use Rattle.model.specs.declared.geometry.Geometry.{Geometry}
+use Rattle.model.specs.declared.object.Content.{Content}
+use Rattle.model.specs.declared.object.Content.TheVariants as content
+use Rattle.model.specs.declared.object.Object.{Object}
+use Rattle.model.specs.declared.object.Role.TheVariants as role
+use Rattle.model.specs.Bank.{chain, usage}
+use Rattle.model.specs.Banking.{has_room}
+use Rattle.model.specs.Frame.{conveyed, header_at, held_at, objects_of}
+use Rattle.model.specs.Keepable.{AreKeepable, IsSoundFrames, world_at}
+use Rattle.model.specs.Object.{is_bank, is_free, limit_in, map_content, role_of}
+use Rattle.model.specs.Revoke.{is_member}
+use Rattle.model.specs.Sound.{HasShape, IsOfKind, object_count}
+use Rattle.model.specs.World.{content_at}
+use Rattle.model_laws.proofs.BankTree.{IsTree, chain_banks, member_tail, tree_of}
+use Rattle.model_laws.proofs.SoundOrders.{IsNow}
+use Rattle.model_laws.proofs.SoundParts.{IsFramed, nearly_from}
+use Rattle.capability.specs.Parts.{Parts, frames_of}
+use Rattle.capability.proofs.Frames.{content_there}
+use Rattle.capability.proofs.Keeping.{keepable_at, keepable_count}
+use Rattle.space_bank.specs.Banks.{BanksState}
+use Rattle.space_bank.specs.Carrying.{MayServe}
+
+pub sound_now : (g : Geometry) (age : ℕ) (fs : List Frame) → IsSoundFrames g age fs → IsNow g (objects_of fs)
+sound_now g age fs h = nearly_from g (world_at age fs) h.sound
+
+pub sound_framed : (g : Geometry) (age : ℕ) (fs : List Frame) → IsSoundFrames g age fs → IsFramed g (objects_of fs)
+sound_framed g age fs h = (sound_now g age fs h).frame
+
+-- what stands where nothing is has the role of what is free
+role_free : (f : Cap → Capability) (c : Content Cap) → is_free (map_content f c) ≡ true → role_of c ≡ role.Free
+role_free f content.Free is = refl
+role_free f (content.Page words) is = cc
+role_free f (content.Node slots) is = cc
+role_free f (content.Root r) is = cc
+role_free f (content.Annex registers) is = cc
+role_free f (content.Bank limit) is = cc
+
+role_used : (f : Cap → Capability) (c : Content Cap) → is_free (map_content f c) ≡ false → role_of c ≢ role.Free
+role_used f content.Free is e = cc
+role_used f (content.Page words) is e = cc
+role_used f (content.Node slots) is e = cc
+role_used f (content.Root r) is e = cc
+role_used f (content.Annex registers) is e = cc
+role_used f (content.Bank limit) is e = cc
+
+module _ (g : Geometry) (age : ℕ) (p : Parts) (k : AreKeepable g age (frames_of p)) (n : ℕ) (known : n < length p.headers) where
+  there : content_at (objects_of (frames_of p)) n ≡ map_content (conveyed p.headers) (held_at p.contents n)
+  there = content_there p n known (held_at p.contents n) refl
+
+  pub free_header : IsTrue (is_free (content_at (objects_of (frames_of p)) n)) → (header_at p.headers n).role ≡ role.Free
+  free_header is =
+      (keepable_at g age p n known k).kept.role
+      ∙ role_free (conveyed p.headers) (held_at p.contents n) (sym (ap (λ (c : Content Capability). is_free c) there) ∙ is)
+
+  pub used_header : is_free (content_at (objects_of (frames_of p)) n) ≡ false → (header_at p.headers n).role ≢ role.Free
+  used_header is e =
+      role_used (conveyed p.headers) (held_at p.contents n) (sym (ap (λ (c : Content Capability). is_free c) there) ∙ is)
+      (sym (keepable_at g age p n known k).kept.role ∙ e)
+
+  -- counts are no more than the age
+  pub few_allocations : (header_at p.headers n).allocations ≤ age
+  few_allocations = (keepable_at g age p n known k).kept.allocations.0
+
+  pub few_calls : (header_at p.headers n).calls ≤ age
+  few_calls = (keepable_at g age p n known k).kept.calls.0
+
+bank_kind : (g : Geometry) (n : ℕ) (c : Content Capability) → IsOfKind g n c → IsTrue (is_bank c) → n < g.nodes
+bank_kind g n (content.Bank limit) kind is = kind
+bank_kind g n c kind is = cc
+
+limit_shape : (c : Content Capability) → HasShape c → limit_in c < 2 ^ 64
+limit_shape content.Free shape = omega arith
+limit_shape (content.Page words) shape = omega arith
+limit_shape (content.Node slots) shape = omega arith
+limit_shape (content.Root r) shape = omega arith
+limit_shape (content.Annex registers) shape = omega arith
+limit_shape (content.Bank limit) shape = shape
+
+all_member : (test : ℕ → Bool) (xs : List ℕ) (x : ℕ) → list_all test xs ≡ true → is_member xs x ≡ true → test x ≡ true
+all_member test [] x all member = cc
+all_member test (y ∷ ys) x all member =
+    let parts = and_parts (test y) (list_all test ys) all in
+    elim (cases_eq x y) [
+      | inl e ↦ ap test e ∙ parts.0
+      | inr differ ↦ all_member test ys x parts.1 (sym (member_tail x y ys differ) ∙ member)
+    ]
+
+-- room in a chain
+pub room_within : (os : List Object) (b count x : ℕ) → IsTrue (has_room os b count) → is_member (chain os b) x ≡ true → usage os x + count ≤ limit_in (content_at os x)
+unfolding has_room
+room_within os b count x room member =
+    leb-true (usage os x + count) (limit_in (content_at os x))
+    (all_member (λ c. nat_le (usage os c + count) (limit_in (content_at os c))) (chain os b) x room member)
+
+module _ (p : Parts) (s : BanksState) (b : ℕ) (asks : MayServe p s b) where
+  pub serve_now : IsNow p.geometry (objects_of (frames_of p))
+  serve_now = sound_now p.geometry asks.sound.0 (frames_of p) asks.sound.1
+
+  pub serve_framed : IsFramed p.geometry (objects_of (frames_of p))
+  serve_framed = serve_now.frame
+
+  pub serve_tree : IsTree (objects_of (frames_of p))
+  serve_tree = tree_of p.geometry (objects_of (frames_of p)) serve_framed
+
+  pub serve_count : length p.headers ≡ object_count p.geometry
+  serve_count = keepable_count p.geometry asks.sound.0 p asks.sound.1.keepable
+
+  -- each bank is counted
+  pub bank_inside : (x : ℕ) → IsTrue (is_bank (content_at (objects_of (frames_of p)) x)) → x < length s.usages
+  bank_inside x is =
+      omega (arith, bank_kind p.geometry x (content_at (objects_of (frames_of p)) x) (serve_framed.kinds x) is, asks.counted.usage_each)
+
+  -- what a chain accounts for stays a number of 64 bits
+  pub room_fits : (count : ℕ) → IsTrue (has_room (objects_of (frames_of p)) b count) → (x : ℕ) → is_member (chain (objects_of (frames_of p)) b) x ≡ true →
+      slice_index s.usages x + count < 2 ^ 64
+  room_fits count room x member =
+      let os = objects_of (frames_of p) in
+      let bank = chain_banks os serve_tree b x asks.bank member in
+      let shape = limit_shape (content_at os x) (asks.sound.1.sound.shapes x) in
+      omega (arith, asks.counted.usage x bank, room_within os b count x room member, shape)
+
+  pub free_role : (n : ℕ) → n < length p.headers → IsTrue (is_free (content_at (objects_of (frames_of p)) n)) → (header_at p.headers n).role ≡ role.Free
+  free_role n known is = free_header p.geometry asks.sound.0 p asks.sound.1.keepable n known is

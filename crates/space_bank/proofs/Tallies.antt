@@ -1,0 +1,240 @@
+-- What is counted, where objects come and go.
+use Rattle.std.proofs.Common.{◌≡◌, ◌≢◌, inl, inr, ℕ, ◌+◌, ◌-◌, ◌<◌, ◌||◌, Bool, true, false, List, take, length, refl, sym, ap, subst, arith, ◌∙◌}
+use Rattle.std.specs.Prelude.{IsTrue, if◌then◌else◌, nat_eq, slice_index, slice_index_or, slice_set}
+use Rattle.std.proofs.lemmas.Bool.{cases_eq, cases_lt, eq-eqb, ne_eqb}
+use Rattle.std.proofs.lemmas.List.{get_or-append_right, get_or_append_left, get_or-set_other, get_or-set_same, length-append, length-set}
+use Rattle.std.proofs.lemmas.List.Folds.{list_any_more}
+use Rattle.model.specs.declared.capability.Capability.{Capability}
+use Rattle.model.specs.declared.geometry.Geometry.{Geometry}
+use Rattle.model.specs.declared.object.Content.{Content}
+use Rattle.model.specs.declared.object.Content.TheVariants as content
+use Rattle.model.specs.declared.object.Object.{Object}
+use Rattle.model.specs.Bank.{chain, usage}
+use Rattle.model.specs.Banking.{with_new}
+use Rattle.model.specs.Object.{is_bank, is_free, limit_in}
+use Rattle.model.specs.Revoke.{is_member}
+use Rattle.model.specs.Sound.{object_count}
+use Rattle.model.specs.World.{content_at}
+use Rattle.model_laws.proofs.BankTree.{IsTree, at_new, at_other, chain_new, length_new, new_bank_kept, tree_new}
+use Rattle.model_laws.proofs.BankUsage.{usage_new, usage_new_bank}
+use Rattle.space_bank.specs.Banks.{AreCounted, BanksState}
+use Rattle.space_bank.specs.Carrying.{marks_of}
+use Rattle.space_bank.specs.Chains.{IsRaised}
+use Rattle.space_bank.specs.Free.{is_marked}
+
+-- one more of a list was marked as free
+pub marked_more : (before now next : List Bool) (list : List ℕ) (i : ℕ) → i < length list → slice_index list i < length now
+    → next ≡ slice_set now (slice_index list i) true
+    → ((n : ℕ) → slice_index_or now n false ≡ (if is_member (take i list) n then true else slice_index_or before n false))
+    → (n : ℕ) → slice_index_or next n false ≡ (if is_member (take (i + 1) list) n then true else slice_index_or before n false)
+marked_more before now next list i inside known is marks n =
+    let m = slice_index list i in
+    let more : is_member (take (i + 1) list) n ≡ (is_member (take i list) n || nat_eq n m) = list_any_more (nat_eq n) list i 0 inside in
+    elim (cases_eq n m) [
+      | inl e ↦
+          let here : slice_index_or next n false ≡ true =
+          ap (λ (bs : List Bool). slice_index_or bs n false) is ∙ (ap (λ k. slice_index_or (slice_set now m true) k false) e ∙ get_or-set_same now m true false known) in
+          here ∙ sym (rw (more, eq-eqb n m e) (either (is_member (take i list) n) (slice_index_or before n false)))
+      | inr differ ↦
+          let other : slice_index_or next n false ≡ slice_index_or now n false =
+          ap (λ (bs : List Bool). slice_index_or bs n false) is ∙ get_or-set_other now m n true false differ in
+          other ∙ (marks n ∙ sym (rw (more, ne_eqb n m differ) (same (is_member (take i list) n) (slice_index_or before n false))))
+    ]
+  where
+    either : (b d : Bool) → (if (b || true) then true else d) ≡ true
+    either true d = refl
+    either false d = refl
+
+    same : (b d : Bool) → (if (b || false) then true else d) ≡ (if b then true else d)
+    same true d = refl
+    same false d = refl
+
+-- each number is marked as what it is
+abbrev pub AreMarked : Geometry → List Object → List Bool → Type 0
+AreMarked g os marks = (n : ℕ) → n < object_count g → is_marked marks n ≡ is_free (content_at os n)
+
+pub marks_counted : (g : Geometry) (os : List Object) (s : BanksState) → AreCounted g os s → AreMarked g os (marks_of s)
+marks_counted g os s counted n known = elim (cases_lt n g.nodes) [
+  | inl inside ↦ get_or_append_left s.free_nodes s.free_pages false n (omega (arith, counted.nodes)) ∙ counted.node n inside
+  | inr past ↦
+      let at : g.nodes + (n - g.nodes) ≡ n = omega arith in
+      get_or-append_right s.free_nodes s.free_pages g.nodes n false counted.nodes past
+      ∙ (counted.page (n - g.nodes) (omega arith) ∙ ap (λ (m : ℕ). is_free (content_at os m)) at)
+]
+
+-- how many there are of each, and the room, stay as they were
+pub record IsAsWide (s t : BanksState) : Type 0 where
+  pub nodes : length t.free_nodes ≡ length s.free_nodes
+  pub pages : length t.free_pages ≡ length s.free_pages
+  pub usages : length t.usages ≡ length s.usages
+  pub limits : length t.limits ≡ length s.limits
+  pub room : t.room ≡ s.room
+
+pub counted_from : (g : Geometry) (os us : List Object) (s t : BanksState) → AreCounted g os s → IsAsWide s t → AreMarked g us (marks_of t)
+    → ((x : ℕ) → IsTrue (is_bank (content_at us x)) → slice_index t.usages x ≡ usage us x)
+    → ((x : ℕ) → IsTrue (is_bank (content_at us x)) → slice_index t.limits x ≡ limit_in (content_at us x)) → AreCounted g us t
+counted_from g os us s t counted wide marks usages limits = record {
+  nodes = wide.nodes ∙ counted.nodes;
+  pages = wide.pages ∙ counted.pages;
+  node = λ n inside.
+      sym (get_or_append_left t.free_nodes t.free_pages false n (omega (arith, counted.nodes, wide.nodes))) ∙ marks n (omega arith);
+  page = λ n inside.
+      let at : g.nodes + n - g.nodes ≡ n = omega arith in
+      sym (get_or-append_right t.free_nodes t.free_pages g.nodes (g.nodes + n) false (wide.nodes ∙ counted.nodes) (omega arith)
+      ∙ ap (λ m. is_marked t.free_pages m) at) ∙ marks (g.nodes + n) (omega arith);
+  usage_each = wide.usages ∙ counted.usage_each;
+  limit_each = wide.limits ∙ counted.limit_each;
+  usage = usages;
+  limit = limits;
+  room = omega (arith, counted.room, wide.room);
+}
+
+marks_length : (g : Geometry) (os : List Object) (s : BanksState) → AreCounted g os s → length (marks_of s) ≡ object_count g
+marks_length g os s counted = omega (arith, length-append s.free_nodes s.free_pages, counted.nodes, counted.pages)
+
+-- a new object's number is marked as taken
+marked_new : (g : Geometry) (os : List Object) (marks : List Bool) (n b : ℕ) (c : Content Capability) → n < length os → n < length marks → is_free c ≡ false
+    → AreMarked g os marks → AreMarked g (with_new os n b c) (slice_set marks n false)
+marked_new g os marks n b c inside known used is m within = elim (cases_eq m n) [
+  | inl e ↦
+      rw (e, get_or-set_same marks n false false known) (sym (ap (λ (o : Object). is_free o.content) (at_new os n b c inside) ∙ used))
+  | inr differ ↦
+      rw (get_or-set_other marks n m false false differ) (is m within ∙ sym (ap (λ (o : Object). is_free o.content) (at_other os n b c m differ)))
+]
+
+-- More is raised along the chain of a bank, and these marks are set.
+pub record IsTaken (banks : List ℕ) (count : ℕ) (s t : BanksState) (marks : List Bool) : Type 0 where
+  pub usages : IsRaised banks count s.usages t.usages
+  pub nodes : length t.free_nodes ≡ length s.free_nodes
+  pub pages : length t.free_pages ≡ length s.free_pages
+  pub limits : t.limits ≡ s.limits
+  pub room : t.room ≡ s.room
+  pub marks_are : marks_of t ≡ marks
+
+taken_wide : (banks : List ℕ) (count : ℕ) (s t : BanksState) (marks : List Bool) → IsTaken banks count s t marks → IsAsWide s t
+taken_wide banks count s t marks taken = record {
+  nodes = taken.nodes;
+  pages = taken.pages;
+  usages = taken.usages.size;
+  limits = ap (λ (xs : List ℕ). length xs) taken.limits;
+  room = taken.room;
+}
+
+module _ (os : List Object) (n b : ℕ) (inside : n < length os) (c : Content Capability) where
+  -- what is a bank after a new object that is none was one before
+  old_bank : is_bank c ≡ false → (x : ℕ) → IsTrue (is_bank (content_at (with_new os n b c) x)) → x ≢ n
+  old_bank plain x is e =
+      let no_bank : true ≡ false = sym is ∙ (ap (λ (m : ℕ). is_bank (content_at (with_new os n b c) m)) e
+      ∙ (ap (λ (o : Object). is_bank o.content) (at_new os n b c inside) ∙ plain)) in
+      cc
+
+  other_content : (x : ℕ) → x ≢ n → content_at (with_new os n b c) x ≡ content_at os x
+  other_content x differ = ap (λ (o : Object). o.content) (at_other os n b c x differ)
+
+  other_bank : (x : ℕ) → x ≢ n → IsTrue (is_bank (content_at (with_new os n b c) x)) → IsTrue (is_bank (content_at os x))
+  other_bank x differ is = sym (ap (λ (d : Content Capability). is_bank d) (other_content x differ)) ∙ is
+
+no_bank_short : (c : Content Capability) (P : Type 0) → is_bank c ≡ false → IsTrue (is_bank c) → P
+no_bank_short c P plain is = cc
+
+module _ (g : Geometry) (os : List Object) (size : length os ≡ object_count g) (t : IsTree os) (s : BanksState) (counted : AreCounted g os s)
+    (b : ℕ) (bank : IsTrue (is_bank (content_at os b))) (n : ℕ) (inside : n < length os) (unused : IsTrue (is_free (content_at os n))) where
+  known_mark : n < length (marks_of s)
+  known_mark = omega (arith, marks_length g os s counted, size)
+
+  -- one object that is no bank
+  pub counted_alone : (c : Content Capability) (u : BanksState) → is_free c ≡ false → is_bank c ≡ false
+      → IsTaken (chain os b) 1 s u (slice_set (marks_of s) n false) → AreCounted g (with_new os n b c) u
+  counted_alone c u used plain taken =
+      counted_from g os (with_new os n b c) s u counted (taken_wide (chain os b) 1 s u (slice_set (marks_of s) n false) taken)
+      (subst (λ (marks : List Bool). AreMarked g (with_new os n b c) marks) (sym taken.marks_are)
+      (marked_new g os (marks_of s) n b c inside known_mark used (marks_counted g os s counted)))
+      (λ x is.
+      let was = other_bank os n b inside c x (old_bank os n b inside c plain x is) is in
+      omega (
+        arith,
+        taken.usages.each x,
+        counted.usage x was,
+        usage_new os n b c t bank inside unused used (no_bank_short c (length (chain os b) < 16) plain) x was,
+      ))
+      (λ x is.
+      let differ = old_bank os n b inside c plain x is in
+      ap (λ (xs : List ℕ). slice_index xs x) taken.limits
+      ∙ (counted.limit x (other_bank os n b inside c x differ is) ∙ ap (λ (d : Content Capability). limit_in d) (sym (other_content os n b inside c x differ))))
+
+  -- a bank, of which nothing is counted yet
+  pub counted_bank : (limit : ℕ) (u v : BanksState) → length (chain os b) < 16 → n < g.nodes → IsTaken (chain os b) 1 s u (slice_set (marks_of s) n false)
+      → v ≡ record u { usages = slice_set u.usages n 0; limits = slice_set u.limits n limit } → AreCounted g (with_new os n b (content.Bank limit)) v
+  counted_bank limit u v short place taken is =
+      let c : Content Capability = content.Bank limit in
+      let wide = taken_wide (chain os b) 1 s u (slice_set (marks_of s) n false) taken in
+      let within : n < length u.usages = omega (arith, wide.usages, counted.usage_each) in
+      let within_limits : n < length u.limits = omega (arith, wide.limits, counted.limit_each) in
+      subst (λ (w : BanksState). AreCounted g (with_new os n b c) w) (sym is)
+      (counted_from g os (with_new os n b c) s (record u { usages = slice_set u.usages n 0; limits = slice_set u.limits n limit }) counted
+      (record {
+        nodes = wide.nodes;
+        pages = wide.pages;
+        usages = length-set u.usages n 0 ∙ wide.usages;
+        limits = length-set u.limits n limit ∙ wide.limits;
+        room = wide.room;
+      })
+      (subst (λ (marks : List Bool). AreMarked g (with_new os n b c) marks) (sym taken.marks_are)
+      (marked_new g os (marks_of s) n b c inside known_mark refl (marks_counted g os s counted)))
+      (λ x here. elim (cases_eq x n) [
+        | inl e ↦ rw (e, get_or-set_same u.usages n 0 0 within) (sym (usage_new_bank os n b c t bank inside unused refl (λ is_one. short) refl))
+        | inr differ ↦
+            let was = other_bank os n b inside c x differ here in
+            rw (get_or-set_other u.usages n x 0 0 differ)
+            (omega (arith, taken.usages.each x, counted.usage x was, usage_new os n b c t bank inside unused refl (λ is_one. short) x was))
+      ])
+      (λ x here. elim (cases_eq x n) [
+        | inl e ↦ rw (e, get_or-set_same u.limits n limit 0 within_limits) (sym (ap (λ (o : Object). limit_in o.content) (at_new os n b c inside)))
+        | inr differ ↦
+            rw (get_or-set_other u.limits n x limit 0 differ)
+            (ap (λ (xs : List ℕ). slice_index xs x) taken.limits
+            ∙ (counted.limit x (other_bank os n b inside c x differ here) ∙ ap (λ (d : Content Capability). limit_in d) (sym (other_content os n b inside c x differ))))
+      ]))
+
+  -- two objects, neither of which is a bank
+  pub counted_two : (c d : Content Capability) (m : ℕ) (u : BanksState) → is_free c ≡ false → is_bank c ≡ false → is_free d ≡ false → is_bank d ≡ false
+      → m < length os → m ≢ n → IsTrue (is_free (content_at os m)) → IsTaken (chain os b) 2 s u (slice_set (slice_set (marks_of s) n false) m false)
+      → AreCounted g (with_new (with_new os n b c) m b d) u
+  counted_two c d m u used plain used_too plain_too within two unused_too taken =
+      let vs = with_new os n b c in
+      let short = no_bank_short c (length (chain os b) < 16) plain in
+      let grown = tree_new os n b c t bank inside unused used short in
+      let kept = new_bank_kept os n b c t bank inside unused used short b bank in
+      let chain_kept = chain_new os n b c t bank inside unused used short b bank in
+      let within_grown : m < length vs = omega (arith, length_new os n b c) in
+      let unused_grown : IsTrue (is_free (content_at vs m)) = ap (λ (e : Content Capability). is_free e) (other_content os n b inside c m two) ∙ unused_too in
+      let known : m < length (slice_set (marks_of s) n false) = omega (arith, length-set (marks_of s) n false, marks_length g os s counted, size) in
+      counted_from g os (with_new vs m b d) s u counted
+      (taken_wide (chain os b) 2 s u (slice_set (slice_set (marks_of s) n false) m false) taken)
+      (subst (λ (marks : List Bool). AreMarked g (with_new vs m b d) marks) (sym taken.marks_are)
+      (marked_new g vs (slice_set (marks_of s) n false) m b d within_grown known used_too
+      (marked_new g os (marks_of s) n b c inside known_mark used (marks_counted g os s counted))))
+      (λ x is.
+      let first = other_bank vs m b within_grown d x (old_bank vs m b within_grown d plain_too x is) is in
+      let was = other_bank os n b inside c x (old_bank os n b inside c plain x first) first in
+      omega (
+        arith,
+        taken.usages.each x,
+        counted.usage x was,
+        usage_new os n b c t bank inside unused used short x was,
+        usage_new vs m b d grown kept within_grown unused_grown used_too (no_bank_short d (length (chain vs b) < 16) plain_too) x first,
+        ap {B = ℕ} (λ (xs : List ℕ). if is_member xs x then 1 else 0) chain_kept,
+        twice (is_member (chain os b) x),
+      ))
+      (λ x is.
+      let differ_too = old_bank vs m b within_grown d plain_too x is in
+      let first = other_bank vs m b within_grown d x differ_too is in
+      let differ = old_bank os n b inside c plain x first in
+      ap (λ (xs : List ℕ). slice_index xs x) taken.limits
+      ∙ (counted.limit x (other_bank os n b inside c x differ first)
+      ∙ (ap (λ (e : Content Capability). limit_in e) (sym (other_content os n b inside c x differ))
+      ∙ ap (λ (e : Content Capability). limit_in e) (sym (other_content vs m b within_grown d x differ_too)))))
+    where
+      twice : (is : Bool) → (if is then 2 else 0) ≡ (if is then 1 else 0) + (if is then 1 else 0)
+      twice true = refl
+      twice false = refl

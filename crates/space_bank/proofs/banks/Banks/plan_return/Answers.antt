@@ -1,0 +1,50 @@
+use Rattle.std.proofs.Common.{◌++◌, ◌∙◌, [], ◌∷◌, length, append_assoc, refl, ap, arith}
+use Rattle.std.proofs.lemmas.List.{length-append}
+use Rattle.model.specs.declared.capability.Capability.TheVariants.{Void}
+use Rattle.model.specs.declared.order.BankOrder.TheVariants as bank
+use Rattle.model.specs.declared.order.ResultCode.TheVariants as code
+use Rattle.model.specs.Banking.{inherited, owned_by}
+use Rattle.model.specs.Revoke.{rescind}
+use Rattle.model.specs.Frame.{objects_of}
+use Rattle.capability.specs.Parts.{frames_of}
+use Rattle.space_bank.specs.Banks.{BanksState}
+use Rattle.space_bank.proofs.Plans.{bank_roles, bank_room, planned_made, planned_refused, return_all, return_prime}
+use Rattle.space_bank.proofs.banks.Banks.plan_return.Goals as goal
+
+pub returns-then-bank-eq0-clause-planned : goal.returns-then-bank-eq0-clause-planned
+returns-then-bank-eq0-clause-planned g c = λ args.
+    let p = g.F.PresentFrames.parts c.args.store.now in
+    let os = objects_of (frames_of p) in
+    let first = c.args.self.now.listed in
+    planned_refused p c.args.bank bank.ReturnToParent args first first c.refused.result os code.PrimeBank
+    (return_prime p.geometry os c.args.bank args c.if-bank-eq0.true)
+    c.refused.ensures refl
+
+pub list_owned-requires-clause-roles : goal.list_owned-requires-clause-roles
+list_owned-requires-clause-roles g c = bank_roles (g.F.PresentFrames.parts c.args.store.now) c.args.self.now c.args.bank c.requires.bank
+
+pub list_owned-requires-clause-room : goal.list_owned-requires-clause-room
+list_owned-requires-clause-room g c =
+    let p = g.F.PresentFrames.parts c.args.store.now in
+    let first = c.args.self.now.listed in
+    omega (
+      arith,
+      bank_room p c.args.self.now c.args.bank c.requires.bank (length first) c.requires.few,
+      ap (λ (s : BanksState). length s.listed) c.list.ensures,
+      length-append first (c.args.bank ∷ []),
+      ap (λ (s : BanksState). s.room) c.list.ensures,
+    )
+
+pub returns-clause-planned : goal.returns-clause-planned
+returns-clause-planned g c = λ args.
+    let p = g.F.PresentFrames.parts c.args.store.now in
+    let os = objects_of (frames_of p) in
+    let first = c.args.self.now.listed in
+    let own = owned_by os c.args.bank in
+    planned_made p c.args.bank bank.ReturnToParent args first c.list_owned.new.self.listed c.given.result
+    (rescind (c.args.bank ∷ []) (inherited os c.args.bank)) (c.args.bank ∷ own) Void
+    (return_all p.geometry os c.args.bank args c.if-bank-eq0.false)
+    c.given.ensures
+    (ap (λ (s : BanksState). s.listed) c.list_owned.ensures
+    ∙ ap (λ (s : BanksState). s.listed ++ own) c.list.ensures
+    ∙ append_assoc first (c.args.bank ∷ []) own)

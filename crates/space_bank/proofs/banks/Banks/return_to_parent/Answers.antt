@@ -1,0 +1,136 @@
+use Rattle.std.proofs.Common.{◌≡◌, ◌<◌, ◌+◌, ◌-◌, ◌^◌, ◌∙◌, ◌++◌, ◌∷◌, [], false, ℕ, List, ap, arith, drop, length, subst, sym, take}
+use Rattle.std.specs.List.{All}
+use Rattle.std.proofs.lemmas.List.{length-append}
+use Rattle.model.specs.declared.geometry.Geometry.{Geometry}
+use Rattle.model.specs.declared.object.Object.{Object}
+use Rattle.model.specs.Bank.{chain}
+use Rattle.model.specs.Banking.{owned_by}
+use Rattle.model.specs.Frame.{header_at, objects_of}
+use Rattle.model.specs.Keepable.{AreKeepable}
+use Rattle.model.specs.Object.{is_free}
+use Rattle.model.specs.Revoke.{rescind}
+use Rattle.model.specs.World.{content_at, owner_at}
+use Rattle.capability.specs.Parts.{frames_of}
+use Rattle.space_bank.specs.Banks.{BanksState}
+use Rattle.space_bank.specs.Carrying.{AreHandedOn}
+use Rattle.space_bank.specs.Chains.{IsRaised}
+use Rattle.space_bank.proofs.Climbs.{owner_read}
+use Rattle.space_bank.proofs.Ending.{aside_then_ended, ended_aside, released_then, rest_is}
+use Rattle.space_bank.proofs.Giving.{serve_parent}
+use Rattle.space_bank.proofs.Returning.{drop_next, handed_allocations, handed_calls, inherited_by, mark_one, one_all, one_enough, owned_used, rest_all, returned_carried}
+use Rattle.space_bank.proofs.Standing.{serve_count}
+use Rattle.space_bank.proofs.banks.Banks.return_to_parent.Goals as goal
+
+pub release-requires-clause-asks : goal.release-requires-clause-asks
+release-requires-clause-asks g c =
+    let p = g.F.PresentFrames.parts c.args.store.now in
+    serve_parent p c.args.self.now c.args.bank _ c.requires.asks (owner_read p c.table.result.now _ c.args.bank c.table.ensures c.header-parent.ensures)
+
+pub release-requires-clause-enough : goal.release-requires-clause-enough
+release-requires-clause-enough g c =
+    let p = g.F.PresentFrames.parts c.args.store.now in
+    rw (owner_read p c.table.result.now _ c.args.bank c.table.ensures c.header-parent.ensures)
+    (one_enough p c.args.self.now c.args.bank c.requires.asks c.requires.other)
+
+pub hand_on-requires-clause-announced : goal.hand_on-requires-clause-announced
+hand_on-requires-clause-announced g c =
+    let os = objects_of (frames_of (g.F.PresentFrames.parts c.args.store.now)) in
+    let s = c.args.self.now in
+    let announced = g.F.PresentFrames.IsAnnounced c.args.store.now in
+    let part : take (length c.deref.result.now - (c.args.skip + 1)) (drop (c.args.skip + 1) c.deref.result.now) ≡ owned_by os c.args.bank =
+    rest_is c.deref.result.now s.listed (c.args.skip + 1)
+    (c.deref.ensures.value ∙ (ap (λ (k : BanksState). k.listed) c.self.view_is ∙ ap (λ (k : BanksState). k.listed) c.release.ensures.kept))
+    ∙ drop_next s.listed c.args.skip c.args.bank (owned_by os c.args.bank) c.requires.listed in
+    subst (λ (list : List ℕ). All announced list) (sym part)
+    (rest_all announced c.args.bank (owned_by os c.args.bank) (subst (λ (list : List ℕ). All announced list) c.requires.listed c.requires.announced))
+
+pub hand_on-requires-clause-used : goal.hand_on-requires-clause-used
+hand_on-requires-clause-used g c =
+    let os = objects_of (frames_of (g.F.PresentFrames.parts c.args.store.now)) in
+    let s = c.args.self.now in
+    let part : take (length c.deref.result.now - (c.args.skip + 1)) (drop (c.args.skip + 1) c.deref.result.now) ≡ owned_by os c.args.bank =
+    rest_is c.deref.result.now s.listed (c.args.skip + 1)
+    (c.deref.ensures.value ∙ (ap (λ (k : BanksState). k.listed) c.self.view_is ∙ ap (λ (k : BanksState). k.listed) c.release.ensures.kept))
+    ∙ drop_next s.listed c.args.skip c.args.bank (owned_by os c.args.bank) c.requires.listed in
+    subst (λ (list : List ℕ). All (λ n. is_free (content_at os n) ≡ false) list) (sym part) (owned_used os c.args.bank)
+
+pub rescind-requires-clause-announced : goal.rescind-requires-clause-announced
+rescind-requires-clause-announced g c =
+    let os = objects_of (frames_of (g.F.PresentFrames.parts c.args.store.now)) in
+    let first = subst (λ (list : List ℕ). All (g.F.PresentFrames.IsAnnounced c.args.store.now) list) c.requires.listed c.requires.announced 0 0 (omega arith) in
+    one_all (g.F.PresentFrames.IsAnnounced c.hand_on.new.store) c.args.bank (c.hand_on.ensures.aside.announced c.args.bank first)
+
+pub rescind-requires-clause-allocations : goal.rescind-requires-clause-allocations
+rescind-requires-clause-allocations g c =
+    let p = g.F.PresentFrames.parts c.args.store.now in
+    let q = g.F.PresentFrames.parts c.hand_on.new.store in
+    let first = subst (λ (list : List ℕ). All (g.F.PresentFrames.IsAnnounced c.args.store.now) list) c.requires.listed c.requires.announced 0 0 (omega arith) in
+    let known = g.met.F.PresentFrames.known_announced c.hand_on.new.store c.args.bank (c.hand_on.ensures.aside.announced c.args.bank first) in
+    one_all (λ n. (header_at q.headers n).allocations < 2 ^ 64 - 1) c.args.bank
+    (handed_allocations p c.args.self.now c.args.bank c.requires.asks c.requires.other q c.hand_on.ensures.keepable known.0)
+
+pub rescind-requires-clause-calls : goal.rescind-requires-clause-calls
+rescind-requires-clause-calls g c =
+    let p = g.F.PresentFrames.parts c.args.store.now in
+    let q = g.F.PresentFrames.parts c.hand_on.new.store in
+    let first = subst (λ (list : List ℕ). All (g.F.PresentFrames.IsAnnounced c.args.store.now) list) c.requires.listed c.requires.announced 0 0 (omega arith) in
+    let known = g.met.F.PresentFrames.known_announced c.hand_on.new.store c.args.bank (c.hand_on.ensures.aside.announced c.args.bank first) in
+    one_all (λ n. (header_at q.headers n).calls < 2 ^ 64 - 1) c.args.bank
+    (handed_calls p c.args.self.now c.args.bank c.requires.asks c.requires.other q c.hand_on.ensures.keepable known.0)
+
+pub returns-clause-objects : goal.returns-clause-objects
+returns-clause-objects g c =
+    let p = g.F.PresentFrames.parts c.args.store.now in
+    let os = objects_of (frames_of p) in
+    let us = objects_of (frames_of (g.F.PresentFrames.parts c.hand_on.new.store)) in
+    let s = c.args.self.now in
+    let owner = owner_read p c.table.result.now _ c.args.bank c.table.ensures c.header-parent.ensures in
+    let part : take (length c.deref.result.now - (c.args.skip + 1)) (drop (c.args.skip + 1) c.deref.result.now) ≡ owned_by os c.args.bank =
+    rest_is c.deref.result.now s.listed (c.args.skip + 1)
+    (c.deref.ensures.value ∙ (ap (λ (k : BanksState). k.listed) c.self.view_is ∙ ap (λ (k : BanksState). k.listed) c.release.ensures.kept))
+    ∙ drop_next s.listed c.args.skip c.args.bank (owned_by os c.args.bank) c.requires.listed in
+    let handed : AreHandedOn (owned_by os c.args.bank) (owner_at os c.args.bank) os us =
+    subst (λ (n : ℕ). AreHandedOn (owned_by os c.args.bank) n os us) owner
+    (subst (λ (list : List ℕ). AreHandedOn list c.header-parent.result.owner os us) part c.hand_on.ensures.objects) in
+    c.rescind.ensures.objects ∙ ap (λ (vs : List Object). rescind (c.args.bank ∷ []) vs) (inherited_by os us c.args.bank handed)
+
+pub returns-clause-carried : goal.returns-clause-carried
+returns-clause-carried g c =
+    let p = g.F.PresentFrames.parts c.args.store.now in
+    let q = g.F.PresentFrames.parts c.hand_on.new.store in
+    let r = g.F.PresentFrames.parts c.rescind.new.store in
+    let os = objects_of (frames_of p) in
+    let us = objects_of (frames_of q) in
+    let s = c.args.self.now in
+    let b = c.args.bank in
+    let banks = chain os (owner_at os b) in
+    let owner = owner_read p c.table.result.now _ b c.table.ensures c.header-parent.ensures in
+    let part : take (length c.deref.result.now - (c.args.skip + 1)) (drop (c.args.skip + 1) c.deref.result.now) ≡ owned_by os b =
+    rest_is c.deref.result.now s.listed (c.args.skip + 1)
+    (c.deref.ensures.value ∙ (ap (λ (k : BanksState). k.listed) c.self.view_is ∙ ap (λ (k : BanksState). k.listed) c.release.ensures.kept))
+    ∙ drop_next s.listed c.args.skip b (owned_by os b) c.requires.listed in
+    let handed : AreHandedOn (owned_by os b) (owner_at os b) os us =
+    subst (λ (n : ℕ). AreHandedOn (owned_by os b) n os us) owner
+    (subst (λ (list : List ℕ). AreHandedOn list c.header-parent.result.owner os us) part c.hand_on.ensures.objects) in
+    let raised : IsRaised banks 1 c.release.new.self.usages s.usages =
+    subst (λ (n : ℕ). IsRaised (chain os n) 1 c.release.new.self.usages s.usages) owner c.release.ensures.usages in
+    let first = subst (λ (list : List ℕ). All (g.F.PresentFrames.IsAnnounced c.args.store.now) list) c.requires.listed c.requires.announced 0 0 (omega arith) in
+    let known = (g.met.F.PresentFrames.known_announced c.args.store.now b first).0 in
+    let marks : length (c.self.inside.nodes ++ c.self.inside.pages) ≡ length (s.free_nodes ++ s.free_pages) =
+    ap (λ (k : BanksState). length (k.free_nodes ++ k.free_pages)) c.self.view_is ∙ ap (λ (k : BanksState). length (k.free_nodes ++ k.free_pages)) c.release.ensures.kept in
+    let inside : b < length (c.self.inside.nodes ++ c.self.inside.pages) =
+    omega (arith, known, marks, length-append s.free_nodes s.free_pages, serve_count p s b c.requires.asks, c.requires.asks.counted.nodes, c.requires.asks.counted.pages) in
+    returned_carried p s b c.requires.asks c.requires.other r _ us handed
+    (released_then banks 1 s c.release.new.self _ c.mark.new.nodes c.mark.new.pages (b ∷ []) raised c.release.ensures.kept c.self.view_is
+    c.mark.ensures.nodes c.mark.ensures.pages (mark_one (c.self.inside.nodes ++ c.self.inside.pages) (c.mark.new.nodes ++ c.mark.new.pages) b inside c.mark.ensures.marks))
+    c.rescind.ensures.objects c.rescind.ensures.current
+    (λ age few k. subst (λ (h : Geometry). AreKeepable h (age + 1) (frames_of r)) c.hand_on.ensures.aside.geometry
+    (c.rescind.ensures.keepable age few (subst (λ (h : Geometry). AreKeepable h age (frames_of q)) (sym c.hand_on.ensures.aside.geometry) (c.hand_on.ensures.keepable age k))))
+
+pub returns-clause-aside : goal.returns-clause-aside
+returns-clause-aside g c =
+    aside_then_ended g.F.PresentFrames.parts g.F.PresentFrames.IsFetched g.F.PresentFrames.IsAnnounced g.F.PresentFrames.LeadsTo g.met.F.PresentFrames.leads_twice
+    c.args.store.now c.hand_on.new.store c.rescind.new.store c.hand_on.ensures.aside
+    (ended_aside g.F.PresentFrames.parts g.F.PresentFrames.IsFetched g.F.PresentFrames.IsAnnounced g.F.PresentFrames.LeadsTo c.hand_on.new.store c.rescind.new.store
+    (c.args.bank ∷ []) (objects_of (frames_of (g.F.PresentFrames.parts c.hand_on.new.store)))
+    c.rescind.ensures.given_up c.rescind.ensures.objects c.rescind.ensures.fetched c.rescind.ensures.announced c.rescind.ensures.leads)

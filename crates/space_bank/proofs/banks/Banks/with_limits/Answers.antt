@@ -1,0 +1,59 @@
+use Rattle.std.proofs.Common.{◌≡◌, ◌<◌, ◌≤◌, ◌+◌, List, length, sym, ap, subst, arith}
+use Rattle.model.specs.declared.geometry.Geometry.{Geometry}
+use Rattle.std.specs.Vec.{vec_capacity}
+use Rattle.model.specs.declared.frame.ObjectHeader.{ObjectHeader}
+use Rattle.model.specs.Frame.{objects_of}
+use Rattle.model.specs.Sound.{object_count}
+use Rattle.model.specs.World.{content_at}
+use Rattle.capability.specs.Parts.{frames_of}
+use Rattle.capability.proofs.Keeping.{keepable_count, keepable_roles}
+use Rattle.space_bank.specs.Banks.{BanksState}
+use Rattle.space_bank.proofs.Counts.{counted_from, numbers_fit, room_told}
+use Rattle.space_bank.proofs.Walks.{bank_below}
+use Rattle.space_bank.proofs.banks.Banks.with_limits.Goals as goal
+
+pub free_numbers-requires-2-clause-fits : goal.free_numbers-requires-2-clause-fits
+free_numbers-requires-2-clause-fits g c =
+    let p = g.F.PresentFrames.parts c.args.store.now in
+    let sound = c.requires.sound in
+    numbers_fit p c.table.result.now c.geometry-geometry.result c.count.result c.table.ensures c.count.ensures c.count.type_inv c.geometry-geometry.ensures.geometry
+    (keepable_count p.geometry sound.0 p sound.1.keepable)
+
+pub count_usages-requires-clause-roles : goal.count_usages-requires-clause-roles
+count_usages-requires-clause-roles g c =
+    let p = g.F.PresentFrames.parts c.args.store.now in
+    let sound = c.requires.sound in
+    keepable_roles p.geometry sound.0 (frames_of p) sound.1.keepable
+
+pub returns : goal.returns
+returns g c =
+    let p = g.F.PresentFrames.parts c.args.store.now in
+    let os = objects_of (frames_of p) in
+    let sound = c.requires.sound in
+    let count = keepable_count p.geometry sound.0 p sound.1.keepable in
+    let more : c.in-Some.room ≡ c.count.result + 2 = room_told c.count.result c.in-Some.room c.in-Some.ensures in
+    let room : object_count p.geometry + 2 ≤ vec_capacity c.in_ok-listed.listed =
+    omega (arith, count, more, c.count.ensures, ap (λ (hs : List ObjectHeader). length hs) c.table.ensures, c.in_ok-listed.ensures.capacity) in
+    let made : BanksState = record {
+      free_nodes = c.in_ok-nodes.nodes;
+      free_pages = c.in_ok-pages.pages;
+      usages = c.in_ok-usages.usages.items;
+      limits = c.args.limits.items;
+      listed = c.in_ok-listed.listed.items;
+      room = vec_capacity c.in_ok-listed.listed;
+    } in
+    counted_from p.geometry os made (λ b bank. bank_below p.geometry b (content_at os b) bank (sound.1.sound.kinds b))
+    c.geometry-geometry.result c.geometry-geometry.ensures.geometry c.in_ok-nodes.ensures c.in_ok-pages.ensures c.in_ok-usages.ensures.size c.in_ok-usages.ensures.counted
+    c.requires.limits room
+
+pub free_numbers-requires-2-clause-roles : goal.free_numbers-requires-2-clause-roles
+free_numbers-requires-2-clause-roles g c =
+    let p = g.F.PresentFrames.parts c.args.store.now in
+    let sound = c.requires.sound in
+    keepable_roles p.geometry sound.0 (frames_of p) sound.1.keepable
+
+pub count_usages-requires-clause-each : goal.count_usages-requires-clause-each
+count_usages-requires-clause-each g c = λ b bank.
+    let p = g.F.PresentFrames.parts c.args.store.now in
+    let below = bank_below p.geometry b (content_at (objects_of (frames_of p)) b) bank (c.requires.sound.1.sound.kinds b) in
+    subst (λ (h : Geometry). b < h.nodes) (sym c.geometry-geometry.ensures.geometry) below

@@ -1,0 +1,12 @@
+use Rattle.std.proofs.Common.{◌≡◌, ℕ, ◌++◌, true, false, length, take}
+use Rattle.std.specs.Prelude.{if◌then◌else◌, slice_index_or}
+use Rattle.model.specs.Revoke.{is_member}
+use Rattle.space_bank.proofs.marking.mark_free.Given as goal
+
+abbrev pub invariant-loop-number : goal.invariant-loop-number
+invariant-loop-number l = record {
+  nodes : length l.nodes ≡ length l.initial.nodes;
+  pages : length l.pages ≡ length l.initial.pages;
+  marks : (n : ℕ) → slice_index_or (l.nodes ++ l.pages) n false
+      ≡ (if is_member (take l.number-index l.numbers) n then true else slice_index_or (l.initial.nodes ++ l.initial.pages) n false);
+}

@@ -1,0 +1,72 @@
+-- What is counted of banks, beside the objects, and what their orders come to.
+use Rattle.std.specs.Prelude.{◌≡◌, ℕ, ◌+◌, ◌<◌, ◌≤◌, ◌++◌, Bool, true, false, List, length, slice_index, IsTrue}
+use Rattle.model.specs.declared.geometry.Geometry.{Geometry}
+use Rattle.model.specs.declared.object.Object.{Object}
+use Rattle.model.specs.declared.order.Arguments.{Arguments}
+use Rattle.model.specs.declared.order.BankOrder.{BankOrder}
+use Rattle.model.specs.declared.order.BankOrder.TheVariants.{NewPage, NewNode, NewProcess, NewBank}
+use Rattle.model.specs.Bank.{usage}
+use Rattle.model.specs.Banking.{on_bank}
+use Rattle.model.specs.Frame.{objects_of}
+use Rattle.model.specs.Keepable.{IsSoundFrames}
+use Rattle.model.specs.Object.{is_bank, is_free, limit_in}
+use Rattle.model.specs.Sound.{MayBeHeld, object_count}
+use Rattle.model.specs.World.{content_at}
+use Rattle.capability.specs.Parts.{Parts, frames_of}
+use Rattle.space_bank.specs.declared.plan.BankPlan.{BankPlan}
+use Rattle.space_bank.specs.Free.{is_marked}
+
+-- Which nodes and which pages are free, counted from the first of each; by number of a bank how many objects it
+-- accounts for, and its limit; and the numbers that were listed for an order, with so much room for them.
+pub record BanksState : Type 0 where
+  pub free_nodes : List Bool
+  pub free_pages : List Bool
+  pub usages : List ℕ
+  pub limits : List ℕ
+  pub listed : List ℕ
+  pub room : ℕ
+
+-- what is counted is what there is
+pub record AreCounted (g : Geometry) (os : List Object) (s : BanksState) : Type 0 where
+  pub nodes : length s.free_nodes ≡ g.nodes
+  pub pages : length s.free_pages ≡ g.pages
+  pub node : (n : ℕ) → n < g.nodes → is_marked s.free_nodes n ≡ is_free (content_at os n)
+  pub page : (n : ℕ) → n < g.pages → is_marked s.free_pages n ≡ is_free (content_at os (g.nodes + n))
+  pub usage_each : length s.usages ≡ g.nodes
+  pub limit_each : length s.limits ≡ g.nodes
+  pub usage : (b : ℕ) → IsTrue (is_bank (content_at os b)) → slice_index s.usages b ≡ usage os b
+  pub limit : (b : ℕ) → IsTrue (is_bank (content_at os b)) → slice_index s.limits b ≡ limit_in (content_at os b)
+  pub room : object_count g + 2 ≤ s.room
+
+-- a bank may be asked: the frames are sound and counted, and what is sent may be held
+pub record MayAsk (p : Parts) (s : BanksState) (b : ℕ) (args : Arguments) : Type 0 where
+  pub sound : (age : ℕ) × IsSoundFrames p.geometry age (frames_of p)
+  pub counted : AreCounted p.geometry (objects_of (frames_of p)) s
+  pub bank : IsTrue (is_bank (content_at (objects_of (frames_of p)) b))
+  pub sent : MayBeHeld (objects_of (frames_of p)) args.capability
+
+-- what a plan tells, and what it lists, behind the numbers that the invocation writes itself
+pub record IsPlanned (p : Parts) (b : ℕ) (order : BankOrder) (args : Arguments) (first : List ℕ) (plan : BankPlan) (list : List ℕ) : Type 0 where
+  pub code : plan.code ≡ (on_bank p.geometry (objects_of (frames_of p)) b order args).code
+  pub words : plan.words ≡ (on_bank p.geometry (objects_of (frames_of p)) b order args).words
+  pub capability : plan.capability ≡ (on_bank p.geometry (objects_of (frames_of p)) b order args).capability
+  pub listed : list ≡ first ++ (on_bank p.geometry (objects_of (frames_of p)) b order args).written
+
+-- an order that makes new objects
+abbrev pub is_new : BankOrder → Bool
+is_new NewPage = true
+is_new NewNode = true
+is_new NewProcess = true
+is_new NewBank = true
+is_new _ = false
+
+-- What lies beside the objects goes on as it was, and what isn't free stays fetched and announced. The
+-- parameters are ghost members of a store of present frames.
+pub record KeepsObjects {S : Type 0} (parts : S → Parts) (Fetched Announced : S → ℕ → Type 0) (Leads : S → S → Type 0) (old new : S) : Type 0 where
+  pub count : length (parts new).headers ≡ length (parts old).headers
+  pub touched : (parts new).touched ≡ (parts old).touched
+  pub geometry : (parts new).geometry ≡ (parts old).geometry
+  pub failures : (parts new).failures ≡ (parts old).failures
+  pub fetched : (n : ℕ) → is_free (content_at (objects_of (frames_of (parts new))) n) ≡ false → Fetched old n → Fetched new n
+  pub announced : (n : ℕ) → is_free (content_at (objects_of (frames_of (parts new))) n) ≡ false → Announced old n → Announced new n
+  pub leads : Leads old new

@@ -1,0 +1,8 @@
+pub use Rattle.capability.specs.Parts
+pub use Rattle.model.specs.Banking
+pub mod Free
+pub mod Banks
+pub mod Chains
+pub mod Counting
+pub mod Planning
+pub mod Carrying

@@ -1,0 +1,126 @@
+// New objects of a bank.
+ghost use Rattle.std.specs.Prelude.{◌≡◌, ◌≢◌, ℕ, ◌+◌, ◌<◌, false, length, slice_set, IsTrue};
+ghost use Rattle.model.specs.Bank.{chain};
+ghost use Rattle.model.specs.Banking.{has_room, new_annex, new_root, with_new};
+ghost use Rattle.model.specs.Frame.{header_at, objects_of};
+ghost use Rattle.model.specs.Keepable.{AreCurrent, AreKeepable};
+ghost use Rattle.model.specs.Object.{is_free};
+ghost use Rattle.model.specs.World.{content_at};
+ghost use Rattle.capability.specs.Parts.{FreshFits, IsFreshAt, KeepsAside, frames_of, fresh_content};
+ghost use Rattle.space_bank.specs.Carrying.{CarriesOut, IsAlone, MayServe, marks_of};
+
+use crate::banks::Banks;
+use crate::marking::mark;
+use capability::objects::claim;
+use capability::{Fresh, PresentFrames};
+use model::{Capability, Content, Role};
+
+impl Banks {
+    /// Makes a free number, fetched and announced, a page or a node of a bank in whose chain no
+    /// limit is reached.
+    pub fn allocate<F: PresentFrames>(
+        &mut self,
+        store: &mut F,
+        number: u64,
+        fresh: Fresh,
+        bank: u64,
+    )
+        requires asks { MayServe (F.parts store.old) self.old bank }
+        requires room { IsTrue (has_room (objects_of (frames_of (F.parts store.old))) bank 1) }
+        requires free { IsTrue
+            (is_free (content_at (objects_of (frames_of (F.parts store.old))) number)) }
+        requires alone { IsAlone fresh }
+        requires place { IsFreshAt (F.parts store.old).geometry number fresh }
+        requires fetched { F.IsFetched store.old number }
+        requires announced { F.IsAnnounced store.old number }
+        ensures objects { objects_of (frames_of (F.parts store.new))
+            ≡ with_new (objects_of (frames_of (F.parts store.old))) number bank
+            (fresh_content Capability.Void fresh) }
+        ensures carried { CarriesOut (F.parts store.old) (F.parts store.new) self.new }
+        ensures aside { KeepsAside F.parts F.IsFetched F.IsAnnounced F.LeadsTo store.old store.new }
+    {
+        self.account(store, bank, 1);
+        self.make(store, number, fresh, bank);
+    }
+
+    /// Makes two free numbers, fetched and announced, the root and the annex of a process of a bank
+    /// in whose chain each limit leaves two.
+    pub fn new_process<F: PresentFrames>(&mut self, store: &mut F, root: u64, annex: u64, bank: u64)
+        requires asks { MayServe (F.parts store.old) self.old bank }
+        requires room { IsTrue (has_room (objects_of (frames_of (F.parts store.old))) bank 2) }
+        requires free { IsTrue
+            (is_free (content_at (objects_of (frames_of (F.parts store.old))) root)) }
+        requires annex_free { IsTrue
+            (is_free (content_at (objects_of (frames_of (F.parts store.old))) annex)) }
+        requires two { annex ≢ root }
+        requires place { root < (F.parts store.old).geometry.nodes }
+        requires annex_place { annex < (F.parts store.old).geometry.nodes }
+        requires fetched { F.IsFetched store.old root }
+        requires annex_fetched { F.IsFetched store.old annex }
+        requires announced { F.IsAnnounced store.old root }
+        requires annex_announced { F.IsAnnounced store.old annex }
+        ensures objects { objects_of (frames_of (F.parts store.new))
+            ≡ with_new
+            (with_new (objects_of (frames_of (F.parts store.old))) root bank (new_root annex)) annex
+            bank new_annex }
+        ensures carried { CarriesOut (F.parts store.old) (F.parts store.new) self.new }
+        ensures aside { KeepsAside F.parts F.IsFetched F.IsAnnounced F.LeadsTo store.old store.new }
+    {
+        self.account(store, bank, 2);
+        self.make(store, root, Fresh::Root { annex }, bank);
+        self.make(store, annex, Fresh::Annex, bank);
+    }
+
+    /// Makes a free number, fetched and announced, a bank of a bank in whose chain no limit is
+    /// reached, and that has fewer than 16 banks.
+    pub fn sub_bank<F: PresentFrames>(&mut self, store: &mut F, number: u64, bank: u64, limit: u64)
+        requires asks { MayServe (F.parts store.old) self.old bank }
+        requires room { IsTrue (has_room (objects_of (frames_of (F.parts store.old))) bank 1) }
+        requires short { length (chain (objects_of (frames_of (F.parts store.old))) bank) < 16 }
+        requires free { IsTrue
+            (is_free (content_at (objects_of (frames_of (F.parts store.old))) number)) }
+        requires place { number < (F.parts store.old).geometry.nodes }
+        requires fetched { F.IsFetched store.old number }
+        requires announced { F.IsAnnounced store.old number }
+        ensures objects { objects_of (frames_of (F.parts store.new))
+            ≡ with_new (objects_of (frames_of (F.parts store.old))) number bank
+            (Content.Bank limit) }
+        ensures carried { CarriesOut (F.parts store.old) (F.parts store.new) self.new }
+        ensures aside { KeepsAside F.parts F.IsFetched F.IsAnnounced F.LeadsTo store.old store.new }
+    {
+        self.account(store, bank, 1);
+        self.make(store, number, Fresh::Bank { limit }, bank);
+        self.usages[number as usize] = 0;
+        self.limits[number as usize] = limit;
+    }
+
+    // Makes a free number a new object, and marks it as taken. What banks account for stays.
+    fn make<F: PresentFrames>(&mut self, store: &mut F, number: u64, fresh: Fresh, bank: u64)
+        requires nodes { length self.old.limits ≡ length self.old.free_nodes }
+        requires known { number < length self.old.free_nodes + length self.old.free_pages }
+        requires fetched { F.IsFetched store.old number }
+        requires announced { F.IsAnnounced store.old number }
+        requires free { (header_at (F.parts store.old).headers number).role ≡ Role.Free }
+        requires place { IsFreshAt (F.parts store.old).geometry number fresh }
+        ensures objects { objects_of (frames_of (F.parts store.new))
+            ≡ with_new (objects_of (frames_of (F.parts store.old))) number bank
+            (fresh_content Capability.Void fresh) }
+        ensures current { AreCurrent (frames_of (F.parts store.old))
+            → AreCurrent (frames_of (F.parts store.new)) }
+        ensures keepable { (age : ℕ) → FreshFits fresh
+            → AreKeepable (F.parts store.old).geometry age (frames_of (F.parts store.old))
+            → AreKeepable (F.parts store.old).geometry age (frames_of (F.parts store.new)) }
+        ensures aside { KeepsAside F.parts F.IsFetched F.IsAnnounced F.LeadsTo store.old store.new }
+        ensures nodes { length self.new.free_nodes ≡ length self.old.free_nodes }
+        ensures pages { length self.new.free_pages ≡ length self.old.free_pages }
+        ensures marks { marks_of self.new ≡ slice_set (marks_of self.old) number false }
+        ensures kept { self.new ≡ record self.old {
+          free_nodes = self.new.free_nodes;
+          free_pages = self.new.free_pages;
+        } }
+    {
+        let first_page = self.limits.len();
+        mark(&mut self.nodes, &mut self.pages, first_page, number, false);
+        claim(store, number, fresh, bank);
+    }
+}

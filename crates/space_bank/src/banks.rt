@@ -1,0 +1,54 @@
+// What is counted of banks, beside the objects.
+ghost use Rattle.std.specs.Prelude.{◌≡◌, ℕ, slice_index};
+ghost use Rattle.space_bank.specs.Banks.{AreCounted};
+
+use crate::free_numbers::FreeNumbers;
+use std::marker::Model;
+
+/// Which numbers are free, and for each bank its limit and how many objects it accounts for.
+///
+/// Counted once from the objects, and kept from then on by every order that a bank carries out. No
+/// call but the counting takes memory.
+#[derive(Drop)]
+pub struct Banks {
+    pub(crate) nodes: FreeNumbers,
+    pub(crate) pages: FreeNumbers,
+    pub(crate) usages: Vec<u64>,
+    pub(crate) limits: Vec<u64>,
+    pub(crate) listed: Vec<u64>,
+}
+
+impl Model for Banks {
+    ghost use Rattle.space_bank.specs.Banks.{BanksState};
+    ghost use Rattle.std.specs.Vec.{vec_capacity};
+
+    ghost Value = { BanksState };
+
+    ghost view = { λ b. record {
+      free_nodes = b.nodes;
+      free_pages = b.pages;
+      usages = b.usages.items;
+      limits = b.limits.items;
+      listed = b.listed.items;
+      room = vec_capacity b.listed;
+    } };
+}
+
+impl Banks {
+    /// How many objects a bank accounts for: those, other than itself, with it in their chain.
+    pub fn usage(&self, bank: u64) -> u64
+        ensures { result ≡ slice_index self.now.usages bank }
+    {
+        match self.usages.get(bank as usize) {
+            Some(usage) => *usage,
+            None => 0,
+        }
+    }
+
+    /// The numbers that were listed for the order that was planned last.
+    pub fn listed(&self) -> &[u64]
+        ensures { result.now ≡ self.now.listed }
+    {
+        &self.listed
+    }
+}

@@ -1,0 +1,219 @@
+// What there is, counted from the objects.
+ghost use Rattle.std.specs.Prelude.{◌≡◌, ◌↔◌, ℕ, ◌+◌, ◌<◌, ◌≤◌, ◌^◌, length, map, slice_index, IfOk, IsErrOf, IsTrue};
+ghost use Rattle.std.specs.List.{range_with_len};
+ghost use Rattle.model.specs.Bank.{usage as usage_of};
+ghost use Rattle.model.specs.Frame.{objects_of};
+ghost use Rattle.model.specs.Keepable.{AreKeepable, IsSoundFrames};
+ghost use Rattle.model.specs.Object.{is_bank as counts_as_bank, limit_in};
+ghost use Rattle.model.specs.World.{content_at};
+ghost use Rattle.model_laws.proofs.BankTree.{IsTree};
+ghost use Rattle.capability.specs.Parts.{HaveTheirRoles, LooksUp, frames_of};
+ghost use Rattle.space_bank.specs.Banks.{AreCounted};
+ghost use Rattle.space_bank.specs.Counting.{AreMarked};
+
+use crate::banks::Banks;
+use crate::chains::raise;
+use crate::free_numbers::FreeNumbers;
+use crate::walking::{is_free, owner};
+use capability::{PrepareFault, PresentFrames, objects};
+use model::{Content, Role};
+use std::alloc::{AllocError, Global};
+
+// Whether a number is that of a bank.
+fn is_bank<F: PresentFrames>(store: &F, number: u64) -> bool
+    requires { HaveTheirRoles (frames_of (F.parts store.now)) }
+    ensures { result
+        ≡ counts_as_bank (content_at (objects_of (frames_of (F.parts store.now))) number) }
+{
+    matches!(store.table().header(number).role, Role::Bank)
+}
+
+// The limit of a bank that is fetched, 0 where it is no bank.
+fn limit_there<F: PresentFrames>(store: &F, number: u64) -> u64
+    requires { F.IsFetched store.now number }
+    ensures { result
+        ≡ limit_in (content_at (objects_of (frames_of (F.parts store.now))) number) }
+{
+    match store.frame(number) {
+        Content::Bank { limit } => *limit,
+        _ => 0,
+    }
+}
+
+// The limit of a bank, which is fetched for it; 0 where it is no bank.
+fn read_limit<F: PresentFrames>(
+    alloc: Global,
+    store: &mut F,
+    number: u64,
+) -> Result<u64, PrepareFault>
+    requires known { number < length (F.parts store.old).headers }
+    requires keepable { AreKeepable (F.parts store.old).geometry u64.MAX
+        (frames_of (F.parts store.old)) }
+    ensures limit { IfOk result (λ limit. limit
+        ≡ limit_in (content_at (objects_of (frames_of (F.parts store.old))) number)) }
+    ensures room { IsErrOf result PrepareFault.LogFull → ⊥ }
+    ensures cause { IsErrOf result PrepareFault.Failed
+        ↔ ((F.parts store.old).failures < (F.parts store.new).failures) }
+    ensures later { (F.parts store.old).failures ≤ (F.parts store.new).failures }
+    ensures aside { LooksUp F.parts F.LeadsTo store.old store.new }
+{
+    if !is_bank(store, number) {
+        return Ok(0);
+    }
+    match objects::fetch(store, alloc, &[number]) {
+        Err(fault) => Err(fault),
+        Ok(()) => Ok(limit_there(store, number)),
+    }
+}
+
+// The limits of all banks by number, 0 for what is no bank.
+fn read_limits<F: PresentFrames>(
+    alloc: Global,
+    store: &mut F,
+    count: u64,
+) -> Result<Vec<u64>, PrepareFault>
+    requires known { count ≤ length (F.parts store.old).headers }
+    requires keepable { AreKeepable (F.parts store.old).geometry u64.MAX
+        (frames_of (F.parts store.old)) }
+    ensures limits { let objects = objects_of (frames_of (F.parts store.old)) in
+        IfOk result (λ limits. limits.items
+        ≡ map (λ n. limit_in (content_at objects n)) (range_with_len 0 count)) }
+    ensures room { IsErrOf result PrepareFault.LogFull → ⊥ }
+    ensures cause { IsErrOf result PrepareFault.Failed
+        ↔ ((F.parts store.old).failures < (F.parts store.new).failures) }
+    ensures later { (F.parts store.old).failures ≤ (F.parts store.new).failures }
+    ensures aside { LooksUp F.parts F.LeadsTo store.old store.new }
+{
+    let mut limits = match Vec::with_capacity(alloc, count as usize) {
+        Ok(limits) => limits,
+        Err(_) => return Err(PrepareFault::NoMemory),
+    };
+    for number in 0..count {
+        match read_limit(alloc, store, number) {
+            Err(fault) => return Err(fault),
+            Ok(limit) => limits.push_reserved(limit),
+        }
+    }
+    Ok(limits)
+}
+
+// Which of so many numbers from a first one on are free.
+fn free_numbers<F: PresentFrames>(
+    alloc: Global,
+    store: &F,
+    first: u64,
+    count: u64,
+) -> Result<FreeNumbers, AllocError>
+    requires roles { HaveTheirRoles (frames_of (F.parts store.now)) }
+    requires fits { first + count < 2 ^ 64 }
+    ensures { IfOk result
+        (AreMarked (objects_of (frames_of (F.parts store.now))) first count) }
+{
+    let mut numbers = FreeNumbers::new(alloc, count as usize)?;
+    for number in 0..count {
+        numbers.set(number as usize, is_free(store, first + number));
+    }
+    Ok(numbers)
+}
+
+// Adds up how many objects each bank accounts for, from nothing.
+fn add_usages<F: PresentFrames>(store: &F, usages: &mut [u64])
+    requires roles { HaveTheirRoles (frames_of (F.parts store.now)) }
+    requires tree { IsTree (objects_of (frames_of (F.parts store.now))) }
+    requires each { (b : ℕ)
+        → IsTrue (counts_as_bank (content_at (objects_of (frames_of (F.parts store.now))) b))
+        → b < length usages.old }
+    requires none { (b : ℕ) → slice_index usages.old b ≡ 0 }
+    ensures size { length usages.new ≡ length usages.old }
+    ensures counted { (b : ℕ)
+        → IsTrue (counts_as_bank (content_at (objects_of (frames_of (F.parts store.now))) b))
+        → slice_index usages.new b ≡ usage_of (objects_of (frames_of (F.parts store.now))) b }
+{
+    for number in 1..store.table().count() {
+        if !is_free(store, number) {
+            raise(usages, store, owner(store, number), 1);
+        }
+    }
+}
+
+// How many objects each bank accounts for, by number.
+fn count_usages<F: PresentFrames>(
+    alloc: Global,
+    store: &F,
+    count: u64,
+) -> Result<Vec<u64>, AllocError>
+    requires roles { HaveTheirRoles (frames_of (F.parts store.now)) }
+    requires tree { IsTree (objects_of (frames_of (F.parts store.now))) }
+    requires each { (b : ℕ)
+        → IsTrue (counts_as_bank (content_at (objects_of (frames_of (F.parts store.now))) b))
+        → b < count }
+    ensures size { IfOk result (λ usages. length usages.items ≡ count) }
+    ensures counted { IfOk result (λ usages. (b : ℕ)
+        → IsTrue (counts_as_bank (content_at (objects_of (frames_of (F.parts store.now))) b))
+        → slice_index usages.items b ≡ usage_of (objects_of (frames_of (F.parts store.now))) b) }
+{
+    let mut usages = Vec::new(alloc);
+    usages.resize(count as usize, 0)?;
+    add_usages(store, &mut usages);
+    Ok(usages)
+}
+
+impl Banks {
+    /// Counts what there is. Each bank is fetched for its limit, one at a time; nothing else is.
+    ///
+    /// Takes all the memory that any order will need; no other call takes any. `NoMemory` where
+    /// memory ran out, `Failed` exactly where the device failed, and never `LogFull`, since nothing
+    /// is announced. No object is another than before.
+    pub fn count<F: PresentFrames>(alloc: Global, store: &mut F) -> Result<Banks, PrepareFault>
+        requires sound { (age : ℕ) × IsSoundFrames (F.parts store.old).geometry age
+            (frames_of (F.parts store.old)) }
+        ensures counted { IfOk result (AreCounted (F.parts store.old).geometry
+            (objects_of (frames_of (F.parts store.old)))) }
+        ensures room { IsErrOf result PrepareFault.LogFull → ⊥ }
+        ensures cause { IsErrOf result PrepareFault.Failed
+            ↔ ((F.parts store.old).failures < (F.parts store.new).failures) }
+        ensures later { (F.parts store.old).failures ≤ (F.parts store.new).failures }
+        ensures aside { LooksUp F.parts F.LeadsTo store.old store.new }
+    {
+        let nodes = store.geometry().nodes;
+        match read_limits(alloc, store, nodes) {
+            Err(fault) => Err(fault),
+            Ok(limits) => match Banks::with_limits(alloc, store, limits) {
+                Err(_) => Err(PrepareFault::NoMemory),
+                Ok(banks) => Ok(banks),
+            },
+        }
+    }
+
+    // Counts what there is beside the limits.
+    fn with_limits<F: PresentFrames>(
+        alloc: Global,
+        store: &F,
+        limits: Vec<u64>,
+    ) -> Result<Banks, AllocError>
+        requires sound { (age : ℕ) × IsSoundFrames (F.parts store.now).geometry age
+            (frames_of (F.parts store.now)) }
+        requires limits { let objects = objects_of (frames_of (F.parts store.now)) in limits.items
+            ≡ map (λ n. limit_in (content_at objects n))
+            (range_with_len 0 (F.parts store.now).geometry.nodes) }
+        ensures { IfOk result (AreCounted (F.parts store.now).geometry
+            (objects_of (frames_of (F.parts store.now)))) }
+    {
+        let geometry = store.geometry();
+        let room = match store.table().count().checked_add(2) {
+            Some(room) => room,
+            None => return Err(AllocError),
+        };
+        let nodes = free_numbers(alloc, store, 0, geometry.nodes)?;
+        let pages = free_numbers(alloc, store, geometry.nodes, geometry.pages)?;
+        let usages = count_usages(alloc, store, geometry.nodes)?;
+        let listed = Vec::with_capacity(alloc, room as usize)?;
+        Ok(Banks {
+            nodes,
+            pages,
+            usages,
+            limits,
+            listed,
+        })
+    }
+}

@@ -1,0 +1,156 @@
+// Sets of free numbers, as bits with a summary.
+ghost use Rattle.std.specs.Prelude.{◌≡◌, ◌≢◌, ℕ, ◌*◌, ◌/◌, ◌^◌, ◌<◌, ◌≤◌, length, replicate, slice_index, slice_index_or, slice_set, false, IfSome, IfOk, None};
+ghost use Rattle.std.specs.Int.{bit_at};
+ghost use Rattle.space_bank.specs.Free.{IsNextFree, HasNoFree, IsLowestFrom, IsFirstSet, HasNoneSet, IsBitPut, SumsUp, bit_of, digit};
+
+use std::alloc::{AllocError, Global};
+use std::marker::Model;
+
+/// How many numbers have their bits in one word.
+const WORD_BITS: usize = 64;
+
+/// Which of so many numbers, from 0 on, are free.
+///
+/// A number is free where its bit in `words` is set, and a word isn't 0 where its bit in `summary`
+/// is set: the next free number is found by a look at one word and at the summary, which has one
+/// word for each 4096 numbers.
+#[derive(Drop)]
+pub struct FreeNumbers {
+    count: usize,
+    words: Vec<u64>,
+    summary: Vec<u64>,
+}
+
+impl Model for FreeNumbers {
+    ghost use Rattle.std.specs.Prelude.{Bool, List};
+    ghost use Rattle.space_bank.specs.Free.{marks_of, IsSummed};
+
+    ghost Value = { List Bool };
+
+    ghost view = { λ f. marks_of f.count f.words.items };
+
+    ghost invariant = { λ f. IsSummed f.count f.words.items f.summary.items };
+}
+
+impl FreeNumbers {
+    /// So many numbers, none of which is free. Fails only where memory runs out.
+    pub fn new(alloc: Global, count: usize) -> Result<FreeNumbers, AllocError>
+        ensures { IfOk result (λ numbers. numbers ≡ replicate count false) }
+    {
+        let mut words = Vec::new(alloc);
+        words.resize(count.div_ceil(WORD_BITS), 0)?;
+        let mut summary = Vec::new(alloc);
+        summary.resize(words.len().div_ceil(WORD_BITS), 0)?;
+        Ok(FreeNumbers {
+            count,
+            words,
+            summary,
+        })
+    }
+
+    /// Whether a number is free.
+    pub fn is_free(&self, number: usize) -> bool
+        requires { number < length self.now }
+        ensures { result ≡ slice_index_or self.now number false }
+    {
+        has_bit(&self.words, number)
+    }
+
+    /// Makes a number free, or takes it.
+    pub fn set(&mut self, number: usize, free: bool)
+        requires { number < length self.old }
+        ensures { self.new ≡ slice_set self.old number free }
+    {
+        let word = put_bit(&mut self.words, number, free);
+        put_bit(&mut self.summary, number / WORD_BITS, word != 0);
+    }
+
+    /// The least free number from a number on.
+    pub fn next(&self, from: usize) -> Option<usize>
+        ensures some { IfSome result (λ number. IsNextFree self.now from number) }
+        ensures none { result ≡ None → HasNoFree self.now from }
+    {
+        first_summed(&self.words, &self.summary, from)
+    }
+}
+
+/// Whether the bit of a number is set.
+fn has_bit(words: &[u64], number: usize) -> bool
+    requires { number / 64 < length words.now }
+    ensures { bit_of words.now number ≡ digit result }
+{
+    words[number / WORD_BITS] >> (number % WORD_BITS) & 1 == 1
+}
+
+/// Sets or clears the bit of a number, and answers the word that it is in.
+fn put_bit(words: &mut [u64], number: usize, set: bool) -> u64
+    requires { number / 64 < length words.old }
+    ensures put { IsBitPut words.old number (digit set) words.new }
+    ensures word { result ≡ slice_index words.new (number / 64) }
+{
+    let word = with_bit(words[number / WORD_BITS], number % WORD_BITS, set);
+    words[number / WORD_BITS] = word;
+    word
+}
+
+/// A word with one bit set or cleared.
+fn with_bit(word: u64, bit: usize, set: bool) -> u64
+    requires { bit < 64 }
+    ensures here { bit_at result bit ≡ digit set }
+    ensures others { (other : ℕ) → other < 64 → other ≢ bit
+        → bit_at result other ≡ bit_at word other }
+{
+    if set {
+        word | 1 << bit
+    } else {
+        word & !(1 << bit)
+    }
+}
+
+/// The lowest bit of a word that is set, from a bit on.
+fn first_bit(word: u64, from: usize) -> Option<usize>
+    requires { from < 64 }
+    ensures some { IfSome result (λ bit. IsLowestFrom word from bit) }
+    ensures none { result ≡ None → (other : ℕ) → from ≤ other → other < 64
+        → bit_at word other ≡ 0 }
+{
+    let rest = word >> from;
+    if rest == 0 {
+        return None;
+    }
+    Some(from + rest.trailing_zeros() as usize)
+}
+
+/// The least number from a number on whose bit is set, word by word.
+fn first_set(words: &[u64], from: usize) -> Option<usize>
+    requires { 64 * length words.now ≤ 2 ^ 64 }
+    ensures some { IfSome result (λ number. IsFirstSet words.now from number) }
+    ensures none { result ≡ None → HasNoneSet words.now from }
+{
+    for word in from / WORD_BITS..words.len() {
+        let start = word * WORD_BITS;
+        if let Some(bit) = first_bit(words[word], from.saturating_sub(start)) {
+            return Some(start + bit);
+        }
+    }
+    None
+}
+
+/// The least number from a number on whose bit is set, by a summary of the words that aren't 0.
+fn first_summed(words: &[u64], summary: &[u64], from: usize) -> Option<usize>
+    requires few { 64 * length words.now ≤ 2 ^ 64 }
+    requires few_summed { 64 * length summary.now ≤ 2 ^ 64 }
+    requires summed { SumsUp words.now summary.now }
+    ensures some { IfSome result (λ number. IsFirstSet words.now from number) }
+    ensures none { result ≡ None → HasNoneSet words.now from }
+{
+    let word = from / WORD_BITS;
+    if word >= words.len() {
+        return None;
+    }
+    if let Some(bit) = first_bit(words[word], from % WORD_BITS) {
+        return Some(word * WORD_BITS + bit);
+    }
+    let later = first_set(summary, word + 1)?;
+    Some(later * WORD_BITS + words[later].trailing_zeros() as usize)
+}

@@ -1,0 +1,100 @@
+// The end of a bank's objects.
+ghost use Rattle.std.specs.Prelude.{◌≡◌, ◌≢◌, ℕ, ◌≤◌, ◌∷◌, [], drop, length};
+ghost use Rattle.std.specs.List.{All};
+ghost use Rattle.model.specs.Banking.{inherited, owned_by, under};
+ghost use Rattle.model.specs.Frame.{objects_of};
+ghost use Rattle.model.specs.Revoke.{rescind as rescinded};
+ghost use Rattle.capability.specs.Parts.{frames_of};
+ghost use Rattle.space_bank.specs.Banks.{KeepsObjects};
+ghost use Rattle.space_bank.specs.Carrying.{CarriesOut, IsFreedOf, MayGiveUp, MayServe};
+
+use crate::banks::Banks;
+use crate::handing::hand_on;
+use crate::marking::{mark, mark_free};
+use capability::PresentFrames;
+use capability::objects::rescind;
+
+impl Banks {
+    /// Gives up what a capability frees, announced and listed from `skip` on, where a bank owns it:
+    /// a page, a node, or the root and the annex of a process.
+    pub fn free<F: PresentFrames>(&mut self, store: &mut F, skip: usize, bank: u64)
+        requires asks { MayServe (F.parts store.old) self.old bank }
+        requires listed { IsFreedOf (objects_of (frames_of (F.parts store.old))) bank
+            (drop skip self.old.listed) }
+        requires announced { All (F.IsAnnounced store.old) (drop skip self.old.listed) }
+        ensures objects { objects_of (frames_of (F.parts store.new))
+            ≡ rescinded (drop skip self.old.listed) (objects_of (frames_of (F.parts store.old))) }
+        ensures carried { CarriesOut (F.parts store.old) (F.parts store.new) self.new }
+        ensures aside { KeepsObjects F.parts F.IsFetched F.IsAnnounced F.LeadsTo store.old
+            store.new }
+    {
+        self.give_up(store, skip, bank);
+    }
+
+    /// Gives up a bank other than the prime bank with all that is under it, announced and listed
+    /// from `skip` on.
+    ///
+    /// Goes over the list, and not over all numbers.
+    pub fn destroy<F: PresentFrames>(&mut self, store: &mut F, skip: usize, bank: u64)
+        requires asks { MayServe (F.parts store.old) self.old bank }
+        requires other { bank ≢ 0 }
+        requires listed { drop skip self.old.listed
+            ≡ under (objects_of (frames_of (F.parts store.old))) bank }
+        requires announced { All (F.IsAnnounced store.old) (drop skip self.old.listed) }
+        ensures objects { let objects = objects_of (frames_of (F.parts store.old)) in
+            objects_of (frames_of (F.parts store.new)) ≡ rescinded (under objects bank) objects }
+        ensures carried { CarriesOut (F.parts store.old) (F.parts store.new) self.new }
+        ensures aside { KeepsObjects F.parts F.IsFetched F.IsAnnounced F.LeadsTo store.old
+            store.new }
+    {
+        let parent = store.table().header(bank).owner;
+        self.give_up(store, skip, parent);
+    }
+
+    /// Gives up a bank other than the prime bank, and hands what it owns on to its own bank. The
+    /// bank and what it owns are announced, and listed from `skip` on.
+    pub fn return_to_parent<F: PresentFrames>(&mut self, store: &mut F, skip: usize, bank: u64)
+        requires asks { MayServe (F.parts store.old) self.old bank }
+        requires other { bank ≢ 0 }
+        requires listed { drop skip self.old.listed
+            ≡ bank ∷ owned_by (objects_of (frames_of (F.parts store.old))) bank }
+        requires announced { All (F.IsAnnounced store.old) (drop skip self.old.listed) }
+        ensures objects { objects_of (frames_of (F.parts store.new))
+            ≡ rescinded (bank ∷ []) (inherited (objects_of (frames_of (F.parts store.old))) bank) }
+        ensures carried { CarriesOut (F.parts store.old) (F.parts store.new) self.new }
+        ensures aside { KeepsObjects F.parts F.IsFetched F.IsAnnounced F.LeadsTo store.old
+            store.new }
+    {
+        let parent = store.table().header(bank).owner;
+        self.release(store, parent, 1);
+        hand_on(store, &self.listed[skip + 1..], parent);
+        rescind(store, &[bank]);
+        let first_page = self.limits.len();
+        mark(&mut self.nodes, &mut self.pages, first_page, bank, true);
+    }
+
+    // Gives up what is listed from `skip` on, which the chain of a bank accounted for.
+    fn give_up<F: PresentFrames>(&mut self, store: &mut F, skip: usize, above: u64)
+        requires asks { MayServe (F.parts store.old) self.old above }
+        requires gives { MayGiveUp (objects_of (frames_of (F.parts store.old))) above
+            (drop skip self.old.listed) }
+        requires within { skip ≤ length self.old.listed }
+        requires announced { All (F.IsAnnounced store.old) (drop skip self.old.listed) }
+        ensures objects { objects_of (frames_of (F.parts store.new))
+            ≡ rescinded (drop skip self.old.listed) (objects_of (frames_of (F.parts store.old))) }
+        ensures carried { CarriesOut (F.parts store.old) (F.parts store.new) self.new }
+        ensures aside { KeepsObjects F.parts F.IsFetched F.IsAnnounced F.LeadsTo store.old
+            store.new }
+    {
+        let count = (self.listed.len() - skip) as u64;
+        self.release(store, above, count);
+        rescind(store, &self.listed[skip..]);
+        let first_page = self.limits.len();
+        mark_free(
+            &mut self.nodes,
+            &mut self.pages,
+            first_page,
+            &self.listed[skip..],
+        );
+    }
+}

@@ -1,0 +1,21 @@
+//! Space banks: how many objects each accounts for, which numbers are free, and the orders that
+//! allocate and give up.
+#![tactic(auto)]
+
+mod accounts;
+mod allocating;
+mod banks;
+mod carrying;
+mod chains;
+mod counting;
+mod free_numbers;
+mod giving_up;
+mod handing;
+mod listing;
+mod marking;
+mod plan;
+mod planning;
+mod walking;
+
+pub use banks::Banks;
+pub use plan::BankPlan;

@@ -1,0 +1,256 @@
+// What each order of a bank comes to. Nothing but the list is changed.
+ghost use Rattle.std.specs.Prelude.{◌≡◌, ℕ, ◌<◌, ◌≤◌, ◌++◌, List, [], ◌∷◌, length, MatchOption};
+ghost use Rattle.model.specs.declared.object.Object.{Object};
+ghost use Rattle.model.specs.declared.order.Arguments.{Arguments};
+ghost use Rattle.model.specs.Bank.{usage as usage_of};
+ghost use Rattle.model.specs.Banking.{freed_by, remaining as left_in_chain};
+ghost use Rattle.model.specs.Frame.{objects_of};
+ghost use Rattle.model.specs.Object.{limit_in};
+ghost use Rattle.model.specs.Sound.{MayBeHeld};
+ghost use Rattle.model.specs.World.{content_at};
+ghost use Rattle.capability.specs.Parts.{frames_of};
+ghost use Rattle.space_bank.specs.Banks.{IsPlanned, MayAsk};
+ghost use Rattle.space_bank.specs.Planning.{IsBankOf, annex_of};
+
+use crate::banks::Banks;
+use crate::plan::BankPlan;
+use crate::walking::{chain_length, owner};
+use capability::plain::usage::MAX_CHAIN;
+use capability::{PresentFrames, objects};
+use model::{Access, Arguments, BankOrder, Capability, ResultCode};
+
+// The object that a capability frees, the root of a process: none where it frees nothing.
+fn freed_object(capability: Capability) -> Option<u64>
+    ensures { (os : List Object) → MatchOption result (freed_by os capability ≡ [])
+        (λ n. freed_by os capability ≡ n ∷ annex_of os capability) }
+{
+    match capability {
+        Capability::Page { object, access } | Capability::Node { object, access } => {
+            if access == Access::full() {
+                Some(object)
+            } else {
+                None
+            }
+        }
+        Capability::Process(root) => Some(root),
+        _ => None,
+    }
+}
+
+impl Banks {
+    /// What an order comes to. Lists the numbers `first`, and behind them those that it writes.
+    ///
+    /// Changes nothing else and takes no memory. A new object is planned at the least number that
+    /// is free. Where more than one code applies, the least is told.
+    pub fn plan<F: PresentFrames>(
+        &mut self,
+        store: &F,
+        first: &[u64],
+        bank: u64,
+        order: BankOrder,
+        arguments: Arguments,
+    ) -> BankPlan
+        requires asks { MayAsk (F.parts store.now) self.old bank arguments }
+        requires root { (p : ℕ) → arguments.capability ≡ Capability.Process p
+            → F.IsFetched store.now p }
+        requires few { length first.now ≤ 2 }
+        ensures planned { IsPlanned (F.parts store.now) bank order arguments first.now result
+            self.new.listed }
+        ensures kept { self.new ≡ record self.old { listed = self.new.listed } }
+    {
+        self.list_only(first);
+        match order {
+            BankOrder::NewPage => self.plan_page(store, bank),
+            BankOrder::NewNode => self.plan_node(store, bank),
+            BankOrder::NewProcess => self.plan_process(store, bank),
+            BankOrder::NewBank => self.plan_bank(store, bank),
+            BankOrder::Free => self.plan_free(store, bank, arguments.capability),
+            BankOrder::Destroy => self.plan_destroy(store, bank),
+            BankOrder::ReturnToParent => self.plan_return(store, bank),
+            BankOrder::Remaining => BankPlan::told(self.remaining(store, bank)),
+        }
+    }
+
+    /// How many more objects a bank may account for, by its own limit and all above it; how many it
+    /// accounts for; and its own limit.
+    pub fn remaining<F: PresentFrames>(&self, store: &F, bank: u64) -> [u64; 3]
+        requires { IsBankOf (F.parts store.now) self.now bank }
+        ensures { let objects = objects_of (frames_of (F.parts store.now)) in result
+            ≡ left_in_chain objects bank ∷ usage_of objects bank
+            ∷ limit_in (content_at objects bank) ∷ [] }
+    {
+        let number = bank as usize;
+        [
+            self.least_left(store, bank),
+            self.usages[number],
+            self.limits[number],
+        ]
+    }
+
+    // A new page, at the least free number.
+    fn plan_page<F: PresentFrames>(&mut self, store: &F, bank: u64) -> BankPlan
+        requires bank { IsBankOf (F.parts store.now) self.old bank }
+        requires few { length self.old.listed ≤ 2 }
+        ensures planned { (args : Arguments) → IsPlanned (F.parts store.now) bank
+            BankOrder.NewPage args self.old.listed result self.new.listed }
+        ensures kept { self.new ≡ record self.old { listed = self.new.listed } }
+    {
+        if !self.has_room(store, bank, 1) {
+            return BankPlan::refused(ResultCode::Limit);
+        }
+        match self.pages.next(0) {
+            None => BankPlan::refused(ResultCode::NoFrame),
+            Some(page) => {
+                let object = store.geometry().nodes + page as u64;
+                let access = Access::full();
+                self.list(object);
+                BankPlan::given(Capability::Page { object, access })
+            }
+        }
+    }
+
+    // A new node, at the least free number.
+    fn plan_node<F: PresentFrames>(&mut self, store: &F, bank: u64) -> BankPlan
+        requires bank { IsBankOf (F.parts store.now) self.old bank }
+        requires few { length self.old.listed ≤ 2 }
+        ensures planned { (args : Arguments) → IsPlanned (F.parts store.now) bank
+            BankOrder.NewNode args self.old.listed result self.new.listed }
+        ensures kept { self.new ≡ record self.old { listed = self.new.listed } }
+    {
+        if !self.has_room(store, bank, 1) {
+            return BankPlan::refused(ResultCode::Limit);
+        }
+        match self.nodes.next(0) {
+            None => BankPlan::refused(ResultCode::NoFrame),
+            Some(node) => {
+                let object = node as u64;
+                let access = Access::full();
+                self.list(object);
+                BankPlan::given(Capability::Node { object, access })
+            }
+        }
+    }
+
+    // A new process, its root at the least free number and its annex at the next.
+    fn plan_process<F: PresentFrames>(&mut self, store: &F, bank: u64) -> BankPlan
+        requires bank { IsBankOf (F.parts store.now) self.old bank }
+        requires few { length self.old.listed ≤ 2 }
+        ensures planned { (args : Arguments) → IsPlanned (F.parts store.now) bank
+            BankOrder.NewProcess args self.old.listed result self.new.listed }
+        ensures kept { self.new ≡ record self.old { listed = self.new.listed } }
+    {
+        if !self.has_room(store, bank, 2) {
+            return BankPlan::refused(ResultCode::Limit);
+        }
+        let root = match self.nodes.next(0) {
+            None => return BankPlan::refused(ResultCode::NoFrame),
+            Some(root) => root,
+        };
+        match self.nodes.next(root + 1) {
+            None => BankPlan::refused(ResultCode::NoFrame),
+            Some(annex) => {
+                let process = root as u64;
+                self.list(process);
+                self.list(annex as u64);
+                BankPlan::given(Capability::Process(process))
+            }
+        }
+    }
+
+    // A new bank, at the least free number, where the chain isn't as long as it may be.
+    fn plan_bank<F: PresentFrames>(&mut self, store: &F, bank: u64) -> BankPlan
+        requires bank { IsBankOf (F.parts store.now) self.old bank }
+        requires few { length self.old.listed ≤ 2 }
+        ensures planned { (args : Arguments) → IsPlanned (F.parts store.now) bank
+            BankOrder.NewBank args self.old.listed result self.new.listed }
+        ensures kept { self.new ≡ record self.old { listed = self.new.listed } }
+    {
+        if !self.has_room(store, bank, 1) {
+            return BankPlan::refused(ResultCode::Limit);
+        }
+        match self.nodes.next(0) {
+            None => BankPlan::refused(ResultCode::NoFrame),
+            Some(node) => {
+                if chain_length(store, bank) >= MAX_CHAIN {
+                    return BankPlan::refused(ResultCode::TooDeep);
+                }
+                let number = node as u64;
+                self.list(number);
+                BankPlan::given(Capability::Bank(number))
+            }
+        }
+    }
+
+    // What a capability frees, where the bank owns it.
+    fn plan_free<F: PresentFrames>(
+        &mut self,
+        store: &F,
+        bank: u64,
+        capability: Capability,
+    ) -> BankPlan
+        requires bank { IsBankOf (F.parts store.now) self.old bank }
+        requires few { length self.old.listed ≤ 2 }
+        requires sent { MayBeHeld (objects_of (frames_of (F.parts store.now))) capability }
+        requires root { (p : ℕ) → capability ≡ Capability.Process p → F.IsFetched store.now p }
+        ensures planned { (args : Arguments) → args.capability ≡ capability
+            → IsPlanned (F.parts store.now) bank BankOrder.Free args self.old.listed result
+            self.new.listed }
+        ensures kept { self.new ≡ record self.old { listed = self.new.listed } }
+    {
+        match freed_object(capability) {
+            None => BankPlan::refused(ResultCode::BadCapability),
+            Some(object) => {
+                if owner(store, object) != bank {
+                    return BankPlan::refused(ResultCode::NotFromThisBank);
+                }
+                self.list(object);
+                self.list_annex(store, capability);
+                BankPlan::given(Capability::Void)
+            }
+        }
+    }
+
+    // Lists the annex of the process that a capability names, if it names one.
+    fn list_annex<F: PresentFrames>(&mut self, store: &F, capability: Capability)
+        requires room { (p : ℕ) → capability ≡ Capability.Process p
+            → length self.old.listed < self.old.room }
+        requires root { (p : ℕ) → capability ≡ Capability.Process p → F.IsFetched store.now p }
+        ensures { let objects = objects_of (frames_of (F.parts store.now)) in self.new
+            ≡ record self.old { listed = self.old.listed ++ annex_of objects capability } }
+    {
+        if let Capability::Process(root) = capability {
+            self.list(objects::annex(store, root));
+        }
+    }
+
+    // A bank and all that is under it are destroyed.
+    fn plan_destroy<F: PresentFrames>(&mut self, store: &F, bank: u64) -> BankPlan
+        requires bank { IsBankOf (F.parts store.now) self.old bank }
+        requires few { length self.old.listed ≤ 2 }
+        ensures planned { (args : Arguments) → IsPlanned (F.parts store.now) bank
+            BankOrder.Destroy args self.old.listed result self.new.listed }
+        ensures kept { self.new ≡ record self.old { listed = self.new.listed } }
+    {
+        if bank == 0 {
+            return BankPlan::refused(ResultCode::PrimeBank);
+        }
+        self.list_under(store, bank);
+        BankPlan::given(Capability::Void)
+    }
+
+    // A bank is destroyed, and what it owns goes to its own owner.
+    fn plan_return<F: PresentFrames>(&mut self, store: &F, bank: u64) -> BankPlan
+        requires bank { IsBankOf (F.parts store.now) self.old bank }
+        requires few { length self.old.listed ≤ 2 }
+        ensures planned { (args : Arguments) → IsPlanned (F.parts store.now) bank
+            BankOrder.ReturnToParent args self.old.listed result self.new.listed }
+        ensures kept { self.new ≡ record self.old { listed = self.new.listed } }
+    {
+        if bank == 0 {
+            return BankPlan::refused(ResultCode::PrimeBank);
+        }
+        self.list(bank);
+        self.list_owned(store, bank);
+        BankPlan::given(Capability::Void)
+    }
+}

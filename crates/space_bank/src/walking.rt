@@ -1,0 +1,119 @@
+// Walks along chains of banks, from owner to owner in the table of headers.
+ghost use Rattle.std.specs.Prelude.{◌≡◌, ◌-◌, ◌<◌, ◌≤◌, length, nat_eq, slice_index};
+ghost use Rattle.std.specs.List.{list_any};
+ghost use Rattle.model.specs.Bank.{chain, is_under as lies_under};
+ghost use Rattle.model.specs.Banking.{has_room as is_room, remaining};
+ghost use Rattle.model.specs.Frame.{objects_of};
+ghost use Rattle.model.specs.Object.{is_free as counts_as_free};
+ghost use Rattle.model.specs.World.{content_at, object_at, owner_at};
+ghost use Rattle.capability.specs.Parts.{HaveTheirRoles, frames_of};
+ghost use Rattle.space_bank.specs.Planning.{IsBankOf};
+
+use crate::banks::Banks;
+use capability::PresentFrames;
+use capability::plain::usage::MAX_CHAIN;
+use model::Role;
+
+// The owner of what stands at a number.
+pub(crate) fn owner<F: PresentFrames>(store: &F, number: u64) -> u64
+    ensures { result ≡ owner_at (objects_of (frames_of (F.parts store.now))) number }
+{
+    store.table().header(number).owner
+}
+
+// Whether a number is free. What is no number is.
+pub(crate) fn is_free<F: PresentFrames>(store: &F, number: u64) -> bool
+    requires { HaveTheirRoles (frames_of (F.parts store.now)) }
+    ensures { result
+        ≡ counts_as_free (content_at (objects_of (frames_of (F.parts store.now))) number) }
+{
+    matches!(store.table().header(number).role, Role::Free)
+}
+
+// Whether a bank is in the chain that begins with another.
+fn is_in_chain<F: PresentFrames>(store: &F, first: u64, bank: u64) -> bool
+    ensures { result
+        ≡ list_any (nat_eq bank) (chain (objects_of (frames_of (F.parts store.now))) first) }
+{
+    let mut link = first;
+    for _step in 0..MAX_CHAIN {
+        if link == bank {
+            return true;
+        }
+        if link == 0 {
+            return false;
+        }
+        link = owner(store, link);
+    }
+    false
+}
+
+// Whether the chain of what stands at a number passes through a bank.
+pub(crate) fn is_under<F: PresentFrames>(store: &F, bank: u64, number: u64) -> bool
+    requires { HaveTheirRoles (frames_of (F.parts store.now)) }
+    ensures { let objects = objects_of (frames_of (F.parts store.now)) in
+        result ≡ lies_under objects bank (object_at objects number) }
+{
+    !is_free(store, number) && is_in_chain(store, owner(store, number), bank)
+}
+
+// How many banks the chain of a bank has.
+pub(crate) fn chain_length<F: PresentFrames>(store: &F, bank: u64) -> usize
+    ensures { result ≡ length (chain (objects_of (frames_of (F.parts store.now))) bank) }
+{
+    let mut current = bank;
+    for passed in 0..MAX_CHAIN {
+        if current == 0 {
+            return passed + 1;
+        }
+        current = owner(store, current);
+    }
+    MAX_CHAIN
+}
+
+impl Banks {
+    // How many more objects a bank may account for.
+    fn left(&self, bank: u64) -> u64
+        requires usage { bank < length self.now.usages }
+        requires limit { bank < length self.now.limits }
+        requires within { slice_index self.now.usages bank ≤ slice_index self.now.limits bank }
+        ensures { result ≡ slice_index self.now.limits bank - slice_index self.now.usages bank }
+    {
+        self.limits[bank as usize] - self.usages[bank as usize]
+    }
+
+    // Whether so many more objects of a bank pass the limit of no bank in its chain.
+    pub(crate) fn has_room<F: PresentFrames>(&self, store: &F, bank: u64, count: u64) -> bool
+        requires { IsBankOf (F.parts store.now) self.now bank }
+        ensures { result ≡ is_room (objects_of (frames_of (F.parts store.now))) bank count }
+    {
+        let mut current = bank;
+        for _step in 0..MAX_CHAIN {
+            if self.left(current) < count {
+                return false;
+            }
+            if current == 0 {
+                return true;
+            }
+            current = owner(store, current);
+        }
+        true
+    }
+
+    // How many more objects of a bank pass the limit of no bank in its chain.
+    pub(crate) fn least_left<F: PresentFrames>(&self, store: &F, bank: u64) -> u64
+        requires { IsBankOf (F.parts store.now) self.now bank }
+        ensures { result ≡ remaining (objects_of (frames_of (F.parts store.now))) bank }
+    {
+        let mut least = self.left(bank);
+        let mut current = bank;
+        for _step in 0..MAX_CHAIN {
+            least = least.min(self.left(current));
+            if current == 0 {
+                return least;
+            }
+            current = owner(store, current);
+        }
+        least
+    }
+}
