@@ -10,13 +10,10 @@ use Rattle.model.specs.Frame.{frames_in, objects_of}
 use Rattle.model.specs.Keepable.{AreKeepable, IsSoundFrames}
 use Rattle.model.specs.Object.{is_page}
 use Rattle.model.specs.Sound.{MayBeHeld}
-use Rattle.model.specs.World.{content_at, is_process}
+use Rattle.model.specs.World.{content_at}
 use Rattle.capability.specs.Parts.{Parts, frames_of}
-use Rattle.capability.proofs.Frames.{known_used, node_used, page_used, root_used}
+use Rattle.capability.proofs.Frames.{known_used, node_used, page_used}
 use Rattle.capability.proofs.Keeping.{keepable_later}
-
-pub process_known : (p : Parts) (n : ℕ) → IsTrue (is_process (objects_of (frames_of p)) n) → n < length p.headers
-process_known p n is = known_used p n (root_used (content_at (objects_of (frames_of p)) n) is)
 
 pub space_known : (p : Parts) (n h : ℕ) (a : Access) → MayBeHeld (objects_of (frames_of p)) (Space n h a) → n < length p.headers
 space_known p n h a held = known_used p n (node_used (content_at (objects_of (frames_of p)) n) held.1)

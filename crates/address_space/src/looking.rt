@@ -2,8 +2,8 @@
 ghost use Rattle.std.specs.Prelude.{◌≡◌, ◌<◌, length, IfOk, OnOk, IsTrue};
 ghost use Rattle.model.specs.Sound.{MayBeHeld};
 ghost use Rattle.model.specs.World.{is_process, root_at};
-ghost use Rattle.capability.specs.Parts.{Looks};
-ghost use Rattle.address_space.specs.Reaches.{AreSound, objects_in};
+ghost use Rattle.capability.specs.Parts.{AreSound, Looks};
+ghost use Rattle.address_space.specs.Reaches.{objects_in};
 
 use capability::{Capability, PrepareFault, PresentFrames, objects, roots};
 use std::alloc::Global;
@@ -23,7 +23,7 @@ pub fn look<F: PresentFrames>(
 }
 
 /// The address space of a process: void where it is stale.
-#[tactic(auto, using(crate::proofs::Known::process_known))]
+#[tactic(auto, using(capability::proofs::Frames::process_known))]
 pub fn space_of<F: PresentFrames>(
     alloc: Global,
     frames: &mut F,

@@ -1,5 +1,6 @@
 -- Frames are headers with contents beside them: what stands at a number.
 use Rattle.std.proofs.Common.{◌≡◌, ℕ, zero, suc, ◌<◌, ◌≤◌, inl, inr, true, false, List, [], ◌∷◌, map, length, slice_get, slice_index, slice_index_or, slice_set, Some, refl, sym, ap, ◌∙◌, subst, arith, ⊎_elim}
+use Rattle.std.specs.Prelude.{IsTrue}
 use Rattle.std.proofs.Math.ListN.{get_or-map}
 use Rattle.std.proofs.lemmas.Bool.{cases_eq, cases_lt}
 use Rattle.std.proofs.lemmas.List.{ext_get_or, get_or_past, get_or-set_same, get_or-set_other, set_past, length-map}
@@ -15,7 +16,7 @@ use Rattle.model.specs.declared.object.Content.TheVariants as content
 use Rattle.model.specs.declared.object.Object.{Object}
 use Rattle.model.specs.declared.object.Root.{Root}
 use Rattle.model.specs.Frame.{blank_frame, blank_header, conveyed, frame_at, frames_in, header_at, headers, held_at, object_of, objects_of}
-use Rattle.model.specs.Object.{free, is_annex, is_free, is_node, is_page, is_root, map_content, root_in, slots_in, words_in}
+use Rattle.model.specs.Object.{free, is_annex, is_bank, is_free, is_node, is_page, is_root, map_content, root_in, slots_in, words_in}
 use Rattle.model.specs.World.{content_at, is_process, object_at, owner_at, slot_at, word_at}
 use Rattle.capability.specs.Parts.{Parts, frames_of}
 
@@ -104,6 +105,11 @@ owner_in hs cs n = elim (cases_lt n (length hs)) [
   | inr past ↦ ap (λ (o : Object). o.owner) (object_past hs cs n past) ∙ sym (ap (λ (h : ObjectHeader). h.owner) (get_or_past hs n blank_header past))
 ]
 
+-- what the table of headers tells of an owner
+pub owner_read : (p : Parts) (hs : List ObjectHeader) (h : ObjectHeader) (n : ℕ) → hs ≡ p.headers → h ≡ header_at hs n → h.owner ≡ owner_at (objects_of (frames_of p)) n
+owner_read p hs h n table is =
+    ap (λ (k : ObjectHeader). k.owner) (is ∙ ap (λ (ks : List ObjectHeader). header_at ks n) table) ∙ sym (owner_in p.headers p.contents n)
+
 -- what isn't free has a header
 pub known_used : (p : Parts) (n : ℕ) → is_free (content_at (objects_of (frames_of p)) n) ≡ false → n < length p.headers
 known_used p n used = ⊎_elim (λ (within : n < length p.headers). within) (λ past. let none = free_past p n past in cc) (cases_lt n (length p.headers))
@@ -140,6 +146,18 @@ node_used (content.Node slots) is = refl
 node_used (content.Root r) is = refl
 node_used (content.Annex registers) is = refl
 node_used (content.Bank limit) is = refl
+
+pub bank_used : {C : Type 0} (c : Content C) → is_bank c ≡ true → is_free c ≡ false
+bank_used content.Free is = sym is
+bank_used (content.Page words) is = refl
+bank_used (content.Node slots) is = refl
+bank_used (content.Root r) is = refl
+bank_used (content.Annex registers) is = refl
+bank_used (content.Bank limit) is = refl
+
+-- a process has a header
+pub process_known : (p : Parts) (n : ℕ) → IsTrue (is_process (objects_of (frames_of p)) n) → n < length p.headers
+process_known p n is = known_used p n (root_used (content_at (objects_of (frames_of p)) n) is)
 
 -- the parts of a content with each capability in it changed
 slots_in_map : (f : Cap → Capability) (c : Content Cap) → slots_in (map_content f c) ≡ map f (slots_in c)

@@ -1,5 +1,5 @@
 -- A sound world, as frames of which none was ever given up: these are sound.
-use Rattle.std.proofs.Common.{◌≡◌, ℕ, ◌^◌, ◌<◌, ◌≤◌, Bool, true, false, List, [], ◌∷◌, length, map, slice_index, slice_index_or, refl, sym, ap, ◌∙◌, subst, arith}
+use Rattle.std.proofs.Common.{◌≡◌, ℕ, ◌^◌, ◌<◌, Bool, true, false, List, [], ◌∷◌, length, map, slice_index, slice_index_or, refl, sym, ap, ◌∙◌, subst, arith}
 use Rattle.std.specs.List.{All}
 use Rattle.std.proofs.Math.ListN.{get_or-map}
 use Rattle.std.proofs.lemmas.List.{length-map}
@@ -15,54 +15,14 @@ use Rattle.model.specs.declared.object.Content.TheVariants as content
 use Rattle.model.specs.declared.object.Object.{Object}
 use Rattle.model.specs.Frame.{frames_in, headers}
 use Rattle.model.specs.Keepable.{AreKeptSlots, Follows, IsCurrent, IsKeepable, IsKeptCap, IsSoundFrames, MayBeKept, caps_in}
-use Rattle.model.specs.Object.{free, is_annex, is_bank, is_free, is_node, is_page, is_root, map_content, root_in, slots_in, words_in}
+use Rattle.model.specs.Object.{free, is_annex, is_free, is_root, map_content, role_of, root_in, slots_in, words_in}
 use Rattle.model.specs.Sound.{HasShape, IsOfKind, IsSound, IsSpace, MayBeHeld, object_count}
 use Rattle.model.specs.World.{World, annex_at, content_at, object_at, owner_at}
 use Rattle.capability.specs.Parts.{Parts, frames_of}
 use Rattle.capability.specs.Plain.{fresh_cap, fresh_frame, fresh_header, fresh_held}
-use Rattle.capability.proofs.Chains.{role_free, role_of_map}
 use Rattle.capability.proofs.FreshWorlds.{frames_fresh, objects_of_fresh}
-
--- a content of a kind stands at a number of its kind
-node_number : (g : Geometry) (n : ℕ) (c : Content Capability) → IsOfKind g n c → is_node c ≡ true → n < g.nodes
-node_number g n (content.Node slots) kind is = kind
-node_number g n content.Free kind is = cc
-node_number g n (content.Page words) kind is = cc
-node_number g n (content.Root r) kind is = cc
-node_number g n (content.Annex registers) kind is = cc
-node_number g n (content.Bank limit) kind is = cc
-
-root_number : (g : Geometry) (n : ℕ) (c : Content Capability) → IsOfKind g n c → is_root c ≡ true → n < g.nodes
-root_number g n (content.Root r) kind is = kind
-root_number g n content.Free kind is = cc
-root_number g n (content.Page words) kind is = cc
-root_number g n (content.Node slots) kind is = cc
-root_number g n (content.Annex registers) kind is = cc
-root_number g n (content.Bank limit) kind is = cc
-
-annex_number : (g : Geometry) (n : ℕ) (c : Content Capability) → IsOfKind g n c → is_annex c ≡ true → n < g.nodes
-annex_number g n (content.Annex registers) kind is = kind
-annex_number g n content.Free kind is = cc
-annex_number g n (content.Page words) kind is = cc
-annex_number g n (content.Node slots) kind is = cc
-annex_number g n (content.Root r) kind is = cc
-annex_number g n (content.Bank limit) kind is = cc
-
-bank_number : (g : Geometry) (n : ℕ) (c : Content Capability) → IsOfKind g n c → is_bank c ≡ true → n < g.nodes
-bank_number g n (content.Bank limit) kind is = kind
-bank_number g n content.Free kind is = cc
-bank_number g n (content.Page words) kind is = cc
-bank_number g n (content.Node slots) kind is = cc
-bank_number g n (content.Root r) kind is = cc
-bank_number g n (content.Annex registers) kind is = cc
-
-page_number : (g : Geometry) (n : ℕ) (c : Content Capability) → IsOfKind g n c → is_page c ≡ true → (g.nodes ≤ n) × (n < object_count g)
-page_number g n (content.Page words) kind is = kind
-page_number g n content.Free kind is = cc
-page_number g n (content.Node slots) kind is = cc
-page_number g n (content.Root r) kind is = cc
-page_number g n (content.Annex registers) kind is = cc
-page_number g n (content.Bank limit) kind is = cc
+use Rattle.capability.proofs.KindNumbers.{annex_number, bank_number, node_number, page_number, root_number}
+use Rattle.capability.proofs.Roles.{role_free, role_of_map}
 
 kind_map : (g : Geometry) (n : ℕ) (c : Content Capability) → IsOfKind g n c → IsOfKind g n (map_content fresh_cap c)
 kind_map g n content.Free kind = kind
@@ -162,7 +122,7 @@ module _ (g : Geometry) (w : World) (few : object_count g < 2 ^ 64) (sound : IsS
       allocations = (omega arith, omega arith);
       calls = (omega arith, omega arith);
       owner = owner_fits n (is_free (content_at w.objects n)) refl;
-      unowned = λ free. sound.unowned n (role_free (content_at w.objects n) free);
+      unowned = λ free. sound.unowned n (role_free (role_of (content_at w.objects n)) (content_at w.objects n) refl free);
       content = content_kept n (content_at w.objects n) refl;
     };
   }

@@ -2,11 +2,11 @@ pub mod Asides
 pub mod Frames
 pub mod FreshSound
 pub mod Keeping
-mod Chains
+pub mod KindNumbers
+pub mod Roles
 mod Counts
 mod Edits
 mod FreshWorlds
 mod RootEdits
 mod SoundFrames
-mod Roles
-mod Touched
+pub mod Touched

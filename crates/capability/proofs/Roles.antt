@@ -1,7 +1,10 @@
 -- What the roles in headers tell of the objects that frames stand for.
-use Rattle.std.proofs.Common.{◌≡◌, ℕ, Bool, true, false, List, refl, sym, ap, ◌∙◌}
+use Rattle.std.proofs.Common.{◌≡◌, ℕ, ◌<◌, ◌≤◌, Bool, true, false, List, length, ⊎_elim, refl, sym, ap, subst, ◌∙◌}
+use Rattle.std.proofs.lemmas.Bool.{cases_lt}
+use Rattle.std.proofs.lemmas.List.{get_or_past}
 use Rattle.std.proofs.Math.ListN.{get_or-map}
 use Rattle.model.specs.declared.capability.Cap.{Cap}
+use Rattle.model.specs.declared.capability.Capability.{Capability}
 use Rattle.model.specs.declared.frame.Frame.{Frame}
 use Rattle.model.specs.declared.frame.ObjectHeader.{ObjectHeader}
 use Rattle.model.specs.declared.object.Content.{Content}
@@ -9,11 +12,11 @@ use Rattle.model.specs.declared.object.Content.TheVariants as content
 use Rattle.model.specs.declared.object.Object.{Object}
 use Rattle.model.specs.declared.object.Role.{Role}
 use Rattle.model.specs.declared.object.Role.TheVariants as role
-use Rattle.model.specs.Frame.{blank_frame, conveyed, frame_at, header_at, headers, object_of, objects_of}
-use Rattle.model.specs.Object.{is_root, map_content, role_of}
+use Rattle.model.specs.Frame.{blank_frame, blank_header, conveyed, frame_at, header_at, headers, held_at, object_of, objects_of}
+use Rattle.model.specs.Object.{is_bank, is_free, is_root, map_content, role_of}
 use Rattle.model.specs.World.{content_at, is_process}
 use Rattle.capability.specs.Parts.{HaveTheirRoles, Parts, frames_of}
-use Rattle.capability.proofs.Frames.{headers_in, is_root_map}
+use Rattle.capability.proofs.Frames.{frame_in, headers_in, is_root_map, object_in, object_past}
 
 abbrev pub is_root_role : Role → Bool
 is_root_role role.Root = true
@@ -55,3 +58,71 @@ no_root_role role.Node other = refl
 no_root_role role.Root other = absurd (other refl)
 no_root_role role.Annex other = refl
 no_root_role role.Bank other = refl
+
+-- what a content is, and whether it is free or a bank, are told by its role
+pub role_of_map : {B C : Type 0} (f : B → C) (c : Content B) → role_of (map_content f c) ≡ role_of c
+role_of_map f content.Free = refl
+role_of_map f (content.Page words) = refl
+role_of_map f (content.Node slots) = refl
+role_of_map f (content.Root r) = refl
+role_of_map f (content.Annex registers) = refl
+role_of_map f (content.Bank limit) = refl
+
+pub role_read : (p : Parts) (hs : List ObjectHeader) (h : ObjectHeader) (n : ℕ) → HaveTheirRoles (frames_of p) → hs ≡ p.headers → h ≡ header_at hs n →
+    h.role ≡ role_of (content_at (objects_of (frames_of p)) n)
+role_read p hs h n roles table is =
+    ap (λ (k : ObjectHeader). k.role) (is ∙ ap (λ (ks : List ObjectHeader). header_at ks n) table)
+    ∙ ⊎_elim
+    (λ (known : n < length p.headers).
+    subst (λ (f : Frame). f.header.role ≡ role_of f.content) (frame_in p.headers p.contents n known) (roles n)
+    ∙ sym (role_of_map (conveyed p.headers) (held_at p.contents n))
+    ∙ sym (ap (λ (o : Object). role_of o.content) (object_in p.headers p.contents n known)))
+    (λ (past : length p.headers ≤ n).
+    ap (λ (k : ObjectHeader). k.role) (get_or_past p.headers n blank_header past)
+    ∙ sym (ap (λ (o : Object). role_of o.content) (object_past p.headers p.contents n past)))
+    (cases_lt n (length p.headers))
+
+module _ (r : Role) (c : Content Capability) (is : r ≡ role_of c) where
+  pub role_free : r ≡ role.Free → is_free c ≡ true
+  role_free free = go c (sym is ∙ free)
+    where
+      go : (d : Content Capability) → role_of d ≡ role.Free → is_free d ≡ true
+      go content.Free e = refl
+      go (content.Page words) e = cc
+      go (content.Node slots) e = cc
+      go (content.Root root) e = cc
+      go (content.Annex registers) e = cc
+      go (content.Bank limit) e = cc
+
+  pub role_used : (r ≡ role.Free → ⊥) → is_free c ≡ false
+  role_used other = go c (λ e. other (is ∙ e))
+    where
+      go : (d : Content Capability) → (role_of d ≡ role.Free → ⊥) → is_free d ≡ false
+      go content.Free e = absurd (e refl)
+      go (content.Page words) e = refl
+      go (content.Node slots) e = refl
+      go (content.Root root) e = refl
+      go (content.Annex registers) e = refl
+      go (content.Bank limit) e = refl
+
+  pub role_bank : r ≡ role.Bank → is_bank c ≡ true
+  role_bank bank = go c (sym is ∙ bank)
+    where
+      go : (d : Content Capability) → role_of d ≡ role.Bank → is_bank d ≡ true
+      go (content.Bank limit) e = refl
+      go content.Free e = cc
+      go (content.Page words) e = cc
+      go (content.Node slots) e = cc
+      go (content.Root root) e = cc
+      go (content.Annex registers) e = cc
+
+  pub role_no_bank : (r ≡ role.Bank → ⊥) → is_bank c ≡ false
+  role_no_bank other = go c (λ e. other (is ∙ e))
+    where
+      go : (d : Content Capability) → (role_of d ≡ role.Bank → ⊥) → is_bank d ≡ false
+      go (content.Bank limit) e = absurd (e refl)
+      go content.Free e = refl
+      go (content.Page words) e = refl
+      go (content.Node slots) e = refl
+      go (content.Root root) e = refl
+      go (content.Annex registers) e = refl

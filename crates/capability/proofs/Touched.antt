@@ -31,7 +31,7 @@ marked_after_set t m n true same inside marked = rw (eqb-true m n same) (get_or-
 marked_after_set t m n false other inside marked =
     get_or-set_other t m n true false (λ e. eqb-false m n other (sym e)) ∙ marked
 
-marked_stays : (t : List Bool) (ns : List ℕ) (n : ℕ) → n < length t → get_or t n false ≡ true → get_or (touching t ns) n false ≡ true
+pub marked_stays : (t : List Bool) (ns : List ℕ) (n : ℕ) → n < length t → get_or t n false ≡ true → get_or (touching t ns) n false ≡ true
 marked_stays t [] n inside marked = marked
 marked_stays t (m ∷ ns) n inside marked =
     let inside' : n < length (set t m true) = rw length-set inside in

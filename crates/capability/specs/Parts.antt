@@ -8,6 +8,7 @@ use Rattle.model.specs.declared.object.Content.{Content}
 use Rattle.model.specs.declared.object.Content.TheVariants as content
 use Rattle.model.specs.declared.object.State.TheVariants.{Available}
 use Rattle.model.specs.Frame.{frame_at, frames_in, header_at, held_at, given_up}
+use Rattle.model.specs.Keepable.{IsSoundFrames}
 use Rattle.model.specs.Object.{all_slots, role_of, zero_words}
 use Rattle.model.specs.Revoke.{is_member}
 use Rattle.capability.specs.declared.present.Fresh.{Fresh}
@@ -27,6 +28,10 @@ pub record Parts : Type 0 where
 -- its frames
 abbrev pub frames_of : Parts → List Frame
 frames_of p = frames_in p.headers p.contents
+
+-- they are sound, at some age
+abbrev pub AreSound : Parts → Type 0
+AreSound p = (age : ℕ) × IsSoundFrames p.geometry age (frames_of p)
 
 -- the parts with another header, content, or both, at a number
 abbrev pub with_header : Parts → ℕ → ObjectHeader → Parts

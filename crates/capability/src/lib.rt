@@ -11,6 +11,5 @@ pub mod view;
 
 pub use model::{Access, Cap, Capability};
 pub use plain::Plain;
-pub use plain::usage::usage;
 pub use present::{Fresh, MAX_FETCHED, PrepareFault, PresentFrames};
 pub use table::ObjectTable;

@@ -1,25 +1,24 @@
 // The store in memory.
-ghost use Rattle.std.specs.Prelude.{◌≡◌, ◌≢◌, ℕ, ◌+◌, ◌<◌, ◌≤◌, ◌^◌, ◌↔◌, length, OnOk, OnErr, IsErrOf};
+ghost use Rattle.std.specs.Prelude.{◌≡◌, ◌≢◌, ℕ, ◌+◌, ◌<◌, ◌≤◌, ◌^◌, ◌↔◌, false, length, replicate, slice_index_or, IfOk, OnOk, OnErr, IsErrOf};
 ghost use Rattle.std.specs.List.{All, Contains};
 ghost use Rattle.model.specs.Frame.{header_at};
 ghost use Rattle.model.specs.Keepable.{AreKeepable};
-ghost use Rattle.model.specs.Machine.{touching, touched_count};
+ghost use Rattle.model.specs.Machine.{touching, touched_count, untouched};
 ghost use Rattle.model.specs.Sound.{object_count};
 ghost use Rattle.capability.specs.Parts.{frames_of};
 ghost use Rattle.capability.specs.Plain.{GoesOn, HasRoom, IsThere, parts_of, with_content_at};
 
-use crate::plain::rooms::{filled, put_aside};
+use crate::plain::rooms::{filled, push_free, put_aside};
 use crate::plain::touched::{fresh_count, mark};
 use crate::present::{Fresh, MAX_FETCHED, PrepareFault, PresentFrames};
 use crate::table::ObjectTable;
-use model::{Cap, Content, Geometry, Role};
-use std::alloc::Global;
+use model::{Cap, Content, Geometry, ObjectHeader, Role};
+use std::alloc::{AllocError, Global};
 use std::marker::Model;
 use std::mem;
 
 mod rooms;
 mod touched;
-pub mod usage;
 mod worlds;
 
 /// All objects in memory, by number, which numbers were written, and the age.
@@ -58,6 +57,65 @@ impl Model for Plain {
 }
 
 impl Plain {
+    /// A store of objects with these headers and contents, one of each for every number, of which
+    /// none was written, at age 0. Fails only where memory runs out.
+    pub fn new(
+        alloc: Global,
+        geometry: Geometry,
+        headers: Vec<ObjectHeader>,
+        contents: Vec<Content<Cap>>,
+    ) -> Result<Plain, AllocError>
+        requires headers { length headers.items ≡ object_count geometry }
+        requires contents { length contents.items ≡ object_count geometry }
+        ensures { IfOk result (λ p. p ≡ record {
+          geometry = geometry;
+          headers = headers.items;
+          contents = contents.items;
+          touched = untouched geometry;
+          rooms = replicate (object_count geometry) Content.Free;
+          age = 0;
+        }) }
+    {
+        let count = contents.len();
+        let touched = vec![in alloc; false; count]?;
+        let mut rooms = Vec::with_capacity(alloc, count)?;
+        push_free(&mut rooms, count)?;
+        Ok(Plain {
+            geometry,
+            table: ObjectTable::new(headers),
+            contents,
+            touched,
+            rooms,
+            count: 0,
+            age: 0,
+        })
+    }
+
+    /// Whether a number was written since that was last forgotten.
+    pub fn is_touched(&self, number: u64) -> bool
+        requires { number < length self.now.headers }
+        ensures { result ≡ slice_index_or self.now.touched number false }
+    {
+        self.touched[number as usize]
+    }
+
+    /// How many numbers were written since that was last forgotten, at most as many as half of the
+    /// log holds.
+    pub fn touched_count(&self) -> u64
+        ensures count { result ≡ touched_count self.now.touched }
+        ensures few { result ≤ self.now.geometry.log }
+    {
+        self.count
+    }
+
+    /// Forgets which numbers were written.
+    pub fn forget_touched(&mut self)
+        ensures { self.new ≡ record self.old { touched = untouched self.old.geometry } }
+    {
+        self.touched.fill(false);
+        self.count = 0;
+    }
+
     /// How many invocations and checkpoints there were.
     pub fn age(&self) -> u64
         ensures { result ≡ self.now.age }
@@ -71,6 +129,38 @@ impl Plain {
         ensures { self.new ≡ record self.old { age = self.old.age + 1 } }
     {
         self.age += 1;
+    }
+
+    // Marks numbers that are to be written, and puts a blank body aside for each free one.
+    #[inline(never)]
+    fn announce(&mut self, alloc: Global, written: &[u64]) -> Result<(), PrepareFault>
+        requires { All (λ n. n < length self.old.headers) written.now }
+        ensures announced { OnOk result ((n : ℕ) → Contains written.now n → HasRoom self.new n) }
+        ensures touched { OnOk result (self.new.touched ≡ touching self.old.touched written.now) }
+        ensures within { touched_count self.new.touched ≤ self.new.geometry.log }
+        ensures before { touched_count self.old.touched ≤ self.old.geometry.log }
+        ensures headers { self.new.headers ≡ self.old.headers }
+        ensures contents { self.new.contents ≡ self.old.contents }
+        ensures geometry { self.new.geometry ≡ self.old.geometry }
+        ensures age { self.new.age ≡ self.old.age }
+        ensures untouched { OnErr result (self.new.touched ≡ self.old.touched) }
+        ensures full { IsErrOf result PrepareFault.LogFull
+            ↔ (self.old.geometry.log < touched_count (touching self.old.touched written.now)) }
+        ensures no_memory { All (λ n. (header_at self.old.headers n).role ≢ Role.Free) written.now
+            → IsErrOf result PrepareFault.NoMemory → ⊥ }
+        ensures cause { IsErrOf result PrepareFault.Failed → ⊥ }
+    {
+        let fresh = fresh_count(&self.touched, written);
+        if self.count + fresh > self.geometry.log {
+            return Err(PrepareFault::LogFull);
+        }
+        match put_aside(alloc, self.geometry, &self.table, &mut self.rooms, written) {
+            Ok(()) => {}
+            Err(_) => return Err(PrepareFault::NoMemory),
+        }
+        mark(&mut self.touched, written);
+        self.count += fresh;
+        Ok(())
     }
 }
 
@@ -131,17 +221,12 @@ impl PresentFrames for Plain {
             → IsErrOf result PrepareFault.NoMemory → ⊥ }
         ensures cause { IsErrOf result PrepareFault.Failed → ⊥ }
     {
-        let fresh = fresh_count(&self.touched, written);
-        if self.count + fresh > self.geometry.log {
-            return Err(PrepareFault::LogFull);
+        // A use of a field makes the invariant known here.
+        let _count = self.count;
+        if written.is_empty() {
+            return Ok(());
         }
-        match put_aside(alloc, self.geometry, &self.table, &mut self.rooms, written) {
-            Ok(()) => {}
-            Err(_) => return Err(PrepareFault::NoMemory),
-        }
-        mark(&mut self.touched, written);
-        self.count += fresh;
-        Ok(())
+        self.announce(alloc, written)
     }
 
     fn frame(&self, number: u64) -> &Content<Cap> {
@@ -189,7 +274,7 @@ impl PresentFrames for Plain {
 
     ghost leads_same = { λ s. (refl, refl) };
 
-    ghost leads_with = { λ s t n c h. h };
+    ghost leads_with = { λ s t n c there h. h };
 
     ghost leads_twice = { λ s t u h k. (k.0 ∙ h.0, k.1 ∙ h.1) };
 }

@@ -182,7 +182,7 @@ pub trait PresentFrames: Drop {
 
     ghost leads_same: { (s : Self) → LeadsTo s s };
 
-    ghost leads_with: { (s t : Self) (n : ℕ) (c : Content Cap) → LeadsTo s t → LeadsTo s (with_content t n c) };
+    ghost leads_with: { (s t : Self) (n : ℕ) (c : Content Cap) → IsAnnounced t n → LeadsTo s t → LeadsTo s (with_content t n c) };
 
     ghost leads_twice: { (s t u : Self) → LeadsTo s t → LeadsTo t u → LeadsTo s u };
 }

@@ -53,6 +53,17 @@ impl<C: Copy> Slots<C> {
         self.items.as_slice()
     }
 
+    /// The same slots again. Fails only where memory runs out.
+    pub fn copy(&self, alloc: Global) -> Result<Self, AllocError>
+        ensures { IfOk result (λ slots. slots ≡ self.now) }
+    {
+        let mut items = Vec::with_capacity(alloc, SLOTS)?;
+        for held in self.as_slice() {
+            items.push(*held)?;
+        }
+        Ok(Slots { items })
+    }
+
     pub fn set(&mut self, index: usize, held: C)
         requires { index < 32 }
         ensures set { self.new ≡ slice_set self.old index held }

@@ -1,6 +1,6 @@
 -- What an invocation of a bank comes to.
-use Rattle.std.proofs.Common.{◌≡◌, ℕ, zero, suc, ◌+◌, ◌^◌, ◌<◌, ◌≤◌, ◌++◌, Bool, true, List, [], ◌∷◌, Option, None, Some, drop, length, refl, sym, ap, subst, ◌∙◌, arith, if◌then◌else◌}
-use Rattle.std.specs.Prelude.{IsTrue, slice_index, slice_index_or}
+use Rattle.std.proofs.Common.{◌≡◌, ℕ, zero, suc, ◌^◌, ◌<◌, ◌≤◌, ◌++◌, List, Option, None, Some, drop, length, refl, sym, ap, subst, ◌∙◌, arith}
+use Rattle.std.specs.Prelude.{IsTrue, slice_index}
 use Rattle.std.specs.List.{All}
 use Rattle.model.specs.declared.capability.Capability.{Capability}
 use Rattle.model.specs.declared.capability.Capability.TheVariants.{Bank, Process}
@@ -17,7 +17,6 @@ use Rattle.model.specs.declared.order.ResultCode.TheVariants as code
 use Rattle.model.specs.Banking.{on_bank}
 use Rattle.model.specs.Frame.{objects_of}
 use Rattle.model.specs.Invoke.{Effect, invoke, on_kernel_object, ordered}
-use Rattle.model.specs.Keepable.{world_at}
 use Rattle.model.specs.Object.{is_bank}
 use Rattle.model.specs.Order.{bank_order, order}
 use Rattle.model.specs.OrderOutcome.{OrderOutcome, refused}
@@ -30,7 +29,7 @@ use Rattle.model_laws.proofs.InvocationFrame.{state_frame}
 use Rattle.model_laws.proofs.SoundGates.{held_sent, ordered_keeps}
 use Rattle.model_laws.proofs.SoundOrders.{IsNow, IsOutcome}
 use Rattle.model_laws.proofs.SoundParts.{held_to, nearly_to}
-use Rattle.capability.specs.Parts.{Parts, frames_of}
+use Rattle.capability.specs.Parts.{AreSound, Parts, frames_of}
 use Rattle.space_bank.specs.Banks.{AreCounted, BanksState, IsPlanned, MayAsk}
 use Rattle.space_bank.specs.declared.plan.BankPlan.{BankPlan}
 use Rattle.gate.specs.Banking.{AsksBank, answered, arguments_of, banked, ordered_at, outcome_at, state_before, writer_count, writers}
@@ -38,30 +37,15 @@ use Rattle.gate.specs.Plan.{FitsCap}
 use Rattle.gate.specs.declared.banking.BankCall.{BankCall}
 use Rattle.gate.proofs.Effects.{invoke_is, invoked_by}
 use Rattle.gate.proofs.Fits.{held_fits}
-use Rattle.gate.proofs.Known.{process_known, running_process}
-use Rattle.gate.proofs.Plans.{effect_by, effect_is, state_by}
-use Rattle.gate.proofs.Standing.{AreSound, LooksAs, looked_objects, looked_sound, now_sound}
+use Rattle.capability.proofs.Frames.{process_known}
+use Rattle.gate.proofs.Known.{running_process}
+use Rattle.gate.proofs.Plans.{effect_by, effect_is}
+use Rattle.gate.proofs.Standing.{LooksAs, looked_objects, looked_sound, now_sound}
 
 -- an order of a bank by its word
 bank_ordered : (g : Geometry) (os : List Object) (b w : ℕ) (asked : BankOrder) (args : Arguments) → bank_order w ≡ Some asked → order g os (Bank b) w args ≡ on_bank g os b asked args
 unfolding order
 bank_ordered g os b w asked args is = ap (λ (found : Option BankOrder). elim found [ None ↦ refused os code.NoOrder | Some k ↦ on_bank g os b k args ]) is
-
--- the objects as the order finds them
-before_is : (op : Operation) (os : List Object) (p : ℕ) → state_by op os p ≡ state_before op os p
-before_is Call os p = refl
-before_is Return os p = refl
-before_is Send os p = refl
-
-objects_by : (op : Operation) (p annex : ℕ) (o : OrderOutcome) → (effect_by op p annex o).objects ≡ answered op p o.objects o
-objects_by Call p annex o = refl
-objects_by Return p annex o = refl
-objects_by Send p annex o = refl
-
-written_by : (op : Operation) (p annex : ℕ) (o : OrderOutcome) → (effect_by op p annex o).written ≡ writers op p annex ++ o.written
-written_by Call p annex o = refl
-written_by Return p annex o = refl
-written_by Send p annex o = refl
 
 -- behind the numbers that the invocation writes itself
 pub behind_writers : (op : Operation) (p annex : ℕ) (ns : List ℕ) → drop (writer_count op) (writers op p annex ++ ns) ≡ ns
@@ -110,7 +94,6 @@ module _ (g : Geometry) (os : List Object) (i : Invocation) (call : BankCall) (a
   effect_here : on_kernel_object g os i ≡ effect_by i.operation i.process (annex_at os i.process) here
   effect_here =
       effect_is g os i
-      ∙ ap (λ (us : List Object). effect_by i.operation i.process (annex_at os i.process) (order g us (register_at os i.process i.register) (slice_index i.words 0) args)) (before_is i.operation os i.process)
       ∙ ap (effect_by i.operation i.process (annex_at os i.process)) (order_is (state_before i.operation os i.process))
 
   -- by the parts of the call
@@ -123,7 +106,6 @@ module _ (g : Geometry) (os : List Object) (i : Invocation) (call : BankCall) (a
   pub bank_objects : (on_kernel_object g os i).objects ≡ banked g os call
   bank_objects =
       ap (λ (e : Effect). e.objects) effect_here
-      ∙ objects_by i.operation i.process (annex_at os i.process) here
       ∙ ap (λ (op : Operation). answered op i.process here.objects here) (sym asks.operation)
       ∙ ap (λ (p : ℕ). answered call.operation p here.objects here) (sym asks.process)
       ∙ ap (λ (o : OrderOutcome). answered call.operation call.process o.objects o) (sym here_is)
@@ -131,7 +113,6 @@ module _ (g : Geometry) (os : List Object) (i : Invocation) (call : BankCall) (a
   pub bank_written : IsTrue (is_process os i.process) → (on_kernel_object g os i).written ≡ writers call.operation call.process call.annex ++ (outcome_at g os call).written
   bank_written process =
       ap (λ (e : Effect). e.written) effect_here
-      ∙ written_by i.operation i.process (annex_at os i.process) here
       ∙ ap (λ (ns : List ℕ). writers i.operation i.process (annex_at os i.process) ++ ns) (same_before g i.operation os i.process call.bank call.order args process).0
       ∙ ap (λ (a : Arguments). writers i.operation i.process (annex_at os i.process) ++ (on_bank g os call.bank call.order a).written) (sym asks.arguments)
       ∙ ap (λ (op : Operation). writers op i.process (annex_at os i.process) ++ (outcome_at g os call).written) (sym asks.operation)
@@ -141,14 +122,7 @@ module _ (g : Geometry) (os : List Object) (i : Invocation) (call : BankCall) (a
   -- what the order comes to is sound, and what it gives fits
   module _ (now : IsNow g os) (fits : Fits (command.Invoke i)) (runs : IsTrue (is_running_process os i.process)) where
     ordered_here : ordered g os i ≡ here
-    ordered_here =
-        ap (λ (us : List Object). order g us (register_at os i.process i.register) (slice_index i.words 0) args) (after_is i.operation os i.process)
-        ∙ order_is (state_before i.operation os i.process)
-      where
-        after_is : (op : Operation) (us : List Object) (p : ℕ) → (elim op [ Return ↦ with_state us p Available | _ ↦ us ]) ≡ state_before op us p
-        after_is Call us p = refl
-        after_is Return us p = refl
-        after_is Send us p = refl
+    ordered_here = order_is (state_before i.operation os i.process)
 
     outcome_here : IsOutcome g (ordered_at g os call)
     outcome_here = subst (IsOutcome g) (ordered_here ∙ sym here_is) (ordered_keeps g os i now fits runs)

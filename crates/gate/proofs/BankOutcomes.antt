@@ -1,5 +1,5 @@
 -- What an order of a bank comes to, by its code.
-use Rattle.std.proofs.Common.{◌≡◌, ℕ, zero, suc, ◌==◌, ◌≤◌, Bool, true, false, not, List, [], ◌∷◌, length, refl, if◌then◌else◌, arith}
+use Rattle.std.proofs.Common.{◌≡◌, ℕ, ◌==◌, ◌≤◌, true, List, [], ◌∷◌, length, refl, arith}
 use Rattle.std.specs.Prelude.{nat_lt}
 use Rattle.model.specs.declared.capability.Capability.{Capability}
 use Rattle.model.specs.declared.geometry.Geometry.{Geometry}
@@ -13,12 +13,8 @@ use Rattle.model.specs.Bank.{chain}
 use Rattle.model.specs.Banking.{allocated, bank_allocated, freed, freed_by, free_nodes, free_pages, has_room, on_bank, process_allocated}
 use Rattle.model.specs.OrderOutcome.{OrderOutcome}
 use Rattle.model.specs.World.{owner_at}
+use Rattle.model_laws.proofs.BankWrites.{one_of}
 use Rattle.space_bank.specs.Banks.{is_new}
-
-module _ (P : OrderOutcome → Type 0) where
-  one_of : (b : Bool) (x y : OrderOutcome) → P x → P y → P (if b then x else y)
-  one_of true x y p q = p
-  one_of false x y p q = q
 
 -- an order that isn't done changes nothing, and writes nothing
 pub record IsDoneOrSame (os : List Object) (o : OrderOutcome) : Type 0 where

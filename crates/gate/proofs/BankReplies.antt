@@ -1,12 +1,10 @@
 -- The reply of a bank.
-use Rattle.std.proofs.Common.{◌≡◌, ◌&&◌, ℕ, Bool, true, false, List, if◌then◌else◌, refl, sym, ap, ◌∙◌}
-use Rattle.model.specs.declared.capability.Capability.{Capability}
+use Rattle.std.proofs.Common.{◌≡◌, ◌&&◌, ℕ, Bool, false, List, if◌then◌else◌, refl, sym, ap}
 use Rattle.model.specs.declared.command.Message.{Message}
 use Rattle.model.specs.declared.object.Object.{Object}
-use Rattle.model.specs.declared.order.ResultCode.{ResultCode}
 use Rattle.model.specs.Invoke.{deliver, reply_of}
 use Rattle.model.specs.Object.{is_running}
-use Rattle.model.specs.OrderOutcome.{OrderOutcome, code_number}
+use Rattle.model.specs.OrderOutcome.{OrderOutcome}
 use Rattle.model.specs.World.{is_process, is_running_process, root_at}
 use Rattle.gate.specs.Banking.{answered}
 use Rattle.model.specs.declared.command.Operation.TheVariants.{Call}

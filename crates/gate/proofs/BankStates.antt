@@ -1,15 +1,14 @@
 -- What is asked of a bank, as a process that returns becomes available, and what is counted after the reply.
-use Rattle.std.proofs.Common.{◌≡◌, ℕ, ◌+◌, ◌<◌, ◌≤◌, ◌^◌, ◌++◌, ◌&&◌, Bool, true, false, List, [], ◌∷◌, Result, Ok, Err, drop, length, refl, sym, ap, subst, ◌∙◌, arith, if◌then◌else◌}
+use Rattle.std.proofs.Common.{◌≡◌, ℕ, ◌+◌, ◌++◌, ◌&&◌, Bool, true, false, List, ◌∷◌, Result, Ok, Err, refl, sym, ap, subst, ◌∙◌, arith, if◌then◌else◌}
 use Rattle.std.specs.Prelude.{IsTrue, OnOk, OnErr, slice_index}
 use Rattle.std.specs.List.{All}
 use Rattle.model.specs.declared.capability.Capability.{Capability}
 use Rattle.model.specs.declared.capability.Capability.TheVariants.{Void, Number, Page, Node, Space, Process, Start, Resume, Bank, Discrim}
 use Rattle.model.specs.declared.command.Command.TheVariants as command
 use Rattle.model.specs.declared.command.Invocation.{Invocation}
-use Rattle.model.specs.declared.command.Message.{Message}
 use Rattle.model.specs.declared.frame.Frame.{Frame}
 use Rattle.model.specs.declared.command.Operation.{Operation}
-use Rattle.model.specs.declared.command.Operation.TheVariants.{Call, Return, Send}
+use Rattle.model.specs.declared.command.Operation.TheVariants.{Call}
 use Rattle.model.specs.declared.geometry.Geometry.{Geometry}
 use Rattle.model.specs.declared.object.Object.{Object}
 use Rattle.model.specs.declared.object.State.TheVariants.{Available}
@@ -28,13 +27,13 @@ use Rattle.model_laws.proofs.SoundGates.{IsAfter, after_state}
 use Rattle.model_laws.proofs.SoundOrders.{IsNow}
 use Rattle.model_laws.proofs.SoundParts.{Waits, held_from, held_on, held_to, nearly_from}
 use Rattle.model_laws.proofs.Usage.{SameFrame, frame_refl, tests_at, usage_same}
-use Rattle.capability.specs.Parts.{IsUnchanged, Parts, frames_of}
+use Rattle.capability.specs.Parts.{AreSound, IsUnchanged, Parts, frames_of}
 use Rattle.space_bank.specs.Banks.{AreCounted, BanksState, MayAsk}
 use Rattle.gate.specs.Banking.{answered, ordered_at, outcome_at, state_before, writers}
 use Rattle.gate.specs.declared.banking.BankCall.{BankCall}
 use Rattle.gate.specs.Invoke.{Invokes}
 use Rattle.gate.proofs.Known.{running_process, same_frames}
-use Rattle.gate.proofs.Standing.{AreSound, LooksAs, looked_objects, looked_sound, now_sound}
+use Rattle.gate.proofs.Standing.{LooksAs, looked_objects, looked_sound, now_sound}
 
 -- what is counted holds of objects of the same frame
 pub counted_on : (g : Geometry) (os us : List Object) (s : BanksState) → SameFrame os us → AreCounted g os s → AreCounted g us s

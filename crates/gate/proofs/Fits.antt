@@ -13,12 +13,13 @@ use Rattle.model.specs.declared.object.Content.TheVariants as content
 use Rattle.model.specs.declared.object.Object.{Object}
 use Rattle.model.specs.Frame.{blank_frame, conveyed, current_count, frame_at, header_at, headers, held_at, objects_of}
 use Rattle.model.specs.Keepable.{AreKeepable, IsCount, IsKeptCap, IsNodeNumber}
-use Rattle.model.specs.Object.{is_annex, is_bank, is_node, is_page, is_root, map_content}
+use Rattle.model.specs.Object.{is_annex, is_node, is_root, map_content}
 use Rattle.model.specs.Sound.{IsOfKind, MayBeHeld, object_count}
 use Rattle.model.specs.World.{content_at}
 use Rattle.capability.specs.Parts.{Parts, frames_of}
 use Rattle.capability.proofs.Frames.{content_there, headers_in, known_used, node_used}
 use Rattle.capability.proofs.Keeping.{keepable_count}
+use Rattle.capability.proofs.KindNumbers.{bank_number, node_number, page_number, root_number}
 use Rattle.gate.specs.Plan.{FitsCap}
 
 header_there : (fs : List Frame) (n : ℕ) → header_at (headers fs) n ≡ (frame_at fs n).header
@@ -44,43 +45,10 @@ module _ (g : Geometry) (age : ℕ) (fs : List Frame) (keepable : AreKeepable g 
   live_is_kept (Bank b) fits = (fits.0, allocations_fit b (omega (arith, fits.0.0)))
   live_is_kept Discrim fits = refl
 
--- where each kind of object stands
-page_place : (g : Geometry) (n : ℕ) (c : Content Capability) → IsTrue (is_page c) → IsOfKind g n c → (g.nodes ≤ n) × (n < object_count g)
-page_place g n (content.Page words) is kind = kind
-page_place g n content.Free is kind = cc
-page_place g n (content.Node slots) is kind = cc
-page_place g n (content.Root r) is kind = cc
-page_place g n (content.Annex slots) is kind = cc
-page_place g n (content.Bank limit) is kind = cc
-
-node_place : (g : Geometry) (n : ℕ) (c : Content Capability) → IsTrue (is_node c) → IsOfKind g n c → n < g.nodes
-node_place g n (content.Node slots) is kind = kind
-node_place g n content.Free is kind = cc
-node_place g n (content.Page words) is kind = cc
-node_place g n (content.Root r) is kind = cc
-node_place g n (content.Annex slots) is kind = cc
-node_place g n (content.Bank limit) is kind = cc
-
-root_place : (g : Geometry) (n : ℕ) (c : Content Capability) → IsTrue (is_root c) → IsOfKind g n c → n < g.nodes
-root_place g n (content.Root r) is kind = kind
-root_place g n content.Free is kind = cc
-root_place g n (content.Page words) is kind = cc
-root_place g n (content.Node slots) is kind = cc
-root_place g n (content.Annex slots) is kind = cc
-root_place g n (content.Bank limit) is kind = cc
-
-bank_place : (g : Geometry) (n : ℕ) (c : Content Capability) → IsTrue (is_bank c) → IsOfKind g n c → n < g.nodes
-bank_place g n (content.Bank limit) is kind = kind
-bank_place g n content.Free is kind = cc
-bank_place g n (content.Page words) is kind = cc
-bank_place g n (content.Node slots) is kind = cc
-bank_place g n (content.Root r) is kind = cc
-bank_place g n (content.Annex slots) is kind = cc
-
 -- what may be held in objects of their kinds fits
 module _ (g : Geometry) (os : List Object) (kinds : (n : ℕ) → IsOfKind g n (content_at os n)) (few : object_count g < 2 ^ 64) where
-  node_number : (n : ℕ) → n < g.nodes → IsNodeNumber g n
-  node_number n inside = (inside, omega (arith, inside, few))
+  kept_number : (n : ℕ) → n < g.nodes → IsNodeNumber g n
+  kept_number n inside = (inside, omega (arith, inside, few))
 
   zero_count : IsCount 0 0
   zero_count = (omega arith, omega arith)
@@ -88,18 +56,18 @@ module _ (g : Geometry) (os : List Object) (kinds : (n : ℕ) → IsOfKind g n (
   pub held_fits : (c : Capability) → MayBeHeld os c → FitsCap g c
   held_fits Void h = refl
   held_fits (Number n) h = (h.0, refl)
-  held_fits (Page o a) h = let place = page_place g o (content_at os o) h.1 (kinds o) in (h.0, (place.0, place.1, omega (arith, place.1, few)), zero_count)
-  held_fits (Node o a) h = (h.0, node_number o (node_place g o (content_at os o) h.1 (kinds o)), zero_count)
-  held_fits (Space o k a) h = (h.0.2, h.0.0, h.0.1, node_number o (node_place g o (content_at os o) h.1 (kinds o)), zero_count)
-  held_fits (Process p) h = (node_number p (root_place g p (content_at os p) h.1 (kinds p)), zero_count)
-  held_fits (Start p key) h = (h.0, node_number p (root_place g p (content_at os p) h.1 (kinds p)), zero_count)
-  held_fits (Resume p) h = (node_number p (root_place g p (content_at os p) h.1.0 (kinds p)), zero_count)
-  held_fits (Bank b) h = (node_number b (bank_place g b (content_at os b) h.1 (kinds b)), zero_count)
+  held_fits (Page o a) h = let place = page_number g o (content_at os o) (kinds o) h.1 in (h.0, (place.0, place.1, omega (arith, place.1, few)), zero_count)
+  held_fits (Node o a) h = (h.0, kept_number o (node_number g o (content_at os o) (kinds o) h.1), zero_count)
+  held_fits (Space o k a) h = (h.0.2, h.0.0, h.0.1, kept_number o (node_number g o (content_at os o) (kinds o) h.1), zero_count)
+  held_fits (Process p) h = (kept_number p (root_number g p (content_at os p) (kinds p) h.1), zero_count)
+  held_fits (Start p key) h = (h.0, kept_number p (root_number g p (content_at os p) (kinds p) h.1), zero_count)
+  held_fits (Resume p) h = (kept_number p (root_number g p (content_at os p) (kinds p) h.1.0), zero_count)
+  held_fits (Bank b) h = (kept_number b (bank_number g b (content_at os b) (kinds b) h.1), zero_count)
   held_fits Discrim h = refl
 
   -- and so does the right to resume a process
   pub resume_fits : (p : ℕ) → IsTrue (is_root (content_at os p)) → FitsCap g (Resume p)
-  resume_fits p is = (node_number p (root_place g p (content_at os p) is (kinds p)), zero_count)
+  resume_fits p is = (kept_number p (root_number g p (content_at os p) (kinds p) is), zero_count)
 
 -- what fits is kept in a store with the count that its object has
 pub fits_kept : (g : Geometry) (age : ℕ) (p : Parts) → AreKeepable g age (frames_of p) → (c : Capability) → FitsCap g c →

@@ -6,30 +6,17 @@ use Rattle.model.specs.declared.capability.Capability.{Capability}
 use Rattle.model.specs.declared.capability.Capability.TheVariants.{Void, Number, Page, Node, Space, Process, Start, Resume, Bank, Discrim}
 use Rattle.model.specs.declared.frame.Frame.{Frame}
 use Rattle.model.specs.declared.frame.ObjectHeader.{ObjectHeader}
-use Rattle.model.specs.declared.object.Content.{Content}
-use Rattle.model.specs.declared.object.Content.TheVariants as content
 use Rattle.model.specs.declared.object.Object.{Object}
 use Rattle.model.specs.Capability.{named}
 use Rattle.model.specs.Frame.{frames_in, objects_of}
-use Rattle.model.specs.Object.{is_annex, is_bank, is_free}
+use Rattle.model.specs.Object.{is_annex, is_free}
 use Rattle.model.specs.Sound.{NamesItsKind}
 use Rattle.model.specs.World.{annex_at, content_at, is_process, is_running_process}
 use Rattle.capability.specs.Parts.{Parts, frames_of}
-use Rattle.capability.proofs.Frames.{annex_used, known_used, node_used, page_used, root_used}
-
-pub process_known : (p : Parts) (n : ℕ) → IsTrue (is_process (objects_of (frames_of p)) n) → n < length p.headers
-process_known p n is = known_used p n (root_used (content_at (objects_of (frames_of p)) n) is)
+use Rattle.capability.proofs.Frames.{annex_used, bank_used, known_used, node_used, page_used, process_known, root_used}
 
 pub annex_known : (p : Parts) (n : ℕ) → IsTrue (is_annex (content_at (objects_of (frames_of p)) n)) → n < length p.headers
 annex_known p n is = known_used p n (annex_used (content_at (objects_of (frames_of p)) n) is)
-
-bank_used : (c : Content Capability) → is_bank c ≡ true → is_free c ≡ false
-bank_used (content.Bank limit) is = refl
-bank_used content.Free is = cc
-bank_used (content.Page words) is = cc
-bank_used (content.Node slots) is = cc
-bank_used (content.Root r) is = cc
-bank_used (content.Annex slots) is = cc
 
 -- what a capability names that may be held isn't free
 module _ (os : List Object) where

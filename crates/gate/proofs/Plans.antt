@@ -1,8 +1,6 @@
 -- What an order that goes as planned comes to.
-use Rattle.std.proofs.Common.{◌≡◌, ⊎_elim, ℕ, ◌^◌, ◌<◌, ◌≤◌, true, false, List, [], ◌∷◌, ◌++◌, length, Some, refl, sym, ap, ◌∙◌, subst}
-use Rattle.std.specs.Prelude.{IsTrue, slice_index, slice_index_or, if◌then◌else◌}
-use Rattle.std.proofs.lemmas.Bool.{cases_lt}
-use Rattle.std.proofs.lemmas.List.{get_or_past}
+use Rattle.std.proofs.Common.{◌≡◌, ⊎_elim, ℕ, ◌^◌, ◌<◌, true, List, [], ◌∷◌, ◌++◌, length, Some, refl, sym, ap, ◌∙◌, subst}
+use Rattle.std.specs.Prelude.{IsTrue, slice_index}
 use Rattle.model.specs.declared.capability.Capability.{Capability}
 use Rattle.model.specs.declared.capability.Capability.TheVariants.{Void, Number, Page, Node, Space, Process, Start, Resume, Bank, Discrim}
 use Rattle.model.specs.declared.command.Command.TheVariants as command
@@ -13,13 +11,14 @@ use Rattle.model.specs.declared.geometry.Geometry.{Geometry}
 use Rattle.model.specs.declared.object.Object.{Object}
 use Rattle.model.specs.declared.object.State.TheVariants.{Available}
 use Rattle.model.specs.declared.order.Arguments.{Arguments}
-use Rattle.model.specs.Invoke.{Effect, deliver, on_kernel_object, reply_of, sent_by}
-use Rattle.model.specs.Object.{free, is_annex, is_free, is_node}
+use Rattle.model.specs.Invoke.{Effect, on_kernel_object}
+use Rattle.model.specs.Object.{is_annex, is_node}
 use Rattle.model.specs.OrderOutcome.{OrderOutcome}
 use Rattle.model.specs.Order.{order}
 use Rattle.model.specs.Sound.{NamesItsKind, object_count}
 use Rattle.model.specs.Text.{Fits}
-use Rattle.model.specs.World.{annex_at, content_at, is_process, is_running_process, register_at, with_state}
+use Rattle.model.specs.World.{annex_at, content_at, is_process, register_at, with_state}
+use Rattle.model_laws.proofs.BankFreed.{used_within}
 use Rattle.model_laws.proofs.SoundGates.{all_words, held_sent}
 use Rattle.model_laws.proofs.SoundObjects.{order_keeps}
 use Rattle.model_laws.proofs.SoundOrders.{IsNow}
@@ -28,7 +27,7 @@ use Rattle.gate.specs.declared.looking.Asked.{Asked}
 use Rattle.gate.specs.declared.plan.Change.{Change}
 use Rattle.gate.specs.declared.plan.Change.TheVariants as change
 use Rattle.gate.specs.declared.plan.OrderPlan.{OrderPlan}
-use Rattle.gate.specs.Banking.{arguments_of}
+use Rattle.gate.specs.Banking.{answered, arguments_of, state_before, writers}
 use Rattle.gate.specs.Invoke.{IsAsked, IsPlanned, finished, written_by}
 use Rattle.gate.specs.Plan.{ChangesAs, FitsCap, HaveAnnexesOf, IsFor, IsOfProcess, IsWithinObject, MayHold, changed, node_named, outcome_of, process_named, target_of}
 use Rattle.capability.proofs.Frames.{annex_used, node_used, root_used}
@@ -60,11 +59,6 @@ node_there os (Start q key) kind n is = cc
 node_there os (Resume q) kind n is = cc
 node_there os (Bank b) kind n is = cc
 node_there os Discrim kind n is = cc
-
--- what isn't free is one of the objects
-inside_used : (os : List Object) (n : ℕ) → is_free (content_at os n) ≡ false → n < length os
-inside_used os n used = ⊎_elim (λ (inside : n < length os). inside)
-    (λ (past : length os ≤ n). let none : is_free (content_at os n) ≡ true = ap (λ (o : Object). is_free o.content) (get_or_past os n free past) in cc) (cases_lt n (length os))
 
 module _ (os : List Object) (c : Capability) (args : Arguments) (kind : NamesItsKind os c) where
   for_within : (x : Change) → IsFor os c args x → IsWithinObject x
@@ -100,42 +94,36 @@ module _ (os : List Object) (c : Capability) (args : Arguments) (kind : NamesIts
   -- what it writes is one of the objects
   for_target : ((p : ℕ) → IsTrue (is_process os p) → IsTrue (is_annex (content_at os (annex_at os p)))) → (x : Change) → IsFor os c args x → (n : ℕ) → target_of x ≡ Some n → n < length os
   for_target annexes change.Nothing for n is = cc
-  for_target annexes (change.Word page index word) for n is = let e : page ≡ n = cc in inside_used os n (named_used os c kind n (for.1 ∙ ap Some e))
+  for_target annexes (change.Word page index word) for n is = let e : page ≡ n = cc in used_within os n (named_used os c kind n (for.1 ∙ ap Some e))
   for_target annexes (change.Slot node slot held) for n is =
-      let e : node ≡ n = cc in inside_used os n (node_used (content_at os n) (subst (λ (m : ℕ). is_node (content_at os m) ≡ true) e (node_there os c kind node for.1)))
+      let e : node ≡ n = cc in used_within os n (node_used (content_at os n) (subst (λ (m : ℕ). is_node (content_at os m) ≡ true) e (node_there os c kind node for.1)))
   for_target annexes (change.Register process annex register held) for n is =
       let e : annex ≡ n = cc in
-      inside_used os n (annex_used (content_at os n) (subst (λ (m : ℕ). is_annex (content_at os m) ≡ true) (sym for.3 ∙ e) (annexes process (process_there os c kind process for.2))))
+      used_within os n (annex_used (content_at os n) (subst (λ (m : ℕ). is_annex (content_at os m) ≡ true) (sym for.3 ∙ e) (annexes process (process_there os c kind process for.2))))
   for_target annexes (change.RootWord process index word) for n is =
-      let e : process ≡ n = cc in inside_used os n (root_used (content_at os n) (subst (λ (m : ℕ). is_process os m ≡ true) e (process_there os c kind process for.1)))
+      let e : process ≡ n = cc in used_within os n (root_used (content_at os n) (subst (λ (m : ℕ). is_process os m ≡ true) e (process_there os c kind process for.1)))
   for_target annexes (change.SetState process state) for n is =
-      let e : process ≡ n = cc in inside_used os n (root_used (content_at os n) (subst (λ (m : ℕ). is_process os m ≡ true) e (process_there os c kind process for)))
+      let e : process ≡ n = cc in used_within os n (root_used (content_at os n) (subst (λ (m : ℕ). is_process os m ≡ true) e (process_there os c kind process for)))
   for_target annexes (change.Space process held) for n is =
-      let e : process ≡ n = cc in inside_used os n (root_used (content_at os n) (subst (λ (m : ℕ). is_process os m ≡ true) e (process_there os c kind process for.0)))
+      let e : process ≡ n = cc in used_within os n (root_used (content_at os n) (subst (λ (m : ℕ). is_process os m ≡ true) e (process_there os c kind process for.0)))
 
 -- An invocation of a kernel object, by its operation.
-abbrev pub state_by : Operation → List Object → ℕ → List Object
-state_by operation os p = elim operation [ Return ↦ with_state os p Available | _ ↦ os ]
-
 abbrev pub effect_by : Operation → ℕ → ℕ → OrderOutcome → Effect
 effect_by operation p annex outcome = record {
-  objects = elim operation [
-    | Call ↦ if is_running_process outcome.objects p then deliver outcome.objects p (reply_of outcome) else outcome.objects
-    | _ ↦ outcome.objects
-  ];
-  written = (elim operation [ Call ↦ p ∷ annex ∷ [] | Return ↦ p ∷ [] | Send ↦ [] ]) ++ outcome.written;
+  objects = answered operation p outcome.objects outcome;
+  written = writers operation p annex ++ outcome.written;
 }
 
 pub effect_is : (g : Geometry) (os : List Object) (i : Invocation) → on_kernel_object g os i
     ≡ effect_by i.operation i.process (annex_at os i.process)
-    (order g (state_by i.operation os i.process) (register_at os i.process i.register) (slice_index i.words 0) (arguments_of os i))
+    (order g (state_before i.operation os i.process) (register_at os i.process i.register) (slice_index i.words 0) (arguments_of os i))
 unfolding on_kernel_object
 effect_is g os i = refl
 
 module _ (g : Geometry) (os : List Object) (p annex : ℕ) (c : Capability) (w : ℕ) (args : Arguments) (plan : OrderPlan)
     (as_planned : outcome_of os plan ≡ order g os c w args)
     (changes : (us : List Object) → HaveAnnexesOf os us → ChangesAs us plan (order g us c w args)) where
-  by_operation : (operation : Operation) → effect_by operation p annex (order g (state_by operation os p) c w args)
+  by_operation : (operation : Operation) → effect_by operation p annex (order g (state_before operation os p) c w args)
       ≡ record { objects = finished os operation p plan; written = written_by operation p annex plan.change }
   by_operation Call = ap (effect_by Call p annex) (sym as_planned)
   by_operation Return =
@@ -159,8 +147,8 @@ planned g os i asked plan args now few fits is args_are for as_planned changes =
     record {
       effect =
           effect_is g os i
-          ∙ ap (λ (c : Capability). effect_by i.operation i.process (annex_at os i.process) (order g (state_by i.operation os i.process) c (slice_index i.words 0) (arguments_of os i))) (sym is.invoked)
-          ∙ ap (λ (a : Arguments). effect_by i.operation i.process (annex_at os i.process) (order g (state_by i.operation os i.process) asked.invoked (slice_index i.words 0) a)) (sym args_are)
+          ∙ ap (λ (c : Capability). effect_by i.operation i.process (annex_at os i.process) (order g (state_before i.operation os i.process) c (slice_index i.words 0) (arguments_of os i))) (sym is.invoked)
+          ∙ ap (λ (a : Arguments). effect_by i.operation i.process (annex_at os i.process) (order g (state_before i.operation os i.process) asked.invoked (slice_index i.words 0) a)) (sym args_are)
           ∙ by_operation g os i.process (annex_at os i.process) asked.invoked (slice_index i.words 0) args plan as_planned changes i.operation;
       within = for_within os asked.invoked args kind plan.change for;
       process = for_process os asked.invoked args kind plan.change for;

@@ -12,16 +12,12 @@ use Rattle.model.specs.Sound.{NamesItsKind, object_count}
 use Rattle.model.specs.World.{annex_at, content_at, is_process, register_at}
 use Rattle.model_laws.proofs.SoundOrders.{IsNow}
 use Rattle.model_laws.proofs.SoundParts.{nearly_from}
-use Rattle.capability.specs.Parts.{Parts, frames_of}
+use Rattle.capability.specs.Parts.{AreSound, Parts, frames_of}
 use Rattle.capability.proofs.Frames.{length_objects}
 use Rattle.capability.proofs.Keeping.{keepable_count, keepable_later}
 use Rattle.gate.specs.Invoke.{KeepsSoundFrames}
 use Rattle.gate.proofs.Fits.{calls_kept}
 use Rattle.gate.proofs.Known.{annex_known, same_frames}
-
--- sound frames at some age
-abbrev pub AreSound : Parts → Type 0
-AreSound p = (age : ℕ) × IsSoundFrames p.geometry age (frames_of p)
 
 module _ (p : Parts) (sound : AreSound p) where
   pub keepable_most : AreKeepable p.geometry (2 ^ 64 - 1) (frames_of p)

@@ -1,5 +1,5 @@
 -- What an invocation of a bank comes to over a store of present frames.
-use Rattle.std.specs.Prelude.{◌≡◌, ℕ, ◌++◌, List, [], ◌∷◌, Some, if◌then◌else◌, slice_index, slice_index_or}
+use Rattle.std.specs.Prelude.{◌≡◌, ℕ, List, [], ◌∷◌, Some, if◌then◌else◌, slice_index, slice_index_or}
 use Rattle.model.specs.declared.capability.Capability.TheVariants.{Void, Bank}
 use Rattle.model.specs.declared.command.Invocation.{Invocation}
 use Rattle.model.specs.declared.command.Operation.{Operation}
@@ -32,9 +32,7 @@ pub record AsksBank (os : List Object) (i : Invocation) (call : BankCall) : Type
 -- the numbers that an invocation of a kernel object writes itself: with a call the process and its annex, with a
 -- return the process
 abbrev pub writers : Operation → ℕ → ℕ → List ℕ
-writers Call p annex = p ∷ annex ∷ []
-writers Return p annex = p ∷ []
-writers Send p annex = []
+writers operation p annex = elim operation [ Call ↦ p ∷ annex ∷ [] | Return ↦ p ∷ [] | Send ↦ [] ]
 
 -- how many they are
 abbrev pub writer_count : Operation → ℕ
@@ -44,8 +42,7 @@ writer_count Send = 0
 
 -- the objects as the order finds them: a process that returns is available
 abbrev pub state_before : Operation → List Object → ℕ → List Object
-state_before Return os p = with_state os p Available
-state_before operation os p = os
+state_before operation os p = elim operation [ Return ↦ with_state os p Available | _ ↦ os ]
 
 -- what the bank's order comes to
 abbrev pub outcome_at : Geometry → List Object → BankCall → OrderOutcome
@@ -56,8 +53,7 @@ ordered_at g os call = outcome_at g (state_before call.operation os call.process
 
 -- the objects after the reply to a process that called, which is dropped where it doesn't run any more
 abbrev pub answered : Operation → ℕ → List Object → OrderOutcome → List Object
-answered Call p os outcome = if is_running_process os p then deliver os p (reply_of outcome) else os
-answered operation p os outcome = os
+answered operation p os outcome = elim operation [ Call ↦ if is_running_process os p then deliver os p (reply_of outcome) else os | _ ↦ os ]
 
 -- the objects after all of it
 abbrev pub banked : Geometry → List Object → BankCall → List Object

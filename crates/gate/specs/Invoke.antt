@@ -9,7 +9,7 @@ use Rattle.model.specs.declared.command.Operation.TheVariants.{Call, Return, Sen
 use Rattle.model.specs.declared.geometry.Geometry.{Geometry}
 use Rattle.model.specs.declared.object.Object.{Object}
 use Rattle.model.specs.declared.object.State.TheVariants.{Available}
-use Rattle.model.specs.Invoke.{Effect, invoke, on_kernel_object, after_gate, reply_of, deliver, sent_by}
+use Rattle.model.specs.Invoke.{Effect, invoke, on_kernel_object, after_gate, reply_of, deliver}
 use Rattle.model.specs.Keepable.{IsSoundFrames}
 use Rattle.model.specs.Machine.{touching, touched_count}
 use Rattle.model.specs.Revoke.{consume}
@@ -74,11 +74,10 @@ finished os Call process plan = replied_to (changed os plan.change) process plan
 finished os Return process plan = changed (with_state os process Available) plan.change
 finished os Send process plan = changed os plan.change
 
--- what was read of an invocation is what it says
+-- what was read of an invocation is the annex of its process and what it invokes
 pub record IsAsked (os : List Object) (i : Invocation) (asked : Asked) : Type 0 where
   pub annex : asked.annex ≡ annex_at os i.process
   pub invoked : asked.invoked ≡ register_at os i.process i.register
-  pub sent : asked.sent ≡ sent_by os i
 
 -- an order that is planned comes to what the definitions say, in objects that there are, and puts only what may be kept
 pub record IsPlanned (g : Geometry) (os : List Object) (i : Invocation) (plan : OrderPlan) : Type 0 where

@@ -5,13 +5,13 @@ ghost use Rattle.model.specs.declared.command.Command.TheVariants as command;
 ghost use Rattle.model.specs.OrderOutcome.{OrderOutcome};
 ghost use Rattle.model.specs.Frame.{objects_of};
 ghost use Rattle.model.specs.Invoke.{deliver, reply_of};
-ghost use Rattle.model.specs.Keepable.{AreCurrent, AreKeepable, IsSoundFrames};
+ghost use Rattle.model.specs.Keepable.{AreCurrent, AreKeepable};
 ghost use Rattle.model.specs.Machine.{touching, touched_count};
 ghost use Rattle.model.specs.Order.{bank_order};
 ghost use Rattle.model.specs.Sound.{IsSound};
 ghost use Rattle.model.specs.Text.{Fits};
 ghost use Rattle.model.specs.World.{annex_at, is_process, is_running_process};
-ghost use Rattle.capability.specs.Parts.{KeepsAside, HaveTheirRoles, IsUnchanged, Looks, frames_of};
+ghost use Rattle.capability.specs.Parts.{AreSound, KeepsAside, HaveTheirRoles, IsUnchanged, Looks, frames_of};
 ghost use Rattle.space_bank.specs.Banks.{AreCounted, IsPlanned, KeepsObjects, MayAsk, is_new};
 ghost use Rattle.gate.specs.Banking.{answered, banked, ordered_at, outcome_at, writer_count, writers, AsksBank, GoesOnBeside};
 ghost use Rattle.gate.specs.Invoke.{Invokes, IsAsked, KeepsSoundFrames, Overfills};
@@ -278,8 +278,7 @@ pub fn invoke_bank<F: PresentFrames>(
     invocation: &Invocation,
     call: BankCall,
 ) -> Result<(), InvokeFault>
-    requires sound { (age : ℕ) × IsSoundFrames (F.parts store.old).geometry age
-        (frames_of (F.parts store.old)) }
+    requires sound { AreSound (F.parts store.old) }
     requires running { IsTrue (is_running_process
         (objects_of (frames_of (F.parts store.old))) invocation.now.process) }
     requires fits { Fits (command.Invoke invocation.now) }

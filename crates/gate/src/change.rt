@@ -10,6 +10,7 @@ use crate::plan::Change;
 use capability::{PresentFrames, objects, roots};
 
 /// Makes a change in an object that is fetched and announced.
+#[inline(always)]
 pub fn make<F: PresentFrames>(store: &mut F, change: Change)
     requires within { IsWithinObject change }
     requires process { IsOfProcess (objects_of (frames_of (F.parts store.old))) change }

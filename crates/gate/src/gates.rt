@@ -3,18 +3,18 @@ ghost use Rattle.std.specs.Prelude.{◌≡◌, ◌↔◌, ◌+◌, ◌<◌, ◌�
 ghost use Rattle.model.specs.declared.command.Command.TheVariants as command;
 ghost use Rattle.model.specs.Frame.{header_at, objects_of};
 ghost use Rattle.model.specs.Invoke.{after_gate, can_start, invoke};
-ghost use Rattle.model.specs.Keepable.{AreCurrent, AreKeepable, IsSoundFrames};
+ghost use Rattle.model.specs.Keepable.{AreCurrent, AreKeepable};
 ghost use Rattle.model.specs.Machine.{touching, touched_count};
 ghost use Rattle.model.specs.Text.{Fits};
 ghost use Rattle.model.specs.World.{annex_at, is_process, is_running_process};
-ghost use Rattle.capability.specs.Parts.{IsUnchanged, KeepsAside, frames_of};
+ghost use Rattle.capability.specs.Parts.{AreSound, IsUnchanged, KeepsAside, frames_of};
 ghost use Rattle.std.specs.List.{All};
 ghost use Rattle.gate.specs.Invoke.{entered, gate_capability, received, written_through, Invokes, IsAsked, KeepsSoundFrames, Overfills};
 ghost use Rattle.gate.specs.Plan.{FitsCap};
 
 use crate::delivery::deliver;
 use crate::fault::InvokeFault;
-use crate::looking::{Asked, look_at_process};
+use crate::looking::{Asked, all_sent, look_at_process};
 use capability::{PrepareFault, PresentFrames, objects, roots};
 use model::{Capability, Invocation, Message, Operation, State};
 use std::alloc::Global;
@@ -176,13 +176,13 @@ pub fn invoke_gate<F: PresentFrames>(
     asked: Asked,
     gate: Gate,
 ) -> Result<(), InvokeFault>
-    requires sound { (age : ℕ) × IsSoundFrames (F.parts store.old).geometry age
-        (frames_of (F.parts store.old)) }
+    requires sound { AreSound (F.parts store.old) }
     requires running { IsTrue (is_running_process
         (objects_of (frames_of (F.parts store.old))) invocation.now.process) }
     requires fits { Fits (command.Invoke invocation.now) }
     requires few { length (F.parts store.old).headers < 2 ^ 64 }
     requires asked { IsAsked (objects_of (frames_of (F.parts store.old))) invocation.now asked }
+    requires fetched { F.IsFetched store.old asked.annex }
     requires gate { asked.invoked ≡ gate_capability gate }
     requires key { gate.is_resume ≡ true → gate.key ≡ 0 }
     ensures done { OnOk result (Invokes (F.parts store.old).geometry invocation.now
@@ -201,12 +201,12 @@ pub fn invoke_gate<F: PresentFrames>(
     ensures geometry { (F.parts store.new).geometry ≡ (F.parts store.old).geometry }
     ensures leads { F.LeadsTo store.old store.new }
 {
+    let sent = all_sent(store, invocation, asked.annex);
     let annex = look_at_process(alloc, store, gate.process)?;
     if !can_enter(store, invocation, gate) {
         return Err(InvokeFault::Stalled);
     }
     announce(alloc, store, invocation, gate.process, annex)?;
-    let sent = asked.sent;
     enter(store, invocation, gate, annex, sent);
     Ok(())
 }

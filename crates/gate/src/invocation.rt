@@ -2,9 +2,8 @@
 ghost use Rattle.std.specs.Prelude.{◌≡◌, ◌↔◌, ◌<◌, ◌≤◌, ℕ, None, OnOk, OnErr, IsErrOf, IsTrue};
 ghost use Rattle.model.specs.Frame.{objects_of};
 ghost use Rattle.model.specs.Invoke.{invoke};
-ghost use Rattle.model.specs.Keepable.{IsSoundFrames};
 ghost use Rattle.model.specs.World.{is_running_process};
-ghost use Rattle.capability.specs.Parts.{IsUnchanged, frames_of};
+ghost use Rattle.capability.specs.Parts.{AreSound, IsUnchanged, frames_of};
 ghost use Rattle.space_bank.specs.Banks.{AreCounted};
 ghost use Rattle.gate.specs.Invoke.{Invokes, KeepsSoundFrames, Overfills};
 
@@ -12,7 +11,7 @@ use crate::banking::{bank_order, invoke_bank};
 use crate::fault::InvokeFault;
 use crate::gates::{Gate, invoke_gate};
 use crate::kernel_object::invoke_object;
-use crate::looking::{ask, numbers_fit};
+use crate::looking::{ask, numbers_fit, order_arguments};
 use capability::PresentFrames;
 use model::{Capability, Invocation};
 use space_bank::Banks;
@@ -21,7 +20,7 @@ use std::alloc::Global;
 /// Carries out the invocation of a capability by a running process (EROS, KeyKOS: call, return and
 /// send).
 ///
-/// What is sent is read first. Through a gate, a start or resume capability, it is delivered to
+/// What is invoked and sent is read first. Through a gate, a start or resume capability, it is delivered to
 /// another process; a resume capability works once, and is void from then on wherever it is held.
 /// Any other capability is a kernel object, whose order is carried out and, where it was called,
 /// answered. What is counted of banks beside the objects stays what there is.
@@ -36,8 +35,7 @@ pub fn invoke<F: PresentFrames>(
     banks: &mut Banks,
     invocation: Invocation,
 ) -> Result<(), InvokeFault>
-    requires sound { (age : ℕ) × IsSoundFrames (F.parts store.old).geometry age
-        (frames_of (F.parts store.old)) }
+    requires sound { AreSound (F.parts store.old) }
     requires process { IsTrue (is_running_process
         (objects_of (frames_of (F.parts store.old))) invocation.process) }
     requires counted { AreCounted (F.parts store.old).geometry
@@ -83,7 +81,8 @@ pub fn invoke<F: PresentFrames>(
         }
         Capability::Bank(bank) => match bank_order(invocation.words[0]) {
             Some(order) => {
-                let call = asked.of_bank(&invocation, bank, order);
+                let arguments = order_arguments(store, &invocation, asked.annex);
+                let call = asked.of_bank(&invocation, bank, order, arguments);
                 invoke_bank(alloc, store, banks, &invocation, call)
             }
             None => invoke_object(alloc, store, &invocation, asked),

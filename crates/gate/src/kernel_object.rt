@@ -3,23 +3,23 @@ ghost use Rattle.std.specs.Prelude.{◌≡◌, ◌↔◌, ◌+◌, ◌<◌, ◌�
 ghost use Rattle.model.specs.declared.command.Command.TheVariants as command;
 ghost use Rattle.model.specs.Frame.{header_at, objects_of};
 ghost use Rattle.model.specs.Invoke.{deliver, ordered, reply_of, sent_by};
-ghost use Rattle.model.specs.Keepable.{AreCurrent, AreKeepable, IsSoundFrames};
+ghost use Rattle.model.specs.Keepable.{AreCurrent, AreKeepable};
 ghost use Rattle.model.specs.Machine.{touching, touched_count};
 ghost use Rattle.model.specs.Order.{IsNoBankOrder};
 ghost use Rattle.model.specs.Text.{Fits};
 ghost use Rattle.model.specs.World.{annex_at, is_process, is_running_process, register_at};
-ghost use Rattle.capability.specs.Parts.{IsUnchanged, KeepsAside, Looks, frames_of};
+ghost use Rattle.capability.specs.Parts.{AreSound, IsUnchanged, KeepsAside, Looks, frames_of};
 ghost use Rattle.gate.specs.Invoke.{finished, replied_to, written_by, AreAnnounced, Invokes, IsAsked, IsKernelObject, IsPlanned, KeepsSoundFrames, Overfills};
 ghost use Rattle.gate.specs.Plan.{changed, outcome_of, target_of, FitsCap, IsOfProcess, IsWithinObject, MayHold};
 
 use crate::change::make;
 use crate::delivery::deliver;
 use crate::fault::InvokeFault;
-use crate::looking::{Asked, look_at_named};
+use crate::looking::{Asked, look_at_named, order_arguments};
 use crate::orders::plan;
 use crate::plan::{Change, OrderPlan};
 use capability::{PrepareFault, PresentFrames, objects, roots};
-use model::{Arguments, Capability, Invocation, Message, Operation, State};
+use model::{Capability, Invocation, Message, Operation, State};
 use std::alloc::Global;
 
 // Announces what an invocation writes, and fetches it.
@@ -72,6 +72,7 @@ fn announce<F: PresentFrames>(
 }
 
 /// Gives a process that called the reply, where it still runs.
+#[inline(always)]
 pub fn reply<F: PresentFrames>(store: &mut F, process: u64, plan: OrderPlan)
     requires root_fetched { F.IsFetched store.old process }
     requires root_announced { F.IsAnnounced store.old process }
@@ -154,21 +155,17 @@ fn plan_order<F: PresentFrames>(
     invocation: &Invocation,
     asked: Asked,
 ) -> Result<OrderPlan, PrepareFault>
-    requires sound { (age : ℕ) × IsSoundFrames (F.parts store.old).geometry age
-        (frames_of (F.parts store.old)) }
+    requires sound { AreSound (F.parts store.old) }
     requires fits { Fits (command.Invoke invocation.now) }
     requires few { length (F.parts store.old).headers < 2 ^ 64 }
     requires asked { IsAsked (objects_of (frames_of (F.parts store.old))) invocation.now asked }
+    requires fetched { F.IsFetched store.old asked.annex }
     requires order { IsNoBankOrder asked.invoked (slice_index invocation.now.words 0) }
     ensures planned { IfOk result (λ plan. IsPlanned (F.parts store.old).geometry (objects_of (frames_of (F.parts store.old))) invocation.now plan) }
     ensures looks { Looks F.parts F.LeadsTo store.old store.new result }
 {
+    let arguments = order_arguments(store, invocation, asked.annex);
     look_at_named(alloc, store, asked.invoked)?;
-    let arguments = Arguments {
-        first: invocation.words[1],
-        second: invocation.words[2],
-        capability: asked.sent[0],
-    };
     let order = invocation.words[0];
     Ok(plan(store, asked.invoked, order, arguments))
 }
@@ -181,13 +178,13 @@ pub fn invoke_object<F: PresentFrames>(
     invocation: &Invocation,
     asked: Asked,
 ) -> Result<(), InvokeFault>
-    requires sound { (age : ℕ) × IsSoundFrames (F.parts store.old).geometry age
-        (frames_of (F.parts store.old)) }
+    requires sound { AreSound (F.parts store.old) }
     requires running { IsTrue (is_running_process
         (objects_of (frames_of (F.parts store.old))) invocation.now.process) }
     requires fits { Fits (command.Invoke invocation.now) }
     requires few { length (F.parts store.old).headers < 2 ^ 64 }
     requires asked { IsAsked (objects_of (frames_of (F.parts store.old))) invocation.now asked }
+    requires fetched { F.IsFetched store.old asked.annex }
     requires object { IsKernelObject asked.invoked }
     requires order { IsNoBankOrder asked.invoked (slice_index invocation.now.words 0) }
     ensures done { OnOk result (Invokes (F.parts store.old).geometry invocation.now

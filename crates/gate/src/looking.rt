@@ -2,6 +2,7 @@
 ghost use Rattle.std.specs.Prelude.{◌≡◌, ℕ, ◌<◌, ◌^◌, List, length, slice_index, Some, IfOk, OnOk, IsTrue};
 ghost use Rattle.model.specs.Capability.{named};
 ghost use Rattle.model.specs.Frame.{objects_of};
+ghost use Rattle.model.specs.Invoke.{sent_by};
 ghost use Rattle.model.specs.Keepable.{AreKeepable};
 ghost use Rattle.model.specs.declared.object.Object.{Object};
 ghost use Rattle.model.specs.Object.{is_annex};
@@ -9,7 +10,7 @@ ghost use Rattle.model.specs.Order.{bank_order};
 ghost use Rattle.model.specs.Sound.{NamesItsKind};
 ghost use Rattle.model.specs.World.{annex_at, content_at, is_process};
 ghost use Rattle.capability.specs.Parts.{Looks, frames_of};
-ghost use Rattle.gate.specs.Banking.{AsksBank};
+ghost use Rattle.gate.specs.Banking.{arguments_of, AsksBank};
 ghost use Rattle.gate.specs.Invoke.{IsAsked};
 ghost use Rattle.gate.specs.Plan.{process_named};
 
@@ -18,21 +19,27 @@ use capability::{PrepareFault, PresentFrames, objects};
 use model::{Arguments, BankOrder, Capability, Invocation};
 use std::alloc::Global;
 
-/// What an invocation sends, as it is before anything changes.
+/// What a process invokes, as it is before anything changes.
 #[derive(Clone, Copy, Debug)]
 pub struct Asked {
     /// The annex of the process that invokes.
     pub annex: u64,
     pub invoked: Capability,
-    pub sent: [Capability; 4],
 }
 
 impl Asked {
     /// What is asked of a bank, where one is invoked.
-    pub fn of_bank(&self, invocation: &Invocation, bank: u64, order: BankOrder) -> BankCall
+    pub fn of_bank(
+        &self,
+        invocation: &Invocation,
+        bank: u64,
+        order: BankOrder,
+        arguments: Arguments,
+    ) -> BankCall
         ensures { (os : List Object) → IsAsked os invocation.now self.now
             → self.now.invoked ≡ Capability.Bank bank
             → bank_order (slice_index invocation.now.words 0) ≡ Some order
+            → arguments ≡ arguments_of os invocation.now
             → AsksBank os invocation.now result }
     {
         BankCall {
@@ -41,11 +48,7 @@ impl Asked {
             annex: self.annex,
             bank,
             order,
-            arguments: Arguments {
-                first: invocation.words[1],
-                second: invocation.words[2],
-                capability: self.sent[0],
-            },
+            arguments,
         }
     }
 }
@@ -110,7 +113,7 @@ pub fn look_at_named<F: PresentFrames>(
     }
 }
 
-/// Reads what a process invokes and sends.
+/// Reads what a process invokes. Its annex is fetched then.
 pub fn ask<F: PresentFrames>(
     alloc: Global,
     store: &mut F,
@@ -124,19 +127,48 @@ pub fn ask<F: PresentFrames>(
         (content_at (objects_of (frames_of (F.parts store.old)))
         (annex_at (objects_of (frames_of (F.parts store.old))) invocation.now.process))) }
     ensures asked { IfOk result (λ asked. IsAsked (objects_of (frames_of (F.parts store.old))) invocation.now asked) }
+    ensures fetched { IfOk result (λ asked. F.IsFetched store.new asked.annex) }
     ensures looks { Looks F.parts F.LeadsTo store.old store.new result }
 {
     let annex = look_at_process(alloc, store, invocation.process)?;
     Ok(Asked {
         annex,
         invoked: objects::slot(store, annex, invocation.register.index()),
-        sent: [
-            objects::slot(store, annex, invocation.sent[0].index()),
-            objects::slot(store, annex, invocation.sent[1].index()),
-            objects::slot(store, annex, invocation.sent[2].index()),
-            objects::slot(store, annex, invocation.sent[3].index()),
-        ],
     })
+}
+
+/// What an order is given: two words, and the first capability that is sent. The annex of the
+/// process is fetched.
+pub fn order_arguments<F: PresentFrames>(
+    store: &F,
+    invocation: &Invocation,
+    annex: u64,
+) -> Arguments
+    requires fetched { F.IsFetched store.now annex }
+    requires annex { annex
+        ≡ annex_at (objects_of (frames_of (F.parts store.now))) invocation.now.process }
+    ensures { result ≡ arguments_of (objects_of (frames_of (F.parts store.now))) invocation.now }
+{
+    Arguments {
+        first: invocation.words[1],
+        second: invocation.words[2],
+        capability: objects::slot(store, annex, invocation.sent[0].index()),
+    }
+}
+
+/// The four capabilities that are sent. The annex of the process is fetched.
+pub fn all_sent<F: PresentFrames>(store: &F, invocation: &Invocation, annex: u64) -> [Capability; 4]
+    requires fetched { F.IsFetched store.now annex }
+    requires annex { annex
+        ≡ annex_at (objects_of (frames_of (F.parts store.now))) invocation.now.process }
+    ensures { result ≡ sent_by (objects_of (frames_of (F.parts store.now))) invocation.now }
+{
+    [
+        objects::slot(store, annex, invocation.sent[0].index()),
+        objects::slot(store, annex, invocation.sent[1].index()),
+        objects::slot(store, annex, invocation.sent[2].index()),
+        objects::slot(store, annex, invocation.sent[3].index()),
+    ]
 }
 
 /// The numbers of objects have 64 bits. This does nothing; its contract is the fact.

@@ -100,8 +100,8 @@ fn on_plain(word: u64, capability: Capability, arguments: Arguments) -> OrderPla
     }
 }
 
-/// What an order on a kernel object comes to, which isn't one of a bank. The word says which order. The object is fetched, and
-/// of a process its annex too.
+/// What an order on a kernel object comes to that asks no bank. The word says which order. The
+/// object is fetched, and of a process its annex too.
 #[tactic(auto, unfolding(model::specs::Order::order))]
 pub fn plan<F: PresentFrames>(
     store: &F,

@@ -37,7 +37,7 @@ heir_of b parent n e = rw (eq-eqb n b e) refl
 heir_other : (b parent n : ℕ) → n ≢ b → heir b parent n ≡ n
 heir_other b parent n e = rw (ne_eqb n b e) refl
 
-handed_content : (b parent : ℕ) (o : Object) → (handed_on b parent o).content ≡ o.content
+pub handed_content : (b parent : ℕ) (o : Object) → (handed_on b parent o).content ≡ o.content
 handed_content b parent o = go (not (is_free o.content) && (o.owner == b))
   where
     go : (t : Bool) → (if t then record { owner = parent; content = o.content } else o).content ≡ o.content

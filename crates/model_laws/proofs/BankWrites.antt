@@ -1,5 +1,5 @@
 -- What is written by what a bank is asked, and the annex of a process that outlives it.
-use Rattle.std.proofs.Common.{◌≡◌, ◌≢◌, ℕ, zero, suc, ◌+◌, ◌<◌, ◌≤◌, ◌==◌, ◌&&◌, Bool, true, false, not, List, [], ◌∷◌, refl, sym, ap, subst, arith, ◌∙◌, if◌then◌else◌}
+use Rattle.std.proofs.Common.{◌≡◌, ◌≢◌, ℕ, zero, suc, ◌+◌, ◌<◌, ◌≤◌, ◌==◌, Bool, true, false, List, [], ◌∷◌, refl, sym, ap, subst, arith, ◌∙◌, if◌then◌else◌}
 use Rattle.std.specs.Prelude.{IsTrue, nat_lt, length}
 use Rattle.std.specs.List.{range_with_len, All}
 use Rattle.std.proofs.lemmas.List.Elements.{All-filter, filter_passes}
@@ -18,9 +18,10 @@ use Rattle.model.specs.Banking.{allocated, are_free, bank_allocated, freed, free
 use Rattle.model.specs.Object.{free, is_bank, is_free, is_root, map_content, root_in}
 use Rattle.model.specs.OrderOutcome.{OrderOutcome}
 use Rattle.model.specs.Revoke.{is_member, names_member, rescind, without}
-use Rattle.model.specs.Sound.{NamesItsKind, object_count}
+use Rattle.model.specs.Sound.{NamesItsKind}
 use Rattle.model.specs.World.{annex_at, content_at, is_process, object_at, owner_at}
 use Rattle.model_laws.proofs.BankFreed.{freed_within, owned_within, under_within, used_within}
+use Rattle.model_laws.proofs.BankReturn.{handed_content}
 use Rattle.model_laws.proofs.BankTree.{at_other}
 use Rattle.model_laws.proofs.Revoking.{at_rescind}
 use Rattle.model_laws.proofs.SoundEdits.{at_map}
@@ -30,8 +31,9 @@ use Rattle.model_laws.proofs.SoundOrders.{IsNow}
 abbrev KeepsAnnexes : List Object → List Object → Type 0
 KeepsAnnexes os us = (p : ℕ) → is_process os p ≡ true → is_process us p ≡ true → annex_at us p ≡ annex_at os p
 
+-- what holds of both outcomes holds of either
 module _ (P : OrderOutcome → Type 0) where
-  one_of : (b : Bool) (x y : OrderOutcome) → P x → P y → P (if b then x else y)
+  pub one_of : (b : Bool) (x y : OrderOutcome) → P x → P y → P (if b then x else y)
   one_of true x y p q = p
   one_of false x y p q = q
 
@@ -60,13 +62,6 @@ rescind_annexes : (set : List ℕ) (os : List Object) → KeepsAnnexes os (resci
 rescind_annexes set os p before is =
     ap (λ (o : Object). (root_in o.content).annex) (at_rescind set os p)
     ∙ after set (is_member set p) (object_at os p) (subst (λ (o : Object). is_root o.content ≡ true) (at_rescind set os p) is)
-
-handed_content : (b parent : ℕ) (o : Object) → (handed_on b parent o).content ≡ o.content
-handed_content b parent o = go (not (is_free o.content) && (o.owner == b))
-  where
-    go : (t : Bool) → (let x : Object = if t then record { owner = parent; content = o.content } else o in x.content ≡ o.content)
-    go true = refl
-    go false = refl
 
 inherited_content : (os : List Object) (b n : ℕ) → content_at (inherited os b) n ≡ content_at os n
 unfolding inherited

@@ -14,7 +14,7 @@ pub mod BankReturn
 pub mod SoundBanks
 pub mod SoundObjects
 pub mod BankWrites
-mod Revoking
+pub mod Revoking
 mod Touching
 pub mod Usage
 mod WorkedRows

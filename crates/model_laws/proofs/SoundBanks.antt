@@ -185,7 +185,7 @@ free_filled us W c e = cc
 -- room and free numbers
 
 -- what passes for all passes for a member
-member_passes : (test : ℕ → Bool) (xs : List ℕ) (x : ℕ) → list_all test xs ≡ true → is_member xs x ≡ true → test x ≡ true
+pub member_passes : (test : ℕ → Bool) (xs : List ℕ) (x : ℕ) → list_all test xs ≡ true → is_member xs x ≡ true → test x ≡ true
 member_passes test [] x all member = cc
 member_passes test (y ∷ ys) x all member =
     let parts = and_parts (test y) (list_all test ys) all in

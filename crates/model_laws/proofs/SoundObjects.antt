@@ -1,5 +1,5 @@
 -- Orders on any kernel object keep sound objects sound.
-use Rattle.std.proofs.Common.{◌≡◌, ℕ, ◌^◌, ◌==◌, ◌<◌, Option, None, Some, List, arith}
+use Rattle.std.proofs.Common.{ℕ, ◌^◌, ◌==◌, ◌<◌, Option, None, Some, List, arith}
 use Rattle.model.specs.declared.capability.Capability.{Capability}
 use Rattle.model.specs.declared.capability.Capability.TheVariants.{Void, Number, Page, Node, Space, Process, Bank, Discrim}
 use Rattle.model.specs.declared.geometry.Geometry.{Geometry}

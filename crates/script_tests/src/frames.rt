@@ -12,9 +12,7 @@ use capability::laws::{
     called_is_consumed, consume_keeps_sound_frames, given_up_is_rescinded,
     rescind_keeps_sound_frames,
 };
-use capability::{
-    Fresh, ObjectTable, Plain, PrepareFault, PresentFrames, objects, roots, usage, view,
-};
+use capability::{Fresh, ObjectTable, Plain, PrepareFault, PresentFrames, objects, roots, view};
 use model::{Access, Cap, Capability, Content, Geometry, ObjectHeader, Role, State};
 use std::alloc::{AllocError, Global};
 use std::process::Abort;
@@ -295,7 +293,7 @@ fn log_is_full(rt: HostRuntime) -> Result<(), Fail> {
     Ok(())
 }
 
-// ---- new objects and banks
+// ---- new objects
 
 // A number is one where such an object may be made.
 fn is_place(rt: &impl Abort, plain: &Plain, number: u64, fresh: Fresh)
@@ -357,39 +355,6 @@ fn each_kind_of_object_is_made(rt: HostRuntime) -> Result<(), Fail> {
         5,
         &[(0, Capability::Void), (31, Capability::Void)],
     );
-    Ok(())
-}
-
-fn give(rt: &impl Abort, plain: &mut Plain, number: u64, bank: u64)
-    requires keepable { AreKeepable plain.old.geometry 0 (frames_of (parts_of plain.old)) }
-    ensures keepable { AreKeepable plain.new.geometry 0 (frames_of (parts_of plain.new)) }
-{
-    is_used(rt, plain, number);
-    objects::set_owner(plain, number, bank);
-}
-
-// The banks account for so many objects.
-fn account(rt: &impl Abort, plain: &Plain, banks: &[(u64, u64)])
-    requires { AreKeepable plain.now.geometry 0 (frames_of (parts_of plain.now)) }
-{
-    for (bank, count) in banks {
-        assert_eq!(rt; usage(plain, *bank), *count, "bank {bank}");
-    }
-}
-
-#[test]
-fn usage_goes_up_the_chain(rt: HostRuntime) -> Result<(), Fail> {
-    let alloc = rt.alloc();
-    let mut plain = first_world(alloc)?;
-    account(&rt, &plain, &[(0, 4)]);
-    make(&rt, alloc, &mut plain, 6, Fresh::Bank { limit: 9 })?;
-    make(&rt, alloc, &mut plain, 7, Fresh::Bank { limit: 9 })?;
-    give(&rt, &mut plain, 7, 6);
-    give(&rt, &mut plain, 5, 7);
-    give(&rt, &mut plain, 16, 7);
-    account(&rt, &plain, &[(0, 6), (6, 3), (7, 2), (5, 0)]);
-    give(&rt, &mut plain, 5, 99);
-    account(&rt, &plain, &[(7, 1)]);
     Ok(())
 }
 

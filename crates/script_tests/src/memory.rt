@@ -101,6 +101,45 @@ load 1 18446744073709551615\n",
     Ok(())
 }
 
+// Makes page 16 and nodes 5 to 8, of which each has in slot 31 the space of the one before it, and
+// node 5 the page. Registers 11 to 14 get the spaces of heights 1 to 4.
+const LADDER: &[u8] = b"call 1 2 1 0 0 0 0 0 0 0\nsend 1 1 2 10 0 0 28 0 0 0\n\
+call 1 2 2 0 0 0 0 0 0 0\nsend 1 1 2 9 0 0 28 0 0 0\nsend 1 9 2 31 0 0 10 0 0 0\n\
+call 1 9 4 1 0 0 0 0 0 0\nsend 1 1 2 10 0 0 28 0 0 0\nsend 1 1 2 11 0 0 28 0 0 0\n\
+call 1 2 2 0 0 0 0 0 0 0\nsend 1 1 2 9 0 0 28 0 0 0\nsend 1 9 2 31 0 0 10 0 0 0\n\
+call 1 9 4 2 0 0 0 0 0 0\nsend 1 1 2 10 0 0 28 0 0 0\nsend 1 1 2 12 0 0 28 0 0 0\n\
+call 1 2 2 0 0 0 0 0 0 0\nsend 1 1 2 9 0 0 28 0 0 0\nsend 1 9 2 31 0 0 10 0 0 0\n\
+call 1 9 4 3 0 0 0 0 0 0\nsend 1 1 2 10 0 0 28 0 0 0\nsend 1 1 2 13 0 0 28 0 0 0\n\
+call 1 2 2 0 0 0 0 0 0 0\nsend 1 1 2 9 0 0 28 0 0 0\nsend 1 9 2 31 0 0 10 0 0 0\n\
+call 1 9 4 4 0 0 0 0 0 0\nsend 1 1 2 10 0 0 28 0 0 0\nsend 1 1 2 14 0 0 28 0 0 0\n";
+
+const CLIMBED: &[u8] =
+    b"done\ndone\ndone\ndone\ndone\ndone\ndone\ndone\ndone\ndone\ndone\ndone\ndone\n\
+done\ndone\ndone\ndone\ndone\ndone\ndone\ndone\ndone\ndone\ndone\ndone\ndone\n";
+
+// The last word of a space of each height is stored and loaded, and the one behind it isn't there.
+#[test]
+fn the_last_word_of_a_space_is_stored(rt: HostRuntime) -> Result<(), Fail> {
+    let heights: [&[u8]; 4] = [
+        b"send 1 1 9 0 0 0 11 0 0 0\nload 1 16383\nstore 1 16383 7\nload 1 16383\n\
+load 1 15872\nload 1 0\nload 1 16384\nstore 1 16384 9\nload 1 16383\nshow 16\n",
+        b"send 1 1 9 0 0 0 12 0 0 0\nload 1 524287\nstore 1 524287 7\nload 1 524287\n\
+load 1 523776\nload 1 0\nload 1 524288\nstore 1 524288 9\nload 1 524287\nshow 16\n",
+        b"send 1 1 9 0 0 0 13 0 0 0\nload 1 16777215\nstore 1 16777215 7\nload 1 16777215\n\
+load 1 16776704\nload 1 0\nload 1 16777216\nstore 1 16777216 9\nload 1 16777215\nshow 16\n",
+        b"send 1 1 9 0 0 0 14 0 0 0\nload 1 536870911\nstore 1 536870911 7\nload 1 536870911\n\
+load 1 536870400\nload 1 0\nload 1 536870912\nstore 1 536870912 9\nload 1 536870911\nshow 16\n",
+    ];
+    let expected = b"done\nvalue 0\ndone\nvalue 7\nvalue 0\nmemory fault 3\nmemory fault 2\n\
+memory fault 2\nvalue 7\npage 16 owner 0\nword 511 7\nend\n";
+    for script in heights {
+        let mut plain = second_world(rt.alloc())?;
+        is_answered(&rt, rt.alloc(), &mut plain, LADDER, CLIMBED)?;
+        is_answered(&rt, rt.alloc(), &mut plain, script, expected)?;
+    }
+    Ok(())
+}
+
 #[test]
 fn only_the_next_level_stands_in_a_slot(rt: HostRuntime) -> Result<(), Fail> {
     // At height 1: void, a space, a number, a node. At height 2: a page, and a space too high.

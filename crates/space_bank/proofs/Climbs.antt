@@ -3,22 +3,13 @@ use Rattle.std.proofs.Common.{◌≡◌, ◌≢◌, inl, inr, ℕ, ◌+◌, ◌-
 use Rattle.std.specs.Prelude.{IsTrue, if◌then◌else◌, slice_index, slice_set}
 use Rattle.std.proofs.lemmas.Bool.{cases_eq}
 use Rattle.std.proofs.lemmas.List.{get_or-set_other, get_or-set_same, length-set}
-use Rattle.model.specs.declared.frame.ObjectHeader.{ObjectHeader}
 use Rattle.model.specs.declared.object.Object.{Object}
-use Rattle.model.specs.Frame.{header_at, objects_of}
 use Rattle.model.specs.Object.{is_bank}
 use Rattle.model.specs.World.{content_at, owner_at}
 use Rattle.model.specs.Bank.{chain}
 use Rattle.model.specs.Revoke.{is_member}
 use Rattle.model_laws.proofs.BankTree.{IsTree, chain_itself, chain_length, chain_longer, chain_nonempty, chain_once, chain_unfolds, chain_zero, member_tail, owner_bank}
-use Rattle.capability.specs.Parts.{Parts, frames_of}
-use Rattle.capability.proofs.Frames.{owner_in}
 use Rattle.space_bank.specs.Chains.{IsRaised}
-
--- what the table tells of an owner
-pub owner_read : (p : Parts) (hs : List ObjectHeader) (h : ObjectHeader) (n : ℕ) → hs ≡ p.headers → h ≡ header_at hs n → h.owner ≡ owner_at (objects_of (frames_of p)) n
-owner_read p hs h n table is =
-    ap (λ (k : ObjectHeader). k.owner) (is ∙ ap (λ (ks : List ObjectHeader). header_at ks n) table) ∙ sym (owner_in p.headers p.contents n)
 
 -- what a bank adds to each in its chain
 abbrev pub share : List Object → ℕ → ℕ → ℕ → ℕ

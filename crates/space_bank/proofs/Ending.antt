@@ -1,10 +1,9 @@
 -- What is left of what is counted, where objects are given up.
-use Rattle.std.proofs.Common.{◌≡◌, inl, inr, ℕ, zero, suc, ◌+◌, ◌-◌, ◌^◌, ◌<◌, ◌≤◌, ◌++◌, Bool, true, false, List, [], ◌∷◌, drop, map, take, length, refl, sym, ap, subst, arith, ◌∙◌, zero-add}
+use Rattle.std.proofs.Common.{◌≡◌, inl, inr, ℕ, zero, suc, ◌+◌, ◌-◌, ◌^◌, ◌<◌, ◌≤◌, ◌++◌, Bool, true, false, List, [], ◌∷◌, drop, take, length, refl, sym, ap, subst, arith, ◌∙◌}
 use Rattle.std.specs.Prelude.{IsTrue, if◌then◌else◌, nat_eq, slice_index, slice_index_or}
-use Rattle.std.specs.List.{All, enumerate_from}
-use Rattle.std.proofs.lemmas.Bool.{cases_Bool, cases_lt, eq-eqb, false_from_ne_true, false≢true}
-use Rattle.std.proofs.lemmas.List.{get_or-map, get_or_past, length-map, take_rest}
-use Rattle.std.proofs.lemmas.List.FromFn.{get_or-enumerate_from, length-enumerate_from}
+use Rattle.std.specs.List.{All}
+use Rattle.std.proofs.lemmas.Bool.{cases_Bool, eq-eqb, false_from_ne_true, false≢true}
+use Rattle.std.proofs.lemmas.List.{take_rest}
 use Rattle.std.proofs.lemmas.List.Folds.{list_any_at}
 use Rattle.model.specs.declared.capability.Capability.{Capability}
 use Rattle.model.specs.declared.geometry.Geometry.{Geometry}
@@ -19,6 +18,7 @@ use Rattle.model.specs.Revoke.{is_member, names_member, rescind, void_where, wit
 use Rattle.model.specs.World.{content_at, object_at}
 use Rattle.model_laws.proofs.NumberLists.{AllDiffer}
 use Rattle.model_laws.proofs.BankTree.{chain_banks, member_tail}
+use Rattle.model_laws.proofs.Revoking.{at_rescind}
 use Rattle.capability.specs.Parts.{AreGivenUp, IsOnce, KeepsAside, Parts, frames_of}
 use Rattle.space_bank.specs.Banks.{AreCounted, BanksState, KeepsObjects}
 use Rattle.space_bank.specs.Carrying.{CarriesOut, MayGiveUp, MayServe, marks_of}
@@ -41,26 +41,6 @@ once_of_differ (n ∷ ns) differ (suc i) inside =
     ∙ once_of_differ ns differ.1 i (omega arith)
 
 -- contents after a rescind
-
-abbrev after : List ℕ → ℕ × Object → Object
-after set e = if is_member set e.0 then free else without (names_member set) e.1
-
-pub gone_at : (set : List ℕ) (os : List Object) (n : ℕ) → object_at (rescind set os) n ≡ (if is_member set n then free else without (names_member set) (object_at os n))
-unfolding rescind
-gone_at set os n = elim (cases_lt n (length os)) [
-  | inl inside ↦
-      let at : n < length (enumerate_from 0 os) = rw (length-enumerate_from 0 os) inside in
-      get_or-map (after set) (enumerate_from 0 os) n (0, free) free at
-      ∙ ap (after set) (get_or-enumerate_from 0 os n (0, free) inside ∙ ap (λ (m : ℕ). (m, object_at os n)) (zero-add n))
-  | inr past ↦
-      let long = length-map (enumerate_from 0 os) (after set) in
-      get_or_past (map (after set) (enumerate_from 0 os)) n free (omega (arith, long, length-enumerate_from 0 os))
-      ∙ sym (rw (get_or_past os n free past) (either (is_member set n)))
-]
-  where
-    either : (b : Bool) → (if b then free else free) ≡ free
-    either true = refl
-    either false = refl
 
 free_mapped : (f : Capability → Capability) (c : Content Capability) → is_free (map_content f c) ≡ is_free c
 free_mapped f content.Free = refl
@@ -88,10 +68,10 @@ limit_mapped f (content.Bank limit) = refl
 
 module _ (set : List ℕ) (os : List Object) (n : ℕ) where
   went : is_member set n ≡ true → object_at (rescind set os) n ≡ free
-  went e = gone_at set os n ∙ ap (λ (b : Bool). if b then free else without (names_member set) (object_at os n)) e
+  went e = at_rescind set os n ∙ ap (λ (b : Bool). if b then free else without (names_member set) (object_at os n)) e
 
   kept : is_member set n ≡ false → object_at (rescind set os) n ≡ without (names_member set) (object_at os n)
-  kept e = gone_at set os n ∙ ap (λ (b : Bool). if b then free else without (names_member set) (object_at os n)) e
+  kept e = at_rescind set os n ∙ ap (λ (b : Bool). if b then free else without (names_member set) (object_at os n)) e
 
   -- the members are free, and the others what they were
   pub free_gone : is_free (content_at (rescind set os) n) ≡ (if is_member set n then true else is_free (content_at os n))

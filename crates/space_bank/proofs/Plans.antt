@@ -21,10 +21,11 @@ use Rattle.model.specs.Frame.{objects_of}
 use Rattle.model.specs.OrderOutcome.{OrderOutcome, made, refused, told_three}
 use Rattle.model.specs.Object.{is_bank, is_root, limit_in}
 use Rattle.model.specs.Revoke.{rescind}
-use Rattle.model.specs.Sound.{IsOfKind, MayBeHeld}
+use Rattle.model.specs.Sound.{MayBeHeld}
 use Rattle.model.specs.World.{content_at, owner_at}
 use Rattle.capability.specs.Parts.{HaveTheirRoles, Parts, frames_of}
 use Rattle.capability.proofs.Keeping.{keepable_count, keepable_roles}
+use Rattle.capability.proofs.KindNumbers.{root_number}
 use Rattle.space_bank.specs.declared.plan.BankPlan.{BankPlan}
 use Rattle.space_bank.specs.Banks.{BanksState, IsPlanned, MayAsk}
 use Rattle.space_bank.specs.Planning.{IsBankOf}
@@ -187,14 +188,6 @@ module _ (p : Parts) (s : BanksState) (b : ℕ) (h : IsBankOf p s b) where
   pub prime_owner : owner_at (objects_of (frames_of p)) 0 ≡ 0
   prime_owner = h.sound.1.sound.prime.1
 
-root_below : (g : Geometry) (n : ℕ) (c : Content Capability) → IsTrue (is_root c) → IsOfKind g n c → n < g.nodes
-root_below g n (content.Root r) is kind = kind
-root_below g n content.Free is kind = cc
-root_below g n (content.Page words) is kind = cc
-root_below g n (content.Node slots) is kind = cc
-root_below g n (content.Annex registers) is kind = cc
-root_below g n (content.Bank limit) is kind = cc
-
 root_not_bank : (c : Content Capability) → IsTrue (is_root c) → IsTrue (is_bank c) → ⊥
 root_not_bank (content.Root r) root is = cc
 root_not_bank content.Free root is = cc
@@ -209,7 +202,7 @@ pub process_room : (p : Parts) (s t : BanksState) (b : ℕ) (c : Capability) (q 
 process_room p s t b c q n h sent is few listed =
     let os = objects_of (frames_of p) in
     let process : IsTrue (is_root (content_at os q)) = (subst (λ (d : Capability). MayBeHeld os d) is sent).1 in
-    let known : q < p.geometry.nodes = root_below p.geometry q (content_at os q) process (h.sound.1.sound.kinds q) in
+    let known : q < p.geometry.nodes = root_number p.geometry q (content_at os q) (h.sound.1.sound.kinds q) process in
     let other : q ≡ b → ⊥ = λ e. root_not_bank (content_at os b) (subst (λ (m : ℕ). IsTrue (is_root (content_at os m))) e process) h.bank in
     omega (arith, node_of_bank p s b h, h.counted.room, ap (λ (u : BanksState). length u.listed) listed, length-append s.listed (n ∷ []), ap (λ (u : BanksState). u.room) listed)
 

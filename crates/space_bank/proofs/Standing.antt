@@ -1,8 +1,7 @@
 -- What sound frames that are counted tell of their objects.
-use Rattle.std.proofs.Common.{◌≡◌, ◌≢◌, inl, inr, ℕ, ◌+◌, ◌^◌, ◌<◌, ◌≤◌, Bool, true, false, List, [], ◌∷◌, length, refl, sym, ap, arith, ◌∙◌}
+use Rattle.std.proofs.Common.{◌≡◌, ◌≢◌, ℕ, ◌+◌, ◌^◌, ◌<◌, ◌≤◌, true, false, List, length, refl, sym, ap, arith, ◌∙◌}
 use Rattle.std.specs.Prelude.{IsTrue, nat_le, slice_index}
-use Rattle.std.specs.List.{list_all}
-use Rattle.std.proofs.lemmas.Bool.{and_parts, cases_eq, leb-true}
+use Rattle.std.proofs.lemmas.Bool.{leb-true}
 use Rattle.model.specs.declared.capability.Cap.{Cap}
 use Rattle.model.specs.declared.capability.Capability.{Capability}
 use Rattle.model.specs.declared.frame.Frame.{Frame}
@@ -19,7 +18,8 @@ use Rattle.model.specs.Object.{is_bank, is_free, limit_in, map_content, role_of}
 use Rattle.model.specs.Revoke.{is_member}
 use Rattle.model.specs.Sound.{HasShape, IsOfKind, object_count}
 use Rattle.model.specs.World.{content_at}
-use Rattle.model_laws.proofs.BankTree.{IsTree, chain_banks, member_tail, tree_of}
+use Rattle.model_laws.proofs.BankTree.{IsTree, chain_banks, tree_of}
+use Rattle.model_laws.proofs.SoundBanks.{member_passes}
 use Rattle.model_laws.proofs.SoundOrders.{IsNow}
 use Rattle.model_laws.proofs.SoundParts.{IsFramed, nearly_from}
 use Rattle.capability.specs.Parts.{Parts, frames_of}
@@ -84,21 +84,12 @@ limit_shape (content.Root r) shape = omega arith
 limit_shape (content.Annex registers) shape = omega arith
 limit_shape (content.Bank limit) shape = shape
 
-all_member : (test : ℕ → Bool) (xs : List ℕ) (x : ℕ) → list_all test xs ≡ true → is_member xs x ≡ true → test x ≡ true
-all_member test [] x all member = cc
-all_member test (y ∷ ys) x all member =
-    let parts = and_parts (test y) (list_all test ys) all in
-    elim (cases_eq x y) [
-      | inl e ↦ ap test e ∙ parts.0
-      | inr differ ↦ all_member test ys x parts.1 (sym (member_tail x y ys differ) ∙ member)
-    ]
-
 -- room in a chain
 pub room_within : (os : List Object) (b count x : ℕ) → IsTrue (has_room os b count) → is_member (chain os b) x ≡ true → usage os x + count ≤ limit_in (content_at os x)
 unfolding has_room
 room_within os b count x room member =
     leb-true (usage os x + count) (limit_in (content_at os x))
-    (all_member (λ c. nat_le (usage os c + count) (limit_in (content_at os c))) (chain os b) x room member)
+    (member_passes (λ c. nat_le (usage os c + count) (limit_in (content_at os c))) (chain os b) x room member)
 
 module _ (p : Parts) (s : BanksState) (b : ℕ) (asks : MayServe p s b) where
   pub serve_now : IsNow p.geometry (objects_of (frames_of p))

@@ -1,33 +1,20 @@
 -- Chains of banks, walked from owner to owner.
-use Rattle.std.proofs.Common.{◌≡◌, ◌+◌, ◌-◌, ◌<◌, ◌≤◌, ◌∙◌, ℕ, suc, Bool, true, false, List, [], ◌∷◌, length, map, min, nat_eq, ⊎_elim, refl, sym, ap, subst, arith}
+use Rattle.std.proofs.Common.{◌≡◌, ◌+◌, ◌-◌, ◌<◌, ◌≤◌, ◌∙◌, ℕ, suc, Bool, true, false, List, [], ◌∷◌, length, map, min, nat_eq, refl, sym, ap, subst, arith}
 use Rattle.std.specs.Prelude.{IsTrue, nat_le, slice_index}
 use Rattle.std.specs.List.{list_all, list_any}
-use Rattle.std.proofs.lemmas.Bool.{cases_lt, eq-eqb, le-leb, lt-leb, ne_eqb}
-use Rattle.std.proofs.lemmas.List.{get_or_past}
-use Rattle.model.specs.declared.capability.Capability.{Capability}
-use Rattle.model.specs.declared.frame.Frame.{Frame}
+use Rattle.std.proofs.lemmas.Bool.{eq-eqb, le-leb, lt-leb, ne_eqb}
 use Rattle.model.specs.declared.frame.ObjectHeader.{ObjectHeader}
-use Rattle.model.specs.declared.geometry.Geometry.{Geometry}
-use Rattle.model.specs.declared.object.Content.{Content}
-use Rattle.model.specs.declared.object.Content.TheVariants as content
 use Rattle.model.specs.declared.object.Object.{Object}
-use Rattle.model.specs.declared.object.Role.{Role}
-use Rattle.model.specs.declared.object.Role.TheVariants as role
 use Rattle.model.specs.Bank.{chain, chain_within, usage}
 use Rattle.model.specs.Banking.{has_room, least, left_of, remaining}
-use Rattle.model.specs.Frame.{blank_header, conveyed, header_at, held_at, objects_of}
-use Rattle.model.specs.Object.{is_bank, is_free, limit_in, map_content, role_of}
-use Rattle.model.specs.Sound.{IsOfKind}
+use Rattle.model.specs.Frame.{objects_of}
+use Rattle.model.specs.Object.{is_bank, limit_in}
 use Rattle.model.specs.World.{content_at, owner_at}
-use Rattle.capability.specs.Parts.{HaveTheirRoles, Parts, frames_of}
-use Rattle.capability.proofs.Frames.{frame_in, length_objects, object_in, object_past, owner_in}
+use Rattle.capability.specs.Parts.{Parts, frames_of}
+use Rattle.capability.proofs.Frames.{bank_used, length_objects}
+use Rattle.capability.proofs.KindNumbers.{bank_number}
 use Rattle.space_bank.specs.Banks.{BanksState}
 use Rattle.space_bank.specs.Planning.{IsBankOf}
-
--- what the table of headers tells of the objects
-pub owner_read : (p : Parts) (hs : List ObjectHeader) (h : ObjectHeader) (n : ℕ) → hs ≡ p.headers → h ≡ header_at hs n → h.owner ≡ owner_at (objects_of (frames_of p)) n
-owner_read p hs h n table is =
-    ap (λ (k : ObjectHeader). k.owner) (is ∙ ap (λ (ks : List ObjectHeader). header_at ks n) table) ∙ sym (owner_in p.headers p.contents n)
 
 -- a number past which the table has none, and before which it has all
 pub count_read : (p : Parts) (hs : List ObjectHeader) (count n : ℕ) → hs ≡ p.headers → count ≡ length hs → n ≤ count → count ≤ n →
@@ -43,74 +30,6 @@ inside_read p hs count n table is inside =
 pub past_read : (p : Parts) (hs : List ObjectHeader) (count n : ℕ) → hs ≡ p.headers → count ≡ length hs → count ≤ n → length (objects_of (frames_of p)) ≤ n
 past_read p hs count n table is past =
     omega (arith, ap (λ (ks : List ObjectHeader). length ks) table, length_objects p.headers p.contents)
-
--- what a content is, and whether it is free or a bank, are told by its role
-role_of_map : {B C : Type 0} (f : B → C) (c : Content B) → role_of (map_content f c) ≡ role_of c
-role_of_map f content.Free = refl
-role_of_map f (content.Page words) = refl
-role_of_map f (content.Node slots) = refl
-role_of_map f (content.Root r) = refl
-role_of_map f (content.Annex registers) = refl
-role_of_map f (content.Bank limit) = refl
-
-pub role_read : (p : Parts) (hs : List ObjectHeader) (h : ObjectHeader) (n : ℕ) → HaveTheirRoles (frames_of p) → hs ≡ p.headers → h ≡ header_at hs n →
-    h.role ≡ role_of (content_at (objects_of (frames_of p)) n)
-role_read p hs h n roles table is =
-    ap (λ (k : ObjectHeader). k.role) (is ∙ ap (λ (ks : List ObjectHeader). header_at ks n) table)
-    ∙ ⊎_elim
-    (λ (known : n < length p.headers).
-    subst (λ (f : Frame). f.header.role ≡ role_of f.content) (frame_in p.headers p.contents n known) (roles n)
-    ∙ sym (role_of_map (conveyed p.headers) (held_at p.contents n))
-    ∙ sym (ap (λ (o : Object). role_of o.content) (object_in p.headers p.contents n known)))
-    (λ (past : length p.headers ≤ n).
-    ap (λ (k : ObjectHeader). k.role) (get_or_past p.headers n blank_header past)
-    ∙ sym (ap (λ (o : Object). role_of o.content) (object_past p.headers p.contents n past)))
-    (cases_lt n (length p.headers))
-
-module _ (r : Role) (c : Content Capability) (is : r ≡ role_of c) where
-  pub role_free : r ≡ role.Free → is_free c ≡ true
-  role_free free = go c (sym is ∙ free)
-    where
-      go : (d : Content Capability) → role_of d ≡ role.Free → is_free d ≡ true
-      go content.Free e = refl
-      go (content.Page words) e = cc
-      go (content.Node slots) e = cc
-      go (content.Root root) e = cc
-      go (content.Annex registers) e = cc
-      go (content.Bank limit) e = cc
-
-  pub role_used : (r ≡ role.Free → ⊥) → is_free c ≡ false
-  role_used other = go c (λ e. other (is ∙ e))
-    where
-      go : (d : Content Capability) → (role_of d ≡ role.Free → ⊥) → is_free d ≡ false
-      go content.Free e = absurd (e refl)
-      go (content.Page words) e = refl
-      go (content.Node slots) e = refl
-      go (content.Root root) e = refl
-      go (content.Annex registers) e = refl
-      go (content.Bank limit) e = refl
-
-  pub role_bank : r ≡ role.Bank → is_bank c ≡ true
-  role_bank bank = go c (sym is ∙ bank)
-    where
-      go : (d : Content Capability) → role_of d ≡ role.Bank → is_bank d ≡ true
-      go (content.Bank limit) e = refl
-      go content.Free e = cc
-      go (content.Page words) e = cc
-      go (content.Node slots) e = cc
-      go (content.Root root) e = cc
-      go (content.Annex registers) e = cc
-
-  pub role_no_bank : (r ≡ role.Bank → ⊥) → is_bank c ≡ false
-  role_no_bank other = go c (λ e. other (is ∙ e))
-    where
-      go : (d : Content Capability) → (role_of d ≡ role.Bank → ⊥) → is_bank d ≡ false
-      go (content.Bank limit) e = absurd (e refl)
-      go content.Free e = refl
-      go (content.Page words) e = refl
-      go (content.Node slots) e = refl
-      go (content.Root root) e = refl
-      go (content.Annex registers) e = refl
 
 -- A walk along a chain, where i banks were passed: it stands at the bank that is sought, at the last, goes on with
 -- the owner, or has passed 16.
@@ -201,26 +120,10 @@ module _ (os : List Object) (i b m left now : ℕ) (inside : i < 16) (here : lef
       least_on os m (chain_within (16 - i) os b) (b ∷ chain_within (16 - (i + 1)) os owner) (chain_next os i b owner inside inner at)
       ∙ least_here (chain_within (16 - (i + 1)) os owner)
 
-pub bank_below : (g : Geometry) (n : ℕ) (c : Content Capability) → IsTrue (is_bank c) → IsOfKind g n c → n < g.nodes
-bank_below g n (content.Bank limit) is kind = kind
-bank_below g n content.Free is kind = cc
-bank_below g n (content.Page words) is kind = cc
-bank_below g n (content.Node slots) is kind = cc
-bank_below g n (content.Root r) is kind = cc
-bank_below g n (content.Annex registers) is kind = cc
-
-bank_used : (c : Content Capability) → IsTrue (is_bank c) → is_free c ≡ true → ⊥
-bank_used (content.Bank limit) is free = cc
-bank_used content.Free is free = cc
-bank_used (content.Page words) is free = cc
-bank_used (content.Node slots) is free = cc
-bank_used (content.Root r) is free = cc
-bank_used (content.Annex registers) is free = cc
-
 -- what is counted of a bank that there is
 module _ (p : Parts) (s : BanksState) (b : ℕ) (h : IsBankOf p s b) where
   pub node_of_bank : b < p.geometry.nodes
-  node_of_bank = bank_below p.geometry b (content_at (objects_of (frames_of p)) b) h.bank (h.sound.1.sound.kinds b)
+  node_of_bank = bank_number p.geometry b (content_at (objects_of (frames_of p)) b) (h.sound.1.sound.kinds b) h.bank
 
   pub usage_known : b < length s.usages
   usage_known = omega (arith, node_of_bank, h.counted.usage_each)
@@ -243,5 +146,5 @@ module _ (p : Parts) (s : BanksState) (b : ℕ) (h : IsBankOf p s b) where
     sound = h.sound;
     counted = h.counted;
     bank = subst (λ (n : ℕ). IsTrue (is_bank (content_at (objects_of (frames_of p)) n))) (sym is)
-        (h.sound.1.sound.owners b (bank_used (content_at (objects_of (frames_of p)) b) h.bank));
+        (h.sound.1.sound.owners b (λ free. let used = bank_used (content_at (objects_of (frames_of p)) b) h.bank in cc));
   }

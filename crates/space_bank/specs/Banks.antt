@@ -8,11 +8,10 @@ use Rattle.model.specs.declared.order.BankOrder.TheVariants.{NewPage, NewNode, N
 use Rattle.model.specs.Bank.{usage}
 use Rattle.model.specs.Banking.{on_bank}
 use Rattle.model.specs.Frame.{objects_of}
-use Rattle.model.specs.Keepable.{IsSoundFrames}
 use Rattle.model.specs.Object.{is_bank, is_free, limit_in}
 use Rattle.model.specs.Sound.{MayBeHeld, object_count}
 use Rattle.model.specs.World.{content_at}
-use Rattle.capability.specs.Parts.{Parts, frames_of}
+use Rattle.capability.specs.Parts.{AreSound, Parts, frames_of}
 use Rattle.space_bank.specs.declared.plan.BankPlan.{BankPlan}
 use Rattle.space_bank.specs.Free.{is_marked}
 
@@ -40,7 +39,7 @@ pub record AreCounted (g : Geometry) (os : List Object) (s : BanksState) : Type 
 
 -- a bank may be asked: the frames are sound and counted, and what is sent may be held
 pub record MayAsk (p : Parts) (s : BanksState) (b : ℕ) (args : Arguments) : Type 0 where
-  pub sound : (age : ℕ) × IsSoundFrames p.geometry age (frames_of p)
+  pub sound : AreSound p
   pub counted : AreCounted p.geometry (objects_of (frames_of p)) s
   pub bank : IsTrue (is_bank (content_at (objects_of (frames_of p)) b))
   pub sent : MayBeHeld (objects_of (frames_of p)) args.capability

@@ -5,14 +5,14 @@ use Rattle.model.specs.declared.object.Object.{Object}
 use Rattle.model.specs.Bank.{chain, usage}
 use Rattle.model.specs.Banking.{freed_by}
 use Rattle.model.specs.Frame.{objects_of}
-use Rattle.model.specs.Keepable.{AreCurrent, AreKeepable, IsSoundFrames}
+use Rattle.model.specs.Keepable.{AreCurrent, AreKeepable}
 use Rattle.model.specs.Object.{is_bank}
 use Rattle.model.specs.Revoke.{is_member, rescind}
 use Rattle.model.specs.Sound.{MayBeHeld}
 use Rattle.model.specs.World.{content_at, object_at, owner_at}
 use Rattle.capability.specs.declared.present.Fresh.{Fresh}
 use Rattle.capability.specs.declared.present.Fresh.TheVariants as fresh
-use Rattle.capability.specs.Parts.{IsOnce, Parts, frames_of}
+use Rattle.capability.specs.Parts.{AreSound, IsOnce, Parts, frames_of}
 use Rattle.space_bank.specs.Banks.{AreCounted, BanksState}
 
 -- which numbers are marked as free, those of nodes and then those of pages
@@ -21,7 +21,7 @@ marks_of s = s.free_nodes ++ s.free_pages
 
 -- a bank may be served: the frames are sound and counted
 pub record MayServe (p : Parts) (s : BanksState) (b : ℕ) : Type 0 where
-  pub sound : (age : ℕ) × IsSoundFrames p.geometry age (frames_of p)
+  pub sound : AreSound p
   pub counted : AreCounted p.geometry (objects_of (frames_of p)) s
   pub bank : IsTrue (is_bank (content_at (objects_of (frames_of p)) b))
 

@@ -4,15 +4,14 @@ use Rattle.model.specs.declared.capability.Capability.{Capability}
 use Rattle.model.specs.declared.capability.Capability.TheVariants.{Process}
 use Rattle.model.specs.declared.object.Object.{Object}
 use Rattle.model.specs.Frame.{objects_of}
-use Rattle.model.specs.Keepable.{IsSoundFrames}
 use Rattle.model.specs.Object.{is_bank}
 use Rattle.model.specs.World.{annex_at, content_at}
-use Rattle.capability.specs.Parts.{Parts, frames_of}
+use Rattle.capability.specs.Parts.{AreSound, Parts, frames_of}
 use Rattle.space_bank.specs.Banks.{AreCounted, BanksState}
 
 -- a bank of frames that are sound and counted
 pub record IsBankOf (p : Parts) (s : BanksState) (b : ℕ) : Type 0 where
-  pub sound : (age : ℕ) × IsSoundFrames p.geometry age (frames_of p)
+  pub sound : AreSound p
   pub counted : AreCounted p.geometry (objects_of (frames_of p)) s
   pub bank : IsTrue (is_bank (content_at (objects_of (frames_of p)) b))
 

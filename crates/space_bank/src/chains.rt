@@ -9,8 +9,8 @@ ghost use Rattle.model_laws.proofs.BankTree.{IsTree};
 ghost use Rattle.capability.specs.Parts.{frames_of};
 ghost use Rattle.space_bank.specs.Chains.{IsRaised};
 
+use crate::walking::MAX_CHAIN;
 use capability::PresentFrames;
-use capability::plain::usage::MAX_CHAIN;
 
 /// Adds so many to what each bank in the chain of a bank accounts for.
 ///

@@ -3,11 +3,11 @@ ghost use Rattle.std.specs.Prelude.{◌≡◌, ◌↔◌, ℕ, ◌+◌, ◌<◌,
 ghost use Rattle.std.specs.List.{range_with_len};
 ghost use Rattle.model.specs.Bank.{usage as usage_of};
 ghost use Rattle.model.specs.Frame.{objects_of};
-ghost use Rattle.model.specs.Keepable.{AreKeepable, IsSoundFrames};
+ghost use Rattle.model.specs.Keepable.{AreKeepable};
 ghost use Rattle.model.specs.Object.{is_bank as counts_as_bank, limit_in};
 ghost use Rattle.model.specs.World.{content_at};
 ghost use Rattle.model_laws.proofs.BankTree.{IsTree};
-ghost use Rattle.capability.specs.Parts.{HaveTheirRoles, LooksUp, frames_of};
+ghost use Rattle.capability.specs.Parts.{AreSound, HaveTheirRoles, LooksUp, frames_of};
 ghost use Rattle.space_bank.specs.Banks.{AreCounted};
 ghost use Rattle.space_bank.specs.Counting.{AreMarked};
 
@@ -165,8 +165,7 @@ impl Banks {
     /// memory ran out, `Failed` exactly where the device failed, and never `LogFull`, since nothing
     /// is announced. No object is another than before.
     pub fn count<F: PresentFrames>(alloc: Global, store: &mut F) -> Result<Banks, PrepareFault>
-        requires sound { (age : ℕ) × IsSoundFrames (F.parts store.old).geometry age
-            (frames_of (F.parts store.old)) }
+        requires sound { AreSound (F.parts store.old) }
         ensures counted { IfOk result (AreCounted (F.parts store.old).geometry
             (objects_of (frames_of (F.parts store.old)))) }
         ensures room { IsErrOf result PrepareFault.LogFull → ⊥ }
@@ -191,8 +190,7 @@ impl Banks {
         store: &F,
         limits: Vec<u64>,
     ) -> Result<Banks, AllocError>
-        requires sound { (age : ℕ) × IsSoundFrames (F.parts store.now).geometry age
-            (frames_of (F.parts store.now)) }
+        requires sound { AreSound (F.parts store.now) }
         requires limits { let objects = objects_of (frames_of (F.parts store.now)) in limits.items
             ≡ map (λ n. limit_in (content_at objects n))
             (range_with_len 0 (F.parts store.now).geometry.nodes) }

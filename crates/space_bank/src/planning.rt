@@ -14,8 +14,7 @@ ghost use Rattle.space_bank.specs.Planning.{IsBankOf, annex_of};
 
 use crate::banks::Banks;
 use crate::plan::BankPlan;
-use crate::walking::{chain_length, owner};
-use capability::plain::usage::MAX_CHAIN;
+use crate::walking::{MAX_CHAIN, chain_length, owner};
 use capability::{PresentFrames, objects};
 use model::{Access, Arguments, BankOrder, Capability, ResultCode};
 

@@ -11,8 +11,10 @@ ghost use Rattle.space_bank.specs.Planning.{IsBankOf};
 
 use crate::banks::Banks;
 use capability::PresentFrames;
-use capability::plain::usage::MAX_CHAIN;
 use model::Role;
+
+/// How many banks a chain has at most.
+pub(crate) const MAX_CHAIN: usize = 16;
 
 // The owner of what stands at a number.
 pub(crate) fn owner<F: PresentFrames>(store: &F, number: u64) -> u64

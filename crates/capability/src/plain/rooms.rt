@@ -1,5 +1,5 @@
 // The room that is put aside for what a free number becomes.
-ghost use Rattle.std.specs.Prelude.{◌≡◌, ◌≢◌, ℕ, ◌<◌, length, IfOk, OnOk, IsErr};
+ghost use Rattle.std.specs.Prelude.{◌≡◌, ◌≢◌, ℕ, ◌<◌, ◌++◌, length, replicate, IfOk, OnOk, IsErr};
 ghost use Rattle.std.specs.List.{All, Contains};
 ghost use Rattle.model.specs.Frame.{header_at, held_at, void_held};
 ghost use Rattle.capability.specs.Parts.{fresh_content};
@@ -64,6 +64,18 @@ fn blank(alloc: Global, geometry: Geometry, number: u64) -> Result<Content<Cap>,
     } else {
         Ok(Content::Page(Words::new(alloc)?))
     }
+}
+
+/// Puts so many bodies of free numbers behind those that are there. Fails only where memory runs
+/// out.
+pub fn push_free(contents: &mut Vec<Content<Cap>>, count: usize) -> Result<(), AllocError>
+    ensures { OnOk result (contents.new.items
+        ≡ contents.old.items ++ replicate count Content.Free) }
+{
+    for _ in 0..count {
+        contents.push(Content::Free)?;
+    }
+    Ok(())
 }
 
 /// A new object in the blank body that was put aside for it.

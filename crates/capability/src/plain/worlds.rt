@@ -10,7 +10,7 @@ ghost use Rattle.model.specs.Worlds.{small, f0, i0, prime_bank, fresh_root};
 ghost use Rattle.capability.specs.Plain.{world_of, fresh_cap, fresh_header, fresh_held, prime_header};
 
 use crate::plain::Plain;
-use crate::table::ObjectTable;
+use crate::plain::rooms::push_free;
 use model::{Access, Cap, Capability, Content, Geometry, ObjectHeader, Root, Slots, State, Words};
 use std::alloc::{AllocError, Global};
 
@@ -61,19 +61,8 @@ impl Plain {
           age = 0;
         }) }
     {
-        let table = ObjectTable::new(prime_headers(alloc, &contents)?);
-        let touched = vec![in alloc; false; SMALL_COUNT]?;
-        let mut rooms = Vec::with_capacity(alloc, SMALL_COUNT)?;
-        push_free(&mut rooms, SMALL_COUNT)?;
-        Ok(Plain {
-            geometry: SMALL,
-            table,
-            contents,
-            touched,
-            rooms,
-            count: 0,
-            age: 0,
-        })
+        let headers = prime_headers(alloc, &contents)?;
+        Plain::new(alloc, SMALL, headers, contents)
     }
 }
 
@@ -159,16 +148,6 @@ fn first_contents(alloc: Global) -> Result<Vec<Content<Cap>>, AllocError>
     contents.push(Content::Bank { limit: 1000 })?;
     contents.push(root(State::Running, 2))?;
     Ok(contents)
-}
-
-fn push_free(contents: &mut Vec<Content<Cap>>, count: usize) -> Result<(), AllocError>
-    ensures { OnOk result (contents.new.items
-        ≡ contents.old.items ++ replicate count content.Free) }
-{
-    for _n in 0..count {
-        contents.push(Content::Free)?;
-    }
-    Ok(())
 }
 
 // A process in that state, with that annex, nothing delivered and no address space.

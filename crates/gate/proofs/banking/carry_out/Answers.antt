@@ -1,4 +1,4 @@
-use Rattle.std.proofs.Common.{ℕ, ◌+◌, refl, sym, ap, subst, ◌∙◌, arith}
+use Rattle.std.proofs.Common.{◌+◌, refl, sym, ◌∙◌, arith}
 use Rattle.model.specs.Frame.{objects_of}
 use Rattle.capability.specs.Parts.{frames_of}
 use Rattle.capability.proofs.Keeping.{keepable_later}

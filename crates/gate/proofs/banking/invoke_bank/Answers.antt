@@ -1,24 +1,21 @@
-use Rattle.std.proofs.Common.{◌≡◌, ℕ, ◌+◌, ◌^◌, ◌<◌, ◌≤◌, ◌++◌, Bool, true, List, drop, length, refl, sym, ap, subst, ◌∙◌, arith}
+use Rattle.std.proofs.Common.{ℕ, ◌+◌, ◌<◌, ◌≤◌, Bool, List, drop, length, refl, sym, ap, subst, ◌∙◌, arith}
 use Rattle.std.proofs.lemmas.Result.{err_from_is_err_and}
 use Rattle.std.specs.List.{All}
 use Rattle.model.specs.declared.geometry.Geometry.{Geometry}
-use Rattle.model.specs.declared.object.Object.{Object}
 use Rattle.model.specs.Frame.{objects_of}
 use Rattle.model.specs.Invoke.{on_kernel_object}
 use Rattle.model.specs.Machine.{touching, touched_count}
-use Rattle.model.specs.Sound.{IsSound}
-use Rattle.model.specs.World.{World}
 use Rattle.capability.specs.Parts.{frames_of}
-use Rattle.space_bank.specs.Banks.{is_new}
-use Rattle.gate.specs.Banking.{banked, ordered_at, outcome_at, writer_count, writers}
+use Rattle.gate.specs.Banking.{outcome_at, writer_count, writers}
 use Rattle.gate.specs.Plan.{FitsCap}
 use Rattle.gate.proofs.BankEffects.{all_listed, asks_looked, bank_invoked, bank_objects, bank_written, banked_looked, behind_writers, capability_after, given_fits, invoked_asks, listed_after, ordered_looked, ordered_sound, sent_known, writers_counted, written_known}
 use Rattle.gate.proofs.BankOutcomes.{new_few}
 use Rattle.gate.proofs.Effects.{invokes_by, overfills_by, sound_after}
 use Rattle.gate.proofs.Fits.{in_geometry}
-use Rattle.gate.proofs.Known.{process_known, running_process}
+use Rattle.capability.proofs.Frames.{process_known}
+use Rattle.gate.proofs.Known.{running_process}
 use Rattle.gate.proofs.Listed.{full_fault}
-use Rattle.gate.proofs.Standing.{LooksAs, asked_annex, few_objects, inside_known, keepable_most, looked_keepable, looked_number, looked_objects, looked_sound, looks_again, now_sound}
+use Rattle.gate.proofs.Standing.{LooksAs, asked_annex, few_objects, inside_known, keepable_most, looked_keepable, looked_number, looked_sound, looks_again, now_sound}
 use Rattle.gate.proofs.banking.invoke_bank.Goals as goal
 
 pub look_at_freed-requires-clause-keepable : goal.look_at_freed-requires-clause-keepable

@@ -14,7 +14,8 @@ use Rattle.gate.specs.Plan.{FitsCap}
 use Rattle.gate.proofs.Effects.{invokes_by, overfills_by, sound_after}
 use Rattle.gate.proofs.Entering.{effect_through, gate_invoked, gate_process, gate_stalled, received_fits}
 use Rattle.gate.proofs.Fits.{in_geometry}
-use Rattle.gate.proofs.Known.{process_known, running_process}
+use Rattle.capability.proofs.Frames.{process_known}
+use Rattle.gate.proofs.Known.{running_process}
 use Rattle.gate.proofs.Listed.{full_fault}
 use Rattle.gate.proofs.Standing.{LooksAs, annex_there, calls_below, few_objects, keepable_most, looked_keepable, looked_number, looked_objects, looked_sound, looks_again, now_sound, register_kind}
 use Rattle.gate.proofs.gates.invoke_gate.Goals as goal
@@ -120,8 +121,8 @@ returns-clause-done g c =
     let invoked = gate_invoked old.geometry os i c.args.asked c.args.gate c.requires.asked c.requires.gate c.requires.key can in
     let effect = effect_through os i c.args.gate in
     let new = g.F.PresentFrames.parts c.enter.new.store in
-    let objects = c.enter.ensures.objects ∙ ap (λ (us : List Object). entered us i c.args.gate c.args.asked.sent) (looked_objects old mid there)
-    ∙ ap (λ (cs : List Capability). entered os i c.args.gate cs) c.requires.asked.sent in
+    let objects = c.enter.ensures.objects ∙ ap (λ (us : List Object). entered us i c.args.gate c.all_sent-sent.result) (looked_objects old mid there)
+    ∙ ap (λ (cs : List Capability). entered os i c.args.gate cs) c.all_sent-sent.ensures in
     invokes_by old.geometry i os (objects_of (frames_of new)) old.touched new.touched effect invoked objects
     (c.enter.ensures.aside.touched ∙ c.in_ok-announce.ensures.touched
     ∙ ap (λ (ts : List Bool). touching ts (written_through i.operation i.process c.args.gate.process c.in_ok-annex.annex)) c.in_ok-annex.ensures.looks.aside.touched
@@ -142,10 +143,10 @@ returns-clause-sound g c age young sound =
     let invoked = gate_invoked old.geometry os i c.args.asked c.args.gate c.requires.asked c.requires.gate c.requires.key can in
     let effect = effect_through os i c.args.gate in
     let new = g.F.PresentFrames.parts c.enter.new.store in
-    let objects = c.enter.ensures.objects ∙ ap (λ (us : List Object). entered us i c.args.gate c.args.asked.sent) (looked_objects old mid there)
-    ∙ ap (λ (cs : List Capability). entered os i c.args.gate cs) c.requires.asked.sent in
-    let fits = subst (λ (h : Geometry). All (FitsCap h) (received i c.args.asked.sent)) (sym there.geometry)
-    (received_fits old.geometry os i c.args.asked.sent (now_sound old c.requires.sound) (few_objects old c.requires.sound c.requires.few) (running_process os i.process c.requires.running) c.requires.asked.sent) in
+    let objects = c.enter.ensures.objects ∙ ap (λ (us : List Object). entered us i c.args.gate c.all_sent-sent.result) (looked_objects old mid there)
+    ∙ ap (λ (cs : List Capability). entered os i c.args.gate cs) c.all_sent-sent.ensures in
+    let fits = subst (λ (h : Geometry). All (FitsCap h) (received i c.all_sent-sent.result)) (sym there.geometry)
+    (received_fits old.geometry os i c.all_sent-sent.result (now_sound old c.requires.sound) (few_objects old c.requires.sound c.requires.few) (running_process os i.process c.requires.running) c.all_sent-sent.ensures) in
     sound_after old.geometry age (frames_of old) (frames_of new) i effect young c.requires.fits c.requires.running invoked objects sound
     (in_geometry old.geometry mid.geometry (age + 1) (frames_of new) (sym there.geometry)
     (c.enter.ensures.keepable age (omega (arith, young)) fits (looked_keepable old mid there age sound.keepable)))

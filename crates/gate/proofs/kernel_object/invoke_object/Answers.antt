@@ -10,7 +10,8 @@ use Rattle.gate.specs.Invoke.{finished, written_by}
 use Rattle.gate.specs.Plan.{FitsCap, MayHold}
 use Rattle.gate.proofs.Effects.{invokes_by, object_invoked, overfills_by, planned_objects, planned_written, sound_after}
 use Rattle.gate.proofs.Fits.{in_geometry}
-use Rattle.gate.proofs.Known.{process_known, running_process}
+use Rattle.capability.proofs.Frames.{process_known}
+use Rattle.gate.proofs.Known.{running_process}
 use Rattle.gate.proofs.Listed.{full_fault}
 use Rattle.gate.proofs.Standing.{LooksAs, asked_annex, calls_below, inside_known, keepable_most, looked_keepable, looked_number, looked_objects, looked_sound, looks_again}
 use Rattle.gate.proofs.kernel_object.invoke_object.Goals as goal

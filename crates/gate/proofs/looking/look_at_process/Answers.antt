@@ -1,5 +1,6 @@
 use Rattle.std.proofs.Common.{ℕ, ◌<◌, length}
-use Rattle.gate.proofs.Known.{LooksSame, both_known, looked_annex, looked_process, process_known}
+use Rattle.capability.proofs.Frames.{process_known}
+use Rattle.gate.proofs.Known.{LooksSame, both_known, looked_annex, looked_process}
 use Rattle.gate.proofs.looking.look_at_process.Goals as goal
 
 pub look-requires-clause-known : goal.look-requires-clause-known

@@ -1,4 +1,4 @@
-use Rattle.std.proofs.Common.{Ok, sym, subst, ◌∙◌}
+use Rattle.std.proofs.Common.{Ok, ◌∙◌}
 use Rattle.script.specs.Plain.{machine_of}
 use Rattle.script.proofs.Begins.{begins_f0}
 use Rattle.jobs.proofs.FirstRuns.{looked_world, runs_first, fails_first}

@@ -1,5 +1,6 @@
 use Rattle.std.proofs.Common.{ℕ, ◌<◌, length, sym}
-use Rattle.gate.proofs.Known.{one_known, process_known}
+use Rattle.capability.proofs.Frames.{process_known}
+use Rattle.gate.proofs.Known.{one_known}
 use Rattle.gate.proofs.Standing.{keepable_most}
 use Rattle.kernel.proofs.early.early.Goals as goal
 

@@ -2,7 +2,8 @@ use Rattle.std.proofs.Common.{◌≡◌, ◌<◌, arith, length}
 use Rattle.model.specs.Frame.{objects_of}
 use Rattle.model.specs.World.{owner_at}
 use Rattle.capability.specs.Parts.{frames_of}
-use Rattle.space_bank.proofs.Climbs.{climb_ended, climb_itself, climb_starts, climbs_on, lowered_last, lowering_here, lowers_on, owner_read, raising_starts}
+use Rattle.capability.proofs.Frames.{owner_read}
+use Rattle.space_bank.proofs.Climbs.{climb_ended, climb_itself, climb_starts, climbs_on, lowered_last, lowering_here, lowers_on, raising_starts}
 use Rattle.space_bank.proofs.chains.lower.Goals as goal
 
 pub loop-step-init : goal.loop-step-init

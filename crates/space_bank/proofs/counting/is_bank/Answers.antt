@@ -2,7 +2,7 @@ use Rattle.std.proofs.Common.{sym}
 use Rattle.model.specs.Frame.{objects_of}
 use Rattle.model.specs.World.{content_at}
 use Rattle.capability.specs.Parts.{frames_of}
-use Rattle.space_bank.proofs.Walks.{role_bank, role_read, role_no_bank}
+use Rattle.capability.proofs.Roles.{role_bank, role_no_bank, role_read}
 use Rattle.space_bank.proofs.counting.is_bank.Goals as goal
 
 pub returns-in-Bank : goal.returns-in-Bank

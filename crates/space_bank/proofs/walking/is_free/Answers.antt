@@ -2,7 +2,7 @@ use Rattle.std.proofs.Common.{sym}
 use Rattle.model.specs.Frame.{objects_of}
 use Rattle.model.specs.World.{content_at}
 use Rattle.capability.specs.Parts.{frames_of}
-use Rattle.space_bank.proofs.Walks.{role_free, role_read, role_used}
+use Rattle.capability.proofs.Roles.{role_free, role_read, role_used}
 use Rattle.space_bank.proofs.walking.is_free.Goals as goal
 
 pub returns-in-Free : goal.returns-in-Free

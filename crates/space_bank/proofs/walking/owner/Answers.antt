@@ -1,4 +1,4 @@
-use Rattle.space_bank.proofs.Walks.{owner_read}
+use Rattle.capability.proofs.Frames.{owner_read}
 use Rattle.space_bank.proofs.walking.owner.Goals as goal
 
 pub returns : goal.returns

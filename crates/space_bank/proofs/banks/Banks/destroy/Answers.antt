@@ -3,7 +3,7 @@ use Rattle.model.specs.Frame.{objects_of}
 use Rattle.model.specs.World.{owner_at}
 use Rattle.capability.specs.Parts.{frames_of}
 use Rattle.space_bank.specs.Carrying.{MayGiveUp}
-use Rattle.space_bank.proofs.Climbs.{owner_read}
+use Rattle.capability.proofs.Frames.{owner_read}
 use Rattle.space_bank.proofs.Giving.{destroyed_gives, serve_parent, under_within}
 use Rattle.space_bank.proofs.Standing.{serve_now}
 use Rattle.space_bank.proofs.banks.Banks.destroy.Goals as goal

@@ -14,7 +14,7 @@ use Rattle.capability.specs.Parts.{frames_of}
 use Rattle.space_bank.specs.Banks.{BanksState}
 use Rattle.space_bank.specs.Carrying.{AreHandedOn}
 use Rattle.space_bank.specs.Chains.{IsRaised}
-use Rattle.space_bank.proofs.Climbs.{owner_read}
+use Rattle.capability.proofs.Frames.{owner_read}
 use Rattle.space_bank.proofs.Ending.{aside_then_ended, ended_aside, released_then, rest_is}
 use Rattle.space_bank.proofs.Giving.{serve_parent}
 use Rattle.space_bank.proofs.Returning.{drop_next, handed_allocations, handed_calls, inherited_by, mark_one, one_all, one_enough, owned_used, rest_all, returned_carried}

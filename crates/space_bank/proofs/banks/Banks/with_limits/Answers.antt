@@ -9,7 +9,7 @@ use Rattle.capability.specs.Parts.{frames_of}
 use Rattle.capability.proofs.Keeping.{keepable_count, keepable_roles}
 use Rattle.space_bank.specs.Banks.{BanksState}
 use Rattle.space_bank.proofs.Counts.{counted_from, numbers_fit, room_told}
-use Rattle.space_bank.proofs.Walks.{bank_below}
+use Rattle.capability.proofs.KindNumbers.{bank_number}
 use Rattle.space_bank.proofs.banks.Banks.with_limits.Goals as goal
 
 pub free_numbers-requires-2-clause-fits : goal.free_numbers-requires-2-clause-fits
@@ -42,7 +42,7 @@ returns g c =
       listed = c.in_ok-listed.listed.items;
       room = vec_capacity c.in_ok-listed.listed;
     } in
-    counted_from p.geometry os made (λ b bank. bank_below p.geometry b (content_at os b) bank (sound.1.sound.kinds b))
+    counted_from p.geometry os made (λ b bank. bank_number p.geometry b (content_at os b) (sound.1.sound.kinds b) bank)
     c.geometry-geometry.result c.geometry-geometry.ensures.geometry c.in_ok-nodes.ensures c.in_ok-pages.ensures c.in_ok-usages.ensures.size c.in_ok-usages.ensures.counted
     c.requires.limits room
 
@@ -55,5 +55,5 @@ free_numbers-requires-2-clause-roles g c =
 pub count_usages-requires-clause-each : goal.count_usages-requires-clause-each
 count_usages-requires-clause-each g c = λ b bank.
     let p = g.F.PresentFrames.parts c.args.store.now in
-    let below = bank_below p.geometry b (content_at (objects_of (frames_of p)) b) bank (c.requires.sound.1.sound.kinds b) in
+    let below = bank_number p.geometry b (content_at (objects_of (frames_of p)) b) (c.requires.sound.1.sound.kinds b) bank in
     subst (λ (h : Geometry). b < h.nodes) (sym c.geometry-geometry.ensures.geometry) below

@@ -1,0 +1,25 @@
+use Rattle.std.proofs.Common.{rules, ◌≡◌, ℕ, Bool, false, List, length, replicate, refl, ap, sym, ◌∙◌, subst}
+use Rattle.std.specs.Vec.{vec_len}
+use Rattle.model.specs.Machine.{untouched}
+use Rattle.model.specs.Sound.{object_count}
+use Rattle.capability.specs.Plain.{PlainState}
+use Rattle.capability.proofs.plain.Plain.forget_touched.Goals as goal
+
+-- no number is marked
+forgotten : (s p : PlainState) (us : List Bool) → s ≡ p → us ≡ replicate (object_count s.geometry) false →
+    record s { touched = us } ≡ record p { touched = untouched p.geometry }
+unfolding untouched
+forgotten s p us same blank = subst (λ (q : PlainState). record s { touched = us } ≡ record q { touched = untouched q.geometry }) same (ap (λ (t : List Bool). record s { touched = t }) blank)
+
+pub returns : goal.returns
+returns c =
+    let state : PlainState = record {
+      geometry = c.self.inside.geometry;
+      headers = c.self.inside.table;
+      contents = c.self.inside.contents.items;
+      touched = c.self.inside.touched.items;
+      rooms = c.self.inside.rooms.items;
+      age = c.self.inside.age;
+    } in
+    let count : vec_len c.self.inside.touched ≡ object_count c.self.inside.geometry = search rules in
+    forgotten state c.args.self.now c.fill.new.self.items c.self.view_is (c.fill.ensures.items (λ y is. is) ∙ ap (λ (n : ℕ). replicate n false) count)

@@ -1,0 +1,29 @@
+use Rattle.std.proofs.Common.{rules, ◌≡◌, ◌++◌, ℕ, Bool, false, List, length, replicate, ap, ◌∙◌}
+use Rattle.model.specs.declared.capability.Cap.{Cap}
+use Rattle.model.specs.declared.frame.ObjectHeader.{ObjectHeader}
+use Rattle.model.specs.declared.geometry.Geometry.{Geometry}
+use Rattle.model.specs.declared.object.Content.{Content}
+use Rattle.model.specs.declared.object.Content.TheVariants as content
+use Rattle.model.specs.Machine.{untouched}
+use Rattle.model.specs.Sound.{object_count}
+use Rattle.capability.specs.Plain.{PlainState}
+use Rattle.capability.proofs.plain.Plain.new.Goals as goal
+
+abbrev made : Geometry → List ObjectHeader → List (Content Cap) → List Bool → List (Content Cap) → PlainState
+made g hs cs ts rs = record { geometry = g; headers = hs; contents = cs; touched = ts; rooms = rs; age = 0 }
+
+of_parts : (g : Geometry) (hs ks : List ObjectHeader) (cs : List (Content Cap)) (ts us : List Bool) (rs qs : List (Content Cap)) → hs ≡ ks → ts ≡ us → rs ≡ qs → made g hs cs ts rs ≡ made g ks cs us qs
+of_parts g hs ks cs ts us rs qs headers touched rooms =
+    ap (λ (xs : List ObjectHeader). made g xs cs ts rs) headers ∙ ap (λ (xs : List Bool). made g ks cs xs rs) touched ∙ ap (λ (xs : List (Content Cap)). made g ks cs us xs) rooms
+
+pub returns : goal.returns
+unfolding untouched
+returns c =
+    let count : c.len-count.result ≡ object_count c.args.geometry = search rules in
+    let touched : c.in_ok-touched.touched.items ≡ untouched c.args.geometry = c.in_ok-touched.ensures.items_if_clones_equal (λ y is. is) ∙ ap (λ (n : ℕ). replicate n false) count in
+    of_parts c.args.geometry c.new.result c.args.headers.items c.args.contents.items c.in_ok-touched.touched.items (untouched c.args.geometry)
+    c.push_free.new.contents.items (replicate (object_count c.args.geometry) content.Free)
+    c.new.ensures
+    touched
+    (c.in_ok-push_free.ensures ∙ ap (λ (xs : List (Content Cap)). xs ++ replicate c.len-count.result content.Free) c.in_ok-rooms.ensures.items
+    ∙ ap (λ (n : ℕ). replicate {A = Content Cap} n content.Free) count)
