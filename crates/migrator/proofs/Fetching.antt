@@ -54,6 +54,9 @@ reads_store disk old back reads = record {
   books = refl;
   stored = fetched_stored (disk old.beneath) (disk back) old.books reads;
   goes_on = fetched_goes_on (disk old.beneath) (disk back) old.books reads;
+  seen = reads.seen;
+  crash = reads.crash;
+  any_moment = reads.any_moment;
 }
 
 pub ok_weaker : {T E : Type 0} {P Q : T → Type 0} (r : Result T E) → ((x : T) → P x → Q x) → IfOk r P → IfOk r Q

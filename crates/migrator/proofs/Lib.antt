@@ -1,15 +1,15 @@
-mod Tables
+pub mod Tables
 mod Spared
-mod Kept
+pub mod Kept
 mod PlacesApart
-mod Putting
+pub mod Putting
 mod GoingOn
 mod Working
 mod FrozenFrames
 mod Freezing
-mod Saving
+pub mod Saving
 mod Committing
-mod Moving
+pub mod Moving
 mod Finishing
 mod Moves
 mod Opening

@@ -3,6 +3,8 @@ use Rattle.std.specs.Prelude.{◌≡◌, ◌⊎◌, ◌==◌, if◌then◌else�
 use Rattle.model.specs.declared.frame.Frame.{Frame}
 use Rattle.model.specs.Frame.{frame_at}
 use Rattle.device.specs.Disk.{Image, Disk}
+use Rattle.device.specs.Calls.{Agrees, Narrows}
+use Rattle.device.specs.Moments.{Peeks}
 use Rattle.layout.specs.declared.directory.Entry.{Entry}
 use Rattle.layout.specs.declared.header.CheckpointHeader.{CheckpointHeader}
 use Rattle.layout.specs.Directory.{IsDirectory, entry_at}
@@ -208,3 +210,6 @@ pub record ReadsStore {D : Type 0} (disk : D → Disk) (old new : DurableState D
   pub books : new.books ≡ old.books
   pub stored : stored_of disk new ≡ stored_of disk old
   pub goes_on : GoesOn disk old new
+  pub seen : Agrees (disk new.beneath).seen (disk old.beneath).seen
+  pub crash : Narrows (disk old.beneath) (disk new.beneath)
+  pub any_moment : Peeks (disk old.beneath) (disk new.beneath)

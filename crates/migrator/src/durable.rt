@@ -8,7 +8,7 @@ ghost use Rattle.frame_io.specs.Calls.{WritesAt};
 ghost use Rattle.frame_io.specs.Frames.{IsObject};
 ghost use Rattle.migrator.specs.Table.{slot_for, whole_count};
 ghost use Rattle.migrator.specs.Put.{Broken, Kept, most, slot_bytes, puts_in, held_slot, sum_of, HasRoom};
-ghost use Rattle.migrator.specs.Durable.{Frozen, frozen_of, stored_of, is_sound, next_header, next_saved, committed, with_working, with_frozen, freezing, GoesOn, working_generation, frozen_generation};
+ghost use Rattle.migrator.specs.Durable.{Frozen, frozen_of, left_of, stored_of, is_sound, next_header, next_saved, committed, with_working, with_frozen, freezing, GoesOn, working_generation, frozen_generation};
 ghost use Rattle.migrator.specs.Saved.{LeavesEither, LeavesOneOf};
 ghost use Rattle.migrator.specs.Refused.{IsPutAnswer, IsFreezeAnswer, IsCommitAnswer};
 
@@ -302,6 +302,8 @@ impl<D: Device> Durable<D> {
         ensures committed { (f : Frozen) → (stored_of D.disk self.old).frozen ≡ Some f
             → OnOk result (stored_of D.disk self.new
             ≡ committed age f (stored_of D.disk self.old)) }
+        ensures stable { OnOk result ((f : Frozen) × ((stored_of D.disk self.old).frozen ≡ Some f)
+            × (left_of f ≡ 0)) }
         ensures unchanged { OnErr result (stored_of D.disk self.new ≡ stored_of D.disk self.old) }
         ensures plan { self.new.books.plan ≡ self.old.books.plan }
         ensures answer { IsCommitAnswer (D.disk self.old.beneath) (D.disk self.new.beneath)

@@ -1,19 +1,19 @@
 // What a store tells, and what it gives back.
-ghost use Rattle.std.specs.Prelude.{◌≡◌, IfOk};
+ghost use Rattle.std.specs.Prelude.{◌≡◌, ◌+◌, ◌≤◌, IfOk, option_map};
 ghost use Rattle.device.specs.Calls.{Counts};
 ghost use Rattle.layout.specs.Frame.{frame_of};
 ghost use Rattle.model.specs.Frame.{frame_at};
 ghost use Rattle.frame_io.specs.Frames.{IsObject};
 ghost use Rattle.migrator.specs.Table.{place_at};
 ghost use Rattle.migrator.specs.Put.{put_or, put_of};
-ghost use Rattle.migrator.specs.Durable.{stored_of, newest, working_generation, frozen_generation, ReadsStore};
+ghost use Rattle.migrator.specs.Durable.{stored_of, newest, working_generation, frozen_generation, left_of, ReadsStore};
 
 use crate::durable::Durable;
 use crate::read::{read_again, read_put};
 use crate::table::Place;
 use device::{Device, Failed};
 use layout::{Body, Room};
-use model::ObjectHeader;
+use model::{Geometry, ObjectHeader};
 
 /// What is told of the committed checkpoint.
 #[derive(Clone, Copy, PartialEq, Eq, Debug)]
@@ -25,6 +25,24 @@ pub struct Checkpoint {
 }
 
 impl<D: Device> Durable<D> {
+    /// How much there is room for.
+    pub fn geometry(&self) -> Geometry
+        ensures geometry { result ≡ (stored_of D.disk self.now).saved.geometry }
+        ensures few { result.nodes + result.pages ≤ 8192 }
+    {
+        self.home.geometry()
+    }
+
+    /// Of how many objects the frame is still to be put, where a checkpoint is on its way.
+    pub fn left(&self) -> Option<u64>
+        ensures { result ≡ option_map left_of (stored_of D.disk self.now).frozen }
+    {
+        match self.size {
+            None => None,
+            Some(size) => Some(size - self.frozen.whole()),
+        }
+    }
+
     /// What is told of the committed checkpoint.
     pub fn saved(&self) -> Checkpoint
         ensures generation { result.generation ≡ (stored_of D.disk self.now).saved.generation }

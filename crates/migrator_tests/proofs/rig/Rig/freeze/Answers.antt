@@ -1,0 +1,7 @@
+use Rattle.migrator_tests.proofs.Rigs.{rig_frozen}
+use Rattle.migrator_tests.proofs.rig.Rig.freeze.Goals as goal
+
+pub invariant_of-self : goal.invariant_of-self
+invariant_of-self g c =
+    rig_frozen g.D.Device.disk c.self.inside.geometry c.self.inside.sound c.self.inside.working c.self.inside.frozen c.self.inside.size c.self.inside.store c.self.invariant c.freeze.new.self c.args.size
+    c.in-Ok.ensures.frozen c.freeze.ensures.plan c.freeze.ensures.sound
