@@ -1,0 +1,8 @@
+mod Snapshots
+mod Keeping
+mod Counts
+mod Putting
+mod Steps
+mod Stages
+mod StageStates
+mod Opening

@@ -1,0 +1,26 @@
+use Rattle.object_cache.specs.PlainStore.{StoreState}
+use Rattle.object_cache.specs.StoreLaws.{Changes, changes_header, goes_through, stands_after}
+use Rattle.model.specs.Frame.{called, header_at}
+use Rattle.object_cache.proofs.plain_store.PlainStorePresentFrames.consume.Goals as goal
+
+pub invariant_of-self : goal.invariant_of-self
+invariant_of-self g c =
+    let state : StoreState g.row.D.Denot = record {
+      durable = c.self.inside.durable;
+      present = c.self.inside.present;
+      snapshots = c.self.inside.snapshots.items;
+    } in
+    let change : Changes state.present c.consume.new.self c.args.root = changes_header state.present c.consume.new.self c.args.root
+    (called (header_at state.present.headers c.args.root)) c.consume.ensures.parts in
+    stands_after g.D.Device.disk state c.args.self.now c.consume.new.self c.self.inside.next c.args.root c.self.view_is change c.requires.announced c.self.invariant
+
+pub returns-clause-leads : goal.returns-clause-leads
+returns-clause-leads g c =
+    let state : StoreState g.row.D.Denot = record {
+      durable = c.self.inside.durable;
+      present = c.self.inside.present;
+      snapshots = c.self.inside.snapshots.items;
+    } in
+    let change : Changes state.present c.consume.new.self c.args.root = changes_header state.present c.consume.new.self c.args.root
+    (called (header_at state.present.headers c.args.root)) c.consume.ensures.parts in
+    goes_through g.D.Device.disk state c.args.self.now c.consume.new.self c.args.root c.self.view_is change c.requires.announced

@@ -1,0 +1,11 @@
+//! Object stores over a device: the present objects, those of a checkpoint on its way, and what is
+//! saved.
+#![tactic(auto)]
+
+mod plain_store;
+mod snapshot;
+mod store;
+
+pub use migrator::{Checkpoint, OpenFault, OpenRefused};
+pub use plain_store::PlainStore;
+pub use store::ObjectStore;

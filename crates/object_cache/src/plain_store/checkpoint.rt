@@ -1,0 +1,135 @@
+// Frozen frames are written to the log.
+ghost use Rattle.std.specs.Prelude.{◌≡◌, ◌≢◌, ◌⊎◌, ℕ, ◌+◌, ◌-◌, ◌<◌, ◌≤◌, Some, None, length, IfOk, IsSome, OnOk, OnErr};
+ghost use Rattle.model.specs.Frame.{frame_at};
+ghost use Rattle.model.specs.Keepable.{IsKeepable};
+ghost use Rattle.device.specs.Calls.{Counts};
+ghost use Rattle.frame_io.specs.Frames.{IsObject};
+ghost use Rattle.migrator.specs.Put.{Broken, Kept, HasRoom, most};
+ghost use Rattle.migrator.specs.Durable.{Frozen, GoesOn, stored_of, with_frozen};
+ghost use Rattle.object_cache.specs.declared.snapshot.Snapshot.TheVariants.{Below};
+ghost use Rattle.object_cache.specs.Frozen.{snapshot_at, frozen_frame, pending_count, below_at};
+ghost use Rattle.object_cache.specs.Store.{FrozenFrames};
+ghost use Rattle.object_cache.specs.PlainStore.{present_frames, view_of, PutsBy};
+
+use crate::plain_store::PlainStore;
+use crate::snapshot::Snapshot;
+use capability::{Plain, PresentFrames};
+use device::{Device, Failed};
+use migrator::{Durable, Refusal};
+use model::{Cap, Content, ObjectHeader};
+
+// The first frozen frame in memory, of which none lies before a number.
+fn next_pending(snapshots: &[Snapshot], from: u64) -> usize
+    requires some { 0 < pending_count snapshots.now }
+    requires none { (n : ℕ) → n < from → snapshot_at snapshots.now n ≡ Below }
+    ensures known { result < length snapshots.now }
+    ensures pending { snapshot_at snapshots.now result ≢ Below }
+    ensures first { (n : ℕ) → n < result → snapshot_at snapshots.now n ≡ Below }
+{
+    for number in from as usize..snapshots.len() {
+        if !matches!(snapshots[number], Snapshot::Below) {
+            return number;
+        }
+    }
+    unreachable!()
+}
+
+// Puts a frame for the checkpoint on its way.
+fn put_frame<D: Device>(
+    durable: &mut Durable<D>,
+    number: u64,
+    header: ObjectHeader,
+    content: &Content<Cap>,
+) -> Result<(), Failed>
+    requires running { IsSome (stored_of D.disk durable.old).frozen }
+    requires object { IsObject durable.old.books.plan.geometry number }
+    requires keepable { IsKeepable durable.old.books.plan.geometry most number
+        (record { header = header; content = content.now }) }
+    requires room { (f : Frozen) → (stored_of D.disk durable.old).frozen ≡ Some f
+        → HasRoom f.size f.put number }
+    ensures put { OnOk result (stored_of D.disk durable.new ≡ with_frozen number
+        (Kept (record { header = header; content = content.now })) (stored_of D.disk durable.old)) }
+    ensures broken { OnErr result (stored_of D.disk durable.new
+        ≡ with_frozen number Broken (stored_of D.disk durable.old)) }
+    ensures goes_on { GoesOn D.disk durable.old durable.new }
+    ensures cause { Counts (D.disk durable.old.beneath) (D.disk durable.new.beneath) result }
+{
+    match durable.put_frozen(number, header, content) {
+        Ok(()) => Ok(()),
+        Err(Refusal::Failed) => Err(Failed),
+        Err(Refusal::CheckpointRunning) => unreachable!(),
+        Err(Refusal::MigrationPending) => unreachable!(),
+        Err(Refusal::NotStable(_)) => unreachable!(),
+        Err(Refusal::NoCheckpoint) => unreachable!(),
+    }
+}
+
+// Puts the frozen frame of an object that is in memory.
+#[tactic(auto, using(capability::proofs::Frames::frame_in))]
+fn put_snapshot<D: Device>(
+    durable: &mut Durable<D>,
+    present: &Plain,
+    snapshot: &Snapshot,
+    number: u64,
+) -> Result<(), Failed>
+    requires running { IsSome (stored_of D.disk durable.old).frozen }
+    requires headers { number < length present.now.headers }
+    requires contents { number < length present.now.contents }
+    requires object { IsObject durable.old.books.plan.geometry number }
+    requires pending { snapshot.now ≢ Below }
+    requires keepable { IsKeepable durable.old.books.plan.geometry most number
+        (frozen_frame snapshot.now (frame_at (present_frames present.now) number)
+        (below_at (stored_of D.disk durable.old) number)) }
+    requires room { (f : Frozen) → (stored_of D.disk durable.old).frozen ≡ Some f
+        → HasRoom f.size f.put number }
+    ensures put { OnOk result (stored_of D.disk durable.new ≡ with_frozen number
+        (Kept (frozen_frame snapshot.now (frame_at (present_frames present.now) number)
+        (below_at (stored_of D.disk durable.old) number))) (stored_of D.disk durable.old)) }
+    ensures broken { OnErr result (stored_of D.disk durable.new
+        ≡ with_frozen number Broken (stored_of D.disk durable.old)) }
+    ensures goes_on { GoesOn D.disk durable.old durable.new }
+    ensures cause { Counts (D.disk durable.old.beneath) (D.disk durable.new.beneath) result }
+{
+    match snapshot {
+        Snapshot::Below => unreachable!(),
+        Snapshot::Present => {
+            let header = present.table().header(number);
+            put_frame(durable, number, header, present.frame(number))
+        }
+        Snapshot::Copied(frame) => put_frame(durable, number, frame.header, &frame.content),
+    }
+}
+
+impl<D: Device> PlainStore<D> {
+    // Writes the next frozen frame that is in memory to the log.
+    pub(crate) fn put_next(&mut self) -> Result<(), Failed>
+        requires { (f : FrozenFrames) × ((view_of D.disk self.old).aside.frozen ≡ Some f) × (0 < f.left) }
+        ensures put { OnOk result (PutsBy D.disk self.old self.new 1) }
+        ensures unput { OnErr result (PutsBy D.disk self.old self.new 0) }
+        ensures cause { Counts (D.disk self.old.durable.beneath) (D.disk self.new.durable.beneath) result }
+    {
+        let number = next_pending(&self.snapshots, self.next);
+        self.next = number as u64;
+        put_snapshot(
+            &mut self.durable,
+            &self.present,
+            &self.snapshots[number],
+            number as u64,
+        )?;
+        self.snapshots[number] = Snapshot::Below;
+        Ok(())
+    }
+
+    // Writes so many frozen frames to the log.
+    pub(crate) fn put_some(&mut self, count: u64) -> Result<(), Failed>
+        requires { (f : FrozenFrames) × ((view_of D.disk self.old).aside.frozen ≡ Some f) × (count ≤ f.left) }
+        ensures put { OnOk result (PutsBy D.disk self.old self.new count) }
+        ensures unput { OnErr result ((k : ℕ) × (k ≤ count) × PutsBy D.disk self.old self.new k) }
+        ensures cause { Counts (D.disk self.old.durable.beneath) (D.disk self.new.durable.beneath) result }
+    {
+        for _ in 0..count {
+            self.put_next()?;
+        }
+        Ok(())
+    }
+}

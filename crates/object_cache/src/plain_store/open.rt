@@ -1,0 +1,236 @@
+// Opening a device: all objects are read into memory.
+ghost use Rattle.std.specs.Prelude.{◌≡◌, ℕ, ◌+◌, ◌<◌, ◌≤◌, ◌++◌, ◌∷◌, [], length, map, replicate, IfOk, IfErr, OnOk};
+ghost use Rattle.std.specs.List.{range_with_len};
+ghost use Rattle.model.specs.Machine.{untouched};
+ghost use Rattle.model.specs.Sound.{object_count};
+ghost use Rattle.layout.specs.Frame.{content_of};
+ghost use Rattle.frame_io.specs.Frames.{IsObject};
+ghost use Rattle.migrator.specs.Durable.{stored_of, newest, ReadsStore};
+ghost use Rattle.migrator.specs.Opened.{IsReason, Refuses};
+ghost use Rattle.object_cache.specs.declared.snapshot.Snapshot.TheVariants.{Below};
+ghost use Rattle.object_cache.specs.Store.{Opens};
+ghost use Rattle.object_cache.specs.PlainStore.{parts_of, view_of};
+
+use crate::plain_store::PlainStore;
+use crate::snapshot::Snapshot;
+use capability::Plain;
+use device::Device;
+use layout::{Body, Room};
+use migrator::{Durable, OpenFault, OpenRefused, Opened};
+use model::{Cap, Content, Geometry, ObjectHeader, Slots, Words};
+use std::alloc::{AllocError, Global};
+
+// The present objects, and where the frozen frames are.
+#[derive(Drop)]
+struct Objects {
+    present: Plain,
+    snapshots: Vec<Snapshot>,
+}
+
+// Room for the body of any object.
+fn blank_room(alloc: Global) -> Result<Room, AllocError> {
+    Ok(Room {
+        slots: Slots::new(alloc, Cap::void())?,
+        words: Words::new(alloc)?,
+    })
+}
+
+// So many frozen frames, none of which is in memory.
+fn blank_snapshots(alloc: Global, count: usize) -> Result<Vec<Snapshot>, AllocError>
+    ensures { IfOk result (λ snapshots. snapshots.items ≡ replicate count Below) }
+{
+    let mut snapshots = Vec::with_capacity(alloc, count)?;
+    for _ in 0..count {
+        snapshots.push(Snapshot::Below)?;
+    }
+    Ok(snapshots)
+}
+
+// What an object holds, of which the body was read, in memory of its own.
+fn held(alloc: Global, body: Body, room: &Room) -> Result<Content<Cap>, AllocError>
+    ensures { IfOk result (λ content. content ≡ content_of body room.now.slots room.now.words) }
+{
+    match body {
+        Body::Free => Ok(Content::Free),
+        Body::Page => Ok(Content::Page(room.words.copy(alloc)?)),
+        Body::Node => Ok(Content::Node(room.slots.copy(alloc)?)),
+        Body::Root(root) => Ok(Content::Root(root)),
+        Body::Annex => Ok(Content::Annex(room.slots.copy(alloc)?)),
+        Body::Bank { limit } => Ok(Content::Bank { limit }),
+    }
+}
+
+// Reads what an object holds.
+fn read_content<D: Device>(
+    alloc: Global,
+    durable: &mut Durable<D>,
+    room: &mut Room,
+    number: u64,
+) -> Result<Content<Cap>, OpenFault>
+    requires { IsObject durable.old.books.plan.geometry number }
+    ensures found { IfOk result (λ content.
+        content ≡ (newest (stored_of D.disk durable.old) number).content) }
+    ensures reads { ReadsStore D.disk durable.old durable.new }
+    ensures failures { OnOk result ((D.disk durable.new.beneath).failures
+        ≡ (D.disk durable.old.beneath).failures) }
+    ensures refused { IfErr result (λ e.
+        IsReason (D.disk durable.old.beneath) (D.disk durable.new.beneath) e) }
+{
+    match durable.fetch(number, room) {
+        Ok(read) => match held(alloc, read.1, room) {
+            Ok(content) => Ok(content),
+            Err(_) => Err(OpenFault::NoMemory),
+        },
+        Err(_) => Err(OpenFault::Failed),
+    }
+}
+
+// Puts what an object holds behind what is there.
+fn push_content<D: Device>(
+    alloc: Global,
+    durable: &mut Durable<D>,
+    room: &mut Room,
+    number: u64,
+    contents: &mut Vec<Content<Cap>>,
+) -> Result<(), OpenFault>
+    requires { IsObject durable.old.books.plan.geometry number }
+    ensures found { OnOk result (contents.new.items ≡ contents.old.items
+        ++ (newest (stored_of D.disk durable.old) number).content ∷ []) }
+    ensures reads { ReadsStore D.disk durable.old durable.new }
+    ensures failures { OnOk result ((D.disk durable.new.beneath).failures
+        ≡ (D.disk durable.old.beneath).failures) }
+    ensures refused { IfErr result (λ e.
+        IsReason (D.disk durable.old.beneath) (D.disk durable.new.beneath) e) }
+{
+    match read_content(alloc, durable, room, number) {
+        Ok(content) => match contents.push(content) {
+            Ok(()) => Ok(()),
+            Err(_) => Err(OpenFault::NoMemory),
+        },
+        Err(fault) => Err(fault),
+    }
+}
+
+// Reads what all objects hold.
+fn read_contents<D: Device>(
+    alloc: Global,
+    durable: &mut Durable<D>,
+    room: &mut Room,
+    geometry: Geometry,
+    contents: &mut Vec<Content<Cap>>,
+) -> Result<(), OpenFault>
+    requires geometry { geometry ≡ durable.old.books.plan.geometry }
+    requires few { geometry.nodes + geometry.pages ≤ 8192 }
+    requires none { contents.old.items ≡ [] }
+    ensures found { OnOk result (contents.new.items
+        ≡ map (λ n. (newest (stored_of D.disk durable.old) n).content)
+        (range_with_len 0 (geometry.nodes + geometry.pages))) }
+    ensures reads { ReadsStore D.disk durable.old durable.new }
+    ensures failures { OnOk result ((D.disk durable.new.beneath).failures
+        ≡ (D.disk durable.old.beneath).failures) }
+    ensures refused { IfErr result (λ e.
+        IsReason (D.disk durable.old.beneath) (D.disk durable.new.beneath) e) }
+{
+    for number in 0..geometry.nodes + geometry.pages {
+        push_content(alloc, durable, room, number, contents)?;
+    }
+    Ok(())
+}
+
+// All the memory that a store takes at its opening, but for what objects hold.
+#[derive(Drop)]
+struct Reserve {
+    room: Room,
+    contents: Vec<Content<Cap>>,
+    snapshots: Vec<Snapshot>,
+}
+
+impl Reserve {
+    fn new(alloc: Global, count: usize) -> Result<Reserve, AllocError>
+        ensures contents { IfOk result (λ reserve. reserve.contents.items ≡ []) }
+        ensures snapshots { IfOk result (λ reserve.
+            reserve.snapshots.items ≡ replicate count Below) }
+    {
+        Ok(Reserve {
+            room: blank_room(alloc)?,
+            contents: Vec::with_capacity(alloc, count)?,
+            snapshots: blank_snapshots(alloc, count)?,
+        })
+    }
+}
+
+// Reads all objects into memory.
+fn read_objects<D: Device>(
+    alloc: Global,
+    durable: &mut Durable<D>,
+    headers: Vec<ObjectHeader>,
+) -> Result<Objects, OpenFault>
+    requires { length headers.items ≡ object_count durable.old.books.plan.geometry }
+    ensures present { IfOk result (λ objects. objects.present ≡ record {
+      geometry = durable.old.books.plan.geometry;
+      headers = headers.items;
+      contents = map (λ n. (newest (stored_of D.disk durable.old) n).content)
+          (range_with_len 0 (object_count durable.old.books.plan.geometry));
+      touched = untouched durable.old.books.plan.geometry;
+      rooms = replicate (object_count durable.old.books.plan.geometry) Content.Free;
+      age = 0;
+    }) }
+    ensures snapshots { IfOk result (λ objects. objects.snapshots.items
+        ≡ replicate (object_count durable.old.books.plan.geometry) Below) }
+    ensures reads { ReadsStore D.disk durable.old durable.new }
+    ensures failures { OnOk result ((D.disk durable.new.beneath).failures
+        ≡ (D.disk durable.old.beneath).failures) }
+    ensures refused { IfErr result (λ e.
+        IsReason (D.disk durable.old.beneath) (D.disk durable.new.beneath) e) }
+{
+    let geometry = durable.geometry();
+    match Reserve::new(alloc, (geometry.nodes + geometry.pages) as usize) {
+        Ok(reserve) => {
+            let Reserve {
+                mut room,
+                mut contents,
+                snapshots,
+            } = reserve;
+            match read_contents(alloc, durable, &mut room, geometry, &mut contents) {
+                Ok(()) => match Plain::new(alloc, geometry, headers, contents) {
+                    Ok(present) => Ok(Objects { present, snapshots }),
+                    Err(_) => Err(OpenFault::NoMemory),
+                },
+                Err(fault) => Err(fault),
+            }
+        }
+        Err(_) => Err(OpenFault::NoMemory),
+    }
+}
+
+/// Opens a device, and reads all objects into memory.
+pub(crate) fn open_plain<D: Device>(
+    alloc: Global,
+    device: D,
+) -> Result<PlainStore<D>, OpenRefused<D>>
+    ensures opened { IfOk result (λ s. Opens D.disk device (parts_of D.disk s) (view_of D.disk s)) }
+    ensures refused { IfErr result (λ r. Refuses D.disk device r.device r.fault) }
+{
+    match Durable::open(alloc, device) {
+        Ok(opened) => {
+            let Opened { store, headers } = opened;
+            let mut durable = store;
+            match read_objects(alloc, &mut durable, headers) {
+                Ok(objects) => {
+                    let Objects { present, snapshots } = objects;
+                    Ok(PlainStore {
+                        durable,
+                        present,
+                        snapshots,
+                        next: 0,
+                    })
+                }
+                Err(fault) => Err(OpenRefused {
+                    fault,
+                    device: durable.into_device(),
+                }),
+            }
+        }
+        Err(refused) => Err(refused),
+    }
+}

@@ -1,0 +1,149 @@
+// The trait of object stores.
+ghost use Rattle.std.specs.Prelude.{◌≡◌, ◌⊎◌, ℕ, ◌+◌, ◌-◌, ◌<◌, ◌≤◌, Option, None, Some, option_map, length, IfOk, IfErr, OnOk, IsSome};
+ghost use Rattle.model.specs.Keepable.{AreKeepable};
+ghost use Rattle.model.specs.Machine.{untouched, touched_count};
+ghost use Rattle.device.specs.Disk.{Image};
+ghost use Rattle.device.specs.Calls.{Counts};
+ghost use Rattle.device.specs.Moments.{LeavesOnly, Peeks};
+ghost use Rattle.migrator.specs.Saved.{Holds, LeavesSaved, LeavesEither};
+ghost use Rattle.migrator.specs.Opened.{Refuses};
+ghost use Rattle.capability.specs.Parts.{Parts, frames_of};
+ghost use Rattle.object_cache.specs.Store.{FrozenFrames, View, Leads, Opens, freezing, stabilized, next_saved, committed, MayCommit, moved, moved_saved};
+
+use capability::PresentFrames;
+use device::{Device, Failed};
+use migrator::{Checkpoint, OpenRefused};
+use std::alloc::Global;
+
+/// The present objects, those of a checkpoint on its way as they were when it began, and those that
+/// the committed checkpoint saves, over a device.
+///
+/// Until a `commit`, or the `migrate` that brings the last object home, fails, a crash leaves what
+/// is saved, whatever else fails. After a failure of the device the store is to be opened again.
+pub trait ObjectStore<D: Device>: PresentFrames + Sized {
+    /// How a store is set up.
+    type Setting: Copy;
+
+    /// The device beneath, what is kept beside the present objects, and whether a crash is sure to
+    /// leave what is saved.
+    ghost view: { Self → View D };
+
+    /// Opens a device, and writes nothing to it. The present objects are the saved ones.
+    ///
+    /// A refusal hands the device back: `Failed` exactly where the device failed, `NoMemory` only
+    /// where memory ran out, and else the least of the reasons 1 to 7 to refuse an image.
+    fn open(alloc: Global, device: D, setting: Self::Setting) -> Result<Self, OpenRefused<D>>
+        ensures opened { IfOk result (λ s. Opens D.disk device (Self.parts s) (view s)) }
+        ensures refused { IfErr result (λ r. Refuses D.disk device r.device r.fault) };
+
+    /// Gives the device back, and makes no call of it.
+    fn into_device(self) -> D
+        ensures { result ≡ (view self).beneath };
+
+    /// What is told of the committed checkpoint.
+    fn saved(&self) -> Checkpoint
+        ensures generation { result.generation ≡ (view self.now).aside.saved.generation }
+        ensures age { result.age ≡ (view self.now).aside.saved.age }
+        ensures entries { result.entries ≡ (view self.now).aside.saved.entries };
+
+    /// How many objects of a checkpoint on its way aren't in the log, where there is one.
+    fn left(&self) -> Option<u64>
+        ensures { result ≡ option_map (λ f. f.left) (view self.now).aside.frozen };
+
+    /// Puts an object out of memory, where the store may. Fails exactly where the device does.
+    fn evict(&mut self, number: u64) -> Result<(), Failed>
+        requires known { number < length (Self.parts self.old).headers }
+        requires keepable { AreKeepable (Self.parts self.old).geometry u64.MAX
+            (frames_of (Self.parts self.old)) }
+        ensures headers { (Self.parts self.new).headers ≡ (Self.parts self.old).headers }
+        ensures contents { (Self.parts self.new).contents ≡ (Self.parts self.old).contents }
+        ensures touched { (Self.parts self.new).touched ≡ (Self.parts self.old).touched }
+        ensures geometry { (Self.parts self.new).geometry ≡ (Self.parts self.old).geometry }
+        ensures leads { Self.LeadsTo self.old self.new }
+        ensures cause { Counts (D.disk (view self.old).beneath) (D.disk (view self.new).beneath) result };
+
+    /// Begins a checkpoint: all objects are frozen as they are. Answers how many were written since
+    /// the last one began. It takes no memory, and makes no call of the device.
+    fn freeze(&mut self) -> u64
+        requires free { (view self.old).aside.frozen ≡ None }
+        requires home { (view self.old).aside.saved.entries ≡ 0 }
+        requires keepable { AreKeepable (Self.parts self.old).geometry u64.MAX
+            (frames_of (Self.parts self.old)) }
+        ensures size { result ≡ touched_count (Self.parts self.old).touched }
+        ensures headers { (Self.parts self.new).headers ≡ (Self.parts self.old).headers }
+        ensures contents { (Self.parts self.new).contents ≡ (Self.parts self.old).contents }
+        ensures touched { (Self.parts self.new).touched ≡ untouched (Self.parts self.old).geometry }
+        ensures geometry { (Self.parts self.new).geometry ≡ (Self.parts self.old).geometry }
+        ensures aside { (view self.new).aside
+            ≡ freezing (frames_of (Self.parts self.old)) (touched_count (Self.parts self.old).touched) (view self.old).aside }
+        ensures beneath { (view self.new).beneath ≡ (view self.old).beneath }
+        ensures sound { (view self.old).is_sound → (view self.new).is_sound };
+
+    /// Writes so many of the frozen objects to the log, and answers how many are left. Fails
+    /// exactly where the device does.
+    fn stabilize(&mut self, count: u64) -> Result<u64, Failed>
+        requires frozen { IsSome (view self.old).aside.frozen }
+        ensures headers { (Self.parts self.new).headers ≡ (Self.parts self.old).headers }
+        ensures contents { (Self.parts self.new).contents ≡ (Self.parts self.old).contents }
+        ensures touched { (Self.parts self.new).touched ≡ (Self.parts self.old).touched }
+        ensures geometry { (Self.parts self.new).geometry ≡ (Self.parts self.old).geometry }
+        ensures left { (f : FrozenFrames) → (view self.old).aside.frozen ≡ Some f
+            → IfOk result (λ n. n ≡ f.left - count) }
+        ensures aside { (f : FrozenFrames) → (view self.old).aside.frozen ≡ Some f
+            → OnOk result ((view self.new).aside ≡ stabilized count f (view self.old).aside) }
+        ensures sound { (view self.old).is_sound → (view self.new).is_sound }
+        ensures size { (D.disk (view self.new).beneath).sectors ≡ (D.disk (view self.old).beneath).sectors }
+        ensures any_moment { (view self.old).is_sound
+            → LeavesSaved (D.disk (view self.old).beneath) (D.disk (view self.new).beneath) (view self.old).aside.saved }
+        ensures cause { Counts (D.disk (view self.old).beneath) (D.disk (view self.new).beneath) result };
+
+    /// Commits the checkpoint on its way, all of which is in the log: its frames are saved, at an
+    /// age. Answers its generation. Fails exactly where the device does, and then a crash leaves
+    /// what was saved or what is frozen.
+    fn commit(&mut self, age: u64) -> Result<u64, Failed>
+        requires ready { (f : FrozenFrames) × MayCommit age f (view self.old).aside }
+        requires sound { (view self.old).is_sound }
+        ensures headers { (Self.parts self.new).headers ≡ (Self.parts self.old).headers }
+        ensures contents { (Self.parts self.new).contents ≡ (Self.parts self.old).contents }
+        ensures touched { (Self.parts self.new).touched ≡ (Self.parts self.old).touched }
+        ensures geometry { (Self.parts self.new).geometry ≡ (Self.parts self.old).geometry }
+        ensures generation { IfOk result (λ n. n ≡ (view self.old).aside.saved.generation + 1) }
+        ensures aside { (f : FrozenFrames) → (view self.old).aside.frozen ≡ Some f
+            → OnOk result ((view self.new).aside ≡ committed age f (view self.old).aside) }
+        ensures sound { OnOk result ((view self.new).is_sound) }
+        ensures size { (D.disk (view self.new).beneath).sectors ≡ (D.disk (view self.old).beneath).sectors }
+        ensures any_moment { (f : FrozenFrames) → (view self.old).aside.frozen ≡ Some f
+            → LeavesEither (D.disk (view self.old).beneath) (D.disk (view self.new).beneath)
+            (view self.old).aside.saved (next_saved age f (view self.old).aside.saved) }
+        ensures cause { Counts (D.disk (view self.old).beneath) (D.disk (view self.new).beneath) result };
+
+    /// Copies so many of the saved objects home, and answers how many are left. Fails exactly where
+    /// the device does, and then a crash leaves what was saved, or the same with all of it home
+    /// where that was to be reached.
+    fn migrate(&mut self, count: u64) -> Result<u64, Failed>
+        requires sound { (view self.old).is_sound }
+        ensures headers { (Self.parts self.new).headers ≡ (Self.parts self.old).headers }
+        ensures contents { (Self.parts self.new).contents ≡ (Self.parts self.old).contents }
+        ensures touched { (Self.parts self.new).touched ≡ (Self.parts self.old).touched }
+        ensures geometry { (Self.parts self.new).geometry ≡ (Self.parts self.old).geometry }
+        ensures left { IfOk result (λ n. n ≡ (view self.old).aside.to_move - count) }
+        ensures aside { OnOk result ((view self.new).aside ≡ moved count (view self.old).aside) }
+        ensures sound { OnOk result ((view self.new).is_sound) }
+        ensures size { (D.disk (view self.new).beneath).sectors ≡ (D.disk (view self.old).beneath).sectors }
+        ensures any_moment { LeavesEither (D.disk (view self.old).beneath) (D.disk (view self.new).beneath)
+            (view self.old).aside.saved (moved_saved count (view self.old).aside) }
+        ensures cause { Counts (D.disk (view self.old).beneath) (D.disk (view self.new).beneath) result };
+
+    /// What happens to the present objects leaves the rest alone.
+    ghost leads: { (s t : Self) → Self.LeadsTo s t → Leads D.disk (view s) (view t) };
+
+    /// Where nothing was written since and no checkpoint is on its way, the device was only read.
+    ghost leads_peeks: { (s t : Self) → Self.LeadsTo s t → touched_count (Self.parts t).touched ≡ 0 → (view s).aside.frozen ≡ None → Peeks (D.disk (view s).beneath) (D.disk (view t).beneath) };
+
+    /// A sound store: a crash leaves what is saved.
+    ghost sound_holds: { (s : Self) (c : Image) → (view s).is_sound → (D.disk (view s).beneath).may_leave c → Holds (D.disk (view s).beneath).sectors c (view s).aside.saved };
+
+    ghost failures_are: { (s : Self) → (Self.parts s).failures ≡ (D.disk (view s).beneath).failures };
+
+    ghost geometry_is: { (s : Self) → (Self.parts s).geometry ≡ (view s).aside.saved.geometry };
+}
