@@ -15,3 +15,4 @@ mod FrameReaders
 pub mod Spelling
 pub mod SlotsOf
 pub mod Totals
+pub mod Denoted

@@ -12,7 +12,7 @@ use Rattle.migrator.specs.declared.open_fault.OpenFault.{OpenFault}
 use Rattle.migrator.specs.declared.open_fault.OpenFault.TheVariants as refusal
 use Rattle.model.specs.declared.frame.ObjectHeader.{ObjectHeader}
 use Rattle.device.specs.Disk.{Image, Disk}
-use Rattle.device.specs.Calls.{Agrees, Narrows}
+use Rattle.device.specs.Calls.{Agrees, Narrows, Only}
 use Rattle.device.specs.Moments.{Peeks}
 use Rattle.layout.specs.Image.{IsBadBy, HasHeader, HasDirectory, frame_in}
 use Rattle.frame_io.specs.declared.fault.ReadFault.{ReadFault}
@@ -56,7 +56,8 @@ pub record Looks (old new : Disk) : Type 0 where
   pub crash : Narrows old new
   pub any_moment : Peeks old new
 
--- a device was opened, and nothing was written: the store holds what it saves, and the headers are those of its saved frames
+-- a device was opened, and nothing was written: the store holds what it saves, the headers are those of its saved
+-- frames, and a crash leaves what a read gives
 pub record Opens {D : Type 0} (disk : D → Disk) (device : D) (s : DurableState D) (hs : List ObjectHeader) : Type 0 where
   pub sound : is_sound disk s
   pub holds : Holds (disk device).sectors (disk device).seen (stored_of disk s).saved
@@ -64,6 +65,7 @@ pub record Opens {D : Type 0} (disk : D → Disk) (device : D) (s : DurableState
   pub working : (stored_of disk s).working ≡ replicate (length (stored_of disk s).saved.frames) Absent
   pub frozen : (stored_of disk s).frozen ≡ None
   pub to_move : (stored_of disk s).to_move ≡ (stored_of disk s).saved.entries
+  pub durable : Only (disk s.beneath).seen (disk s.beneath)
   pub looks : Looks (disk device) (disk s.beneath)
   pub failures : (disk s.beneath).failures ≡ (disk device).failures
 

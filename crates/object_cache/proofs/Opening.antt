@@ -155,6 +155,7 @@ module _ {D : Type 0} (disk : D → Disk) (device : D) (d0 d : DurableState D) (
     touched = ap (λ (x : PlainState). x.touched) present ∙ ap (λ (x : Stored). untouched x.saved.geometry) (sym reads.stored);
     frozen = none_frozen (stored_of disk d) (frozen_frames (stored_of disk d) (present_frames p) ss) (ap (λ (x : Stored). x.frozen) reads.stored ∙ opened.frozen);
     to_move = ap (λ (x : Stored). x.to_move) reads.stored ∙ opened.to_move ∙ ap (λ (x : Stored). x.saved.entries) (sym reads.stored);
+    durable = λ c may i. opened.durable c (reads.crash c may) i ∙ sym (reads.seen i);
     looks = looks_on (disk device) (disk d0.beneath) (disk d.beneath) opened.looks reads.goes_on.size reads.seen reads.crash reads.any_moment;
     failures = same ∙ opened.failures;
   } where

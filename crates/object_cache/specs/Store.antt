@@ -4,6 +4,7 @@ use Rattle.model.specs.declared.frame.Frame.{Frame}
 use Rattle.model.specs.Keepable.{AreKeepable}
 use Rattle.model.specs.Machine.{untouched}
 use Rattle.device.specs.Disk.{Disk}
+use Rattle.device.specs.Calls.{Only}
 use Rattle.migrator.specs.Saved.{SavedFrames, Holds, LeavesSaved, home_saved}
 use Rattle.migrator.specs.Opened.{Looks}
 use Rattle.capability.specs.Parts.{Parts, frames_of}
@@ -34,7 +35,8 @@ pub record Leads {D : Type 0} (disk : D → Disk) (old new : View D) : Type 0 wh
   pub sound : old.is_sound → new.is_sound
   pub any_moment : old.is_sound → LeavesSaved (disk old.beneath) (disk new.beneath) old.aside.saved
 
--- a device was opened, and nothing was written: the present objects are the saved ones
+-- a device was opened, and nothing was written: the present objects are the saved ones, and a crash leaves what a read
+-- gives
 pub record Opens {D : Type 0} (disk : D → Disk) (device : D) (parts : Parts) (store : View D) : Type 0 where
   pub sound : store.is_sound
   pub holds : Holds (disk device).sectors (disk device).seen store.aside.saved
@@ -42,6 +44,7 @@ pub record Opens {D : Type 0} (disk : D → Disk) (device : D) (parts : Parts) (
   pub touched : parts.touched ≡ untouched store.aside.saved.geometry
   pub frozen : store.aside.frozen ≡ None
   pub to_move : store.aside.to_move ≡ store.aside.saved.entries
+  pub durable : Only (disk store.beneath).seen (disk store.beneath)
   pub looks : Looks (disk device) (disk store.beneath)
   pub failures : (disk store.beneath).failures ≡ (disk device).failures
 

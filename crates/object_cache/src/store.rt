@@ -1,5 +1,5 @@
 // The trait of object stores.
-ghost use Rattle.std.specs.Prelude.{◌≡◌, ◌⊎◌, ℕ, ◌+◌, ◌-◌, ◌<◌, ◌≤◌, Option, None, Some, option_map, length, IfOk, IfErr, OnOk, IsSome};
+ghost use Rattle.std.specs.Prelude.{◌≡◌, ◌⊎◌, ℕ, ◌+◌, ◌-◌, ◌<◌, ◌≤◌, Option, None, Some, option_map, length, IfOk, IfErr, OnOk, OnErr, IsSome};
 ghost use Rattle.model.specs.Keepable.{AreKeepable};
 ghost use Rattle.model.specs.Machine.{untouched, touched_count};
 ghost use Rattle.device.specs.Disk.{Image};
@@ -80,7 +80,7 @@ pub trait ObjectStore<D: Device>: PresentFrames + Sized {
         ensures sound { (view self.old).is_sound → (view self.new).is_sound };
 
     /// Writes so many of the frozen objects to the log, and answers how many are left. Fails
-    /// exactly where the device does.
+    /// exactly where the device does, and then some were written, no more than so many.
     fn stabilize(&mut self, count: u64) -> Result<u64, Failed>
         requires frozen { IsSome (view self.old).aside.frozen }
         ensures headers { (Self.parts self.new).headers ≡ (Self.parts self.old).headers }
@@ -91,6 +91,9 @@ pub trait ObjectStore<D: Device>: PresentFrames + Sized {
             → IfOk result (λ n. n ≡ f.left - count) }
         ensures aside { (f : FrozenFrames) → (view self.old).aside.frozen ≡ Some f
             → OnOk result ((view self.new).aside ≡ stabilized count f (view self.old).aside) }
+        ensures stopped { (f : FrozenFrames) → (view self.old).aside.frozen ≡ Some f
+            → OnErr result ((k : ℕ) × (k ≤ count)
+            × ((view self.new).aside ≡ stabilized k f (view self.old).aside)) }
         ensures sound { (view self.old).is_sound → (view self.new).is_sound }
         ensures size { (D.disk (view self.new).beneath).sectors ≡ (D.disk (view self.old).beneath).sectors }
         ensures any_moment { (view self.old).is_sound

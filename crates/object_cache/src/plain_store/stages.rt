@@ -110,8 +110,10 @@ impl<D: Device> ObjectStore<D> for PlainStore<D> {
             None => unreachable!(),
         };
         let some = if count < left { count } else { left };
-        self.put_some(some)?;
-        Ok(left - some)
+        match self.put_some(some) {
+            Ok(()) => Ok(left - some),
+            Err(Failed) => Err(Failed),
+        }
     }
 
     fn commit(&mut self, age: u64) -> Result<u64, Failed> {

@@ -26,6 +26,7 @@ returns-in-Ok-clause-opened g c =
           c.in-Ok.ensures.looks c.in-Ok.ensures.plan c.in-Ok.ensures.read c.in-Ok.ensures.reserved.frozen c.in-Ok.ensures.reserved.working;
       frozen = refl;
       to_move = entries;
+      durable = c.in-Ok.ensures.durable;
       looks = c.in-Ok.ensures.looks;
       failures = same;
     }
