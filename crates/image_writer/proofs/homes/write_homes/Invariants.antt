@@ -1,0 +1,12 @@
+use Rattle.std.proofs.Common.{◌≡◌, ◌-◌}
+use Rattle.device.specs.Calls.{Elsewhere}
+use Rattle.model.specs.Frame.{frames_in}
+use Rattle.image_writer.specs.Written.{AreHome}
+use Rattle.image_writer.proofs.homes.write_homes.Given as goal
+
+abbrev pub invariant-loop-number : goal.invariant-loop-number
+invariant-loop-number g l =
+    AreHome l.home (frames_in l.headers l.contents) l.number (g.D.Device.disk l.device).seen
+    × Elsewhere 5 (l.home.total - 5) (g.D.Device.disk l.fn.device).seen (g.D.Device.disk l.device).seen
+    × ((g.D.Device.disk l.device).sectors ≡ (g.D.Device.disk l.fn.device).sectors)
+    × ((g.D.Device.disk l.device).failures ≡ (g.D.Device.disk l.fn.device).failures)

@@ -1,0 +1,16 @@
+use Rattle.std.proofs.Common.{◌∙◌, arith, sym}
+use Rattle.std.proofs.lemmas.Bool.{false≢true}
+use Rattle.image_writer.proofs.LaidPlans.{is_plan, few_counts}
+use Rattle.image_writer.proofs.plan.lay_out.Goals as goal
+use Rattle.image_writer.proofs.plan.lay_out.Goals.{then-geometry-via-then-geometry, then-geometry-via-else-geometry+then-ranges-gt-MAX_RANGES, then-geometry-via-else-geometry+else-ranges-gt-MAX_RANGES+then-not-are_few}
+
+pub returns-then-geometry-clause-refused : goal.returns-then-geometry-clause-refused
+returns-then-geometry-clause-refused c may = elim c.then-geometry.branch [
+  | then-geometry-via-then-geometry w ↦ omega (arith, w.if-geometry.true, may.geometry.most_log)
+  | then-geometry-via-else-geometry+then-ranges-gt-MAX_RANGES w ↦ omega (arith, w.if-ranges-gt-MAX_RANGES.true, may.few)
+  | then-geometry-via-else-geometry+else-ranges-gt-MAX_RANGES+then-not-are_few w ↦ false≢true (sym w.if-not-are_few.true ∙ w.are_few.ensures.1 (few_counts c.args.geometry c.args.ranges.now may))
+]
+
+pub returns-in-None-clause-refused : goal.returns-in-None-clause-refused
+returns-in-None-clause-refused c may =
+    c.in-None.ensures.none (rw (c.half_length-half.ensures, c.lay_ranges-first.ensures.end, c.lay_ranges-first.ensures.laid) (is_plan c.args.geometry c.args.ranges.now may))

@@ -1,0 +1,46 @@
+-- What a fresh image saves, and its parts.
+use Rattle.std.specs.Prelude.{◌≡◌, ℕ, ◌<◌, List, []}
+use Rattle.model.specs.declared.frame.Frame.{Frame}
+use Rattle.model.specs.declared.geometry.Geometry.{Geometry}
+use Rattle.model.specs.Frame.{frame_at}
+use Rattle.model.specs.Sound.{object_count}
+use Rattle.device.specs.Disk.{Image}
+use Rattle.layout.specs.declared.gate.Gate.TheVariants.{Closed}
+use Rattle.layout.specs.declared.header.CheckpointHeader.{CheckpointHeader}
+use Rattle.layout.specs.Frame.{frame_bytes}
+use Rattle.layout.specs.Gate.{gate_bytes}
+use Rattle.layout.specs.Header.{header_bytes}
+use Rattle.layout.specs.Image.{SavedState}
+use Rattle.layout.specs.Superblock.{Plan, IsPlan, superblock_bytes}
+use Rattle.frame_io.specs.Frames.{bytes_at}
+use Rattle.home_ranges.specs.Home.{home_place}
+use Rattle.migrator.specs.Saved.{SavedFrames}
+
+-- the header of a checkpoint of generation 0, all of which is home
+abbrev pub first_header : ℕ → CheckpointHeader
+first_header age = record { sequence = 0; generation = 0; entries = 0; age = age }
+
+-- the state that a fresh image denotes
+abbrev pub first_state : Plan → ℕ → List Frame → SavedState
+first_state p age frames = record { plan = p; header = first_header age; directory = []; frames = frames }
+
+-- and what it saves
+abbrev pub first_saved : Geometry → ℕ → List Frame → SavedFrames
+first_saved g age frames = record { geometry = g; frames = frames; generation = 0; entries = 0; age = age }
+
+-- a superblock, and the first header under a closed gate; the other gate is closed too
+pub record HasFront (p : Plan) (age : ℕ) (image : Image) : Type 0 where
+  pub superblock : image 0 ≡ superblock_bytes p
+  pub header : image 1 ≡ header_bytes (first_header age)
+  pub shut : image 2 ≡ gate_bytes Closed
+  pub other_shut : image 4 ≡ gate_bytes Closed
+
+-- the frames of the first n numbers lie at home
+abbrev pub AreHome : Plan → List Frame → ℕ → Image → Type 0
+AreHome p frames n image = (a : ℕ) → a < n → bytes_at image (home_place p a) p.geometry a ≡ frame_bytes p.geometry a (frame_at frames a)
+
+-- all of a fresh image but that its gate is open
+pub record IsWritten (p : Plan) (age : ℕ) (frames : List Frame) (image : Image) : Type 0 where
+  pub plan : IsPlan p
+  pub front : HasFront p age image
+  pub home : AreHome p frames (object_count p.geometry) image

@@ -1,0 +1,39 @@
+// The home frames of all objects.
+ghost use Rattle.std.specs.Prelude.{◌≡◌, ◌-◌, ◌≤◌, length, OnOk};
+ghost use Rattle.device.specs.Calls.{Counts, Elsewhere};
+ghost use Rattle.layout.specs.Superblock.{IsPlan};
+ghost use Rattle.model.specs.Frame.{frames_in};
+ghost use Rattle.model.specs.Sound.{object_count};
+ghost use Rattle.image_writer.specs.Written.{AreHome};
+
+use device::{Device, Failed};
+use home_ranges::Home;
+use model::{Cap, Content, ObjectHeader};
+
+/// Writes the home frames of so many objects, which are all there are: each from the header and the
+/// content of its number.
+pub(crate) fn write_homes<D: Device>(
+    device: &mut D,
+    home: &Home,
+    count: u64,
+    headers: &[ObjectHeader],
+    contents: &[Content<Cap>],
+) -> Result<(), Failed>
+    requires plan { IsPlan home.now }
+    requires count { count ≡ object_count home.now.geometry }
+    requires headers { length headers.now ≡ count }
+    requires contents { length contents.now ≡ count }
+    requires inside { home.now.total ≤ (D.disk device.old).sectors }
+    ensures home { OnOk result (AreHome home.now (frames_in headers.now contents.now) count
+        (D.disk device.new).seen) }
+    ensures elsewhere { Elsewhere 5 (home.now.total - 5)
+        (D.disk device.old).seen (D.disk device.new).seen }
+    ensures size { (D.disk device.new).sectors ≡ (D.disk device.old).sectors }
+    ensures cause { Counts (D.disk device.old) (D.disk device.new) result }
+{
+    for number in 0..count {
+        let at = number as usize;
+        home.write_frame(device, number, headers[at], &contents[at])?;
+    }
+    Ok(())
+}

@@ -1,0 +1,12 @@
+//! A fresh image: where its parts lie on a device, and writing it there.
+#![tactic(auto)]
+
+mod front;
+mod homes;
+mod image;
+mod number_range;
+mod plan;
+
+pub use image::write_image;
+pub use number_range::NumberRange;
+pub use plan::{LayOutFault, lay_out};

@@ -1,0 +1,10 @@
+// Ranges of numbers, before it is told where their frames lie.
+
+/// Consecutive numbers of objects, whose frames are to lie one after the other.
+#[derive(Clone, Copy, PartialEq, Eq, Debug)]
+pub struct NumberRange {
+    /// The first number.
+    pub first: u64,
+    /// How many numbers.
+    pub count: u64,
+}

@@ -1,0 +1,102 @@
+// Where the parts of a fresh image lie.
+ghost use Rattle.std.specs.Prelude.{◌≡◌, ℕ, ◌≤◌, length, IsTrue, IfOk, IfErr, ◌↔◌};
+ghost use Rattle.std.specs.List.{All};
+ghost use Rattle.layout.specs.Superblock.{IsPlan};
+ghost use Rattle.image_writer.specs.Laid.{MayBeLaid, behind, half_length, laid, plan_from, sectors_of};
+
+use crate::number_range::NumberRange;
+use layout::{HomeRange, MAX_LOG, MAX_RANGES, Superblock};
+use model::Geometry;
+use thiserror::Error;
+
+/// No image is laid out in this way: the format has other limits.
+#[derive(Clone, Copy, Debug, PartialEq, Eq, Error)]
+#[error("no image has so many objects or slots, or ranges like these")]
+pub struct LayOutFault;
+
+// The most numbers of objects.
+const MAX_OBJECTS: u64 = 8192;
+
+// The sector behind the superblock and the headers.
+const FIRST_SECTOR: u64 = 5;
+
+const UNUSED: HomeRange = HomeRange {
+    first: 0,
+    count: 0,
+    sector: 0,
+};
+
+// How many sectors the frames of a range take: 2 for a node and 9 for a page.
+fn sectors_of(geometry: Geometry, range: NumberRange) -> u64
+    requires { range.count ≤ 8192 }
+    ensures { result ≡ sectors_of geometry range }
+{
+    if range.first < geometry.nodes {
+        2 * range.count
+    } else {
+        9 * range.count
+    }
+}
+
+// How many sectors a half of the log takes: 9 for a slot, and those of its directory.
+fn half_length(geometry: Geometry) -> u64
+    requires { geometry.log ≤ 4096 }
+    ensures { result ≡ half_length geometry }
+{
+    9 * geometry.log + (geometry.log + 31) / 32
+}
+
+// Lays ranges one behind the other, and answers the sector behind them.
+fn lay_ranges(geometry: Geometry, ranges: &[NumberRange], into: &mut [HomeRange]) -> u64
+    requires size { length into.old ≡ length ranges.now }
+    requires few { length ranges.now ≤ 8 }
+    requires counts { All (λ r. r.count ≤ 8192) ranges.now }
+    ensures laid { into.new ≡ laid geometry 5 ranges.now }
+    ensures end { result ≡ behind geometry 5 ranges.now }
+    ensures most { result ≤ 600000 }
+{
+    let mut next = FIRST_SECTOR;
+    for (i, range) in ranges.iter().enumerate() {
+        into[i] = HomeRange {
+            first: range.first,
+            count: range.count,
+            sector: next,
+        };
+        next += sectors_of(geometry, *range);
+    }
+    next
+}
+
+// Whether the numbers of all ranges are few.
+fn are_few(ranges: &[NumberRange]) -> bool
+    ensures { IsTrue result ↔ All (λ r. r.count ≤ 8192) ranges.now }
+{
+    ranges.iter().all(|range| range.count <= MAX_OBJECTS)
+}
+
+/// Lays out an image of so many objects: from sector 5 on the home ranges in their order, behind
+/// them the two halves of the log. The total is the sector behind the second.
+///
+/// It is refused exactly where the format wants other numbers: 16 to 4096 nodes, 1 to 4096 pages,
+/// 16 to 4096 slots in a half of the log; and 1 to 8 ranges that have each number once, in their
+/// order, each with nodes alone or pages alone, and none without a number. No such image takes more
+/// sectors than a device may have.
+pub fn lay_out(geometry: Geometry, ranges: &[NumberRange]) -> Result<Superblock, LayOutFault>
+    ensures laid { IfOk result (λ s. s ≡ plan_from geometry ranges.now) }
+    ensures fits { IfOk result (λ s. IsPlan s) }
+    ensures allowed { IfOk result (λ _. MayBeLaid geometry ranges.now) }
+    ensures refused { IfErr result (λ _. MayBeLaid geometry ranges.now → ⊥) }
+{
+    if geometry.log > MAX_LOG as u64 || ranges.len() > MAX_RANGES || !are_few(ranges) {
+        return Err(LayOutFault);
+    }
+    let mut homes = [UNUSED; MAX_RANGES];
+    let used = &mut homes[..ranges.len()];
+    let first = lay_ranges(geometry, ranges, used);
+    let half = half_length(geometry);
+    let second = first + half;
+    match Superblock::new(geometry, used, first, second, second + half) {
+        Some(superblock) => Ok(superblock),
+        None => Err(LayOutFault),
+    }
+}
