@@ -66,8 +66,12 @@ fn read_limit<F: PresentFrames>(
     }
 }
 
-// The limits of all banks by number, 0 for what is no bank.
-fn read_limits<F: PresentFrames>(
+/// The limits of all banks below a count by number, 0 for what is no bank. Each bank is fetched, one
+/// at a time; nothing else is.
+///
+/// `NoMemory` where memory ran out, `Failed` exactly where the device failed, and never `LogFull`,
+/// since nothing is announced. No object is another than before.
+pub fn read_limits<F: PresentFrames>(
     alloc: Global,
     store: &mut F,
     count: u64,
@@ -136,8 +140,9 @@ fn add_usages<F: PresentFrames>(store: &F, usages: &mut [u64])
     }
 }
 
-// How many objects each bank accounts for, by number.
-fn count_usages<F: PresentFrames>(
+/// How many objects each bank accounts for, by number, from the table alone. The banks are a tree.
+/// Fails only where memory runs out.
+pub fn count_usages<F: PresentFrames>(
     alloc: Global,
     store: &F,
     count: u64,

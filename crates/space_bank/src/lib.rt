@@ -18,4 +18,6 @@ mod planning;
 mod walking;
 
 pub use banks::Banks;
+pub use counting::{count_usages, read_limits};
 pub use plan::BankPlan;
+pub use walking::is_in_chain;

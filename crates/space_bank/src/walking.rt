@@ -32,8 +32,9 @@ pub(crate) fn is_free<F: PresentFrames>(store: &F, number: u64) -> bool
     matches!(store.table().header(number).role, Role::Free)
 }
 
-// Whether a bank is in the chain that begins with another.
-fn is_in_chain<F: PresentFrames>(store: &F, first: u64, bank: u64) -> bool
+/// Whether a bank is in the chain that begins with another, which has at most 16 banks (KeyKOS,
+/// EROS: banks form a tree). Goes from owner to owner in the table alone.
+pub fn is_in_chain<F: PresentFrames>(store: &F, first: u64, bank: u64) -> bool
     ensures { result
         ≡ list_any (nat_eq bank) (chain (objects_of (frames_of (F.parts store.now))) first) }
 {

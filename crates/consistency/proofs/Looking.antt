@@ -1,0 +1,9 @@
+-- Frames that were looked at.
+use Rattle.std.proofs.Common.{◌≡◌}
+use Rattle.capability.specs.Parts.{LooksUp, Parts}
+
+module _ {S : Type 0} (parts : S → Parts) (Leads : S → S → Type 0) where
+  -- frames were looked at, and the device didn't fail
+  pub record HasLooked (old now : S) : Type 0 where
+    pub aside : LooksUp parts Leads old now
+    pub failures : (parts now).failures ≡ (parts old).failures

@@ -1,0 +1,101 @@
+-- Banks: their tree, their chains and their limits.
+use Rattle.std.proofs.Common.{◌≡◌, ◌≢◌, ◌↔◌, ℕ, zero, suc, ◌<◌, ◌≤◌, Bool, true, false, ◌||◌, List, [], ◌∷◌, length, map, slice_index, slice_index_or, zero-add, refl, sym, ap, ◌∙◌, arith}
+use Rattle.std.specs.Prelude.{IsTrue, nat_eq}
+use Rattle.std.specs.List.{Contains, list_any, range_with_len}
+use Rattle.std.proofs.lemmas.Bool.{eqb-true, eq-eqb}
+use Rattle.std.proofs.lemmas.List.FromFn.{get_or-map-range_with_len, length-map-range_with_len}
+use Rattle.std.proofs.lemmas.Map.Views.{Contains-from_any}
+use Rattle.model.specs.declared.frame.Frame.{Frame}
+use Rattle.model.specs.declared.frame.ObjectHeader.{ObjectHeader}
+use Rattle.model.specs.declared.geometry.Geometry.{Geometry}
+use Rattle.model.specs.declared.object.Role.TheVariants as role
+use Rattle.model.specs.Bank.{chain, usage}
+use Rattle.model.specs.Frame.{frame_at, objects_of}
+use Rattle.model.specs.Keepable.{AreKeepable}
+use Rattle.model.specs.Object.{is_bank, limit_in}
+use Rattle.model.specs.World.{content_at}
+use Rattle.model_laws.proofs.BankTree.{IsTree}
+use Rattle.capability.specs.Parts.{HaveTheirRoles, Parts, frames_of}
+use Rattle.capability.proofs.Keeping.{keepable_roles}
+use Rattle.consistency.specs.Consistency.{AreLimited, AreOwned, owner_of, role_at}
+use Rattle.consistency.proofs.Sound.{kept_at}
+use Rattle.consistency.proofs.Standing.{bank_role, free_role, limit_is, owner_is, role_bank, role_free}
+use Rattle.consistency.proofs.Tables.{bank_known, role_known}
+
+after : (a b : Bool) → b ≡ true → (a || b) ≡ true
+after true b so = refl
+after false b so = so
+
+-- a number in a list, and the test for it
+any_of : (xs : List ℕ) → Contains xs 0 → list_any (nat_eq 0) xs ≡ true
+any_of xs h = go xs h.0 h.1 h.2
+  where
+    go : (ys : List ℕ) (k : ℕ) → k < length ys → slice_index_or ys k 0 ≡ 0 → list_any (nat_eq 0) ys ≡ true
+    go [] k inside at = absurd (omega arith)
+    go (y ∷ ys) zero inside at = rw (eq-eqb 0 y (sym at)) refl
+    go (y ∷ ys) (suc k) inside at = after (nat_eq 0 y) (list_any (nat_eq 0) ys) (go ys k (omega arith) at)
+
+pub reaches : (b : Bool) (xs : List ℕ) (P : Type 0) → b ≡ list_any (nat_eq 0) xs → P → IsTrue b ↔ (P → Contains xs 0)
+reaches b xs P is p = (
+  λ so held. Contains-from_any {eq = nat_eq} (λ x y same. eqb-true x y same) 0 xs (sym is ∙ so),
+  λ there. is ∙ any_of xs (there p),
+)
+
+-- all numbers
+module _ (p : Parts) (hs : List ObjectHeader) (count n : ℕ) (table : hs ≡ p.headers) (all : count ≡ length hs) (past : count ≤ n) where
+  known_before : (m : ℕ) → (role_at (frames_of p) m ≡ role.Free → ⊥) → m < n
+  known_before m used = omega (arith, role_known p m used, all, past, ap (λ (ks : List ObjectHeader). length ks) table)
+
+  pub owned_whole : (role_at (frames_of p) 0 ≡ role.Bank) × (owner_of (frames_of p) 0 ≡ 0) →
+      ((m : ℕ) → m < n → role_at (frames_of p) m ≢ role.Free → role_at (frames_of p) (owner_of (frames_of p) m) ≡ role.Bank) →
+      ((b : ℕ) → b < n → role_at (frames_of p) b ≡ role.Bank → Contains (chain (objects_of (frames_of p)) b) 0) → AreOwned (frames_of p)
+  owned_whole prime owners chains = record {
+    prime = prime;
+    owners = λ m used. owners m (known_before m used) used;
+    chains = λ b bank. chains b (known_before b (λ free. let wrong : role.Bank ≡ role.Free = sym bank ∙ free in cc)) bank;
+  }
+
+-- owned objects are a tree
+module _ (g : Geometry) (age : ℕ) (fs : List Frame) (k : AreKeepable g age fs) where
+  roles : HaveTheirRoles fs
+  roles = keepable_roles g age fs k
+
+  pub owned_tree : AreOwned fs → IsTree (objects_of fs)
+  owned_tree owned = record {
+    unowned = λ n free. owner_is fs n ∙ (kept_at g age fs k n).kept.unowned (free_role fs roles n free);
+    owners = λ n used. rw (owner_is fs n) (role_bank fs roles (frame_at fs n).header.owner (owned.owners n (λ free. used (role_free fs roles n free))));
+    prime = (role_bank fs roles 0 owned.prime.0, owner_is fs 0 ∙ owned.prime.1);
+    chains = λ b bank. owned.chains b (bank_role fs roles b bank);
+  }
+
+-- limits by number, against usages
+module _ (g : Geometry) (age : ℕ) (p : Parts) (k : AreKeepable g age (frames_of p)) (hs : List ObjectHeader) (count : ℕ) (table : hs ≡ p.headers) (all : count ≡ length hs) where
+  pub count_all : count ≡ length p.headers
+  count_all = all ∙ ap (λ (ks : List ObjectHeader). length ks) table
+
+  pub bank_counted : (b : ℕ) → IsTrue (is_bank (content_at (objects_of (frames_of p)) b)) → b < count
+  bank_counted b bank = omega (arith, bank_known p b (bank_role (frames_of p) (keepable_roles g age (frames_of p) k) b bank), count_all)
+
+  module _ (usages limits : List ℕ) (used : (b : ℕ) → IsTrue (is_bank (content_at (objects_of (frames_of p)) b)) → slice_index usages b ≡ usage (objects_of (frames_of p)) b)
+      (are : limits ≡ map (λ n. limit_in (content_at (objects_of (frames_of p)) n)) (range_with_len 0 count)) where
+    pub limits_count : length limits ≡ count
+    limits_count = ap (λ (xs : List ℕ). length xs) are ∙ length-map-range_with_len (λ n. limit_in (content_at (objects_of (frames_of p)) n)) 0 count
+
+    limit_there : (b : ℕ) → b < count → slice_index limits b ≡ limit_in (frame_at (frames_of p) b).content
+    limit_there b inside =
+        ap (λ (xs : List ℕ). slice_index xs b) are
+        ∙ get_or-map-range_with_len (λ n. limit_in (content_at (objects_of (frames_of p)) n)) 0 count b b 0 inside (zero-add b)
+        ∙ limit_is (frames_of p) b
+
+    pub limited : (t : Bool) → (IsTrue t ↔ ((b : ℕ) → role_at (frames_of p) b ≡ role.Bank → slice_index usages b ≤ slice_index limits b)) →
+        IsTrue t ↔ AreLimited (frames_of p)
+    limited t tells = (
+      λ so b bank.
+          let is = role_bank (frames_of p) (keepable_roles g age (frames_of p) k) b bank in
+          let low : slice_index usages b ≤ slice_index limits b = tells.0 so b bank in
+          omega (arith, low, used b is, limit_there b (bank_counted b is)),
+      λ below. tells.1 (λ b bank.
+          let is = role_bank (frames_of p) (keepable_roles g age (frames_of p) k) b bank in
+          let low : usage (objects_of (frames_of p)) b ≤ limit_in (frame_at (frames_of p) b).content = below b bank in
+          omega (arith, low, used b is, limit_there b (bank_counted b is))),
+    )

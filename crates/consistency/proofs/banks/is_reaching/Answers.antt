@@ -1,0 +1,13 @@
+use Rattle.std.proofs.Common.{◌≡◌}
+use Rattle.model.specs.declared.object.Role.TheVariants as role
+use Rattle.model.specs.Bank.{chain}
+use Rattle.model.specs.Frame.{objects_of}
+use Rattle.capability.specs.Parts.{frames_of}
+use Rattle.consistency.specs.Consistency.{role_at}
+use Rattle.consistency.proofs.Trees.{reaches}
+use Rattle.consistency.proofs.banks.is_reaching.Goals as goal
+
+pub returns-else-not-has_role : goal.returns-else-not-has_role
+returns-else-not-has_role g c =
+    let fs = frames_of (g.F.PresentFrames.parts c.args.store.now) in
+    reaches c.is_in_chain.result (chain (objects_of fs) c.args.number) (role_at fs c.args.number ≡ role.Bank) c.is_in_chain.ensures (c.has_role.ensures.0 c.if-not-has_role.false)

@@ -1,0 +1,12 @@
+use Rattle.std.proofs.Common.{Option, subst}
+use Rattle.capability.specs.Parts.{frames_of}
+use Rattle.consistency.specs.declared.reason.Inconsistency.{Inconsistency}
+use Rattle.consistency.specs.Consistency.{Tells}
+use Rattle.consistency.proofs.Sound.{consistent_is_sound}
+use Rattle.consistency.proofs.checking.check.Goals as goal
+
+pub returns-in-Ok-None-clause-sound : goal.returns-in-Ok-None-clause-sound
+returns-in-Ok-None-clause-sound g c =
+    let p = g.F.PresentFrames.parts c.args.store.now in
+    let tells = subst (λ (why : Option Inconsistency). Tells (frames_of p) why) c.in-Ok-None.field-0-is c.in-Ok-None.ensures.tells in
+    consistent_is_sound p.geometry c.args.age (frames_of p) c.requires.keepable c.requires.most tells.0 tells.1 tells.2

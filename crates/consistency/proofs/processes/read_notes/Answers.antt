@@ -1,0 +1,15 @@
+use Rattle.std.proofs.Common.{rules, ◌≡◌, ap, arith, length, List}
+use Rattle.model.specs.declared.frame.ObjectHeader.{ObjectHeader}
+use Rattle.capability.specs.Parts.{frames_of}
+use Rattle.capability.proofs.Frames.{length_in}
+use Rattle.consistency.proofs.Notes.{noted_whole}
+use Rattle.consistency.proofs.processes.read_notes.Goals as goal
+
+pub returns-clause-notes : goal.returns-clause-notes
+returns-clause-notes g c =
+    let p = g.F.PresentFrames.parts c.args.store.now in
+    let notes = c.loop-number.notes in
+    let whole : length (frames_of p) ≡ c.loop-number.number =
+    omega (arith, length_in p.headers p.contents, ap (λ (hs : List ObjectHeader). length hs) c.table.ensures, c.count-count.ensures, c.loop-number-test.false, c.loop-number.auto.number-end) in
+    let count : length notes.items ≡ c.loop-number.number = search rules in
+    noted_whole (frames_of p) notes.items c.loop-number.number count whole c.loop-number.invariant.each

@@ -1,0 +1,17 @@
+use Rattle.std.proofs.Common.{◌≡◌, ℕ, ◌<◌, ◌≤◌, vec_len}
+use Rattle.std.specs.Vec.{vec_capacity}
+use Rattle.model.specs.Frame.{frame_at}
+use Rattle.capability.specs.Parts.{frames_of}
+use Rattle.consistency.specs.Noted.{note_at, noted_in}
+use Rattle.consistency.proofs.Looking.{HasLooked}
+use Rattle.consistency.proofs.processes.read_notes.Given as goal
+
+abbrev pub invariant-loop-number : goal.invariant-loop-number
+invariant-loop-number g l =
+    let fs = frames_of (g.F.PresentFrames.parts l.initial.store) in
+    record {
+      count : vec_len l.notes ≡ l.number;
+      room : l.count ≤ vec_capacity l.notes;
+      each : (m : ℕ) → m < l.number → note_at l.notes.items m ≡ noted_in (frame_at fs m).content;
+      looked : HasLooked g.F.PresentFrames.parts g.F.PresentFrames.LeadsTo l.initial.store l.store;
+    }

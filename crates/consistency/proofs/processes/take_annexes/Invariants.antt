@@ -1,0 +1,10 @@
+use Rattle.std.proofs.Common.{◌≡◌, length}
+use Rattle.capability.specs.Parts.{frames_of}
+use Rattle.consistency.specs.Noted.{AreTaken}
+use Rattle.consistency.proofs.processes.take_annexes.Given as goal
+
+abbrev pub invariant-loop-root : goal.invariant-loop-root
+invariant-loop-root g l = record {
+  size : length l.taken ≡ length l.initial.taken;
+  taken : AreTaken (frames_of (g.F.PresentFrames.parts l.store)) l.root l.taken;
+}

@@ -1,0 +1,136 @@
+// Whether each held capability is none, stale, or names what it is for.
+ghost use Rattle.std.specs.Prelude.{◌≡◌, ◌↔◌, ◌<◌, ◌^◌, false, List, [], length, IfOk, IsTrue};
+ghost use Rattle.std.specs.List.{All};
+ghost use Rattle.model.specs.Frame.{frame_at};
+ghost use Rattle.model.specs.Keepable.{AreKeepable, caps_in};
+ghost use Rattle.capability.specs.Parts.{HaveTheirRoles, Looks, frames_of};
+ghost use Rattle.consistency.specs.Consistency.{AreNamed, IsNamed, NamesItsRole};
+ghost use Rattle.consistency.specs.Noted.{AreNoted};
+
+use crate::processes::{Noted, is_waiting};
+use crate::table::has_role;
+use capability::{PrepareFault, PresentFrames, objects};
+use model::{Cap, Capability, Content, Role};
+use std::alloc::Global;
+
+// Whether the object that a capability names is what the capability is for.
+fn names_its_role<F: PresentFrames>(
+    store: &F,
+    notes: &[Option<Noted>],
+    capability: Capability,
+) -> bool
+    requires { AreNoted (frames_of (F.parts store.now)) notes.now }
+    ensures { IsTrue result ↔ NamesItsRole (frames_of (F.parts store.now)) capability }
+{
+    match capability {
+        Capability::Page { object, .. } => has_role(store, object, Role::Page),
+        Capability::Node { object, .. } => has_role(store, object, Role::Node),
+        Capability::Space { object, .. } => has_role(store, object, Role::Node),
+        Capability::Process(process) => has_role(store, process, Role::Root),
+        Capability::Start { process, .. } => has_role(store, process, Role::Root),
+        Capability::Resume(process) => is_waiting(notes, process),
+        Capability::Bank(bank) => has_role(store, bank, Role::Bank),
+        Capability::Void => true,
+        Capability::Number(_) => true,
+        Capability::Discrim => true,
+    }
+}
+
+// Whether a held capability has no greater count than its object, and where the counts are the same
+// names what it is for.
+fn is_named<F: PresentFrames>(store: &F, notes: &[Option<Noted>], held: Cap) -> bool
+    requires { AreNoted (frames_of (F.parts store.now)) notes.now }
+    ensures { IsTrue result ↔ IsNamed (frames_of (F.parts store.now)) held }
+{
+    let current = store.table().current_count(held.what);
+    if held.count == current {
+        return names_its_role(store, notes, held.what);
+    }
+    held.count < current
+}
+
+// The same of each of some capabilities.
+fn are_all_named<F: PresentFrames>(store: &F, notes: &[Option<Noted>], held: &[Cap]) -> bool
+    requires { AreNoted (frames_of (F.parts store.now)) notes.now }
+    ensures { IsTrue result ↔ All (IsNamed (frames_of (F.parts store.now))) held.now }
+{
+    for capability in held {
+        if !is_named(store, notes, *capability) {
+            return false;
+        }
+    }
+    true
+}
+
+// The same of each capability that an object holds, which is fetched.
+fn holds_named<F: PresentFrames>(store: &F, notes: &[Option<Noted>], number: u64) -> bool
+    requires fetched { F.IsFetched store.now number }
+    requires notes { AreNoted (frames_of (F.parts store.now)) notes.now }
+    ensures { let frames = frames_of (F.parts store.now) in
+        IsTrue result ↔ All (IsNamed frames) (caps_in (frame_at frames number).content) }
+{
+    match store.frame(number) {
+        Content::Node(slots) => are_all_named(store, notes, slots.as_slice()),
+        Content::Root(root) => is_named(store, notes, root.space),
+        Content::Annex(registers) => are_all_named(store, notes, registers.as_slice()),
+        _ => true,
+    }
+}
+
+// Whether an object may hold capabilities, by its role.
+fn may_hold<F: PresentFrames>(store: &F, number: u64) -> bool
+    requires { HaveTheirRoles (frames_of (F.parts store.now)) }
+    ensures { result ≡ false → caps_in (frame_at (frames_of (F.parts store.now)) number).content ≡ [] }
+{
+    matches!(
+        store.table().header(number).role,
+        Role::Node | Role::Root | Role::Annex
+    )
+}
+
+// The same of each capability that an object holds. It is fetched if it may hold some.
+fn has_named<F: PresentFrames>(
+    alloc: Global,
+    store: &mut F,
+    notes: &[Option<Noted>],
+    number: u64,
+) -> Result<bool, PrepareFault>
+    requires known { number < length (F.parts store.old).headers }
+    requires keepable { AreKeepable (F.parts store.old).geometry u64.MAX
+        (frames_of (F.parts store.old)) }
+    requires notes { AreNoted (frames_of (F.parts store.old)) notes.now }
+    ensures named { let frames = frames_of (F.parts store.old) in IfOk result (λ named.
+        IsTrue named ↔ All (IsNamed frames) (caps_in (frame_at frames number).content)) }
+    ensures looks { Looks F.parts F.LeadsTo store.old store.new result }
+{
+    if !may_hold(store, number) {
+        return Ok(true);
+    }
+    match objects::fetch(store, alloc, &[number]) {
+        Err(fault) => Err(fault),
+        Ok(()) => Ok(holds_named(store, notes, number)),
+    }
+}
+
+/// Whether each capability that an object holds has no greater count than the object that it names,
+/// and where the counts are the same names what it is for. Objects are fetched one at a time.
+pub(crate) fn are_named<F: PresentFrames>(
+    alloc: Global,
+    store: &mut F,
+    notes: &[Option<Noted>],
+) -> Result<bool, PrepareFault>
+    requires keepable { AreKeepable (F.parts store.old).geometry u64.MAX
+        (frames_of (F.parts store.old)) }
+    requires notes { AreNoted (frames_of (F.parts store.old)) notes.now }
+    ensures named { IfOk result (λ named. IsTrue named ↔ AreNamed (frames_of (F.parts store.old))) }
+    ensures looks { Looks F.parts F.LeadsTo store.old store.new result }
+{
+    for number in 0..store.table().count() {
+        match has_named(alloc, store, notes, number) {
+            Err(fault) => return Err(fault),
+            Ok(false) => return Ok(false),
+            Ok(true) => {}
+        }
+    }
+    Ok(true)
+}

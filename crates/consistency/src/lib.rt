@@ -1,0 +1,14 @@
+//! The consistency check of a checkpoint (EROS): whether frames that can be kept stand for a sound
+//! world, and if not, why.
+#![tactic(auto)]
+
+mod banks;
+mod capabilities;
+mod checking;
+pub mod laws;
+mod processes;
+mod reason;
+mod table;
+
+pub use checking::check;
+pub use reason::{CheckFault, Inconsistency};
