@@ -1,5 +1,7 @@
-mod Counted
-mod MemoryServing
-mod MemorySteps
-mod Serving
+mod Acts
+pub mod Denoted
+mod Crashes
+mod Machines
+mod Opened
+mod Stages
 mod Steps

@@ -1,2 +1,4 @@
-pub mod Machine
-pub mod Prepared
+pub mod Denotes
+pub mod Standing
+pub mod Opening
+pub mod Laws

@@ -1,11 +1,13 @@
-//! The steps of the machine.
+//! The kernel: a machine of objects over a device, and its commands.
 #![tactic(auto)]
 
-mod early;
-mod invocation;
-mod memory;
-mod showing;
+mod board;
+mod cache;
+mod checkpoints;
+pub mod laws;
+mod machine;
+mod power;
+mod serving;
+mod waking;
 
-pub use invocation::invoke;
-pub use memory::{load, store};
-pub use showing::show;
+pub use board::Kernel;

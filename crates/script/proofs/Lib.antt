@@ -8,4 +8,4 @@ mod Split
 mod Stores
 mod Taken
 mod Texts
-mod Turns
+pub mod Turns

@@ -1,7 +1,7 @@
 -- A command over a store in memory, which never fails.
 use Rattle.std.proofs.Common.{◌≡◌, ℕ, None, sym, subst, arith}
 use Rattle.capability.specs.Plain.{GoesOn, PlainState, parts_of}
-use Rattle.kernel.specs.Machine.{Serves, age_after, machine_at}
+use Rattle.processes.specs.Machine.{Serves, age_after, machine_at}
 use Rattle.model.specs.declared.answer.Answer.{Answer}
 use Rattle.model.specs.declared.answer.Answer.TheVariants as answer
 use Rattle.model.specs.declared.answer.Refusal.TheVariants as refusal

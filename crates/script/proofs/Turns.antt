@@ -131,7 +131,7 @@ SoFar g knows before after input input_left output output_left =
 pub begun : (g : Geometry) (knows : Command → Bool) (m : Machine) (input output : Option (List ℕ)) → SoFar g knows m m input input output output
 begun g knows m input output = ([], refl, none_taken input, appends_none output)
 
-output_more : (ts : List Turn) (t : Turn) → output_of (ts ++ t ∷ []) ≡ output_of ts ++ reply_text t.reply
+pub output_more : (ts : List Turn) (t : Turn) → output_of (ts ++ t ∷ []) ≡ output_of ts ++ reply_text t.reply
 output_more ts t = simp (flat_map-append (λ (u : Turn). reply_text u.reply) ts (t ∷ []), append-nil)
 
 -- the next turn of a run

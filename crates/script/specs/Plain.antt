@@ -2,7 +2,7 @@
 use Rattle.std.specs.Prelude.{ℕ, Bool, true, false, None}
 use Rattle.capability.specs.Plain.{PlainState, parts_of}
 use Rattle.capability.specs.Parts.{frames_of}
-use Rattle.kernel.specs.Machine.{machine_at}
+use Rattle.processes.specs.Machine.{machine_at}
 use Rattle.model.specs.declared.command.Command.{Command}
 use Rattle.model.specs.declared.command.Command.TheVariants as command
 use Rattle.model.specs.declared.command.Operation.{Operation}

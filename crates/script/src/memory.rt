@@ -21,7 +21,7 @@ pub fn load(alloc: Global, plain: &mut Plain, process: u64, address: u64) -> Ans
     ensures counted { (banks : BanksState) → IsCounted plain.old banks → IsCounted plain.new banks }
 {
     let age = plain.age();
-    kernel::load(alloc, plain, age, process, address)
+    processes::load(alloc, plain, age, process, address)
 }
 
 /// Puts a word at an address in the address space of a process.
@@ -35,5 +35,5 @@ pub fn store(alloc: Global, plain: &mut Plain, process: u64, address: u64, word:
     ensures counted { (banks : BanksState) → IsCounted plain.old banks → IsCounted plain.new banks }
 {
     let age = plain.age();
-    kernel::store(alloc, plain, age, process, address, word)
+    processes::store(alloc, plain, age, process, address, word)
 }

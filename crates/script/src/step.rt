@@ -1,6 +1,6 @@
 // What a command of a script comes to over a store in memory.
 ghost use Rattle.std.specs.Prelude.{◌≡◌, ◌^◌, ◌<◌, ◌↔◌, ℕ, IsTrue, IfSome, IsSome, None};
-ghost use Rattle.kernel.specs.Machine.{age_after};
+ghost use Rattle.processes.specs.Machine.{age_after};
 ghost use Rattle.model.specs.declared.answer.Answer.TheVariants.{Done};
 ghost use Rattle.model.specs.declared.command.Command.TheVariants as command;
 ghost use Rattle.model.specs.Machine.{Saved};
@@ -69,7 +69,7 @@ fn invoke(alloc: Global, plain: &mut Plain, banks: &mut Banks, invocation: Invoc
     ensures counted { IsCounted plain.new banks.new }
 {
     let age = plain.age();
-    let answer = kernel::invoke(alloc, plain, banks, age, invocation);
+    let answer = processes::invoke(alloc, plain, banks, age, invocation);
     count(plain, &answer);
     answer
 }
@@ -86,7 +86,7 @@ fn show(alloc: Global, plain: &mut Plain, banks: &Banks, number: u64) -> Answer
     ensures counted { IsCounted plain.new banks.now }
 {
     let age = plain.age();
-    kernel::show(alloc, plain, banks, age, number)
+    processes::show(alloc, plain, banks, age, number)
 }
 
 /// The answer to a command that is known, and nothing to any other, which changes nothing.

@@ -1,5 +1,5 @@
 //! The tests of the machine in memory, its orders and its scripts, through the public functions of
-//! the crates `capability`, `gate`, `kernel` and `script`.
+//! the crates `capability`, `gate`, `processes` and `script`.
 #![tactic(auto)]
 
 #[cfg(test)]

@@ -70,7 +70,7 @@ fn a_step_of_an_invocation_is_done(rt: HostRuntime) -> Result<(), Fail> {
     let mut plain = second_world(alloc)?;
     let mut banks = count_banks(alloc, &mut plain)?;
     let age = plain.age();
-    let answer = kernel::invoke(alloc, &mut plain, &mut banks, age, starting(&rt));
+    let answer = processes::invoke(alloc, &mut plain, &mut banks, age, starting(&rt));
     assert!(rt; matches!(answer, Answer::Done));
     Ok(())
 }
@@ -81,7 +81,7 @@ fn a_step_of_showing_tells_the_object(rt: HostRuntime) -> Result<(), Fail> {
     let mut plain = second_world(alloc)?;
     let mut banks = count_banks(alloc, &mut plain)?;
     let age = plain.age();
-    let answer = kernel::show(alloc, &mut plain, &banks, age, 0);
+    let answer = processes::show(alloc, &mut plain, &banks, age, 0);
     let mut text = Vec::new(alloc);
     print_answer(&answer, &mut text)?;
     assert_eq!(rt;

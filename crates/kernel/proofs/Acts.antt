@@ -1,0 +1,280 @@
+-- How a command ends: refused, carried out, or in a failure of the device.
+use Rattle.std.proofs.Common.{◌≡◌, ◌↔◌, ℕ, ◌+◌, ◌-◌, ◌^◌, ◌<◌, ◌≤◌, Bool, None, Some, List, [], ◌∷◌, length, refl, sym, ap, ◌∙◌, subst}
+use Rattle.model.specs.declared.answer.Answer.{Answer}
+use Rattle.model.specs.declared.answer.Answer.TheVariants as answer
+use Rattle.model.specs.declared.answer.Refusal.{Refusal}
+use Rattle.model.specs.declared.answer.Refusal.TheVariants as refusal
+use Rattle.model.specs.declared.command.Command.{Command}
+use Rattle.model.specs.declared.command.Command.TheVariants as command
+use Rattle.model.specs.declared.frame.Frame.{Frame}
+use Rattle.model.specs.declared.geometry.Geometry.{Geometry}
+use Rattle.model.specs.Frame.{objects_of}
+use Rattle.model.specs.Keepable.{AreKeepable, IsSoundFrames, world_at}
+use Rattle.model.specs.Machine.{Frozen, Running, Saved, Up, touched_count, untouched}
+use Rattle.model.specs.Step.{Step, refusal_of, second}
+use Rattle.device.specs.Disk.{Image, Disk}
+use Rattle.migrator.specs.Saved.{Holds, LeavesSaved, LeavesEither}
+use Rattle.capability.specs.Parts.{Parts, frames_of}
+use Rattle.capability.proofs.Keeping.{keepable_count}
+use Rattle.object_cache.specs.Store.{Aside, FrozenFrames, Leads, MayCommit, View, freezing, moved_saved, next_saved, stabilized}
+use Rattle.object_cache.specs.Store as store
+use Rattle.space_bank.specs.Banks.{AreCounted, BanksState}
+use Rattle.processes.specs.Machine.{Serves, age_after}
+use Rattle.processes.proofs.Serving.{AreSame}
+use Rattle.processes.proofs.Steps.{refused_step}
+use Rattle.kernel.specs.declared.power.Live.{Live}
+use Rattle.kernel.specs.Denotes.{saved_of, LeavesOne}
+use Rattle.kernel.specs.Standing.{AreSound, IsCaused, IsUp, ServesUp, disk_at, frozen_of, running, running_of}
+use Rattle.kernel.proofs.Crashes.{leaves_along, leaves_either, leaves_here, leaves_home, leaves_saved}
+use Rattle.kernel.proofs.Stages.{acts_sound, begun_sound, committed_sound, frames_again, frozen_none, frozen_some, moved_sound, next_sound, same_running, saved_moved, stabilized_sound, stays_sound}
+use Rattle.kernel.proofs.Steps.{checkpoint_step, commit_step, evict_refused, evict_step, migrate_step, not_stable, second_of_commit, stabilize_step}
+
+-- the same but for the store
+abbrev pub with_store : {S : Type 0} → Live S → S → Live S
+with_store l s = record { store = s; banks = l.banks; age = l.age; frozen_age = l.frozen_age }
+
+-- The parameters are ghost members and laws of a device and of an object store.
+module _ {D S : Type 0} (disk : D → Disk) (view : S → View D) (parts : S → Parts)
+    (only_now : (d : D) (c : Image) → (disk d).left_since (disk d).moment c → (disk d).may_leave c)
+    (sound_holds : (s : S) (c : Image) → (view s).is_sound → (disk (view s).beneath).may_leave c → Holds (disk (view s).beneath).sectors c (view s).aside.saved) where
+  -- a store that is sound serves
+  is_up : (g : Geometry) (l : Live S) → (view l.store).is_sound → AreSound g (parts l.store) (view l.store).aside l.banks l.age l.frozen_age → IsUp disk view parts g l
+  is_up g l store sound = record {
+    store = store;
+    sound = sound;
+    leaves = leaves_saved g (disk_at disk view parts l) (view l.store).aside.saved sound.saved (λ c left. sound_holds l.store c store left);
+  }
+
+  -- a refusal that applies
+  pub refused : (l : Live S) (c : Command) (why : Refusal) → ((g : Geometry) → IsUp disk view parts g l → refusal_of g (running disk view parts l) c ≡ Some why) →
+      ServesUp disk view parts l c (answer.Refused why) l
+  refused l c why applies g up = record {
+    step = λ other. refused_step g (running disk view parts l) c why (applies g up);
+    up = λ other. up;
+    leaves = leaves_here g (disk_at disk view parts l) (saved_of (view l.store).aside.saved ∷ []) (second (Up (running disk view parts l)) c) (only_now (view l.store).beneath) up.leaves;
+  }
+
+  -- a failure of the device
+  failed : (old new : Live S) (c : Command) →
+      ((g : Geometry) → IsUp disk view parts g old → LeavesOne g (disk_at disk view parts old) (disk_at disk view parts new)
+      (saved_of (view old.store).aside.saved ∷ second (Up (running disk view parts old)) c)) →
+      ServesUp disk view parts old c (answer.Refused refusal.Fault) new
+  failed old new c leaves g up = record { step = λ other. absurd (other refl); up = λ other. absurd (other refl); leaves = leaves g up }
+
+  -- ---- evictions, invocations, loads, stores and what is shown
+
+  module _ (l : Live S) (s : S) (leads : Leads disk (view l.store) (view s)) where
+    leads_along : (g : Geometry) (c : Command) → IsUp disk view parts g l →
+        LeavesOne g (disk_at disk view parts l) (disk (view s).beneath) (saved_of (view l.store).aside.saved ∷ second (Up (running disk view parts l)) c)
+    leads_along g c up =
+        leaves_along g (disk_at disk view parts l) (disk (view s).beneath) (view l.store).aside.saved (second (Up (running disk view parts l)) c) up.sound.saved leads.size (leads.any_moment up.store)
+
+    -- processes act, at an age that doesn't fall
+    pub acted : (banks : BanksState) (age : ℕ) (c : Command) (a : Answer) → l.age ≤ age → Serves l.age (parts l.store) c a age (parts s) →
+        AreCounted (parts s).geometry (objects_of (frames_of (parts s))) banks →
+        ServesUp disk view parts l c a (record { store = s; banks = banks; age = age; frozen_age = l.frozen_age })
+    acted banks age c a later serves counted g up =
+        let geometry : (parts s).geometry ≡ g = serves.geometry ∙ up.sound.geometry in
+        record {
+          step = λ other.
+              subst (λ (x : Aside). Step g (Up (running disk view parts l)) c a (Up (running_of (parts s) x age l.frozen_age))) (sym leads.aside)
+              (subst (λ (h : Geometry). Step h (Up (running disk view parts l)) c a (Up (running_of (parts s) (view l.store).aside age l.frozen_age))) up.sound.geometry
+              (serves.step (frozen_of l.frozen_age (view l.store).aside.frozen) (saved_of (view l.store).aside.saved) (view l.store).aside.to_move other));
+          up = λ other. is_up g (record { store = s; banks = banks; age = age; frozen_age = l.frozen_age }) (leads.sound up.store)
+              (acts_sound g (parts l.store) (parts s) (view l.store).aside (view s).aside l.banks banks l.age age l.frozen_age leads.aside later geometry
+              (subst (λ (h : Geometry). IsSoundFrames h age (frames_of (parts s))) geometry serves.sound)
+              (subst (λ (h : Geometry). AreCounted h (objects_of (frames_of (parts s))) banks) geometry counted) up.sound);
+          leaves = leads_along g c up;
+        }
+
+    module _ (same : AreSame (parts l.store) (parts s)) where
+      up_again : (g : Geometry) → IsUp disk view parts g l → IsUp disk view parts g (with_store l s)
+      up_again g up = is_up g (with_store l s) (leads.sound up.store)
+          (stays_sound g (parts l.store) (parts s) same (view l.store).aside (view s).aside leads.aside l.banks l.age l.frozen_age up.sound)
+
+      -- an object was put out
+      pub evicted : (n : ℕ) → n < length (parts l.store).headers → ServesUp disk view parts l (command.Evict n) answer.Done (with_store l s)
+      evicted n within g up = record {
+        step = λ other.
+            subst (λ (r : Running). Step g (Up (running disk view parts l)) (command.Evict n) answer.Done (Up r))
+            (sym (same_running g (parts l.store) (parts s) same (view l.store).aside (view s).aside leads.aside l.age l.frozen_age))
+            (evict_step g (running disk view parts l) n (subst (λ (m : ℕ). n < m) (keepable_count g l.age (parts l.store) up.sound.now.keepable) within));
+        up = λ other. up_again g up;
+        leaves = leads_along g (command.Evict n) up;
+      }
+
+    pub evict_failed : (n : ℕ) → ServesUp disk view parts l (command.Evict n) (answer.Refused refusal.Fault) (with_store l s)
+    evict_failed n = failed l (with_store l s) (command.Evict n) (λ g up. leads_along g (command.Evict n) up)
+
+  pub bad_number : (l : Live S) (n : ℕ) → length (parts l.store).headers ≤ n → ServesUp disk view parts l (command.Evict n) (answer.Refused refusal.BadNumber) l
+  bad_number l n past = refused l (command.Evict n) refusal.BadNumber
+      (λ g up. evict_refused g (running disk view parts l) n (subst (λ (m : ℕ). m ≤ n) (keepable_count g l.age (parts l.store) up.sound.now.keepable) past))
+
+  -- ---- the stages of a checkpoint
+
+  -- all was frozen
+  pub begun : (l : Live S) (s : S) (n : ℕ) → l.age < 2 ^ 62 → (view l.store).aside.frozen ≡ None → (view l.store).aside.saved.entries ≡ 0 →
+      frames_of (parts s) ≡ frames_of (parts l.store) → (parts s).touched ≡ untouched (parts l.store).geometry → (parts s).geometry ≡ (parts l.store).geometry →
+      n ≡ touched_count (parts l.store).touched →
+      (view s).aside ≡ freezing (frames_of (parts l.store)) (touched_count (parts l.store).touched) (view l.store).aside → (view s).beneath ≡ (view l.store).beneath →
+      ((view l.store).is_sound → (view s).is_sound) →
+      ServesUp disk view parts l command.Checkpoint (answer.Frozen n) (record { store = s; banks = l.banks; age = l.age + 1; frozen_age = l.age + 1 })
+  begun l s n young none home frames touched geometry size beside beneath sound g up =
+      let p = parts l.store in
+      let a = (view l.store).aside in
+      let k = touched_count p.touched in
+      let before = running disk view parts l in
+      record {
+        step = λ other.
+            subst (λ (m : ℕ). Step g (Up before) command.Checkpoint (answer.Frozen m) (Up (running_of (parts s) (view s).aside (l.age + 1) (l.age + 1)))) (sym size)
+            (subst (λ (x : Aside). Step g (Up before) command.Checkpoint (answer.Frozen k) (Up (running_of (parts s) x (l.age + 1) (l.age + 1)))) (sym beside)
+            (subst (λ fs. Step g (Up before) command.Checkpoint (answer.Frozen k)
+            (Up (record { now = world_at (l.age + 1) fs; touched = (parts s).touched; frozen = Some (record { world = world_at (l.age + 1) (frames_of p); size = k; left = k }); saved = saved_of a.saved; to_move = a.to_move }))) (sym frames)
+            (subst (λ (ts : List Bool). Step g (Up before) command.Checkpoint (answer.Frozen k)
+            (Up (record { now = world_at (l.age + 1) (frames_of p); touched = ts; frozen = Some (record { world = world_at (l.age + 1) (frames_of p); size = k; left = k }); saved = saved_of a.saved; to_move = a.to_move })))
+            (sym (touched ∙ ap untouched up.sound.geometry))
+            (checkpoint_step g before young (frozen_none a.frozen l.frozen_age none) home))));
+        up = λ other. is_up g (record { store = s; banks = l.banks; age = l.age + 1; frozen_age = l.age + 1 }) (sound up.store)
+            (subst (λ (x : Aside). AreSound g (parts s) x l.banks (l.age + 1) (l.age + 1)) (sym beside)
+            (begun_sound g p a l.banks l.age l.frozen_age up.sound (parts s) k geometry frames young));
+        leaves = subst (λ (d : D). LeavesOne g (disk_at disk view parts l) (disk d) (saved_of a.saved ∷ [])) (sym beneath)
+            (leaves_here g (disk_at disk view parts l) (saved_of a.saved ∷ []) [] (only_now (view l.store).beneath) up.leaves);
+      }
+
+  -- a stage that writes: what it leaves of the present objects, and what a crash leaves
+  module _ (l : Live S) (s : S) (same : AreSame (parts l.store) (parts s)) (size : (disk (view s).beneath).sectors ≡ (disk (view l.store).beneath).sectors) where
+    -- it came to another state beside the objects
+    came : (g : Geometry) (b : Aside) → (view s).aside ≡ b → (view s).is_sound → AreSound g (parts l.store) b l.banks l.age l.frozen_age → IsUp disk view parts g (with_store l s)
+    came g b beside store sound = is_up g (with_store l s) store (stays_sound g (parts l.store) (parts s) same b (view s).aside beside l.banks l.age l.frozen_age sound)
+
+    stepped : (g : Geometry) (b : Aside) (c : Command) (a : Answer) → (view s).aside ≡ b → Step g (Up (running disk view parts l)) c a (Up (running_of (parts l.store) b l.age l.frozen_age)) →
+        Step g (Up (running disk view parts l)) c a (Up (running disk view parts (with_store l s)))
+    stepped g b c a beside step =
+        subst (λ (r : Running). Step g (Up (running disk view parts l)) c a (Up r)) (sym (same_running g (parts l.store) (parts s) same b (view s).aside beside l.age l.frozen_age)) step
+
+    module _ (f : FrozenFrames) (frozen : (view l.store).aside.frozen ≡ Some f) where
+      now_frozen : Frozen
+      now_frozen = record { world = world_at l.frozen_age f.frames; size = f.size; left = f.left }
+
+      is_frozen : (running disk view parts l).frozen ≡ Some now_frozen
+      unfolding now_frozen
+      is_frozen = frozen_some (view l.store).aside.frozen f l.frozen_age frozen
+
+      -- some more of it is in the log
+      module _ (moments : (view l.store).is_sound → LeavesSaved (disk (view l.store).beneath) (disk (view s).beneath) (view l.store).aside.saved) (n : ℕ) where
+        stabilize_along : (g : Geometry) → IsUp disk view parts g l → LeavesOne g (disk_at disk view parts l) (disk (view s).beneath) (saved_of (view l.store).aside.saved ∷ [])
+        stabilize_along g up = leaves_along g (disk_at disk view parts l) (disk (view s).beneath) (view l.store).aside.saved [] up.sound.saved size (moments up.store)
+
+        pub stabilize_went : (left : ℕ) → left ≡ f.left - n → (view s).aside ≡ stabilized n f (view l.store).aside → ((view l.store).is_sound → (view s).is_sound) →
+            ServesUp disk view parts l (command.Stabilize n) (answer.Left left) (with_store l s)
+        unfolding now_frozen
+        stabilize_went left told beside sound g up = record {
+          step = λ other.
+              stepped g (stabilized n f (view l.store).aside) (command.Stabilize n) (answer.Left left) beside
+              (subst (λ (k : ℕ). Step g (Up (running disk view parts l)) (command.Stabilize n) (answer.Left k) (Up (running_of (parts l.store) (stabilized n f (view l.store).aside) l.age l.frozen_age))) (sym told)
+              (stabilize_step g (running disk view parts l) n now_frozen is_frozen));
+          up = λ other. came g (stabilized n f (view l.store).aside) beside (sound up.store) (stabilized_sound g (parts l.store) (view l.store).aside l.banks l.age l.frozen_age up.sound n f frozen);
+          leaves = stabilize_along g up;
+        }
+
+        pub stabilize_failed : ServesUp disk view parts l (command.Stabilize n) (answer.Refused refusal.Fault) (with_store l s)
+        stabilize_failed = failed l (with_store l s) (command.Stabilize n) stabilize_along
+
+      -- all of it is saved
+      module _ (stable : f.left ≡ 0) (moments : LeavesEither (disk (view l.store).beneath) (disk (view s).beneath) (view l.store).aside.saved (next_saved l.frozen_age f (view l.store).aside.saved)) where
+        commit_along : (g : Geometry) → IsUp disk view parts g l →
+            LeavesOne g (disk_at disk view parts l) (disk (view s).beneath) (saved_of (view l.store).aside.saved ∷ second (Up (running disk view parts l)) command.Commit)
+        unfolding now_frozen
+        commit_along g up =
+            subst (λ (ss : List Saved). LeavesOne g (disk_at disk view parts l) (disk (view s).beneath) (saved_of (view l.store).aside.saved ∷ ss))
+            (sym (second_of_commit g (running disk view parts l) now_frozen is_frozen stable))
+            (leaves_either g (disk_at disk view parts l) (disk (view s).beneath) (view l.store).aside.saved (next_saved l.frozen_age f (view l.store).aside.saved) up.sound.saved
+            (next_sound g (parts l.store) (view l.store).aside l.banks l.age l.frozen_age up.sound f frozen) size moments)
+
+        pub commit_went : (generation : ℕ) → generation ≡ (view l.store).aside.saved.generation + 1 → (view s).aside ≡ store.committed l.frozen_age f (view l.store).aside → (view s).is_sound →
+            ServesUp disk view parts l command.Commit (answer.Committed generation) (with_store l s)
+        unfolding now_frozen
+        commit_went generation told beside sound g up = record {
+          step = λ other.
+              stepped g (store.committed l.frozen_age f (view l.store).aside) command.Commit (answer.Committed generation) beside
+              (subst (λ (k : ℕ). Step g (Up (running disk view parts l)) command.Commit (answer.Committed k) (Up (running_of (parts l.store) (store.committed l.frozen_age f (view l.store).aside) l.age l.frozen_age))) (sym told)
+              (commit_step g (running disk view parts l) now_frozen is_frozen stable));
+          up = λ other. came g (store.committed l.frozen_age f (view l.store).aside) beside sound (committed_sound g (parts l.store) (view l.store).aside l.banks l.age l.frozen_age up.sound f frozen);
+          leaves = commit_along g up;
+        }
+
+        pub commit_failed : ServesUp disk view parts l command.Commit (answer.Refused refusal.Fault) (with_store l s)
+        commit_failed = failed l (with_store l s) command.Commit commit_along
+
+    -- what is saved goes home
+    module _ (n : ℕ) (moments : LeavesEither (disk (view l.store).beneath) (disk (view s).beneath) (view l.store).aside.saved (moved_saved n (view l.store).aside)) where
+      migrate_along : (g : Geometry) → IsUp disk view parts g l →
+          LeavesOne g (disk_at disk view parts l) (disk (view s).beneath) (saved_of (view l.store).aside.saved ∷ second (Up (running disk view parts l)) (command.Migrate n))
+      migrate_along g up = leaves_home g (disk_at disk view parts l) (disk (view s).beneath) (view l.store).aside n up.sound.saved size moments
+
+      pub migrate_went : (left : ℕ) → left ≡ (view l.store).aside.to_move - n → (view s).aside ≡ store.moved n (view l.store).aside → (view s).is_sound →
+          ServesUp disk view parts l (command.Migrate n) (answer.Left left) (with_store l s)
+      migrate_went left told beside sound g up = record {
+        step = λ other.
+            stepped g (store.moved n (view l.store).aside) (command.Migrate n) (answer.Left left) beside
+            (subst (λ (k : ℕ). Step g (Up (running disk view parts l)) (command.Migrate n) (answer.Left k) (Up (running_of (parts l.store) (store.moved n (view l.store).aside) l.age l.frozen_age))) (sym told)
+            (subst (λ (x : Saved). Step g (Up (running disk view parts l)) (command.Migrate n) (answer.Left ((view l.store).aside.to_move - n))
+            (Up (record { now = world_at l.age (frames_of (parts l.store)); touched = (parts l.store).touched; frozen = frozen_of l.frozen_age (view l.store).aside.frozen; saved = x; to_move = (view l.store).aside.to_move - n })))
+            (sym (saved_moved (parts l.store) (view l.store).aside l.age l.frozen_age n))
+            (migrate_step g (running disk view parts l) n)));
+        up = λ other. came g (store.moved n (view l.store).aside) beside sound (moved_sound g (parts l.store) (view l.store).aside l.banks l.age l.frozen_age up.sound n);
+        leaves = migrate_along g up;
+      }
+
+      pub migrate_failed : ServesUp disk view parts l (command.Migrate n) (answer.Refused refusal.Fault) (with_store l s)
+      migrate_failed = failed l (with_store l s) (command.Migrate n) migrate_along
+
+  -- what is left of a checkpoint on its way holds it back
+  pub unstable : (l : Live S) (f : FrozenFrames) (left : ℕ) → (view l.store).aside.frozen ≡ Some f → f.left ≡ left → (left ≡ 0 → ⊥) →
+      ServesUp disk view parts l command.Commit (answer.Refused (refusal.NotStable left)) l
+  unstable l f left frozen is more =
+      subst (λ (n : ℕ). ServesUp disk view parts l command.Commit (answer.Refused (refusal.NotStable n)) l) is
+      (refused l command.Commit (refusal.NotStable f.left)
+      (λ g up. not_stable g (running disk view parts l) (record { world = world_at l.frozen_age f.frames; size = f.size; left = f.left })
+      (frozen_some (view l.store).aside.frozen f l.frozen_age frozen) (λ none. more (sym is ∙ none))))
+
+-- what is frozen can be committed at its age
+pub may_commit : {D S : Type 0} (disk : D → Disk) (view : S → View D) (parts : S → Parts) (l : Live S) → ((g : Geometry) × IsUp disk view parts g l) → (f : FrozenFrames) → (view l.store).aside.frozen ≡ Some f →
+    f.left ≡ 0 → (e : FrozenFrames) × MayCommit l.frozen_age e (view l.store).aside
+may_commit disk view parts l up f frozen stable =
+    let sound = up.1.sound in
+    let held = sound.frozen f frozen in (
+      f,
+      record {
+        frozen = frozen;
+        stable = stable;
+        later = held.after;
+        most = held.sound.sound.age;
+        keepable = subst (λ (g : Geometry). AreKeepable g l.frozen_age f.frames) (sym sound.saved.geometry) held.sound.keepable;
+      },
+    )
+
+-- who failed is told by the device
+pub caused : (p q : Parts) (old new : Disk) (c : Command) (age later : ℕ) (a : Answer) → p.failures ≡ old.failures → q.failures ≡ new.failures → Serves age p c a later q → IsCaused old new a
+caused p q old new c age later a before after serves = record {
+  later = subst (λ (n : ℕ). n ≤ new.failures) before (subst (λ (n : ℕ). p.failures ≤ n) after serves.later);
+  exact = subst (λ (n : ℕ). (a ≡ answer.Refused refusal.Fault) ↔ (n < new.failures)) before (subst (λ (n : ℕ). (a ≡ answer.Refused refusal.Fault) ↔ (p.failures < n)) after serves.cause);
+}
+
+-- what is counted of banks stays, where the objects do
+pub still_counted : (p q : Parts) (banks : BanksState) → q.headers ≡ p.headers → q.contents ≡ p.contents → q.geometry ≡ p.geometry →
+    AreCounted p.geometry (objects_of (frames_of p)) banks → AreCounted q.geometry (objects_of (frames_of q)) banks
+still_counted p q banks headers contents geometry counted =
+    subst (λ (g : Geometry). AreCounted g (objects_of (frames_of q)) banks) (sym geometry)
+    (subst (λ (fs : List Frame). AreCounted p.geometry (objects_of fs) banks) (sym (frames_again p q headers contents)) counted)
+
+-- what is counted of the banks of a store that is up
+pub up_counted : {D S : Type 0} (disk : D → Disk) (view : S → View D) (parts : S → Parts) (l : Live S) → ((g : Geometry) × IsUp disk view parts g l) →
+    AreCounted (parts l.store).geometry (objects_of (frames_of (parts l.store))) l.banks
+up_counted disk view parts l up =
+    subst (λ (g : Geometry). AreCounted g (objects_of (frames_of (parts l.store))) l.banks) (sym up.1.sound.geometry) up.1.sound.counted
+
+-- only an invocation that was carried out raises the age
+pub age_stays : (age : ℕ) (a : Answer) → (a ≡ answer.Done → ⊥) → age_after age a ≡ age
+age_stays age answer.Done other = absurd (other refl)
+age_stays age _ other = refl

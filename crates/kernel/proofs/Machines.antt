@@ -1,0 +1,332 @@
+-- From a store that serves to a machine that is up or down.
+use Rattle.std.proofs.Common.{◌≡◌, ◌↔◌, ◌⊎◌, ℕ, zero, suc, ◌<◌, ◌≤◌, false, List, [], ◌∷◌, ◌++◌, length, refl, sym, ap, ◌∙◌, subst, inl, inr, arith}
+use Rattle.std.specs.Prelude.{slice_index_or}
+use Rattle.std.specs.List.{Contains}
+use Rattle.model.specs.declared.answer.Answer.{Answer}
+use Rattle.model.specs.declared.answer.Answer.TheVariants as answer
+use Rattle.model.specs.declared.answer.Refusal.TheVariants as refusal
+use Rattle.model.specs.declared.command.Command.{Command}
+use Rattle.model.specs.declared.command.Command.TheVariants as command
+use Rattle.model.specs.declared.geometry.Geometry.{Geometry}
+use Rattle.model.specs.Machine.{Machine, Running, Saved, Up, Down, candidates, opened}
+use Rattle.model.specs.Step.{Answers, Reopens, Step, carried_out, opens, refusal_of, second}
+use Rattle.device.specs.Calls.{Only}
+use Rattle.device.specs.Disk.{Image, Disk}
+use Rattle.device.specs.Moments.{Elapses, LeavesOnly}
+use Rattle.device.proofs.Images.{agrees_is}
+use Rattle.device.proofs.Moments.{CountsNow, OnlyNow, goes_on_cut, leaves_on, leaves_weaker, started}
+use Rattle.migrator.specs.declared.open_fault.OpenFault.{OpenFault}
+use Rattle.migrator.specs.declared.open_fault.OpenFault.TheVariants as fault
+use Rattle.capability.specs.Parts.{Parts}
+use Rattle.object_cache.specs.Store.{View}
+use Rattle.kernel.specs.declared.power.Live.{Live}
+use Rattle.kernel.specs.declared.power.Power.{Power}
+use Rattle.kernel.specs.declared.power.Power.TheVariants as power
+use Rattle.kernel.specs.Denotes.{saved_of, DenotesOne, Leaves, LeavesOne}
+use Rattle.kernel.specs.Opening.{IsNoReason, IsSomeDown, Opens, RefusesToOpen, ReopensAs, Reopened, Wakes, refused_by}
+use Rattle.kernel.specs.Standing.{Asks, HasDevice, IsCaused, IsDeviceOf, IsSomeMachine, IsSomeUp, IsUp, Serves, ServesFrom, Stands, disk_of, running}
+use Rattle.kernel.proofs.Crashes.{leaves_end, leaves_here, among}
+use Rattle.kernel.proofs.Denoted.{one_denoted, one_not_bad}
+
+-- ---- steps of the machine
+
+-- a machine that is down takes no other command
+down_step : (g : Geometry) (saved : List Saved) (c : Command) → opens c ≡ false → Step g (Down saved) c (answer.Refused refusal.Down) (Down saved)
+down_step g saved (command.Invoke i) other = inl (refl, refl)
+down_step g saved (command.Load p address) other = inl (refl, refl)
+down_step g saved (command.Store p address value) other = inl (refl, refl)
+down_step g saved (command.Show n) other = inl (refl, refl)
+down_step g saved (command.Evict n) other = inl (refl, refl)
+down_step g saved command.Checkpoint other = inl (refl, refl)
+down_step g saved (command.Stabilize n) other = inl (refl, refl)
+down_step g saved command.Commit other = inl (refl, refl)
+down_step g saved (command.Migrate n) other = inl (refl, refl)
+down_step g saved command.Restart other = cc
+down_step g saved command.Cut other = cc
+
+only_one : (s t : Saved) → Contains (s ∷ []) t → t ≡ s
+only_one s t there = go there.0 there.1 there.2
+  where
+    go : (k : ℕ) → k < length (s ∷ []) → slice_index_or (s ∷ []) k t ≡ t → t ≡ s
+    go zero inside is = sym is
+    go (suc k) inside is = absurd (omega (arith, inside))
+
+nil_behind : (ss : List Saved) → ss ++ [] ≡ ss
+nil_behind [] = refl
+nil_behind (s ∷ ss) = ap (λ (ts : List Saved). s ∷ ts) (nil_behind ss)
+
+-- one that is up is opened again at what is saved
+up_restarts : (g : Geometry) (r : Running) (a : Answer) (after : Machine) → Reopens g (r.saved ∷ []) a after → Answers g r command.Restart a after
+unfolding refusal_of carried_out
+up_restarts g r a after again =
+    let same = only_one r.saved again.0 again.1 in
+    (again.2 ∙ ap (λ (s : Saved). answer.At s.generation s.world.age) same, again.3 ∙ ap (λ (s : Saved). Up (opened g s)) same)
+
+up_is_cut : (g : Geometry) (r : Running) (a : Answer) (after : Machine) → Reopens g (r.saved ∷ []) a after → Answers g r command.Cut a after
+unfolding refusal_of carried_out
+up_is_cut g r a after again =
+    let same = only_one r.saved again.0 again.1 in
+    (again.2 ∙ ap (λ (s : Saved). answer.At s.generation s.world.age) same, again.3 ∙ ap (λ (s : Saved). Up (opened g s)) same)
+
+-- or not, for want of memory
+abbrev IsWanting : List Saved → Answer → Machine → Type 0
+IsWanting saved a after = (a ≡ answer.Refused refusal.NoMemory) × (after ≡ Down saved)
+
+wants_to_restart : (g : Geometry) (r : Running) (a : Answer) (after : Machine) → IsWanting (r.saved ∷ []) a after → Step g (Up r) command.Restart a after
+unfolding refusal_of
+wants_to_restart g r a after none = inr (inl (refl, none.0, none.1))
+
+wants_to_cut : (g : Geometry) (r : Running) (a : Answer) (after : Machine) → IsWanting (r.saved ∷ []) a after → Step g (Up r) command.Cut a after
+unfolding refusal_of
+wants_to_cut g r a after none = inr (inl (refl, none.0, none.1))
+
+reopens_step : (g : Geometry) (m : Machine) (c : Command) (a : Answer) (after : Machine) → (c ≡ command.Restart) ⊎ (c ≡ command.Cut) → ReopensAs g (candidates m) a after → Step g m c a after
+reopens_step g (Up r) c a after (inl is) (inl again) = subst (λ (x : Command). Step g (Up r) x a after) (sym is) (inl (up_restarts g r a after again))
+reopens_step g (Up r) c a after (inr is) (inl again) = subst (λ (x : Command). Step g (Up r) x a after) (sym is) (inl (up_is_cut g r a after again))
+reopens_step g (Up r) c a after (inl is) (inr (inl none)) = subst (λ (x : Command). Step g (Up r) x a after) (sym is) (wants_to_restart g r a after none)
+reopens_step g (Up r) c a after (inr is) (inr (inl none)) = subst (λ (x : Command). Step g (Up r) x a after) (sym is) (wants_to_cut g r a after none)
+reopens_step g (Up r) c a after (inl is) (inr (inr failed)) = subst (λ (x : Command). Step g (Up r) x a after) (sym is) (inr (inr (tt, failed.0, failed.1)))
+reopens_step g (Up r) c a after (inr is) (inr (inr failed)) = subst (λ (x : Command). Step g (Up r) x a after) (sym is) (inr (inr (tt, failed.0, failed.1)))
+reopens_step g (Down saved) c a after (inl is) (inl again) = subst (λ (x : Command). Step g (Down saved) x a after) (sym is) (inl again)
+reopens_step g (Down saved) c a after (inr is) (inl again) = subst (λ (x : Command). Step g (Down saved) x a after) (sym is) (inl again)
+reopens_step g (Down saved) c a after (inl is) (inr (inl none)) = subst (λ (x : Command). Step g (Down saved) x a after) (sym is) (inr (inl (refl, none.0, none.1)))
+reopens_step g (Down saved) c a after (inr is) (inr (inl none)) = subst (λ (x : Command). Step g (Down saved) x a after) (sym is) (inr (inl (refl, none.0, none.1)))
+reopens_step g (Down saved) c a after (inl is) (inr (inr failed)) =
+    subst (λ (x : Command). Step g (Down saved) x a after) (sym is) (inr (inr (refl, failed.0, failed.1 ∙ ap Down (sym (nil_behind saved)))))
+reopens_step g (Down saved) c a after (inr is) (inr (inr failed)) =
+    subst (λ (x : Command). Step g (Down saved) x a after) (sym is) (inr (inr (refl, failed.0, failed.1 ∙ ap Down (sym (nil_behind saved)))))
+
+-- ---- crashes
+
+-- more may be said of a run
+more_left : (g : Geometry) (old new : Disk) (ss ts : List Saved) → LeavesOne g old new ss → LeavesOne g old new (ss ++ ts)
+more_left g old new ss ts run = record {
+  size = run.size;
+  any_moment = leaves_weaker {old = old} {new = new} {P = DenotesOne g old.sectors ss} (DenotesOne g old.sectors (ss ++ ts)) (λ c one. among g old.sectors c ss ts one) run.any_moment;
+}
+
+-- one run after another
+left_on : (g : Geometry) (old mid new : Disk) (ss : List Saved) → LeavesOne g old mid ss → LeavesOne g mid new ss → LeavesOne g old new ss
+left_on g old mid new ss first next = record {
+  size = next.size ∙ first.size;
+  any_moment = leaves_on {old = old} {mid = mid} {new = new} {P = DenotesOne g old.sectors ss} first.any_moment
+      (subst (λ (n : ℕ). LeavesOnly mid new (DenotesOne g n ss)) first.size next.any_moment);
+}
+
+-- the power was cut: a crash leaves what it left
+module _ (g : Geometry) (old new : Disk) (ss : List Saved) (left : old.may_leave new.seen) (durable : Only new.seen new) (size : new.sectors ≡ old.sectors) (before : Leaves g old ss) where
+  pub cut_leaves : Leaves g new ss
+  cut_leaves c now =
+      subst (λ (n : ℕ). DenotesOne g n ss c) (sym size)
+      (subst (DenotesOne g old.sectors ss) (sym (agrees_is c new.seen (durable c now))) (before new.seen left))
+
+  pub cut_left : OnlyNow old → CountsNow old → Elapses old new → LeavesOne g old new ss
+  cut_left only_now counts_now time = record {
+    size = size;
+    any_moment = goes_on_cut {old = old} {mid = old} {new = new} {P = DenotesOne g old.sectors ss} (started old (DenotesOne g old.sectors ss) only_now before) counts_now time left durable;
+  }
+
+module _ {D S : Type 0} (disk : D → Disk) (view : S → View D) (parts : S → Parts)
+    (only_now : (d : D) (c : Image) → (disk d).left_since (disk d).moment c → (disk d).may_leave c)
+    (counts_now : (d : D) (t : ℕ) (c : Image) → t ≤ (disk d).moment → (disk d).may_leave c → (disk d).left_since t c)
+    (seen_left : (d : D) → (disk d).may_leave (disk d).seen) where
+  -- ---- a command that goes on
+
+  -- the store that was asked is up
+  pub asked_up : (l : Live S) (p : Power D S) → p ≡ power.Up l → IsSomeMachine disk view parts p → IsSomeUp disk view parts l
+  asked_up l p is some = go (subst (IsSomeMachine disk view parts) is some)
+    where
+      go : IsSomeMachine disk view parts (power.Up l) → IsSomeUp disk view parts l
+      go (g, Up r, stands) = (g, stands.0)
+      go (g, Down saved, stands) = absurd stands
+
+  -- there is a device beneath, whatever the store is
+  pub asked_device : (p q : Power D S) (c : Command) (a : Answer) → Asks disk view parts p c a q → HasDevice disk view parts q
+  asked_device p (power.Up k) c a asks = tt
+  asked_device p (power.Down e) c a asks = tt
+  asked_device (power.Up l) power.Between c a asks = absurd asks
+  asked_device (power.Down d) power.Between c a asks = absurd asks
+  asked_device power.Between power.Between c a asks = absurd asks
+
+  -- the store answered, or the machine is down
+  pub stays : (p q : Power D S) (c : Command) (a : Answer) → opens c ≡ false → (a ≡ answer.Refused refusal.Fault → ⊥) → Asks disk view parts p c a q → Serves disk view parts p c a q
+  stays (power.Up l) (power.Up k) c a other fine asks g (Up r) stands =
+      let s = asks.0 g stands.0 in
+      subst (λ (x : Running). ServesFrom disk view parts g (Up x) (power.Up l) c a (power.Up k)) (sym stands.1) (record {
+        after = Up (running disk view parts k);
+        step = s.step fine;
+        stands = (s.up fine, refl);
+        leaves = s.leaves;
+      })
+  stays (power.Up l) (power.Up k) c a other fine asks g (Down saved) stands = absurd stands
+  stays (power.Down d) (power.Down e) c a other fine asks g (Up r) stands = absurd stands
+  stays (power.Down d) (power.Down e) c a other fine asks g (Down saved) stands =
+      subst (λ (x : D). ServesFrom disk view parts g (Down saved) (power.Down d) c a (power.Down x)) (sym asks.1)
+      (subst (λ (b : Answer). ServesFrom disk view parts g (Down saved) (power.Down d) c b (power.Down d)) (sym asks.0) (record {
+        after = Down saved;
+        step = down_step g saved c other;
+        stands = stands;
+        leaves = leaves_here g (disk d) saved (second (Down saved) c) (only_now d) stands;
+      }))
+  stays (power.Up l) (power.Down e) c a other fine asks g m stands = absurd asks
+  stays (power.Up l) power.Between c a other fine asks g m stands = absurd asks
+  stays (power.Down d) (power.Up k) c a other fine asks g m stands = absurd asks
+  stays (power.Down d) power.Between c a other fine asks g m stands = absurd asks
+  stays power.Between q c a other fine asks g m stands = absurd asks
+
+  -- the device failed
+  pub goes_down : (p q : Power D S) (c : Command) (a : Answer) (d : D) → a ≡ answer.Refused refusal.Fault → Asks disk view parts p c a q → IsDeviceOf disk view parts q d → Serves disk view parts p c a (power.Down d)
+  goes_down (power.Up l) (power.Up k) c a d told asks is g (Up r) stands =
+      let s = asks.0 g stands.0 in
+      let ss : List Saved = candidates (Up (running disk view parts l)) ++ second (Up (running disk view parts l)) c in
+      let left : LeavesOne g (disk (view l.store).beneath) (disk d) ss = subst (λ (x : D). LeavesOne g (disk (view l.store).beneath) (disk x) ss) (sym is) s.leaves in
+      subst (λ (x : Running). ServesFrom disk view parts g (Up x) (power.Up l) c a (power.Down d)) (sym stands.1) (record {
+        after = Down ss;
+        step = inr (inr (tt, told, refl));
+        stands = leaves_end g (disk (view l.store).beneath) (disk d) ss (counts_now d) left;
+        leaves = left;
+      })
+  goes_down (power.Up l) (power.Up k) c a d told asks is g (Down saved) stands = absurd stands
+  goes_down (power.Down e) (power.Down f) c a d told asks is g m stands = let never = sym asks.0 ∙ told in cc
+  goes_down (power.Up l) (power.Down e) c a d told asks is g m stands = absurd asks
+  goes_down (power.Up l) power.Between c a d told asks is g m stands = absurd asks
+  goes_down (power.Down e) (power.Up k) c a d told asks is g m stands = absurd asks
+  goes_down (power.Down e) power.Between c a d told asks is g m stands = absurd asks
+  goes_down power.Between q c a d told asks is g m stands = absurd asks
+
+  -- and the device tells which it was
+  pub asked_cause : (p q : Power D S) (c : Command) (a : Answer) → Asks disk view parts p c a q → IsCaused (disk_of disk view parts p) (disk_of disk view parts q) a
+  asked_cause (power.Up l) (power.Up k) c a asks = asks.1
+  asked_cause (power.Down d) (power.Down e) c a asks =
+      subst (λ (x : D). IsCaused (disk d) (disk x) a) (sym asks.1) (record {
+        later = omega arith;
+        exact = (λ told. let never = sym asks.0 ∙ told in cc, λ rose. absurd (omega (arith, rose)));
+      })
+  asked_cause (power.Up l) (power.Down e) c a asks = absurd asks
+  asked_cause (power.Up l) power.Between c a asks = absurd asks
+  asked_cause (power.Down d) (power.Up k) c a asks = absurd asks
+  asked_cause (power.Down d) power.Between c a asks = absurd asks
+  asked_cause power.Between q c a asks = absurd asks
+
+  -- the disk beneath is that of the device
+  pub disk_beneath : (p : Power D S) (d : D) → IsDeviceOf disk view parts p d → (old : Disk) (a : Answer) → IsCaused old (disk_of disk view parts p) a → IsCaused old (disk d) a
+  disk_beneath (power.Up l) d is old a caused = subst (λ (x : D). IsCaused old (disk x) a) (sym is) caused
+  disk_beneath (power.Down e) d is old a caused = subst (λ (x : D). IsCaused old (disk x) a) (sym is) caused
+  disk_beneath power.Between d is old a caused = absurd is
+
+  -- ---- opened, and opened again
+
+  pub opens_up : (device : D) (l : Live S) → Wakes disk view parts device l → Opens disk view parts device (power.Up l)
+  opens_up device l wakes =
+      let fs = (view l.store).aside.saved in
+      record {
+        geometry = fs.geometry;
+        saved = saved_of fs;
+        denoted = record { frames = fs; holds = wakes.holds; sound = wakes.up.sound.saved; stands = refl };
+        stands = (wakes.up, sym wakes.at_saved);
+        durable = wakes.durable;
+        looks = wakes.looks;
+        failures = wakes.failures;
+      }
+
+  module _ (device : D) (g : Geometry) (ss : List Saved) (leaves : Leaves g (disk device) ss) where
+    pub rises : (l : Live S) (generation age : ℕ) → Wakes disk view parts device l → generation ≡ (view l.store).aside.saved.generation → age ≡ (view l.store).aside.saved.age →
+        Reopened disk view parts g ss device (answer.At generation age) (power.Up l)
+    rises l generation age wakes same_generation same_age =
+        let fs = (view l.store).aside.saved in
+        let one = one_denoted g (disk device).sectors (disk device).seen ss fs (leaves (disk device).seen (seen_left device)) wakes.holds in
+        let same : fs.geometry ≡ g = one.1.geometry in
+        record {
+          after = Up (opened g (saved_of fs));
+          step = inl (saved_of fs, one.0, ap (λ (n : ℕ). answer.At n age) same_generation ∙ ap (answer.At fs.generation) same_age, refl);
+          stands = (
+            subst (λ (h : Geometry). IsUp disk view parts h l) same wakes.up,
+            subst (λ (h : Geometry). opened h (saved_of fs) ≡ running disk view parts l) same (sym wakes.at_saved),
+          );
+          leaves = record {
+            size = wakes.looks.size;
+            any_moment = leaves_weaker {old = disk device} {new = disk (view l.store).beneath} {P = (disk device).may_leave} (DenotesOne g (disk device).sectors ss) leaves wakes.looks.any_moment;
+          };
+        }
+
+    pub stays_down : (why : OpenFault) (back : D) → RefusesToOpen disk device back why → Reopened disk view parts g ss device (answer.Refused (refused_by why)) (power.Down back)
+    stays_down why back refuses = told why refuses
+      where
+        run : LeavesOne g (disk device) (disk back) ss
+        run = record {
+          size = refuses.looks.size;
+          any_moment = leaves_weaker {old = disk device} {new = disk back} {P = (disk device).may_leave} (DenotesOne g (disk device).sectors ss) leaves refuses.looks.any_moment;
+        }
+
+        still : Leaves g (disk back) ss
+        still c left = subst (λ (n : ℕ). DenotesOne g n ss c) (sym refuses.looks.size) (leaves c (refuses.looks.crash c left))
+
+        told : (e : OpenFault) → RefusesToOpen disk device back e → Reopened disk view parts g ss device (answer.Refused (refused_by e)) (power.Down back)
+        told fault.Failed r = record { after = Down ss; step = inr (inr (refl, refl)); stands = still; leaves = run }
+        told fault.NoMemory r = record { after = Down ss; step = inr (inl (refl, refl)); stands = still; leaves = run }
+        told (fault.Bad reason) r = absurd (one_not_bad g (disk device).sectors (disk device).seen ss reason (leaves (disk device).seen (seen_left device)) r.is_why.1)
+
+  -- a device that a crash of a kernel left is an image
+  pub no_reason : (device back : D) (why : OpenFault) → IsSomeDown disk device → RefusesToOpen disk device back why → IsNoReason why
+  no_reason device back fault.Failed down refuses = tt
+  no_reason device back fault.NoMemory down refuses = tt
+  no_reason device back (fault.Bad reason) down refuses =
+      absurd (one_not_bad down.0 (disk device).sectors (disk device).seen down.1 reason (down.2 (disk device).seen (seen_left device)) refuses.is_why.1)
+
+  -- ---- restarts and power cuts
+
+  -- what a crash leaves beneath a machine
+  beneath : (g : Geometry) (p : Power D S) (m : Machine) (d : D) → Stands disk view parts g p m → IsDeviceOf disk view parts p d → Leaves g (disk d) (candidates m)
+  beneath g (power.Up l) (Up r) d stands is =
+      subst (λ (x : Running). Leaves g (disk d) (x.saved ∷ [])) (sym stands.1) (subst (λ (x : D). Leaves g (disk x) (saved_of (view l.store).aside.saved ∷ [])) (sym is) stands.0.leaves)
+  beneath g (power.Down e) (Down saved) d stands is = subst (λ (x : D). Leaves g (disk x) saved) (sym is) stands
+  beneath g (power.Up l) (Down saved) d stands is = absurd stands
+  beneath g (power.Down e) (Up r) d stands is = absurd stands
+  beneath g power.Between m d stands is = absurd stands
+
+  disk_is : (p : Power D S) (d : D) (P : Disk → Type 0) → IsDeviceOf disk view parts p d → P (disk d) → P (disk_of disk view parts p)
+  disk_is (power.Up l) d P is has = subst (λ (x : D). P (disk x)) is has
+  disk_is (power.Down e) d P is has = subst (λ (x : D). P (disk x)) is has
+  disk_is power.Between d P is has = absurd is
+
+  pub some_down : (p : Power D S) (d : D) → IsSomeMachine disk view parts p → IsDeviceOf disk view parts p d → IsSomeDown disk d
+  some_down p d some is = (some.0, candidates some.1, beneath some.0 p some.1 d some.2 is)
+
+  module _ (p q : Power D S) (d : D) (c : Command) (a : Answer) (is : IsDeviceOf disk view parts p d) (which : (c ≡ command.Restart) ⊎ (c ≡ command.Cut)) where
+    -- the device was opened again, from what a crash left of it
+    pub opened_again : (e : D) → ((g : Geometry) (ss : List Saved) → Leaves g (disk d) ss → LeavesOne g (disk d) (disk e) ss × Leaves g (disk e) ss) →
+        ((g : Geometry) (ss : List Saved) → Leaves g (disk e) ss → Reopened disk view parts g ss e a q) → Serves disk view parts p c a q
+    opened_again e left again g m stands =
+        let ss = candidates m in
+        let first = left g ss (beneath g p m d stands is) in
+        let r = again g ss first.1 in
+        record {
+          after = r.after;
+          step = reopens_step g m c a r.after which r.step;
+          stands = r.stands;
+          leaves = disk_is p d (λ (x : Disk). LeavesOne g x (disk_of disk view parts q) (ss ++ second m c)) is
+              (more_left g (disk d) (disk_of disk view parts q) ss (second m c) (left_on g (disk d) (disk e) (disk_of disk view parts q) ss first.0 r.leaves));
+        }
+
+    pub again_caused : (e : D) → (disk e).failures ≡ (disk d).failures → IsCaused (disk e) (disk_of disk view parts q) a → IsCaused (disk_of disk view parts p) (disk_of disk view parts q) a
+    again_caused e same caused = disk_is p d (λ (x : Disk). IsCaused x (disk_of disk view parts q) a) is (record {
+      later = subst (λ (n : ℕ). n ≤ (disk_of disk view parts q).failures) same caused.later;
+      exact = subst (λ (n : ℕ). (a ≡ answer.Refused refusal.Fault) ↔ (n < (disk_of disk view parts q).failures)) same caused.exact;
+    })
+
+  -- the device was left alone, or its power was cut
+  pub left_alone : (d : D) (g : Geometry) (ss : List Saved) → Leaves g (disk d) ss → LeavesOne g (disk d) (disk d) ss × Leaves g (disk d) ss
+  left_alone d g ss leaves = (
+    subst (λ (ts : List Saved). LeavesOne g (disk d) (disk d) ts) (nil_behind ss) (leaves_here g (disk d) ss [] (only_now d) leaves),
+    leaves,
+  )
+
+  pub left_cut : (d e : D) → (disk d).may_leave (disk e).seen → Only (disk e).seen (disk e) → (disk e).sectors ≡ (disk d).sectors → Elapses (disk d) (disk e) →
+      (g : Geometry) (ss : List Saved) → Leaves g (disk d) ss → LeavesOne g (disk d) (disk e) ss × Leaves g (disk e) ss
+  left_cut d e left durable size time g ss leaves = (
+    cut_left g (disk d) (disk e) ss left durable size leaves (only_now d) (counts_now d) time,
+    cut_leaves g (disk d) (disk e) ss left durable size leaves,
+  )
+
+  pub some_cut : (d e : D) → (disk d).may_leave (disk e).seen → Only (disk e).seen (disk e) → (disk e).sectors ≡ (disk d).sectors → Elapses (disk d) (disk e) → IsSomeDown disk d → IsSomeDown disk e
+  some_cut d e left durable size time down = (down.0, down.1, (left_cut d e left durable size time down.0 down.1 down.2).1)

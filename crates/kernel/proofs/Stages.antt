@@ -1,0 +1,204 @@
+-- What is sound stays sound through each stage of a checkpoint.
+use Rattle.std.proofs.Common.{◌≡◌, ℕ, ◌+◌, ◌-◌, ◌^◌, ◌<◌, ◌≤◌, Bool, true, false, Option, None, Some, List, refl, sym, ap, ◌∙◌, subst, arith}
+use Rattle.std.specs.Prelude.{◌==◌, if◌then◌else◌, option_map}
+use Rattle.std.specs.Option.{is_some}
+use Rattle.model.specs.declared.frame.Frame.{Frame}
+use Rattle.model.specs.declared.geometry.Geometry.{Geometry}
+use Rattle.model.specs.Frame.{frames_in, objects_of}
+use Rattle.model.specs.Keepable.{AreKeepable, IsSoundFrames, world_at}
+use Rattle.model.specs.Machine.{Running}
+use Rattle.model.specs.Sound.{IsSound}
+use Rattle.model.specs.Step.{at_home, moved}
+use Rattle.capability.specs.Parts.{Parts, frames_of}
+use Rattle.capability.proofs.Keeping.{keepable_later}
+use Rattle.migrator.specs.Put.{most}
+use Rattle.migrator.specs.Saved.{SavedFrames, home_saved}
+use Rattle.object_cache.specs.Store.{Aside, FrozenFrames, freezing, next_saved, moved_saved, stabilized}
+use Rattle.object_cache.specs.Store as store
+use Rattle.space_bank.specs.Banks.{AreCounted, BanksState}
+use Rattle.processes.proofs.Serving.{AreSame, same_frames}
+use Rattle.kernel.specs.Denotes.{saved_of, IsSoundSaved}
+use Rattle.kernel.specs.Standing.{AreSound, IsSoundFrozen, frozen_of, running_of}
+
+-- ---- frames at a later age
+
+world_later : (g : Geometry) (age later : ℕ) (fs : List Frame) → later ≤ 2 ^ 62 → IsSound g (world_at age fs) → IsSound g (world_at later fs)
+world_later g age later fs within w = record {
+  size = w.size;
+  kinds = w.kinds;
+  shapes = w.shapes;
+  words = w.words;
+  slots = w.slots;
+  register_0 = w.register_0;
+  spaces = w.spaces;
+  annexes = w.annexes;
+  one_root = w.one_root;
+  some_root = w.some_root;
+  unowned = w.unowned;
+  owners = w.owners;
+  prime = w.prime;
+  chains = w.chains;
+  limits = w.limits;
+  age = within;
+}
+
+frames_later : (g : Geometry) (age later : ℕ) (fs : List Frame) → age ≤ later → later ≤ 2 ^ 62 → IsSoundFrames g age fs → IsSoundFrames g later fs
+frames_later g age later fs le within f = record {
+  keepable = keepable_later g age later fs le f.keepable;
+  current = f.current;
+  sound = world_later g age later fs within f.sound;
+}
+
+-- sound frames can be put out and read back
+pub keepable_most : (g : Geometry) (p : Parts) (age : ℕ) → p.geometry ≡ g → IsSoundFrames g age (frames_of p) → AreKeepable p.geometry most (frames_of p)
+keepable_most g p age same f =
+    subst (λ (h : Geometry). AreKeepable h most (frames_of p)) (sym same)
+    (keepable_later g age most (frames_of p) (omega (arith, f.sound.age)) f.keepable)
+
+-- ---- the same objects
+
+pub frames_again : (p q : Parts) → q.headers ≡ p.headers → q.contents ≡ p.contents → frames_of q ≡ frames_of p
+frames_again p q headers contents = ap (λ hs. frames_in hs q.contents) headers ∙ ap (frames_in p.headers) contents
+
+module _ (g : Geometry) (p q : Parts) (same : AreSame p q) (a b : Aside) (beside : b ≡ a) where
+  pub same_running : (age frozen_age : ℕ) → running_of q b age frozen_age ≡ running_of p a age frozen_age
+  same_running age frozen_age =
+      ap (λ (x : Aside). running_of q x age frozen_age) beside
+      ∙ ap (λ (fs : List Frame). let r : Running = record { now = world_at age fs; touched = q.touched; frozen = frozen_of frozen_age a.frozen; saved = saved_of a.saved; to_move = a.to_move } in r) (same_frames p q same)
+      ∙ ap (λ (ts : List Bool). let r : Running = record { now = world_at age (frames_of p); touched = ts; frozen = frozen_of frozen_age a.frozen; saved = saved_of a.saved; to_move = a.to_move } in r) same.touched
+
+  pub stays_sound : (banks : BanksState) (age frozen_age : ℕ) → AreSound g p a banks age frozen_age → AreSound g q b banks age frozen_age
+  stays_sound banks age frozen_age s = subst (λ (x : Aside). AreSound g q x banks age frozen_age) (sym beside) (record {
+    geometry = same.geometry ∙ s.geometry;
+    now = subst (λ (fs : List Frame). IsSoundFrames g age fs) (sym (same_frames p q same)) s.now;
+    counted = subst (λ (fs : List Frame). AreCounted g (objects_of fs) banks) (sym (same_frames p q same)) s.counted;
+    frozen = s.frozen;
+    saved = s.saved;
+    order = s.order;
+  })
+
+-- other objects, at an age that didn't fall
+pub acts_sound : (g : Geometry) (p q : Parts) (a b : Aside) (old_banks banks : BanksState) (old_age age frozen_age : ℕ) → b ≡ a → old_age ≤ age → q.geometry ≡ g → IsSoundFrames g age (frames_of q) →
+    AreCounted g (objects_of (frames_of q)) banks → AreSound g p a old_banks old_age frozen_age → AreSound g q b banks age frozen_age
+acts_sound g p q a b old_banks banks old_age age frozen_age beside later geometry now counted s = subst (λ (x : Aside). AreSound g q x banks age frozen_age) (sym beside) (record {
+  geometry = geometry;
+  now = now;
+  counted = counted;
+  frozen = λ f is. let h = s.frozen f is in record { after = h.after; before = omega (arith, h.before, later); sound = h.sound };
+  saved = s.saved;
+  order = omega (arith, s.order, later);
+})
+
+-- ---- stages
+
+module _ (g : Geometry) (p : Parts) (a : Aside) (banks : BanksState) (age frozen_age : ℕ) (s : AreSound g p a banks age frozen_age) where
+  -- all is frozen, one age later
+  pub begun_sound : (q : Parts) (n : ℕ) → q.geometry ≡ p.geometry → frames_of q ≡ frames_of p → age < 2 ^ 62 → AreSound g q (freezing (frames_of p) n a) banks (age + 1) (age + 1)
+  begun_sound q n geometry frames young =
+      let now : IsSoundFrames g (age + 1) (frames_of p) = frames_later g age (age + 1) (frames_of p) (omega arith) (omega (arith, young)) s.now in
+      record {
+        geometry = geometry ∙ s.geometry;
+        now = subst (λ (fs : List Frame). IsSoundFrames g (age + 1) fs) (sym frames) now;
+        counted = subst (λ (fs : List Frame). AreCounted g (objects_of fs) banks) (sym frames) s.counted;
+        frozen = λ f is. frozen_now f is now;
+        saved = s.saved;
+        order = omega (arith, s.order);
+      }
+    where
+      frozen_now : (f : FrozenFrames) → Some (record { frames = frames_of p; size = n; left = n }) ≡ Some f → IsSoundFrames g (age + 1) (frames_of p) → IsSoundFrozen g a.saved.age (age + 1) (age + 1) f
+      frozen_now f is now =
+          let fs : FrozenFrames = record { frames = frames_of p; size = n; left = n } in
+          let same : fs ≡ f = cc in
+          subst (IsSoundFrozen g a.saved.age (age + 1) (age + 1)) same (record { after = omega (arith, s.order); before = omega arith; sound = now })
+
+  -- some more of it is in the log
+  pub stabilized_sound : (n : ℕ) (f : FrozenFrames) → a.frozen ≡ Some f → AreSound g p (stabilized n f a) banks age frozen_age
+  stabilized_sound n f is = record {
+    geometry = s.geometry;
+    now = s.now;
+    counted = s.counted;
+    frozen = λ e same. still e same;
+    saved = s.saved;
+    order = s.order;
+  }
+    where
+      still : (e : FrozenFrames) → Some (record { frames = f.frames; size = f.size; left = f.left - n }) ≡ Some e → IsSoundFrozen g a.saved.age frozen_age age e
+      still e same =
+          let was = s.frozen f is in
+          let fs : FrozenFrames = record { frames = f.frames; size = f.size; left = f.left - n } in
+          let it : fs ≡ e = cc in
+          subst (IsSoundFrozen g a.saved.age frozen_age age) it (record { after = was.after; before = was.before; sound = was.sound })
+
+  -- it is saved
+  pub next_sound : (f : FrozenFrames) → a.frozen ≡ Some f → IsSoundSaved g (next_saved frozen_age f a.saved)
+  next_sound f is = record { geometry = s.saved.geometry; sound = (s.frozen f is).sound }
+
+  pub committed_sound : (f : FrozenFrames) → a.frozen ≡ Some f → AreSound g p (store.committed frozen_age f a) banks age frozen_age
+  committed_sound f is = record {
+    geometry = s.geometry;
+    now = s.now;
+    counted = s.counted;
+    frozen = λ e same. none e same;
+    saved = next_sound f is;
+    order = (s.frozen f is).before;
+  }
+    where
+      none : (e : FrozenFrames) → None ≡ Some e → IsSoundFrozen g frozen_age frozen_age age e
+      none e same = cc
+
+  -- and goes home
+  home_or_not : (b : Bool) → IsSoundSaved g (if b then home_saved a.saved else a.saved)
+  home_or_not true = record { geometry = s.saved.geometry; sound = s.saved.sound }
+  home_or_not false = s.saved
+
+  age_or_not : (b : Bool) → (if b then home_saved a.saved else a.saved).age ≡ a.saved.age
+  age_or_not true = refl
+  age_or_not false = refl
+
+  pub moved_saved_sound : (n : ℕ) → IsSoundSaved g (moved_saved n a)
+  moved_saved_sound n = home_or_not (a.to_move - n == 0)
+
+  pub moved_sound : (n : ℕ) → AreSound g p (store.moved n a) banks age frozen_age
+  moved_sound n =
+      let same : (moved_saved n a).age ≡ a.saved.age = age_or_not (a.to_move - n == 0) in
+      record {
+        geometry = s.geometry;
+        now = s.now;
+        counted = s.counted;
+        frozen = λ f is. subst (λ (k : ℕ). IsSoundFrozen g k frozen_age age f) (sym same) (s.frozen f is);
+        saved = moved_saved_sound n;
+        order = subst (λ (k : ℕ). k ≤ age) (sym same) s.order;
+      }
+
+-- what is saved after a migration is that of the machine
+saved_if : (b : Bool) (fs : SavedFrames) → saved_of (if b then home_saved fs else fs) ≡ (if b then at_home (saved_of fs) else saved_of fs)
+saved_if true fs = refl
+saved_if false fs = refl
+
+pub saved_moved : (p : Parts) (a : Aside) (age frozen_age n : ℕ) → saved_of (moved_saved n a) ≡ moved (running_of p a age frozen_age) n
+saved_moved p a age frozen_age n = saved_if (a.to_move - n == 0) a.saved
+
+-- ---- the checkpoint on its way
+
+pub frozen_some : (o : Option FrozenFrames) (f : FrozenFrames) (age : ℕ) → o ≡ Some f → frozen_of age o ≡ Some (record { world = world_at age f.frames; size = f.size; left = f.left })
+frozen_some o f age is = ap (frozen_of age) is
+
+pub frozen_none : (o : Option FrozenFrames) (age : ℕ) → o ≡ None → frozen_of age o ≡ None
+frozen_none o age is = ap (frozen_of age) is
+
+-- whether there is one is told by what is left of it
+pub none_left : (o : Option FrozenFrames) → None ≡ option_map (λ (f : FrozenFrames). f.left) o → o ≡ None
+none_left None told = refl
+none_left (Some f) told = cc
+
+pub some_left : (o : Option FrozenFrames) (n : ℕ) → Some n ≡ option_map (λ (f : FrozenFrames). f.left) o → (f : FrozenFrames) × (o ≡ Some f) × (f.left ≡ n)
+some_left None n told = let never : None ≡ Some n = sym told in cc
+some_left (Some f) n told = (f, refl, let same : n ≡ f.left = cc in sym same)
+
+pub some_there : (o : Option FrozenFrames) → is_some (option_map (λ (f : FrozenFrames). f.left) o) ≡ true → (f : FrozenFrames) × (o ≡ Some f)
+some_there None told = cc
+some_there (Some f) told = (f, refl)
+
+pub none_there : (o : Option FrozenFrames) → is_some (option_map (λ (f : FrozenFrames). f.left) o) ≡ false → o ≡ None
+none_there None told = refl
+none_there (Some f) told = cc

@@ -1,0 +1,40 @@
+use Rattle.std.proofs.Common.{length, ap, arith}
+use Rattle.processes.proofs.Serving.{AreSame}
+use Rattle.kernel.proofs.Acts.{bad_number, evict_failed, evicted}
+use Rattle.kernel.proofs.Stages.{keepable_most}
+use Rattle.kernel.proofs.cache.evict.Goals as goal
+
+pub returns-then-number-count-clause-serves : goal.returns-then-number-count-clause-serves
+returns-then-number-count-clause-serves g c =
+    let disk = g.D.Device.disk in
+    let view = g.S.ObjectStore.view in
+    let parts = g.S.PresentFrames.parts in
+    let only = g.met.D.Device.only_now in
+    let holds = g.met.S.ObjectStore.sound_holds in
+    bad_number disk view parts only holds c.args.live.now c.args.number (omega (arith, c.if-number-count.true, c.count.ensures, ap length c.table.ensures))
+
+pub evict-requires-clause-keepable : goal.evict-requires-clause-keepable
+evict-requires-clause-keepable g c =
+    let up = c.requires in
+    keepable_most up.0 (g.S.PresentFrames.parts c.args.live.now.store) c.args.live.now.age up.1.sound.geometry up.1.sound.now
+
+pub returns-in-Ok-clause-serves : goal.returns-in-Ok-clause-serves
+returns-in-Ok-clause-serves g c =
+    let disk = g.D.Device.disk in
+    let view = g.S.ObjectStore.view in
+    let parts = g.S.PresentFrames.parts in
+    let only = g.met.D.Device.only_now in
+    let holds = g.met.S.ObjectStore.sound_holds in
+    let said = c.in-Ok.ensures in
+    let same : AreSame (parts c.args.live.now.store) (parts c.evict.new.self) = record { headers = said.headers; contents = said.contents; touched = said.touched; geometry = said.geometry } in
+    evicted disk view parts only holds c.args.live.now c.evict.new.self (g.met.S.ObjectStore.leads c.args.live.now.store c.evict.new.self said.leads) same c.args.number
+    (omega (arith, c.if-number-count.false, c.count.ensures, ap length c.table.ensures))
+
+pub returns-in-Err-clause-serves : goal.returns-in-Err-clause-serves
+returns-in-Err-clause-serves g c =
+    let disk = g.D.Device.disk in
+    let view = g.S.ObjectStore.view in
+    let parts = g.S.PresentFrames.parts in
+    let only = g.met.D.Device.only_now in
+    let holds = g.met.S.ObjectStore.sound_holds in
+    evict_failed disk view parts only holds c.args.live.now c.evict.new.self (g.met.S.ObjectStore.leads c.args.live.now.store c.evict.new.self c.in-Err.ensures.leads) c.args.number

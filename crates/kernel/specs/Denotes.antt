@@ -1,0 +1,38 @@
+-- What an image denotes, whole: none of the ten reasons to refuse it holds.
+use Rattle.std.specs.Prelude.{◌≡◌, ◌⊎◌, ℕ, List, [], ◌∷◌}
+use Rattle.model.specs.declared.geometry.Geometry.{Geometry}
+use Rattle.model.specs.Keepable.{IsSoundFrames, world_at}
+use Rattle.model.specs.Machine.{Saved}
+use Rattle.device.specs.Disk.{Image, Disk}
+use Rattle.device.specs.Moments.{LeavesOnly}
+use Rattle.migrator.specs.Saved.{SavedFrames, Holds}
+
+-- the saved part that saved frames stand for
+abbrev pub saved_of : SavedFrames → Saved
+saved_of fs = record { world = world_at fs.age fs.frames; generation = fs.generation; entries = fs.entries }
+
+-- saved frames of a geometry that stand for a sound world
+pub record IsSoundSaved (g : Geometry) (fs : SavedFrames) : Type 0 where
+  pub geometry : fs.geometry ≡ g
+  pub sound : IsSoundFrames g fs.age fs.frames
+
+-- so many sectors denote a saved part: they hold frames that stand for it
+pub record Denotes (g : Geometry) (size : ℕ) (c : Image) (saved : Saved) : Type 0 where
+  pub frames : SavedFrames
+  pub holds : Holds size c frames
+  pub sound : IsSoundSaved g frames
+  pub stands : saved_of frames ≡ saved
+
+-- or one of several
+abbrev pub DenotesOne : Geometry → ℕ → List Saved → Image → Type 0
+DenotesOne g size [] c = ⊥
+DenotesOne g size (s ∷ ss) c = Denotes g size c s ⊎ DenotesOne g size ss c
+
+-- each crash now leaves what denotes one of these
+abbrev pub Leaves : Geometry → Disk → List Saved → Type 0
+Leaves g disk saved = (c : Image) → disk.may_leave c → DenotesOne g disk.sectors saved c
+
+-- a crash at any moment since old leaves what denotes one of these, and there are as many sectors
+pub record LeavesOne (g : Geometry) (old new : Disk) (saved : List Saved) : Type 0 where
+  pub size : new.sectors ≡ old.sectors
+  pub any_moment : LeavesOnly old new (DenotesOne g old.sectors saved)

@@ -1,0 +1,81 @@
+// The kernel.
+ghost use Rattle.std.specs.Prelude.{◌≡◌, IfOk, IfErr};
+ghost use Rattle.kernel.specs.Standing.{IsCaused, IsDeviceOf, IsTold, Serves, disk_of};
+ghost use Rattle.kernel.specs.Opening.{Opens, RefusesToOpen};
+
+use crate::machine::Machine;
+use device::Device;
+use migrator::{Checkpoint, OpenRefused};
+use model::{Answer, Command};
+use object_cache::ObjectStore;
+use std::alloc::Global;
+use std::marker::Model;
+
+/// A persistent machine of objects over a device (EROS, KeyKOS): what processes do, the checkpoint
+/// of the whole machine, and what a restart or a power cut leaves of it.
+///
+/// It is up at a store, or down after a failure of the device until it is opened again.
+#[derive(Drop)]
+pub struct Kernel<D: Device, S: ObjectStore<D>> {
+    machine: Machine<D, S>,
+}
+
+impl<D: Device, S: ObjectStore<D>> Model for Kernel<D, S> {
+    ghost use Rattle.kernel.specs.declared.power.Power.{Power};
+    ghost use Rattle.kernel.specs.Standing.{IsSomeMachine};
+
+    ghost Value = { Power D S };
+
+    ghost view = { λ k. k.machine.power };
+
+    ghost invariant = { λ k. IsSomeMachine D.disk S.view S.parts k.machine.power };
+}
+
+impl<D: Device, S: ObjectStore<D>> Kernel<D, S> {
+    /// Opens a device, and writes nothing to it: the machine is up at the saved part that its
+    /// sectors denote.
+    ///
+    /// A refusal hands the device back: `Failed` exactly where the device failed, `NoMemory` only
+    /// where memory ran out, and else the least of the ten reasons to refuse an image. What a crash
+    /// of a kernel leaves is refused for none of them.
+    pub fn open(alloc: Global, device: D, setting: S::Setting) -> Result<Self, OpenRefused<D>>
+        ensures opened { IfOk result (λ k. Opens D.disk S.view S.parts device k) }
+        ensures refused { IfErr result (λ r. RefusesToOpen D.disk device r.device r.fault) }
+    {
+        match Machine::<D, S>::open(alloc, device, setting) {
+            Ok(machine) => Ok(Kernel { machine }),
+            Err(refused) => Err(refused),
+        }
+    }
+
+    /// Serves one command, as the machine does.
+    ///
+    /// Of the refusals that apply the first is answered (see `Refusal`), and changes nothing.
+    /// `NoMemory` may stand in place of the answer to a command that takes memory, and `Fault` is
+    /// answered exactly where the device failed: then the machine is down, and takes only
+    /// `Restart` and `Cut`. `Restart` and `Cut` that are refused leave it down.
+    ///
+    /// A crash at any moment leaves what was saved, or, in a `Commit` or in the `Migrate` that
+    /// brings the last object home, what that is to save.
+    pub fn step(&mut self, alloc: Global, command: Command) -> Answer
+        ensures serves { Serves D.disk S.view S.parts self.old command result self.new }
+        ensures cause { IsCaused (disk_of D.disk S.view S.parts self.old)
+            (disk_of D.disk S.view S.parts self.new) result }
+    {
+        self.machine.step(alloc, command)
+    }
+
+    /// Generation, age and entries of the committed checkpoint, where the machine is up.
+    pub fn saved(&self) -> Option<Checkpoint>
+        ensures { IsTold D.disk S.view S.parts self.now result }
+    {
+        self.machine.saved()
+    }
+
+    /// Gives the device back, and makes no call of it.
+    pub fn into_device(self) -> D
+        ensures { IsDeviceOf D.disk S.view S.parts self result }
+    {
+        self.machine.into_device()
+    }
+}

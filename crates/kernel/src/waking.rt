@@ -1,0 +1,104 @@
+// A store made of a device, and a device taken back.
+ghost use Rattle.std.specs.Prelude.{◌≡◌, ◌↔◌, ◌<◌, ◌≤◌, ◌^◌, IfOk, IfErr, OnOk, IsErrOf};
+ghost use Rattle.model.specs.Frame.{objects_of};
+ghost use Rattle.model.specs.Keepable.{AreKeepable, IsSoundFrames};
+ghost use Rattle.capability.specs.Parts.{LooksUp, frames_of};
+ghost use Rattle.space_bank.specs.Banks.{AreCounted};
+ghost use Rattle.kernel.specs.Standing.{HasDevice, IsDeviceOf};
+ghost use Rattle.kernel.specs.Opening.{IsUnfit, RefusesToOpen, Wakes, fault_of};
+
+use crate::power::{Live, Power};
+use capability::{PrepareFault, PresentFrames};
+use consistency::{CheckFault, Inconsistency, check};
+use device::Device;
+use layout::BadImage;
+use migrator::{OpenFault, OpenRefused};
+use object_cache::ObjectStore;
+use space_bank::Banks;
+use std::alloc::Global;
+
+// Why a device isn't opened where its frames didn't pass the check.
+fn unchecked(fault: CheckFault) -> OpenFault
+    ensures { result ≡ fault_of fault }
+{
+    match fault {
+        CheckFault::NoMemory => OpenFault::NoMemory,
+        CheckFault::Failed => OpenFault::Failed,
+        CheckFault::Inconsistent(Inconsistency::BadCapability) => {
+            OpenFault::Bad(BadImage::BadCapability)
+        }
+        CheckFault::Inconsistent(Inconsistency::BadProcess) => {
+            OpenFault::Bad(BadImage::BadProcess)
+        }
+        CheckFault::Inconsistent(Inconsistency::BadBank) => OpenFault::Bad(BadImage::BadBank),
+    }
+}
+
+// Looks whether the frames of a store stand for a sound world at an age, and counts its banks.
+fn examine<F: PresentFrames>(alloc: Global, store: &mut F, age: u64) -> Result<Banks, OpenFault>
+    requires keepable { AreKeepable (F.parts store.old).geometry age
+        (frames_of (F.parts store.old)) }
+    requires most { age ≤ 2 ^ 62 }
+    ensures sound { OnOk result (IsSoundFrames (F.parts store.old).geometry age
+        (frames_of (F.parts store.old))) }
+    ensures counted { IfOk result (AreCounted (F.parts store.old).geometry
+        (objects_of (frames_of (F.parts store.old)))) }
+    ensures bad { IfErr result (IsUnfit (frames_of (F.parts store.old))) }
+    ensures aside { LooksUp F.parts F.LeadsTo store.old store.new }
+    ensures later { (F.parts store.old).failures ≤ (F.parts store.new).failures }
+    ensures cause { IsErrOf result OpenFault.Failed
+        ↔ ((F.parts store.old).failures < (F.parts store.new).failures) }
+{
+    match check(alloc, store, age) {
+        Ok(()) => match Banks::count(alloc, store) {
+            Ok(banks) => Ok(banks),
+            Err(PrepareFault::Failed) => Err(OpenFault::Failed),
+            Err(PrepareFault::NoMemory) => Err(OpenFault::NoMemory),
+            Err(PrepareFault::LogFull) => unreachable!(),
+        },
+        Err(fault) => Err(unchecked(fault)),
+    }
+}
+
+/// Makes a store of a device, and writes nothing to it: it is at what is saved. A refusal hands the
+/// device back.
+pub fn wake<D: Device, S: ObjectStore<D>>(
+    alloc: Global,
+    device: D,
+    setting: S::Setting,
+) -> Result<Live<S>, OpenRefused<D>>
+    ensures opened { IfOk result (λ l. Wakes D.disk S.view S.parts device l) }
+    ensures refused { IfErr result (λ r. RefusesToOpen D.disk device r.device r.fault) }
+{
+    match S::open(alloc, device, setting) {
+        Ok(store) => {
+            let mut store = store;
+            let age = store.saved().age;
+            match examine(alloc, &mut store, age) {
+                Ok(banks) => Ok(Live {
+                    store,
+                    banks,
+                    age,
+                    frozen_age: age,
+                }),
+                Err(fault) => Err(OpenRefused {
+                    fault,
+                    device: store.into_device(),
+                }),
+            }
+        }
+        Err(refused) => Err(refused),
+    }
+}
+
+/// The device of a kernel, on which no call is made.
+pub fn device_of<D: Device, S: ObjectStore<D>>(power: Power<D, S>) -> D
+    requires { HasDevice D.disk S.view S.parts power }
+    ensures { IsDeviceOf D.disk S.view S.parts power result }
+{
+    match power {
+        Power::Up(live) => live.store.into_device(),
+        Power::Down(device) => device,
+        Power::Between => unreachable!(),
+    }
+}

@@ -1,0 +1,5 @@
+mod Counted
+mod MemoryServing
+mod MemorySteps
+pub mod Serving
+pub mod Steps

@@ -1,0 +1,75 @@
+use Rattle.std.proofs.Common.{Ok, Err}
+use Rattle.std.proofs.Common.{List, ap}
+use Rattle.model.specs.declared.frame.Frame.{Frame}
+use Rattle.model.specs.Frame.{objects_of}
+use Rattle.gate.proofs.Known.{same_frames}
+use Rattle.gate.proofs.Standing.{LooksAs}
+use Rattle.processes.proofs.Counted.{looked_counted, same_counted, stored_counted}
+use Rattle.processes.proofs.MemoryServing.{early_store, store_answers, store_is_refused}
+use Rattle.processes.proofs.memory.store.Goals as goal
+
+pub returns-in-Some-clause-serves : goal.returns-in-Some-clause-serves
+returns-in-Some-clause-serves g c =
+    early_store g.F.PresentFrames.parts g.F.PresentFrames.LeadsTo c.args.age c.args.store.now c.early.new.store c.args.process c.args.address c.in-Some.refusal
+    c.requires c.in-Some.ensures.why c.early.ensures.aside c.early.ensures.later c.in-Some.ensures.cause c.args.word
+
+pub returns-in-Ok-Ok-clause-serves : goal.returns-in-Ok-Ok-clause-serves
+returns-in-Ok-Ok-clause-serves g c =
+    let said = c.in-Ok-Ok.ensures in
+    store_answers g.F.PresentFrames.parts g.F.PresentFrames.LeadsTo c.args.age c.args.store.now c.early.new.store c.store.new.frames c.args.process c.args.address
+    c.requires c.in_default.ensures.why c.early.ensures.aside c.early.ensures.later c.in_default.ensures.cause c.args.word said.geometry said.later
+    c.in-Ok-Ok.field-0 (Ok tt) c.in-Ok-Ok.field-0-is said.stored said.sound said.cause
+
+pub returns-in-Ok-Err-clause-serves : goal.returns-in-Ok-Err-clause-serves
+returns-in-Ok-Err-clause-serves g c =
+    let said = c.in-Ok-Err.ensures in
+    store_answers g.F.PresentFrames.parts g.F.PresentFrames.LeadsTo c.args.age c.args.store.now c.early.new.store c.store.new.frames c.args.process c.args.address
+    c.requires c.in_default.ensures.why c.early.ensures.aside c.early.ensures.later c.in_default.ensures.cause c.args.word said.geometry said.later
+    c.in-Ok-Err.field-0 (Err c.in-Ok-Err.fault) c.in-Ok-Err.field-0-is said.stored said.sound said.cause
+
+pub returns-in-Err-clause-serves : goal.returns-in-Err-clause-serves
+returns-in-Err-clause-serves g c =
+    let said = c.in-Err.ensures in
+    store_is_refused g.F.PresentFrames.parts g.F.PresentFrames.LeadsTo c.args.age c.args.store.now c.early.new.store c.store.new.frames c.args.process c.args.address
+    c.requires c.in_default.ensures.why c.early.ensures.aside c.early.ensures.later c.in_default.ensures.cause c.args.word said.geometry said.later
+    c.in-Err.fault c.refusal.result c.refusal.ensures said.unchanged said.cause said.full
+
+pub returns-in-Some-clause-counted : goal.returns-in-Some-clause-counted
+returns-in-Some-clause-counted g c banks counted =
+    let old = g.F.PresentFrames.parts c.args.store.now in
+    let mid = g.F.PresentFrames.parts c.early.new.store in
+    let aside = c.early.ensures.aside in
+    let looks : LooksAs old mid = record { headers = aside.headers; contents = aside.contents; geometry = aside.geometry } in
+    let here = looked_counted old mid banks looks counted in
+    here
+
+pub returns-in-Ok-Ok-clause-counted : goal.returns-in-Ok-Ok-clause-counted
+returns-in-Ok-Ok-clause-counted g c banks counted =
+    let old = g.F.PresentFrames.parts c.args.store.now in
+    let mid = g.F.PresentFrames.parts c.early.new.store in
+    let aside = c.early.ensures.aside in
+    let looks : LooksAs old mid = record { headers = aside.headers; contents = aside.contents; geometry = aside.geometry } in
+    let here = looked_counted old mid banks looks counted in
+    let said = c.in-Ok-Ok.ensures in
+    stored_counted mid (g.F.PresentFrames.parts c.store.new.frames) banks c.args.process c.args.address c.args.word c.in-Ok-Ok.field-0 said.geometry said.stored here
+
+pub returns-in-Ok-Err-clause-counted : goal.returns-in-Ok-Err-clause-counted
+returns-in-Ok-Err-clause-counted g c banks counted =
+    let old = g.F.PresentFrames.parts c.args.store.now in
+    let mid = g.F.PresentFrames.parts c.early.new.store in
+    let aside = c.early.ensures.aside in
+    let looks : LooksAs old mid = record { headers = aside.headers; contents = aside.contents; geometry = aside.geometry } in
+    let here = looked_counted old mid banks looks counted in
+    let said = c.in-Ok-Err.ensures in
+    stored_counted mid (g.F.PresentFrames.parts c.store.new.frames) banks c.args.process c.args.address c.args.word c.in-Ok-Err.field-0 said.geometry said.stored here
+
+pub returns-in-Err-clause-counted : goal.returns-in-Err-clause-counted
+returns-in-Err-clause-counted g c banks counted =
+    let old = g.F.PresentFrames.parts c.args.store.now in
+    let mid = g.F.PresentFrames.parts c.early.new.store in
+    let aside = c.early.ensures.aside in
+    let looks : LooksAs old mid = record { headers = aside.headers; contents = aside.contents; geometry = aside.geometry } in
+    let here = looked_counted old mid banks looks counted in
+    let said = c.in-Err.ensures in
+    let new = g.F.PresentFrames.parts c.store.new.frames in
+    same_counted mid new banks said.geometry (ap (λ (fs : List Frame). objects_of fs) (same_frames mid new said.unchanged.headers said.unchanged.contents)) here

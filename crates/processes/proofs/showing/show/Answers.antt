@@ -1,0 +1,35 @@
+use Rattle.std.proofs.Common.{◌≡◌, ℕ, ◌≤◌, ◌<◌, List, length, refl, ap, ◌∙◌, subst, arith}
+use Rattle.model.specs.declared.frame.ObjectHeader.{ObjectHeader}
+use Rattle.processes.proofs.Serving.{AreSame, bad_number_serves, look_unfailed, show_no_memory_serves, shown_serves, shown_unfailed}
+use Rattle.processes.proofs.showing.show.Goals as goal
+
+pub returns-then-number-count-clause-serves : goal.returns-then-number-count-clause-serves
+returns-then-number-count-clause-serves g c =
+    let old = g.F.PresentFrames.parts c.args.store.now in
+    let same : AreSame old old = record { headers = refl; contents = refl; touched = refl; geometry = refl } in
+    let counted : c.count.result ≡ length old.headers = c.count.ensures ∙ ap (λ (hs : List ObjectHeader). length hs) c.table.ensures in
+    bad_number_serves c.args.age old old c.args.number same c.requires.sound (omega arith)
+    (subst (λ (m : ℕ). m ≤ c.args.number) counted c.if-number-count.true) (λ rose. omega arith)
+
+pub returns-in-Ok-clause-serves : goal.returns-in-Ok-clause-serves
+returns-in-Ok-clause-serves g c =
+    let old = g.F.PresentFrames.parts c.args.store.now in
+    let new = g.F.PresentFrames.parts c.shown.new.store in
+    let said = c.in-Ok.ensures in
+    let same : AreSame old new = record { headers = said.looks.aside.headers; contents = said.looks.aside.contents; touched = said.looks.aside.touched; geometry = said.looks.aside.geometry } in
+    let counted : c.count.result ≡ length old.headers = c.count.ensures ∙ ap (λ (hs : List ObjectHeader). length hs) c.table.ensures in
+    shown_serves c.args.age old new c.args.number c.in-Ok.answer (subst (λ (m : ℕ). c.args.number < m) counted c.if-number-count.false) same c.requires.sound
+    said.answer said.looks.later (λ rose. shown_unfailed c.in-Ok.answer (said.looks.cause.1 rose))
+
+pub returns-in-Err-NoMemory : goal.returns-in-Err-NoMemory
+returns-in-Err-NoMemory g c =
+    let old = g.F.PresentFrames.parts c.args.store.now in
+    let new = g.F.PresentFrames.parts c.shown.new.store in
+    let said = c.in-Err-NoMemory.ensures in
+    let same : AreSame old new = record { headers = said.looks.aside.headers; contents = said.looks.aside.contents; touched = said.looks.aside.touched; geometry = said.looks.aside.geometry } in
+    let counted : c.count.result ≡ length old.headers = c.count.ensures ∙ ap (λ (hs : List ObjectHeader). length hs) c.table.ensures in
+    record {
+      serves = show_no_memory_serves c.args.age old new c.args.number same c.requires.sound said.looks.later (subst (λ (m : ℕ). c.args.number < m) counted c.if-number-count.false)
+          (λ rose. look_unfailed c.in-Err-NoMemory.field-0 c.in-Err-NoMemory.field-0-is (said.looks.cause.1 rose));
+      aside = said.looks.aside;
+    }

@@ -1,0 +1,11 @@
+//! The steps of the machine.
+#![tactic(auto)]
+
+mod early;
+mod invocation;
+mod memory;
+mod showing;
+
+pub use invocation::invoke;
+pub use memory::{load, store};
+pub use showing::show;

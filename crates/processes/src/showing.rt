@@ -1,0 +1,110 @@
+// The step of showing an object.
+ghost use Rattle.std.specs.Prelude.{◌≡◌, ◌<◌, IfOk, IsTrue, length, if◌then◌else◌, slice_index};
+ghost use Rattle.model.specs.declared.command.Command.TheVariants as command;
+ghost use Rattle.model.specs.Frame.{objects_of};
+ghost use Rattle.model.specs.Keepable.{AreKeepable, IsSoundFrames};
+ghost use Rattle.model.specs.Step.{shown};
+ghost use Rattle.model.specs.Object.{is_annex, is_bank, slots_in};
+ghost use Rattle.model.specs.World.{content_at};
+ghost use Rattle.capability.specs.Parts.{Looks, LooksUp, frames_of};
+ghost use Rattle.space_bank.specs.Banks.{AreCounted};
+ghost use Rattle.processes.specs.Machine.{Serves};
+
+use capability::{PrepareFault, PresentFrames, objects, view};
+use model::{Answer, Capability, Content, Refusal, Slots};
+use space_bank::Banks;
+use std::alloc::Global;
+
+// The usage of an object with that content, as it is counted, which is 0 where it is no bank.
+fn used_by(banks: &Banks, content: &Content<Capability>, number: u64) -> u64
+    ensures { result ≡ (if is_bank content.now then slice_index banks.now.usages number else 0) }
+{
+    match content {
+        Content::Bank { .. } => banks.usage(number),
+        _ => 0,
+    }
+}
+
+// The registers of a process, by its annex.
+fn registers_of<F: PresentFrames>(
+    alloc: Global,
+    store: &mut F,
+    annex: u64,
+) -> Result<Slots<Capability>, PrepareFault>
+    requires keepable { AreKeepable (F.parts store.old).geometry u64.MAX
+        (frames_of (F.parts store.old)) }
+    requires annex { IsTrue (is_annex
+        (content_at (objects_of (frames_of (F.parts store.old))) annex)) }
+    ensures registers { IfOk result (λ registers. registers ≡ slots_in (content_at (objects_of (frames_of (F.parts store.old))) annex)) }
+    ensures looks { Looks F.parts F.LeadsTo store.old store.new result }
+{
+    objects::fetch(store, alloc, &[annex])?;
+    match view::registers(alloc, store, annex) {
+        Ok(registers) => Ok(registers),
+        Err(_) => Err(PrepareFault::NoMemory),
+    }
+}
+
+// An object with what is shown beside it: the registers of a process, the usage of a bank. Stale
+// capabilities are void.
+fn shown<F: PresentFrames>(
+    alloc: Global,
+    store: &mut F,
+    banks: &Banks,
+    age: u64,
+    number: u64,
+) -> Result<Answer, PrepareFault>
+    requires sound { IsSoundFrames (F.parts store.old).geometry age
+        (frames_of (F.parts store.old)) }
+    requires counted { AreCounted (F.parts store.old).geometry
+        (objects_of (frames_of (F.parts store.old))) banks.now }
+    requires known { number < length (F.parts store.old).headers }
+    ensures answer { IfOk result (λ answer. answer ≡ shown (objects_of (frames_of (F.parts store.old))) number) }
+    ensures looks { Looks F.parts F.LeadsTo store.old store.new result }
+{
+    objects::fetch(store, alloc, &[number])?;
+    let Ok(object) = view::object(alloc, store, number) else {
+        return Err(PrepareFault::NoMemory);
+    };
+    let used = used_by(banks, &object.content, number);
+    let registers = match &object.content {
+        Content::Root(root) => Some(registers_of(alloc, store, root.annex)?),
+        _ => None,
+    };
+    Ok(Answer::Shown {
+        number,
+        object,
+        registers,
+        used,
+    })
+}
+
+/// Tells of an object, by its number.
+///
+/// It is refused by `BadNumber` where no object has the number, by `NoMemory` where memory ran out,
+/// and by `Fault` exactly where the device failed.
+pub fn show<F: PresentFrames>(
+    alloc: Global,
+    store: &mut F,
+    banks: &Banks,
+    age: u64,
+    number: u64,
+) -> Answer
+    requires sound { IsSoundFrames (F.parts store.old).geometry age
+        (frames_of (F.parts store.old)) }
+    requires counted { AreCounted (F.parts store.old).geometry
+        (objects_of (frames_of (F.parts store.old))) banks.now }
+    ensures serves { Serves age (F.parts store.old) (command.Show number) result age
+        (F.parts store.new) }
+    ensures aside { LooksUp F.parts F.LeadsTo store.old store.new }
+{
+    if number >= store.table().count() {
+        return Answer::Refused(Refusal::BadNumber);
+    }
+    match shown(alloc, store, banks, age, number) {
+        Ok(answer) => answer,
+        Err(PrepareFault::Failed) => Answer::Refused(Refusal::Fault),
+        Err(PrepareFault::NoMemory) => Answer::Refused(Refusal::NoMemory),
+        Err(PrepareFault::LogFull) => unreachable!(),
+    }
+}
