@@ -1,0 +1,96 @@
+// Worlds on a device.
+ghost use Rattle.std.specs.Prelude.{◌≡◌, ◌≤◌, ◌^◌, IfOk};
+ghost use Rattle.model.specs.Keepable.{AreKeepable};
+ghost use Rattle.capability.specs.Parts.{frames_of};
+ghost use Rattle.capability.specs.Plain.{parts_of};
+
+use capability::{Plain, PresentFrames};
+use device::Device;
+use image_writer::{NumberRange, lay_out, write_image};
+use model::{Cap, Content, ObjectHeader, Root};
+use std::alloc::{AllocError, Global};
+use std::test::Fail;
+
+/// World I0, in which process 1 runs and process 3 is available.
+pub(crate) fn second_world(alloc: Global) -> Result<Plain, AllocError>
+    ensures { IfOk result (λ p. AreKeepable p.geometry 0 (frames_of (parts_of p))) }
+{
+    Plain::i0(alloc)
+}
+
+// What an object holds, again.
+fn copy_content(alloc: Global, content: &Content<Cap>) -> Result<Content<Cap>, AllocError>
+    ensures { IfOk result (λ copy. copy ≡ content.now) }
+{
+    match content {
+        Content::Free => Ok(Content::Free),
+        Content::Page(words) => Ok(Content::Page(words.copy(alloc)?)),
+        Content::Node(slots) => Ok(Content::Node(slots.copy(alloc)?)),
+        Content::Root(root) => Ok(Content::Root(Root {
+            state: root.state,
+            words: root.words,
+            key: root.key,
+            annex: root.annex,
+            space: root.space,
+        })),
+        Content::Annex(registers) => Ok(Content::Annex(registers.copy(alloc)?)),
+        Content::Bank { limit } => Ok(Content::Bank { limit: *limit }),
+    }
+}
+
+// The headers of all objects.
+fn copy_headers(alloc: Global, plain: &Plain) -> Result<Vec<ObjectHeader>, AllocError>
+    ensures { IfOk result (λ headers. headers.items ≡ plain.now.headers) }
+{
+    let mut headers = Vec::new(alloc);
+    for number in 0..plain.table().count() {
+        headers.push(plain.table().header(number))?;
+    }
+    Ok(headers)
+}
+
+// What all objects hold.
+fn copy_contents(alloc: Global, plain: &Plain) -> Result<Vec<Content<Cap>>, AllocError>
+    ensures { IfOk result (λ contents. contents.items ≡ plain.now.contents) }
+{
+    let mut contents = Vec::new(alloc);
+    for number in 0..plain.table().count() {
+        contents.push(copy_content(alloc, plain.frame(number))?)?;
+    }
+    Ok(contents)
+}
+
+/// Writes a world to a device, as an image of generation 0 and of an age.
+pub(crate) fn written<D: Device>(
+    alloc: Global,
+    device: D,
+    plain: &Plain,
+    age: u64,
+) -> Result<D, Fail>
+    requires age { age ≤ 2 ^ 62 }
+    requires keepable { AreKeepable plain.now.geometry 0 (frames_of (parts_of plain.now)) }
+{
+    let mut device = device;
+    let geometry = plain.geometry();
+    let nodes = NumberRange {
+        first: 0,
+        count: geometry.nodes,
+    };
+    let pages = NumberRange {
+        first: geometry.nodes,
+        count: geometry.pages,
+    };
+    let superblock = lay_out(geometry, &[nodes, pages])
+        .ok()
+        .ok_or("within the limits")?;
+    if device.sectors() < superblock.total() {
+        return Err(Fail::new("too few sectors"));
+    }
+    let headers = copy_headers(alloc, plain)?;
+    let contents = copy_contents(alloc, plain)?;
+    if headers.len() != contents.len() {
+        return Err(Fail::new("a content for each header"));
+    }
+    write_image(&mut device, &superblock, age, &headers, &contents)?;
+    Ok(device)
+}

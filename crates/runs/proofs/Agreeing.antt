@@ -1,0 +1,82 @@
+-- Two runs of one machine on the same lines.
+use Rattle.std.proofs.Common.{◌≡◌, ℕ, true, List, [], ◌∷◌, ◌++◌, Option, None, Some, refl, sym, ap, ◌∙◌, subst, append-nil, inl, inr}
+use Rattle.std.proofs.lemmas.List.Concat.{flat_map-append}
+use Rattle.model.specs.declared.answer.Answer.{Answer}
+use Rattle.model.specs.declared.answer.Answer.TheVariants as answer
+use Rattle.model.specs.declared.answer.Refusal.{Refusal}
+use Rattle.model.specs.declared.answer.Refusal.TheVariants as refusal
+use Rattle.model.specs.declared.command.Command.{Command}
+use Rattle.model.specs.declared.geometry.Geometry.{Geometry}
+use Rattle.model.specs.declared.line.Line.{Line}
+use Rattle.model.specs.declared.line.Line.TheVariants as line
+use Rattle.model.specs.Machine.{Machine, Running, Up}
+use Rattle.model.specs.Run.{Reply, Told, Turn, IsRun, Replies, understood, reply_text, output_of}
+use Rattle.model.specs.Step.{Answers, Outcome, Step, carried_out, refusal_of}
+use Rattle.model.specs.Text.{Says}
+use Rattle.model_laws.proofs.Spelling.{says_one}
+use Rattle.script.specs.Runs.{lines_in}
+use Rattle.runs.specs.KernelRuns.{knows_all}
+use Rattle.runs.specs.Laws.{SteadyRunsAgree, is_steady}
+
+-- two answers of a machine that is up, which stays up
+record Agree (x y : Answer) (a b : Machine) : Type 0 where
+  then_up : Running
+  answers : x ≡ y
+  first : a ≡ Up then_up
+  second : b ≡ Up then_up
+
+abbrev AnswersBy : Running → Outcome → Option Refusal → Answer → Machine → Type 0
+AnswersBy s o r a after = elim r [
+  | Some why ↦ (a ≡ answer.Refused why) × (after ≡ Up s)
+  | None ↦ (a ≡ o.answer) × (after ≡ Up o.after)
+]
+
+answers_agree : (s : Running) (o : Outcome) (r : Option Refusal) (x y : Answer) (a b : Machine) → AnswersBy s o r x a → AnswersBy s o r y b → Agree x y a b
+answers_agree s o (Some why) x y a b p q = record { then_up = s; answers = p.0 ∙ sym q.0; first = p.1; second = q.1 }
+answers_agree s o None x y a b p q = record { then_up = o.after; answers = p.0 ∙ sym q.0; first = p.1; second = q.1 }
+
+-- a steady answer is the command's own
+own : (g : Geometry) (s : Running) (c : Command) (a : Answer) (after : Machine) → is_steady (Told a) ≡ true → Step g (Up s) c a after → Answers g s c a after
+own g s c a after steady (inl answers) = answers
+own g s c a after steady (inr (inl wanting)) = let never : is_steady (Told (answer.Refused refusal.NoMemory)) ≡ true = subst (λ (x : Answer). is_steady (Told x) ≡ true) wanting.1 steady in cc
+own g s c a after steady (inr (inr failed)) = let never : is_steady (Told (answer.Refused refusal.Fault)) ≡ true = subst (λ (x : Answer). is_steady (Told x) ≡ true) failed.1 steady in cc
+
+-- two replies to one line
+record AgreeOn (p q : Reply) (a b : Machine) : Type 0 where
+  then_up : Running
+  replies : p ≡ q
+  first : a ≡ Up then_up
+  second : b ≡ Up then_up
+
+replies_agree : (g : Geometry) (s : Running) (l : Line) (p q : Reply) (a b : Machine) → Replies g (understood knows_all l) (Up s) p a → Replies g (understood knows_all l) (Up s) q b →
+    is_steady p ≡ true → is_steady q ≡ true → AgreeOn p q a b
+replies_agree g s line.Skip p q a b x y steady_p steady_q = record { then_up = s; replies = x.0 ∙ sym y.0; first = x.1; second = y.1 }
+replies_agree g s line.Bad p q a b x y steady_p steady_q = record { then_up = s; replies = x.0 ∙ sym y.0; first = x.1; second = y.1 }
+replies_agree g s (line.Command c) p q a b x y steady_p steady_q =
+    let told : Agree x.0 y.0 a b = answers_agree s (carried_out g s c) (refusal_of g s c) x.0 y.0 a b
+    (own g s c x.0 a (subst (λ (r : Reply). is_steady r ≡ true) x.1 steady_p) x.2)
+    (own g s c y.0 b (subst (λ (r : Reply). is_steady r ≡ true) y.1 steady_q) y.2) in
+    record { then_up = told.then_up; replies = x.1 ∙ ap Told told.answers ∙ sym y.1; first = told.first; second = told.second }
+
+same_head : (x y : List ℕ) (xs ys : List (List ℕ)) → x ∷ xs ≡ y ∷ ys → (x ≡ y) × (xs ≡ ys)
+same_head x y xs ys same = (cc, cc)
+
+output_cons : (t : Turn) (ts : List Turn) → output_of (t ∷ ts) ≡ reply_text t.reply ++ output_of ts
+output_cons t ts = flat_map-append (λ (u : Turn). reply_text u.reply) (t ∷ []) ts ∙ ap (λ (xs : List ℕ). xs ++ output_of ts) (append-nil (reply_text t.reply))
+
+pub runs_agree : SteadyRunsAgree
+runs_agree g s [] [] a b run_a run_b same steady_a steady_b = (refl, run_a ∙ sym run_b)
+runs_agree g s [] (u ∷ us) a b run_a run_b same steady_a steady_b = cc
+runs_agree g s (t ∷ ts) [] a b run_a run_b same steady_a steady_b = cc
+runs_agree g s (t ∷ ts) (u ∷ us) a b run_a run_b same steady_a steady_b =
+    let heads = same_head t.line u.line (lines_in ts) (lines_in us) same in
+    let turn_t = run_a.1 in
+    let turn_u = run_b.1 in
+    let one : turn_u.0 ≡ turn_t.0 = says_one u.line turn_u.0 turn_t.0 turn_u.1 (subst (λ (text : List ℕ). Says text turn_t.0) heads.0 turn_t.1) in
+    let first : Replies g (understood knows_all turn_t.0) (Up s) t.reply t.after = subst (λ (m : Machine). Replies g (understood knows_all turn_t.0) m t.reply t.after) run_a.0 turn_t.2 in
+    let second : Replies g (understood knows_all turn_t.0) (Up s) u.reply u.after =
+    subst (λ (l : Line). Replies g (understood knows_all l) (Up s) u.reply u.after) one (subst (λ (m : Machine). Replies g (understood knows_all turn_u.0) m u.reply u.after) run_b.0 turn_u.2) in
+    let told = replies_agree g s turn_t.0 t.reply u.reply t.after u.after first second steady_a.0 steady_b.0 in
+    let rest = runs_agree g told.then_up ts us a b
+    (subst (λ (m : Machine). IsRun g knows_all m ts a) told.first run_a.2) (subst (λ (m : Machine). IsRun g knows_all m us b) told.second run_b.2) heads.1 steady_a.1 steady_b.1 in
+    (output_cons t ts ∙ ap (λ (r : Reply). reply_text r ++ output_of ts) told.replies ∙ ap (λ (xs : List ℕ). reply_text u.reply ++ xs) rest.0 ∙ sym (output_cons u us), rest.1)

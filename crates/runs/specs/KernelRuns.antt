@@ -1,0 +1,95 @@
+-- Runs of a script over a kernel.
+use Rattle.std.specs.Prelude.{◌≡◌, ◌⊎◌, ℕ, ◌+◌, ◌<◌, ◌≤◌, Bool, true, false, List, [], ◌∷◌, ◌++◌, Option, Result, Ok, Err, if◌then◌else◌}
+use Rattle.std.specs.Io.KnownBytes.{Appends, IsAtEnd}
+use Rattle.model.specs.declared.answer.Answer.TheVariants as answer
+use Rattle.model.specs.declared.answer.Refusal.TheVariants as refusal
+use Rattle.model.specs.declared.command.Command.{Command}
+use Rattle.model.specs.declared.geometry.Geometry.{Geometry}
+use Rattle.model.specs.declared.line.Line.{Line}
+use Rattle.model.specs.declared.line.Line.TheVariants as line
+use Rattle.model.specs.Machine.{Machine, candidates}
+use Rattle.model.specs.Run.{Reply, Told, Turn, IsRun, Replies, understood, reply_text, output_of}
+use Rattle.model.specs.Step.{second}
+use Rattle.model.specs.Text.{Says}
+use Rattle.device.specs.Disk.{Image, Disk}
+use Rattle.device.specs.Moments.{LeavesOnly}
+use Rattle.capability.specs.Parts.{Parts}
+use Rattle.object_cache.specs.Store.{View}
+use Rattle.kernel.specs.declared.power.Power.{Power}
+use Rattle.kernel.specs.Denotes.{DenotesOne}
+use Rattle.kernel.specs.Standing.{Stands, disk_of}
+use Rattle.script.specs.declared.fault.RunFault.{RunFault}
+use Rattle.script.specs.declared.fault.RunFault.TheVariants as fault
+use Rattle.script.specs.Runs.{TakesLines, lines_in}
+use Rattle.script.specs.Writing.{Writes}
+
+-- a kernel knows every command
+abbrev pub knows_all : Command → Bool
+knows_all c = true
+
+-- whether a line was answered `fault`
+abbrev pub tells_fault : Reply → Bool
+tells_fault (Told (answer.Refused refusal.Fault)) = true
+tells_fault _ = false
+
+-- how many lines of a run were
+abbrev pub fault_count : List Turn → ℕ
+fault_count [] = 0
+fault_count (t ∷ ts) = (if tells_fault t.reply then 1 else 0) + fault_count ts
+
+-- an image denotes what a command may save besides
+abbrev pub IsSecondOf : Geometry → ℕ → List ℕ → Machine → Image → Type 0
+IsSecondOf g size text m c = (command : Command) × Says text (line.Command command) × DenotesOne g size (second m command) c
+
+-- what a crash leaves in the course of a run: a candidate of one of its machines, or what one of its commands may save
+-- besides
+abbrev pub IsLeftIn : Geometry → ℕ → Machine → List Turn → Image → Type 0
+IsLeftIn g size m [] c = DenotesOne g size (candidates m) c
+IsLeftIn g size m (t ∷ ts) c = DenotesOne g size (candidates m) c ⊎ IsSecondOf g size t.line t.before c ⊎ IsLeftIn g size t.after ts c
+
+-- What a run with these turns read and wrote. At Ok all of the input was read, and each line of it is a turn whose
+-- answer was written. Where the reader failed the same holds of the lines read whole. Where the writer failed only the
+-- answer to the last line taken may be cut short.
+abbrev pub Does : List Turn → Option (List ℕ) → Option (List ℕ) → Option (List ℕ) → Option (List ℕ) → Result (Unit {0}) RunFault → Type 0
+Does turns input input_left output output_left (Ok a) =
+    TakesLines input input_left (lines_in turns) [] × IsAtEnd input_left × Appends output output_left (output_of turns)
+Does turns input input_left output output_left (Err fault.Read) =
+    (rest : List ℕ) × TakesLines input input_left (lines_in turns) rest × Appends output output_left (output_of turns)
+Does turns input input_left output output_left (Err fault.Write) =
+    (front : List Turn) × (last : Turn) × (turns ≡ front ++ last ∷ []) × TakesLines input input_left (lines_in turns) []
+    × (told : List ℕ) × (cut : List ℕ) × (reply_text last.reply ≡ told ++ cut) × Appends output output_left (output_of front ++ told)
+
+-- the device failed at least as often as lines were answered so, and one was where it failed
+pub record AreTold (old new : Disk) (count : ℕ) : Type 0 where
+  pub most : old.failures + count ≤ new.failures
+  pub some : old.failures < new.failures → 0 < count
+
+-- The parameters are ghost members of a device and of an object store.
+module _ {D S : Type 0} (disk : D → Disk) (view : S → View D) (parts : S → Parts) where
+  -- from one kernel to another these turns are a run of the machine, with power cuts and failures in it; a crash at any
+  -- moment in its course leaves what the run allows
+  pub record IsRunOf (g : Geometry) (m : Machine) (old new : Power D S) (turns : List Turn) : Type 0 where
+    pub after : Machine
+    pub run : IsRun g knows_all m turns after
+    pub stands : Stands disk view parts g new after
+    pub size : (disk_of disk view parts new).sectors ≡ (disk_of disk view parts old).sectors
+    pub any_moment : LeavesOnly (disk_of disk view parts old) (disk_of disk view parts new) (IsLeftIn g (disk_of disk view parts old).sectors m turns)
+    pub faults : AreTold (disk_of disk view parts old) (disk_of disk view parts new) (fault_count turns)
+
+  -- whichever machine the kernel stands for, what was read and written is that of such a run
+  abbrev pub RunsOver : Power D S → Power D S → Option (List ℕ) → Option (List ℕ) → Option (List ℕ) → Option (List ℕ) → Result (Unit {0}) RunFault → Type 0
+  RunsOver old new input input_left output output_left result =
+      (g : Geometry) (m : Machine) → Stands disk view parts g old m →
+      (turns : List Turn) × IsRunOf g m old new turns × Does turns input input_left output output_left result
+
+  -- a line was taken: the machine after it, and what a crash leaves in its course
+  pub record TakesTurn (g : Geometry) (m : Machine) (says : Line) (old new : Power D S) (written wrote : Option (List ℕ)) (result : Result (Unit {0}) RunFault) : Type 0 where
+    pub reply : Reply
+    pub after : Machine
+    pub replies : Replies g (understood knows_all says) m reply after
+    pub stands : Stands disk view parts g new after
+    pub size : (disk_of disk view parts new).sectors ≡ (disk_of disk view parts old).sectors
+    pub any_moment : LeavesOnly (disk_of disk view parts old) (disk_of disk view parts new) (λ c. DenotesOne g (disk_of disk view parts old).sectors (candidates m) c
+        ⊎ ((command : Command) × (says ≡ line.Command command) × DenotesOne g (disk_of disk view parts old).sectors (second m command) c))
+    pub faults : AreTold (disk_of disk view parts old) (disk_of disk view parts new) (if tells_fault reply then 1 else 0)
+    pub writes : Writes written wrote result (reply_text reply)
