@@ -2,8 +2,9 @@
 ghost use Rattle.std.specs.Prelude.{◌≤◌, ◌^◌};
 
 use crate::images::{second_world, written};
-use device::{Device, Memory, Outcome};
+use device::{Device, Fuse, Memory, Outcome};
 use kernel::Kernel;
+use migrator::{OpenFault, OpenRefused};
 use model::Line;
 use object_cache::PlainStore;
 use script::{RunFault, next_line, print_answer, print_bad_line};
@@ -13,6 +14,9 @@ use std::test::Fail;
 
 /// The most lines that a test has.
 const MOST_LINES: u64 = 100;
+
+/// The most calls of the device that opening it takes in a test.
+const MOST_CALLS: u64 = 200;
 
 // Answers a line.
 fn answer<D: Device>(
@@ -45,16 +49,59 @@ pub(crate) fn answers<D: Device>(
     Err(Fail::new("more lines than a test has"))
 }
 
+/// The kernel over a device that holds a world.
+pub(crate) fn opened<D: Device>(
+    alloc: Global,
+    device: D,
+) -> Result<Kernel<D, PlainStore<D>>, Fail> {
+    match Kernel::<D, PlainStore<D>>::open(alloc, device, ()) {
+        Ok(kernel) => Ok(kernel),
+        Err(_) => Err(Fail::new("a device that isn't opened")),
+    }
+}
+
 /// What is answered over a device that holds a world.
 pub(crate) fn answers_over<D: Device>(
     alloc: Global,
     device: D,
     script: &[u8],
 ) -> Result<Vec<u8>, Fail> {
-    let mut kernel = Kernel::<D, PlainStore<D>>::open(alloc, device, ())
-        .ok()
-        .ok_or("it opens")?;
+    let mut kernel = opened(alloc, device)?;
     answers(alloc, &mut kernel, script)
+}
+
+/// A device that holds a world, after a script.
+pub(crate) fn device_after<D: Device>(alloc: Global, device: D, script: &[u8]) -> Result<D, Fail> {
+    let mut kernel = opened(alloc, device)?;
+    answers(alloc, &mut kernel, script)?;
+    Ok(kernel.into_device())
+}
+
+/// The kernel over a device that stops after the last call that opening makes. Where it stops
+/// before, the device is handed back.
+pub(crate) fn opened_at_last<D: Device>(
+    alloc: Global,
+    device: D,
+) -> Result<Kernel<Fuse<D>, PlainStore<Fuse<D>>>, Fail> {
+    let mut device = device;
+    for calls in 0..MOST_CALLS {
+        let fuse = Fuse::new(device, calls);
+        match Kernel::<Fuse<D>, PlainStore<Fuse<D>>>::open(alloc, fuse, ()) {
+            Ok(kernel) => return Ok(kernel),
+            Err(
+                OpenRefused {
+                    fault,
+                    device: back,
+                },
+            ) => {
+                if fault != OpenFault::Failed {
+                    return Err(Fail::new("another reason"));
+                }
+                device = back.into_inner();
+            }
+        }
+    }
+    Err(Fail::new("not opened by so many calls"))
 }
 
 /// The second world, on a device in memory.

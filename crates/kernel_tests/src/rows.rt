@@ -64,6 +64,23 @@ call 1 11 1 0 0 0 0 0 0 0\ncall 1 1 1 28 0 0 0 0 0 0\nshow 5\n";
     is_answered(&rt, rt.alloc(), script, expected)
 }
 
+// Through a weak node a page is fetched weak, a start capability void, and a number as it is.
+#[test]
+fn a_weak_node_gives_what_can_be_weak(rt: HostRuntime) -> Result<(), Fail> {
+    let script = b"call 1 2 2 0 0 0 0 0 0 0\nsend 1 1 2 10 0 0 28 0 0 0\ncall 1 2 1 0 0 0 0 0 0 0\n\
+send 1 10 2 0 0 0 28 0 0 0\nsend 1 10 2 1 0 0 3 0 0 0\nsend 1 10 5 2 77 0 0 0 0 0\n\
+call 1 10 3 3 0 0 0 0 0 0\nsend 1 1 2 11 0 0 28 0 0 0\ncall 1 11 1 0 0 0 0 0 0 0\nshow 2\n\
+call 1 11 1 1 0 0 0 0 0 0\nshow 2\ncall 1 11 1 2 0 0 0 0 0 0\nshow 2\n";
+    let expected = b"done\ndone\ndone\ndone\ndone\ndone\ndone\ndone\ndone\n\
+annex 2 owner 0\nregister 1 process 1\nregister 2 bank 0\nregister 3 start 3 7\n\
+register 4 process 3\nregister 10 node 5\nregister 11 node 5 weak\nregister 28 page 16 weak\nend\n\
+done\nannex 2 owner 0\nregister 1 process 1\nregister 2 bank 0\nregister 3 start 3 7\n\
+register 4 process 3\nregister 10 node 5\nregister 11 node 5 weak\nend\n\
+done\nannex 2 owner 0\nregister 1 process 1\nregister 2 bank 0\nregister 3 start 3 7\n\
+register 4 process 3\nregister 10 node 5\nregister 11 node 5 weak\nregister 28 number 77\nend\n";
+    is_answered(&rt, rt.alloc(), script, expected)
+}
+
 // A bank makes as many objects as its limit.
 #[test]
 fn a_bank_has_a_limit(rt: HostRuntime) -> Result<(), Fail> {

@@ -1,92 +1,188 @@
-// A device that stops in a commit, and what a power cut leaves of it.
-use crate::answers::{answers, second_image};
+// A device that stops in a commit or on the way home, and what a power cut leaves of it.
+use crate::answers::{answers, device_after, opened_at_last, second_image};
 use device::{Device, Fuse, Outcome};
 use kernel::Kernel;
 use object_cache::PlainStore;
 use std::alloc::Global;
+use std::process::Abort;
 use std::test::Fail;
 
-const UP_TO_COMMIT: &[u8] = b"call 1 2 1 0 0 0 0 0 0 0\nsend 1 28 2 0 42 0 0 0 0 0\ncheckpoint\n\
-send 1 28 2 0 43 0 0 0 0 0\nstabilize 5\n";
+/// A command at which a device stops, between other lines of a script, and what is answered.
+#[derive(Clone, Copy)]
+struct Stop<'a> {
+    /// What was asked of a kernel that gave the device back.
+    past: &'a [u8],
+    /// What is asked of the next one before the command, and what is answered.
+    before: &'a [u8],
+    ready: &'a [u8],
+    /// The command, what is asked after it, and what is answered where the device goes on.
+    command: &'a [u8],
+    done: &'a [u8],
+    /// What is answered where the device stops and the machine then stands at what was saved before
+    /// the command, and where it stands at what the command saves.
+    at_saved: &'a [u8],
+    at_next: &'a [u8],
+}
 
-const READY: &[u8] = b"done\ndone\nfrozen 3\ndone\nleft 0\n";
-
-const COMMIT: &[u8] = b"commit\nshow 5\ncut\n";
-
-const COMMITTED: &[u8] = b"committed 1\nfree 5\nend\nat 1 3\n";
-
-const AT_SAVED: &[u8] = b"fault\ndown\nat 0 0\n";
-
-const AT_COMMITTED: &[u8] = b"fault\ndown\nat 1 3\n";
-
-// How many stops in a commit end at what was saved, and how many at what was committed.
+/// How many stops in a command end at what was saved, and how many at what it saves.
 #[derive(Clone, Copy, PartialEq, Eq, Debug)]
 struct Stops {
     at_saved: u64,
-    at_committed: u64,
+    at_next: u64,
 }
 
-// What is answered to a commit where the device stops after so many calls, and nothing where it
+const STABLE: &[u8] = b"call 1 2 1 0 0 0 0 0 0 0\nsend 1 28 2 0 42 0 0 0 0 0\ncheckpoint\n\
+send 1 28 2 0 43 0 0 0 0 0\nstabilize 5\n";
+
+const COMMITTED: &[u8] = b"call 1 2 1 0 0 0 0 0 0 0\nsend 1 28 2 0 42 0 0 0 0 0\ncheckpoint\n\
+send 1 28 2 0 43 0 0 0 0 0\nstabilize 5\ncommit\n";
+
+const AT_HOME: &[u8] = b"call 1 2 1 0 0 0 0 0 0 0\nsend 1 28 2 0 42 0 0 0 0 0\ncheckpoint\n\
+send 1 28 2 0 43 0 0 0 0 0\nstabilize 5\ncommit\ncheckpoint\nmigrate 2\ncut\nmigrate 1\n\
+migrate 9\n";
+
+const FIRST_COMMIT: Stop<'static> = Stop {
+    past: b"",
+    before: STABLE,
+    ready: b"done\ndone\nfrozen 3\ndone\nleft 0\n",
+    command: b"commit\nshow 5\ncut\nshow 16\n",
+    done: b"committed 1\nfree 5\nend\nat 1 3\npage 16 owner 0\nword 0 42\nend\n",
+    at_saved: b"fault\ndown\nat 0 0\nfree 16\nend\n",
+    at_next: b"fault\ndown\nat 1 3\npage 16 owner 0\nword 0 42\nend\n",
+};
+
+const SECOND_COMMIT: Stop<'static> = Stop {
+    past: AT_HOME,
+    before: b"checkpoint\n",
+    ready: b"frozen 0\n",
+    command: b"commit\nshow 5\ncut\nshow 16\n",
+    done: b"committed 2\nfree 5\nend\nat 2 4\npage 16 owner 0\nword 0 42\nend\n",
+    at_saved: b"fault\ndown\nat 1 3\npage 16 owner 0\nword 0 42\nend\n",
+    at_next: b"fault\ndown\nat 2 4\npage 16 owner 0\nword 0 42\nend\n",
+};
+
+const WAY_HOME: Stop<'static> = Stop {
+    past: COMMITTED,
+    before: b"",
+    ready: b"",
+    command: b"migrate 9\nshow 5\ncut\nshow 16\nmigrate 1\n",
+    done: b"left 0\nfree 5\nend\nat 1 3\npage 16 owner 0\nword 0 42\nend\nleft 0\n",
+    at_saved: b"fault\ndown\nat 1 3\npage 16 owner 0\nword 0 42\nend\nleft 2\n",
+    at_next: b"fault\ndown\nat 1 3\npage 16 owner 0\nword 0 42\nend\nleft 0\n",
+};
+
+// What is answered to a command where the device stops after so many calls, and nothing where it
 // stops before.
-fn stopped<D: Device>(alloc: Global, device: D, calls: u64) -> Result<Option<Vec<u8>>, Fail> {
+fn stopped<D: Device>(
+    alloc: Global,
+    device: D,
+    calls: u64,
+    stop: Stop,
+) -> Result<Option<Vec<u8>>, Fail> {
     let device = Fuse::new(device, calls);
     let Ok(mut kernel) = Kernel::<Fuse<D>, PlainStore<Fuse<D>>>::open(alloc, device, ()) else {
         return Ok(None);
     };
-    let before = answers(alloc, &mut kernel, UP_TO_COMMIT)?;
-    if before.as_slice() != READY {
+    let before = answers(alloc, &mut kernel, stop.before)?;
+    if before.as_slice() != stop.ready {
         return Ok(None);
     }
-    Ok(Some(answers(alloc, &mut kernel, COMMIT)?))
+    Ok(Some(answers(alloc, &mut kernel, stop.command)?))
 }
 
-// Counts the stops of a commit, at each of its calls of the device in turn.
-fn count_stops(alloc: Global, outcome: Outcome) -> Result<Stops, Fail> {
+// One stop more. What a command saves isn't lost by a later stop.
+fn count(stops: Stops, said: &[u8], stop: Stop) -> Result<Stops, Fail> {
+    let Stops { at_saved, at_next } = stops;
+    if said == stop.at_next {
+        return Ok(Stops {
+            at_saved,
+            at_next: at_next.wrapping_add(1),
+        });
+    }
+    if said == stop.at_saved && at_next == 0 {
+        return Ok(Stops {
+            at_saved: at_saved.wrapping_add(1),
+            at_next,
+        });
+    }
+    Err(Fail::new("another answer"))
+}
+
+// Counts the stops of a command, at each of its calls of the device in turn.
+fn count_stops(alloc: Global, outcome: Outcome, stop: Stop) -> Result<Stops, Fail> {
     let mut stops = Stops {
         at_saved: 0,
-        at_committed: 0,
+        at_next: 0,
     };
     for calls in 0..400 {
         let device = second_image(alloc, outcome, 0)?;
-        let Some(said) = stopped(alloc, device, calls)? else {
+        let device = device_after(alloc, device, stop.past)?;
+        let Some(said) = stopped(alloc, device, calls, stop)? else {
             continue;
         };
-        if said.as_slice() == COMMITTED {
+        if said.as_slice() == stop.done {
             return Ok(stops);
-        } else if said.as_slice() == AT_SAVED {
-            stops.at_saved = stops.at_saved.wrapping_add(1);
-        } else if said.as_slice() == AT_COMMITTED {
-            stops.at_committed = stops.at_committed.wrapping_add(1);
-        } else {
-            return Err(Fail::new("another answer"));
         }
+        stops = count(stops, said.as_slice(), stop)?;
     }
-    Err(Fail::new("no commit in so many calls"))
+    Err(Fail::new("not done by so many calls"))
 }
 
-// A commit writes the directory, syncs, reads the gate of the other header, writes that header,
-// syncs, writes the gate and syncs. Where one of these stops, a power cut that drops what isn't
-// synced stands at what was saved.
-#[test]
-fn a_stop_in_a_commit_stands_at_what_was_saved(rt: HostRuntime) -> Result<(), Fail> {
-    let expected = Stops {
-        at_saved: 7,
-        at_committed: 0,
+// Each of so many stops ends at what was saved where a power cut drops what isn't synced, or fills
+// it with zeros. One that keeps it, or fills it with ones, ends at what the command saves where only
+// the last sync fails: the gate of the new header is open.
+fn has_stops(rt: &impl Abort, alloc: Global, stop: Stop, count: u64) -> Result<(), Fail> {
+    let closed = Stops {
+        at_saved: count,
+        at_next: 0,
     };
-    assert_eq!(rt; count_stops(rt.alloc(), Outcome::Drop)?, expected);
-    assert_eq!(rt; count_stops(rt.alloc(), Outcome::Fill(0))?, expected);
+    let open = Stops {
+        at_saved: count.wrapping_sub(1),
+        at_next: 1,
+    };
+    for (outcome, expected) in [
+        (Outcome::Drop, closed),
+        (Outcome::Fill(0), closed),
+        (Outcome::Keep, open),
+        (Outcome::Fill(1), open),
+    ] {
+        assert_eq!(rt; count_stops(alloc, outcome, stop)?, expected);
+    }
     Ok(())
 }
 
-// One that keeps what was written, or fills it with ones, stands at what was committed where only
-// the last sync fails: the gate is open.
+// The first commit writes the directory, syncs, reads the gate of the other header, which is closed,
+// writes that header, syncs, writes the gate and syncs.
 #[test]
-fn a_stop_at_the_last_sync_may_stand_at_what_was_committed(rt: HostRuntime) -> Result<(), Fail> {
-    let expected = Stops {
-        at_saved: 6,
-        at_committed: 1,
-    };
-    assert_eq!(rt; count_stops(rt.alloc(), Outcome::Keep)?, expected);
-    assert_eq!(rt; count_stops(rt.alloc(), Outcome::Fill(1))?, expected);
+fn the_first_commit_is_stopped_at_each_call(rt: HostRuntime) -> Result<(), Fail> {
+    has_stops(&rt, rt.alloc(), FIRST_COMMIT, 7)
+}
+
+// A commit of no object writes no directory. It syncs, reads the gate of the other header, which is
+// open, closes it and syncs, and then writes header and gate, each with a sync.
+#[test]
+fn a_later_commit_is_stopped_at_each_call(rt: HostRuntime) -> Result<(), Fail> {
+    has_stops(&rt, rt.alloc(), SECOND_COMMIT, 8)
+}
+
+// Each of the three frames is read in the log and written at home, and a header without entries is
+// then published as in a later commit.
+#[test]
+fn the_way_home_is_stopped_at_each_call(rt: HostRuntime) -> Result<(), Fail> {
+    has_stops(&rt, rt.alloc(), WAY_HOME, 14)
+}
+
+// With all objects in memory an invocation, a look, putting an object out and beginning a checkpoint
+// make no call of the device, which stops after its opening. Writing a frame makes one.
+#[test]
+fn what_is_in_memory_needs_no_device(rt: HostRuntime) -> Result<(), Fail> {
+    let alloc = rt.alloc();
+    let script = b"call 1 2 1 0 0 0 0 0 0 0\nevict 16\nshow 16\ncheckpoint\nevict 16\n\
+send 1 28 2 0 42 0 0 0 0 0\nshow 16\nstabilize 1\nshow 16\ncheckpoint\ncut\nshow 16\n";
+    let expected = b"done\ndone\npage 16 owner 0\nend\nfrozen 3\ndone\n\
+done\npage 16 owner 0\nword 0 42\nend\nfault\ndown\ndown\nat 0 0\nfree 16\nend\n";
+    let mut kernel = opened_at_last(alloc, second_image(alloc, Outcome::Drop, 0)?)?;
+    let said = answers(alloc, &mut kernel, script)?;
+    assert_eq!(rt; said.as_slice(), expected.as_slice());
     Ok(())
 }
