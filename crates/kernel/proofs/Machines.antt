@@ -1,5 +1,5 @@
 -- From a store that serves to a machine that is up or down.
-use Rattle.std.proofs.Common.{◌≡◌, ◌↔◌, ◌⊎◌, ℕ, zero, suc, ◌<◌, ◌≤◌, false, List, [], ◌∷◌, ◌++◌, length, refl, sym, ap, ◌∙◌, subst, inl, inr, arith}
+use Rattle.std.proofs.Common.{append-nil, ◌≡◌, ◌↔◌, ◌⊎◌, ℕ, zero, suc, ◌<◌, ◌≤◌, false, List, [], ◌∷◌, ◌++◌, length, refl, sym, ap, ◌∙◌, subst, inl, inr, arith}
 use Rattle.std.specs.Prelude.{slice_index_or}
 use Rattle.std.specs.List.{Contains}
 use Rattle.model.specs.declared.answer.Answer.{Answer}
@@ -51,10 +51,6 @@ only_one s t there = go there.0 there.1 there.2
     go zero inside is = sym is
     go (suc k) inside is = absurd (omega (arith, inside))
 
-nil_behind : (ss : List Saved) → ss ++ [] ≡ ss
-nil_behind [] = refl
-nil_behind (s ∷ ss) = ap (λ (ts : List Saved). s ∷ ts) (nil_behind ss)
-
 -- one that is up is opened again at what is saved
 up_restarts : (g : Geometry) (r : Running) (a : Answer) (after : Machine) → Reopens g (r.saved ∷ []) a after → Answers g r command.Restart a after
 unfolding refusal_of carried_out
@@ -92,9 +88,9 @@ reopens_step g (Down saved) c a after (inr is) (inl again) = subst (λ (x : Comm
 reopens_step g (Down saved) c a after (inl is) (inr (inl none)) = subst (λ (x : Command). Step g (Down saved) x a after) (sym is) (inr (inl (refl, none.0, none.1)))
 reopens_step g (Down saved) c a after (inr is) (inr (inl none)) = subst (λ (x : Command). Step g (Down saved) x a after) (sym is) (inr (inl (refl, none.0, none.1)))
 reopens_step g (Down saved) c a after (inl is) (inr (inr failed)) =
-    subst (λ (x : Command). Step g (Down saved) x a after) (sym is) (inr (inr (refl, failed.0, failed.1 ∙ ap Down (sym (nil_behind saved)))))
+    subst (λ (x : Command). Step g (Down saved) x a after) (sym is) (inr (inr (refl, failed.0, failed.1 ∙ ap Down (sym (append-nil saved)))))
 reopens_step g (Down saved) c a after (inr is) (inr (inr failed)) =
-    subst (λ (x : Command). Step g (Down saved) x a after) (sym is) (inr (inr (refl, failed.0, failed.1 ∙ ap Down (sym (nil_behind saved)))))
+    subst (λ (x : Command). Step g (Down saved) x a after) (sym is) (inr (inr (refl, failed.0, failed.1 ∙ ap Down (sym (append-nil saved)))))
 
 -- ---- crashes
 
@@ -317,7 +313,7 @@ module _ {D S : Type 0} (disk : D → Disk) (view : S → View D) (parts : S →
   -- the device was left alone, or its power was cut
   pub left_alone : (d : D) (g : Geometry) (ss : List Saved) → Leaves g (disk d) ss → LeavesOne g (disk d) (disk d) ss × Leaves g (disk d) ss
   left_alone d g ss leaves = (
-    subst (λ (ts : List Saved). LeavesOne g (disk d) (disk d) ts) (nil_behind ss) (leaves_here g (disk d) ss [] (only_now d) leaves),
+    subst (λ (ts : List Saved). LeavesOne g (disk d) (disk d) ts) (append-nil ss) (leaves_here g (disk d) ss [] (only_now d) leaves),
     leaves,
   )
 

@@ -1,7 +1,6 @@
 -- A device that was opened, and one that was refused.
-use Rattle.std.proofs.Common.{◌≡◌, ◌↔◌, ℕ, zero, suc, ◌+◌, ◌<◌, ◌≤◌, Bool, false, Option, None, Some, List, replicate, cond, refl, sym, ap, ◌∙◌, subst, ⊎_elim, inr, arith}
+use Rattle.std.proofs.Common.{◌≡◌, ◌↔◌, ℕ, zero, suc, ◌+◌, ◌<◌, ◌≤◌, Bool, false, Option, None, Some, List, replicate, cond, refl, sym, ap, ◌∙◌, subst, inr, arith}
 use Rattle.std.specs.Prelude.{Result, Ok, Err, IsErrOf}
-use Rattle.std.proofs.lemmas.Bool.{cases_lt}
 use Rattle.std.proofs.lemmas.List.Sums.{sum_by-cons}
 use Rattle.model.specs.declared.frame.Frame.{Frame}
 use Rattle.model.specs.declared.geometry.Geometry.{Geometry}
@@ -19,7 +18,7 @@ use Rattle.migrator.specs.Saved.{Holds}
 use Rattle.capability.specs.Parts.{Parts, frames_of}
 use Rattle.object_cache.specs.Store.{Aside, FrozenFrames, Leads, Opens, View}
 use Rattle.space_bank.specs.Banks.{AreCounted, BanksState}
-use Rattle.processes.proofs.Serving.{AreSame, same_frames}
+use Rattle.processes.proofs.Serving.{AreSame, same_frames, unfailed}
 use Rattle.kernel.specs.declared.power.Live.{Live}
 use Rattle.kernel.specs.Denotes.{saved_of, IsSoundSaved}
 use Rattle.kernel.specs.Opening.{IsUnfit, IsWhy, RefusesToOpen, Wakes}
@@ -34,10 +33,6 @@ none_touched (suc n) = let total = sum_by-cons (λ b. cond b 1 0) false (replica
 pub untouched_count : (g : Geometry) → touched_count (untouched g) ≡ 0
 unfolding untouched
 untouched_count g = none_touched (g.nodes + g.pages)
-
--- a count of failures that neither fell nor rose is the same
-still : (m n : ℕ) → m ≤ n → (m < n → ⊥) → n ≡ m
-still m n later stayed = ⊎_elim (λ (rose : m < n). absurd (stayed rose)) (λ (within : n ≤ m). omega (arith, within, later)) (cases_lt m n)
 
 -- two looks at a device are one, where a crash leaves what a read gives
 looks_on : (old mid new : Disk) → Looks old mid → Only mid.seen mid → new.sectors ≡ mid.sectors → Peeks mid new → CountsNow new → new.may_leave new.seen → Looks old new
@@ -78,7 +73,7 @@ module _ {D S : Type 0} (disk : D → Disk) (view : S → View D) (parts : S →
     where
       stayed : (why : OpenFault) → (why ≡ fault.Failed → ⊥) → (disk (view s).beneath).failures ≤ (disk (view t).beneath).failures →
           ((why ≡ fault.Failed) ↔ ((disk (view s).beneath).failures < (disk (view t).beneath).failures)) → (disk (view t).beneath).failures ≡ (disk device).failures
-      stayed why other later cause = still (disk (view s).beneath).failures (disk (view t).beneath).failures later (λ rose. other (cause.1 rose)) ∙ opens.failures
+      stayed why other later cause = unfailed (disk (view s).beneath).failures (disk (view t).beneath).failures later (λ rose. other (cause.1 rose)) ∙ opens.failures
 
       told : (why : OpenFault) → (disk (view s).beneath).failures ≤ (disk (view t).beneath).failures → ((why ≡ fault.Failed) ↔ ((disk (view s).beneath).failures < (disk (view t).beneath).failures)) →
           IsUnfit (frames_of (parts s)) why → IsWhy (disk device) (disk (view t).beneath) why
@@ -168,7 +163,7 @@ module _ (p q : Parts) (old new : Disk) (before : p.failures ≡ old.failures) (
   risen_later later = omega (arith, later, before, after)
 
   pub found_still : {T : Type 0} (found : T) → p.failures ≤ q.failures → ((let r : Result T OpenFault = Ok found in IsErrOf r fault.Failed) ↔ (p.failures < q.failures)) → new.failures ≡ old.failures
-  found_still found later cause = sym after ∙ still p.failures q.failures later (λ rose. let never = cause.1 rose in cc) ∙ before
+  found_still found later cause = sym after ∙ unfailed p.failures q.failures later (λ rose. let never = cause.1 rose in cc) ∙ before
 
   pub refused_cause : {T : Type 0} (why : OpenFault) → ((let r : Result T OpenFault = Err why in IsErrOf r fault.Failed) ↔ (p.failures < q.failures)) → (why ≡ fault.Failed) ↔ (old.failures < new.failures)
   refused_cause {T} why cause = (
