@@ -1,9 +1,9 @@
-mod Disks
+pub mod Disks
 mod Entries
-mod Flat
+pub mod Flat
 pub mod Images
 mod Keeps
 mod Mirrors
 pub mod Moments
-mod Past
+pub mod Past
 mod Patches

@@ -1,0 +1,30 @@
+-- What a step of a file adds to its history.
+use Rattle.std.specs.Prelude.{ℕ, ◌+◌, List, [], ◌∷◌, ◌++◌}
+use Rattle.device.specs.declared.record.Outcome.TheVariants.{Keep}
+use Rattle.device.specs.Calls.{sectors_of}
+use Rattle.device.specs.Past.{Event, synced, cut, writes_of}
+use Rattle.file_device.specs.declared.history.History.{History}
+use Rattle.file_device.specs.declared.history.Step.{Step}
+use Rattle.file_device.specs.declared.history.Step.TheVariants.{Wrote, Synced, Cut, Failed}
+
+-- the events of a step
+abbrev pub events_of : Step → List Event
+events_of (Wrote at bytes) = writes_of at (sectors_of bytes.now) bytes.now
+events_of Synced = synced ∷ []
+events_of Cut = cut Keep ∷ []
+events_of Failed = []
+
+-- how many calls fail in it
+abbrev pub failures_of : Step → ℕ
+failures_of (Wrote at bytes) = 0
+failures_of Synced = 0
+failures_of Cut = 0
+failures_of Failed = 1
+
+-- a file that holds these bytes, and to which nothing has been done
+abbrev pub fresh : List ℕ → History
+fresh bytes = record { first = bytes; events = []; failures = 0 }
+
+-- the history after one more step
+abbrev pub stepped : History → Step → History
+stepped h step = record { first = h.first; events = h.events ++ events_of step; failures = h.failures + failures_of step }

@@ -1,0 +1,116 @@
+// A device in a file, with a copy of its sectors in memory.
+ghost use Rattle.std.specs.Prelude.{◌≡◌, ◌<◌, ◌≤◌, ◌+◌, ◌*◌, ◌%◌, [], length, All, IsOk, OnOk};
+ghost use Rattle.device.specs.Calls.{Agrees, Elsewhere, sectors_of, image_of, AreSectors, Narrows, Only, Counts};
+ghost use Rattle.device.specs.Moments.{Elapses};
+ghost use Rattle.file_device.specs.Sound.{IsCopy};
+
+use crate::host_file::HostFile;
+use crate::sector_file::SectorFile;
+use device::{Device, Failed, SECTOR_SIZE};
+
+/// A device in a file, and a copy of its sectors.
+///
+/// A read is answered from the copy and doesn't fail. A write goes to the file and to the copy. Where the file fails, the
+/// call is `Failed`, and so is each write and each sync after it: open the file again then.
+#[derive(Drop)]
+pub struct CopiedFile<F: SectorFile> {
+    sectors: u64,
+    // What a read gives.
+    copy: Vec<u8>,
+    file: F,
+    ghost sound: { IsCopy sectors copy.items (F.first file) (F.events file) },
+}
+
+/// A device in a file of the operating system.
+pub type FileDevice = CopiedFile<HostFile>;
+
+// Puts these sectors in the place of those from `at` on.
+fn put(sectors: &mut [u8], at: usize, from: &[u8])
+    requires whole { length from.now % 512 ≡ 0 }
+    requires inside { 512 * (at + sectors_of from.now) ≤ length sectors.old }
+    ensures written { AreSectors (image_of sectors.new) at from.now }
+    ensures elsewhere { Elsewhere at (sectors_of from.now) (image_of sectors.old)
+        (image_of sectors.new) }
+    ensures fits { All (λ b. b < 256) sectors.new }
+{
+    let start = at * SECTOR_SIZE;
+    sectors[start..start + from.len()].copy_from_slice(from);
+}
+
+impl<F: SectorFile> CopiedFile<F> {
+    ghost use Rattle.file_device.specs.FileDevice.{file_disk};
+
+    /// A device in this file, of which `copy` is what it holds. Nothing has been done to the file.
+    pub(crate) fn new(copy: Vec<u8>, file: F) -> CopiedFile<F>
+        requires whole { length copy.items % 512 ≡ 0 }
+        requires few { sectors_of copy.items ≤ 131072 }
+        requires first { F.first file ≡ copy.items }
+        requires fresh { F.events file ≡ [] }
+        ensures size { (file_disk result).sectors ≡ sectors_of copy.items }
+        ensures seen { Agrees (file_disk result).seen (image_of copy.items) }
+        ensures durable { Only (file_disk result).seen (file_disk result) }
+        ensures failures { (file_disk result).failures ≡ F.failures file }
+    {
+        CopiedFile {
+            sectors: (copy.len() / SECTOR_SIZE) as u64,
+            copy,
+            file,
+        }
+    }
+}
+
+impl<F: SectorFile> Device for CopiedFile<F> {
+    ghost use Rattle.file_device.specs.FileDevice.{file_disk};
+    ghost use Rattle.file_device.specs.SoundLaws.{copy_seen_left};
+    ghost use Rattle.device.specs.PastLaws.{past_counts_now, past_only_now};
+
+    ghost disk = { λ d. file_disk d };
+
+    fn sectors(&self) -> u64 {
+        self.sectors
+    }
+
+    /// It doesn't fail.
+    fn read(&mut self, at: u64, into: &mut [u8]) -> Result<(), Failed>
+        requires whole { length into.old % 512 ≡ 0 }
+        requires inside { at + sectors_of into.old ≤ (file_disk self.old).sectors }
+        ensures ok { IsOk result }
+        ensures same { self.new ≡ self.old }
+        ensures bytes { OnOk result (AreSectors (file_disk self.new).seen at into.new) }
+        ensures size { (file_disk self.new).sectors ≡ (file_disk self.old).sectors }
+        ensures seen { Agrees (file_disk self.new).seen (file_disk self.old).seen }
+        ensures crash { Narrows (file_disk self.old) (file_disk self.new) }
+        ensures nothing_durable { Narrows (file_disk self.new) (file_disk self.old) }
+        ensures time { Elapses (file_disk self.old) (file_disk self.new) }
+        ensures cause { Counts (file_disk self.old) (file_disk self.new) result }
+    {
+        let start = at as usize * SECTOR_SIZE;
+        into.copy_from_slice(&self.copy[start..start + into.len()]);
+        Ok(())
+    }
+
+    fn write(&mut self, at: u64, from: &[u8]) -> Result<(), Failed> {
+        let answer = self.file.write(at, from);
+        put(&mut self.copy, at as usize, from);
+        answer
+    }
+
+    fn sync(&mut self) -> Result<(), Failed> {
+        self.file.sync()
+    }
+
+    /// It does nothing to the file: every byte is kept.
+    fn power_cut(&mut self) {
+        self.file.power_cut();
+    }
+
+    ghost seen_left = { λ d. copy_seen_left _ _ _ _ d.sound };
+
+    ghost counts_now = { λ d t c. past_counts_now d.sectors (image_of (F.first d.file)) (F.events d.file) t c };
+
+    ghost only_now = { λ d c. past_only_now d.sectors (image_of (F.first d.file)) (F.events d.file) c };
+
+    ghost left_whole = { λ d t c left. left.3.whole };
+
+    ghost few_sectors = { λ d. d.sound.few };
+}

@@ -1,0 +1,18 @@
+//! A device in a file. All of its sectors are copied into memory when it is opened: reads are answered from the
+//! copy, and writes go to the file and to the copy. What has been done to the file is told by ghost data, so the
+//! device keeps no record in memory.
+#![tactic(auto)]
+
+mod fault;
+mod file_device;
+mod history;
+mod host_file;
+mod open;
+mod sector_file;
+#[cfg(test)]
+mod tests;
+
+pub use fault::FileFault;
+pub use file_device::{CopiedFile, FileDevice};
+pub use host_file::HostFile;
+pub use sector_file::SectorFile;
