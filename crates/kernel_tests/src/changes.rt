@@ -1,5 +1,5 @@
 // Images of which some bytes are changed, and what opening them comes to.
-use crate::answers::second_image;
+use crate::second::second_image;
 use device::{Device, Outcome, SECTOR_SIZE};
 use kernel::Kernel;
 use layout::BadImage;

@@ -1,6 +1,6 @@
 // Worlds on a device.
 ghost use Rattle.std.specs.Prelude.{◌≡◌, ◌≤◌, ◌^◌, IfOk};
-ghost use Rattle.model.specs.Keepable.{AreKeepable};
+ghost use Rattle.model.specs.Keepable.{AreKeepable, IsSoundFrames};
 ghost use Rattle.capability.specs.Parts.{frames_of};
 ghost use Rattle.capability.specs.Plain.{parts_of};
 
@@ -11,9 +11,19 @@ use model::{Cap, Content, ObjectHeader, Root};
 use std::alloc::{AllocError, Global};
 use std::test::Fail;
 
-/// World I0, in which process 1 runs and process 3 is available.
-pub(crate) fn second_world(alloc: Global) -> Result<Plain, AllocError>
-    ensures { IfOk result (λ p. AreKeepable p.geometry 0 (frames_of (parts_of p))) }
+/// World F0: process 1 runs, and holds node 5 in register 5 and page 16 in register 6.
+pub fn first_world(alloc: Global) -> Result<Plain, AllocError>
+    ensures sound { IfOk result (λ p. IsSoundFrames p.geometry p.age (frames_of (parts_of p))) }
+    ensures keepable { IfOk result (λ p. AreKeepable p.geometry 0 (frames_of (parts_of p))) }
+{
+    Plain::f0(alloc)
+}
+
+/// World I0: process 1 runs, and holds itself, the prime bank, the right to start process 3 with
+/// key 7 and that process, which is available, in registers 1 to 4.
+pub fn second_world(alloc: Global) -> Result<Plain, AllocError>
+    ensures sound { IfOk result (λ p. IsSoundFrames p.geometry p.age (frames_of (parts_of p))) }
+    ensures keepable { IfOk result (λ p. AreKeepable p.geometry 0 (frames_of (parts_of p))) }
 {
     Plain::i0(alloc)
 }
@@ -60,13 +70,9 @@ fn copy_contents(alloc: Global, plain: &Plain) -> Result<Vec<Content<Cap>>, Allo
     Ok(contents)
 }
 
-/// Writes a world to a device, as an image of generation 0 and of an age.
-pub(crate) fn written<D: Device>(
-    alloc: Global,
-    device: D,
-    plain: &Plain,
-    age: u64,
-) -> Result<D, Fail>
+/// Writes a world to a device, as an image of generation 0 and of an age. An error where the device
+/// is too small or fails, and where there is no memory.
+pub fn written<D: Device>(alloc: Global, device: D, plain: &Plain, age: u64) -> Result<D, Fail>
     requires age { age ≤ 2 ^ 62 }
     requires keepable { AreKeepable plain.now.geometry 0 (frames_of (parts_of plain.now)) }
 {

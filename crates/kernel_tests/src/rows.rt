@@ -1,5 +1,6 @@
 // The rows of answers that every kernel gives, over the second world on a device in memory.
-use crate::answers::{answers_over, is_answered, second_image};
+use crate::kernels::answers_over;
+use crate::second::{is_answered, second_image};
 use device::Outcome;
 use std::test::Fail;
 

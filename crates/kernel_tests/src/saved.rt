@@ -1,5 +1,6 @@
 // What is told of the committed checkpoint, and the device that a kernel gives back.
-use crate::answers::{answers, answers_over, device_after, opened, opened_at_last, second_image};
+use crate::kernels::{answers, answers_over, opened};
+use crate::second::{device_after, opened_at_last, second_image};
 use device::{Device, Outcome};
 use migrator::Checkpoint;
 use std::alloc::Global;

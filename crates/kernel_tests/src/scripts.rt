@@ -1,10 +1,8 @@
 // Runs of scripts, one after another, over one device.
-use crate::answers::second_image;
+use crate::kernels::{answers, opened};
+use crate::second::second_image;
 use device::{Device, Outcome};
-use kernel::Kernel;
 use migrator::Checkpoint;
-use object_cache::PlainStore;
-use runs::run;
 use std::alloc::Global;
 use std::test::Fail;
 
@@ -14,14 +12,10 @@ fn ran<D: Device>(
     device: D,
     script: &[u8],
 ) -> Result<(Vec<u8>, Option<Checkpoint>, D), Fail> {
-    let mut kernel = Kernel::<D, PlainStore<D>>::open(alloc, device, ())
-        .ok()
-        .ok_or("it opens")?;
-    let mut reader = script;
-    let mut answers = Vec::new(alloc);
-    run(alloc, &mut kernel, &mut reader, &mut answers)?;
+    let mut kernel = opened(alloc, device)?;
+    let written = answers(alloc, &mut kernel, script)?;
     let saved = kernel.saved();
-    Ok((answers, saved, kernel.into_device()))
+    Ok((written, saved, kernel.into_device()))
 }
 
 const FIRST: &[u8] = b"# a page, and a checkpoint of it\ncall 1 2 1 0 0 0 0 0 0 0\n\

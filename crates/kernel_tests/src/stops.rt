@@ -1,5 +1,6 @@
 // A device that stops in a commit or on the way home, and what a power cut leaves of it.
-use crate::answers::{answers, device_after, opened_at_last, second_image};
+use crate::kernels::answers;
+use crate::second::{device_after, opened_at_last, second_image};
 use device::{Device, Fuse, Outcome};
 use kernel::Kernel;
 use object_cache::PlainStore;

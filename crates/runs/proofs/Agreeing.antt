@@ -14,8 +14,7 @@ use Rattle.model.specs.Run.{Reply, Told, Turn, IsRun, Replies, understood, reply
 use Rattle.model.specs.Step.{Answers, Outcome, Step, carried_out, refusal_of}
 use Rattle.model.specs.Text.{Says}
 use Rattle.model_laws.proofs.Spelling.{says_one}
-use Rattle.script.specs.Runs.{lines_in}
-use Rattle.runs.specs.KernelRuns.{knows_all}
+use Rattle.runs.specs.KernelRuns.{knows_all, lines_in}
 use Rattle.runs.specs.Laws.{SteadyRunsAgree, is_steady}
 
 -- two answers of a machine that is up, which stays up

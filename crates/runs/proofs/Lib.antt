@@ -1,2 +1,4 @@
 mod Agreeing
+mod ScriptLines
+mod TurnLists
 mod Turning

@@ -1,8 +1,9 @@
 -- Turns of a kernel, one after another.
-use Rattle.std.proofs.Common.{◌≡◌, ◌⊎◌, ℕ, ◌+◌, ◌<◌, ◌≤◌, Bool, true, false, List, [], ◌∷◌, ◌++◌, Option, None, Some, Ok, Err, refl, sym, ◌∙◌, subst, ⊎_elim, inl, inr, arith}
-use Rattle.std.specs.Prelude.{Result, if◌then◌else◌}
+use Rattle.std.proofs.Common.{◌≡◌, ◌≢◌, ◌⊎◌, ℕ, ◌+◌, ◌<◌, ◌≤◌, Bool, true, false, List, [], ◌∷◌, ◌++◌, Option, None, Some, Ok, Err, refl, sym, ap, ◌∙◌, subst, ⊎_elim, inl, inr, append_assoc, append-nil, arith}
+use Rattle.std.specs.Prelude.{◌↔◌, IsTrue, OnErr, OnOk, Result, if◌then◌else◌}
 use Rattle.std.proofs.lemmas.Bool.{cases_lt}
-use Rattle.std.specs.Io.KnownBytes.{Appends}
+use Rattle.std.proofs.KnownBytes.{Consumes-trans}
+use Rattle.std.specs.Io.KnownBytes.{Appends, Consumes}
 use Rattle.model.specs.declared.answer.Answer.{Answer}
 use Rattle.model.specs.declared.answer.Answer.TheVariants as answer
 use Rattle.model.specs.declared.answer.Refusal.TheVariants as refusal
@@ -11,7 +12,7 @@ use Rattle.model.specs.declared.geometry.Geometry.{Geometry}
 use Rattle.model.specs.declared.line.Line.{Line}
 use Rattle.model.specs.declared.line.Line.TheVariants as line
 use Rattle.model.specs.Machine.{Machine, Running, Saved, Up, Down, candidates}
-use Rattle.model.specs.Run.{Reply, Nothing, BadLine, Told, Turn, IsRun, Replies, understood, reply_text, output_of}
+use Rattle.model.specs.Run.{Reply, Nothing, BadLine, Told, Turn, IsRun, Replies, lines_of, understood, reply_text, output_of}
 use Rattle.model.specs.Step.{second}
 use Rattle.model.specs.Text.{Says, bad_line}
 use Rattle.device.specs.Disk.{Image, Disk}
@@ -25,11 +26,13 @@ use Rattle.kernel.specs.Denotes.{DenotesOne, saved_of}
 use Rattle.kernel.specs.Standing.{IsCaused, Serves, Stands, disk_of}
 use Rattle.script.specs.declared.fault.RunFault.{RunFault}
 use Rattle.script.specs.declared.fault.RunFault.TheVariants as fault
-use Rattle.script.specs.Lines.{TakesLine, TakesNoLine}
-use Rattle.script.specs.Runs.{TakesLines, lines_in}
+use Rattle.script.specs.declared.lines.LineBuffer.{LineBuffer}
+use Rattle.script.specs.Lines.{Holds}
 use Rattle.script.specs.Writing.{AppendsFront, Writes}
-use Rattle.script.proofs.Turns.{appends_more, appends_none, end_taken, lines_more, lines_taken, none_taken, output_more, rest_taken, run_more}
-use Rattle.runs.specs.KernelRuns.{AreTold, Does, IsLeftIn, IsRunOf, IsSecondOf, TakesTurn, fault_count, knows_all, tells_fault}
+use Rattle.runs.specs.KernelRuns.{AreLines, AreTold, Does, IsCutShort, IsLeftIn, IsRunOf, IsSecondOf, RunsOver, fault_count, knows_all, lines_in, tells_fault}
+use Rattle.runs.specs.Taking.{Ended, SoFar, Stopped, TakesTurn}
+use Rattle.runs.proofs.ScriptLines.{byte_more, line_more, lines_first, lines_whole, lines_with_rest, no_lines}
+use Rattle.runs.proofs.TurnLists.{appends_more, appends_none, lines_more, output_more, run_more}
 
 -- ---- what a crash leaves
 
@@ -154,87 +157,214 @@ module _ {D S : Type 0} (disk : D → Disk) (view : S → View D) (parts : S →
 
   -- ---- a run
 
-  -- a run so far: its turns, the lines taken and the answers written
-  abbrev pub SoFar : Geometry → Machine → Power D S → Power D S → Option (List ℕ) → Option (List ℕ) → Option (List ℕ) → Option (List ℕ) → Type 0
-  SoFar g m old new input input_left output output_left =
-      (turns : List Turn) × IsRunOf disk view parts g m old new turns × TakesLines input input_left (lines_in turns) [] × Appends output output_left (output_of turns)
+  pub begun : (g : Geometry) (m : Machine) (p : Power D S) (line : LineBuffer) (output : Option (List ℕ)) → Holds line [] → Stands disk view parts g p m →
+      SoFar disk view parts g m p p [] line output output
+  begun g m p line output empty stands = record {
+    turns = [];
+    rest = [];
+    run = record { after = m; run = refl; stands = stands; size = refl; any_moment = here g m p stands; faults = none_told (disk_of disk view parts p) };
+    lines = no_lines;
+    held = empty;
+    written = appends_none output;
+  }
 
-  pub begun : (g : Geometry) (m : Machine) (p : Power D S) (input output : Option (List ℕ)) → Stands disk view parts g p m → SoFar g m p p input input output output
-  begun g m p input output stands = (
-    [],
-    record { after = m; run = refl; stands = stands; size = refl; any_moment = here g m p stands; faults = none_told (disk_of disk view parts p) },
-    none_taken input,
-    appends_none output,
-  )
+  -- a byte more of a line
+  pub longer : (g : Geometry) (m : Machine) (old new : Power D S) (text : List ℕ) (line longer : LineBuffer) (output output_left : Option (List ℕ)) (byte : ℕ) →
+      SoFar disk view parts g m old new text line output output_left → byte ≢ 10 → ((l : List ℕ) → Holds line l → Holds longer (l ++ byte ∷ [])) →
+      SoFar disk view parts g m old new (text ++ byte ∷ []) longer output output_left
+  longer g m old new text line buffer output output_left byte so_far other pushed = record {
+    turns = so_far.turns;
+    rest = so_far.rest ++ byte ∷ [];
+    run = so_far.run;
+    lines = byte_more text (lines_in so_far.turns) so_far.rest byte so_far.lines other;
+    held = pushed so_far.rest so_far.held;
+    written = so_far.written;
+  }
 
-  module _ (g : Geometry) (m : Machine) (old mid new : Power D S) (input read left output written wrote : Option (List ℕ)) (so_far : SoFar g m old mid input read output written)
-      (found : Option Line) (says : Line) (is : found ≡ Some says) (taken : TakesLine read left found) (result : Result (Unit {0}) RunFault)
-      (turn : TakesTurn disk view parts g so_far.1.after says mid new written wrote result) where
-    line_found : TakesLine read left (Some says)
-    line_found = subst (TakesLine read left) is taken
-
+  -- a line is at its end
+  module _ (g : Geometry) (m : Machine) (old mid new : Power D S) (text : List ℕ) (held next : LineBuffer) (output written wrote : Option (List ℕ))
+      (so_far : SoFar disk view parts g m old mid text held output written) (says : Line) (said : (l : List ℕ) → Holds held l → Says l says) (empty : Holds next [])
+      (result : Result (Unit {0}) RunFault) (turn : TakesTurn disk view parts g so_far.run.after says mid new written wrote result) where
     abbrev turn_of : Turn
-    turn_of = record { line = line_found.0; before = so_far.1.after; reply = turn.reply; after = turn.after }
+    turn_of = record { line = so_far.rest; before = so_far.run.after; reply = turn.reply; after = turn.after }
+
+    abbrev turns_on : List Turn
+    turns_on = so_far.turns ++ turn_of ∷ []
 
     abbrev size : ℕ
     size = (disk_of disk view parts old).sectors
 
-    first_moments : LeavesOnly (disk_of disk view parts old) (disk_of disk view parts mid) (IsLeftIn g size m (so_far.0 ++ turn_of ∷ []))
-    first_moments = leaves_weaker {old = disk_of disk view parts old} {new = disk_of disk view parts mid} {P = IsLeftIn g size m so_far.0} (IsLeftIn g size m (so_far.0 ++ turn_of ∷ []))
-        (λ c has. more_left g size c m so_far.0 turn_of has) so_far.1.any_moment
+    first_moments : LeavesOnly (disk_of disk view parts old) (disk_of disk view parts mid) (IsLeftIn g size m turns_on)
+    first_moments = leaves_weaker {old = disk_of disk view parts old} {new = disk_of disk view parts mid} {P = IsLeftIn g size m so_far.turns} (IsLeftIn g size m turns_on)
+        (λ c has. more_left g size c m so_far.turns turn_of has) so_far.run.any_moment
 
     abbrev InTurn : ℕ → Image → Type 0
-    InTurn n c = DenotesOne g n (candidates so_far.1.after) c ⊎ ((command : Command) × (says ≡ line.Command command) × DenotesOne g n (second so_far.1.after command) c)
+    InTurn n c = DenotesOne g n (candidates so_far.run.after) c ⊎ ((command : Command) × (says ≡ line.Command command) × DenotesOne g n (second so_far.run.after command) c)
 
-    last_moments : LeavesOnly (disk_of disk view parts mid) (disk_of disk view parts new) (IsLeftIn g size m (so_far.0 ++ turn_of ∷ []))
-    last_moments = leaves_weaker {old = disk_of disk view parts mid} {new = disk_of disk view parts new} {P = InTurn size} (IsLeftIn g size m (so_far.0 ++ turn_of ∷ []))
-        (λ c has. last_left g size c m so_far.1.after so_far.0 turn_of so_far.1.run refl
-        (⊎_elim (λ first. inl first) (λ besides. inr (besides.0, subst (Says line_found.0) besides.1 line_found.3, besides.2)) has))
-        (subst (λ (n : ℕ). LeavesOnly (disk_of disk view parts mid) (disk_of disk view parts new) (InTurn n)) so_far.1.size turn.any_moment)
+    last_moments : LeavesOnly (disk_of disk view parts mid) (disk_of disk view parts new) (IsLeftIn g size m turns_on)
+    last_moments = leaves_weaker {old = disk_of disk view parts mid} {new = disk_of disk view parts new} {P = InTurn size} (IsLeftIn g size m turns_on)
+        (λ c has. last_left g size c m so_far.run.after so_far.turns turn_of so_far.run.run refl
+        (⊎_elim (λ first. inl first) (λ besides. inr (besides.0, subst (Says so_far.rest) besides.1 (said so_far.rest so_far.held), besides.2)) has))
+        (subst (λ (n : ℕ). LeavesOnly (disk_of disk view parts mid) (disk_of disk view parts new) (InTurn n)) so_far.run.size turn.any_moment)
 
-    more_run : IsRunOf disk view parts g m old new (so_far.0 ++ turn_of ∷ [])
+    more_run : IsRunOf disk view parts g m old new turns_on
     more_run = record {
       after = turn.after;
-      run = run_more g knows_all m so_far.0 so_far.1.after turn_of so_far.1.run refl (says, line_found.3, turn.replies);
+      run = run_more g knows_all m so_far.turns so_far.run.after turn_of so_far.run.run refl (says, said so_far.rest so_far.held, turn.replies);
       stands = turn.stands;
-      size = turn.size ∙ so_far.1.size;
-      any_moment = leaves_on {old = disk_of disk view parts old} {mid = disk_of disk view parts mid} {new = disk_of disk view parts new} {P = IsLeftIn g size m (so_far.0 ++ turn_of ∷ [])} first_moments last_moments;
-      faults = told_on (disk_of disk view parts old) (disk_of disk view parts mid) (disk_of disk view parts new) (fault_count so_far.0) (if tells_fault turn.reply then 1 else 0)
-          (fault_count (so_far.0 ++ turn_of ∷ [])) (told_more so_far.0 turn_of) so_far.1.faults turn.faults;
+      size = turn.size ∙ so_far.run.size;
+      any_moment = leaves_on {old = disk_of disk view parts old} {mid = disk_of disk view parts mid} {new = disk_of disk view parts new} {P = IsLeftIn g size m turns_on} first_moments last_moments;
+      faults = told_on (disk_of disk view parts old) (disk_of disk view parts mid) (disk_of disk view parts new) (fault_count so_far.turns) (if tells_fault turn.reply then 1 else 0)
+          (fault_count turns_on) (told_more so_far.turns turn_of) so_far.run.faults turn.faults;
     }
 
-    more_lines : TakesLines input left (lines_in (so_far.0 ++ turn_of ∷ [])) []
-    more_lines = subst (λ (ls : List (List ℕ)). TakesLines input left ls []) (sym (lines_more so_far.0 turn_of)) (lines_taken input read left (lines_in so_far.0) line_found.0 so_far.2 line_found.1 line_found.2)
+    all_written : Appends written wrote (reply_text turn.reply) → Appends output wrote (output_of turns_on)
+    all_written all = subst (Appends output wrote) (sym (output_more so_far.turns turn_of)) (appends_more output written wrote (output_of so_far.turns) (reply_text turn.reply) so_far.written all)
 
-    pub goes_on : Appends written wrote (reply_text turn.reply) → SoFar g m old new input left output wrote
-    goes_on all = (
-      so_far.0 ++ turn_of ∷ [],
-      more_run,
-      more_lines,
-      subst (Appends output wrote) (sym (output_more so_far.0 turn_of)) (appends_more output written wrote (output_of so_far.0) (reply_text turn.reply) so_far.3 all),
-    )
+    cut_short : (read : List ℕ) (others : List (List ℕ)) → lines_of read ≡ lines_in turns_on ++ others → AppendsFront written wrote (reply_text turn.reply) → IsCutShort read turns_on output wrote
+    cut_short read others is cut = record {
+      others = others;
+      lines = is;
+      front = so_far.turns;
+      last = turn_of;
+      turns_are = refl;
+      told = cut.0;
+      cut = cut.1;
+      answer = cut.2;
+      written = appends_more output written wrote (output_of so_far.turns) cut.0 so_far.written cut.3;
+    }
 
-    pub fails_writing : (e : RunFault) → e ≡ fault.Write → AppendsFront written wrote (reply_text turn.reply) →
-        (turns : List Turn) × IsRunOf disk view parts g m old new turns × Does turns input left output wrote (Err e)
-    fails_writing e write cut = (
-      so_far.0 ++ turn_of ∷ [],
-      more_run,
-      subst (λ (d : RunFault). Does (so_far.0 ++ turn_of ∷ []) input left output wrote (Err d)) (sym write)
-          (so_far.0, turn_of, refl, more_lines, cut.0, cut.1, cut.2, appends_more output written wrote (output_of so_far.0) cut.0 so_far.3 cut.3),
-    )
+    whole_lines : AreLines (text ++ 10 ∷ []) (lines_in turns_on) []
+    whole_lines = subst (λ (ls : List (List ℕ)). AreLines (text ++ 10 ∷ []) ls []) (sym (lines_more so_far.turns turn_of)) (line_more text (lines_in so_far.turns) so_far.rest so_far.lines)
 
-  -- its end
-  module _ (g : Geometry) (m : Machine) (old new : Power D S) (input read left output written : Option (List ℕ)) (so_far : SoFar g m old new input read output written) where
-    pub ends : (found : Option Line) → found ≡ None → TakesLine read left found → (turns : List Turn) × IsRunOf disk view parts g m old new turns × Does turns input left output written (Ok tt)
-    ends found none taken =
-        let at_end : TakesLine read left None = subst (TakesLine read left) none taken in
-        (so_far.0, so_far.1, (end_taken input read left (lines_in so_far.0) so_far.2 at_end.0, at_end.1, so_far.3))
+    -- by its newline
+    pub goes_on : Appends written wrote (reply_text turn.reply) → SoFar disk view parts g m old new (text ++ 10 ∷ []) next output wrote
+    goes_on all = record { turns = turns_on; rest = []; run = more_run; lines = whole_lines; held = empty; written = all_written all }
 
-    pub fails_reading : (e : RunFault) → e ≡ fault.Read → TakesNoLine read left → (turns : List Turn) × IsRunOf disk view parts g m old new turns × Does turns input left output written (Err e)
-    fails_reading e reading taken =
-        let rest = rest_taken input read left (lines_in so_far.0) so_far.2 taken in
-        (so_far.0, so_far.1, subst (λ (d : RunFault). Does so_far.0 input left output written (Err d)) (sym reading) (rest.0, rest.1, so_far.3))
+    pub stopped : (more : List ℕ) → AppendsFront written wrote (reply_text turn.reply) → Stopped disk view parts g m old new ((text ++ 10 ∷ []) ++ more) output wrote
+    stopped more cut = record {
+      turns = turns_on;
+      run = more_run;
+      cut = cut_short ((text ++ 10 ∷ []) ++ more) (lines_of more) (lines_first (text ++ 10 ∷ []) (lines_in turns_on) more whole_lines) cut;
+    }
 
-  pub stops_reading : (g : Geometry) (m : Machine) (old new : Power D S) (input read output written : Option (List ℕ)) → SoFar g m old new input read output written →
-      (turns : List Turn) × IsRunOf disk view parts g m old new turns × Does turns input read output written (Err fault.Read)
-  stops_reading g m old new input read output written so_far = (so_far.0, so_far.1, ([], so_far.2, so_far.3))
+    -- by the end of the input
+    last_lines : (so_far.rest ≡ [] → ⊥) → lines_of text ≡ lines_in turns_on
+    last_lines some = lines_with_rest text (lines_in so_far.turns) so_far.rest so_far.lines some ∙ sym (lines_more so_far.turns turn_of)
+
+    pub ended_by_rest : (so_far.rest ≡ [] → ⊥) → Appends written wrote (reply_text turn.reply) → Ended disk view parts g m old new text output wrote
+    ended_by_rest some all = record { turns = turns_on; run = more_run; lines = last_lines some; written = all_written all }
+
+    pub stopped_at_rest : (so_far.rest ≡ [] → ⊥) → AppendsFront written wrote (reply_text turn.reply) → Stopped disk view parts g m old new text output wrote
+    stopped_at_rest some cut = record { turns = turns_on; run = more_run; cut = cut_short text [] (last_lines some ∙ sym (append-nil (lines_in turns_on))) cut }
+
+  -- nothing is left of the input
+  pub ended : (g : Geometry) (m : Machine) (old new : Power D S) (text : List ℕ) (line : LineBuffer) (output written : Option (List ℕ))
+      (so_far : SoFar disk view parts g m old new text line output written) → so_far.rest ≡ [] → Ended disk view parts g m old new text output written
+  ended g m old new text line output written so_far none = record {
+    turns = so_far.turns;
+    run = so_far.run;
+    lines = lines_whole text (lines_in so_far.turns) (subst (AreLines text (lines_in so_far.turns)) none so_far.lines);
+    written = so_far.written;
+  }
+
+  -- ---- a piece
+
+  -- from a kernel, a line and a writer on, these bytes were read
+  module _ (first : Power D S) (begun_line : LineBuffer) (had : Option (List ℕ)) where
+    abbrev pub Goes : List ℕ → Power D S → LineBuffer → Option (List ℕ) → Type 0
+    Goes read k line written = (g : Geometry) (m : Machine) (start : Power D S) (text : List ℕ) (output : Option (List ℕ)) →
+        SoFar disk view parts g m start first text begun_line output had → SoFar disk view parts g m start k (text ++ read) line output written
+
+    pub none_read : Goes [] first begun_line had
+    none_read g m start text output so_far = subst (λ (t : List ℕ). SoFar disk view parts g m start first t begun_line output had) (sym (append-nil text)) so_far
+
+    pub goes_longer : (read : List ℕ) (k : Power D S) (line longer_line : LineBuffer) (written : Option (List ℕ)) (byte : ℕ) → Goes read k line written → byte ≢ 10 →
+        ((l : List ℕ) → Holds line l → Holds longer_line (l ++ byte ∷ [])) → Goes (read ++ byte ∷ []) k longer_line written
+    goes_longer read k line longer_line written byte goes other pushed g m start text output so_far =
+        subst (λ (t : List ℕ). SoFar disk view parts g m start k t longer_line output written) (append_assoc text read (byte ∷ []))
+        (longer g m start k (text ++ read) line longer_line output written byte (goes g m start text output so_far) other pushed)
+
+    module _ (read : List ℕ) (k new : Power D S) (line next : LineBuffer) (written wrote : Option (List ℕ)) (goes : Goes read k line written) (says : Line)
+        (said : (l : List ℕ) → Holds line l → Says l says) (empty : Holds next []) where
+      pub goes_newline : ((g : Geometry) (m : Machine) → Stands disk view parts g k m → TakesTurn disk view parts g m says k new written wrote (Ok tt)) → Goes (read ++ 10 ∷ []) new next wrote
+      goes_newline turn g m start text output so_far =
+          let now = goes g m start text output so_far in
+          let taken = turn g now.run.after now.run.stands in
+          subst (λ (t : List ℕ). SoFar disk view parts g m start new t next output wrote) (append_assoc text read (10 ∷ []))
+          (goes_on g m start k new (text ++ read) line next output written wrote now says said empty (Ok tt) taken taken.writes)
+
+      pub stops_newline : (e : RunFault) (more whole : List ℕ) → whole ≡ (read ++ 10 ∷ []) ++ more →
+          ((g : Geometry) (m : Machine) → Stands disk view parts g k m → TakesTurn disk view parts g m says k new written wrote (Err e)) →
+          (g : Geometry) (m : Machine) (start : Power D S) (text : List ℕ) (output : Option (List ℕ)) →
+          SoFar disk view parts g m start first text begun_line output had → Stopped disk view parts g m start new (text ++ whole) output wrote
+      stops_newline e more whole is turn g m start text output so_far =
+          let now = goes g m start text output so_far in
+          let taken = turn g now.run.after now.run.stands in
+          subst (λ (t : List ℕ). Stopped disk view parts g m start new t output wrote)
+          (append_assoc (text ++ read) (10 ∷ []) more ∙ append_assoc text read (10 ∷ more) ∙ ap (λ (t : List ℕ). text ++ t) (sym (append_assoc read (10 ∷ []) more) ∙ sym is))
+          (stopped g m start k new (text ++ read) line next output written wrote now says said empty (Err e) taken more taken.writes.1)
+
+  -- ---- a run
+
+  -- whichever machine the first kernel stands for
+  abbrev pub RunsSoFar : Power D S → Power D S → List ℕ → LineBuffer → Option (List ℕ) → Option (List ℕ) → Type 0
+  RunsSoFar old new text line output output_left = (g : Geometry) (m : Machine) → Stands disk view parts g old m → SoFar disk view parts g m old new text line output output_left
+
+  pub no_text : (old : Option (List ℕ)) → Consumes old old []
+  no_text None = tt
+  no_text (Some xs) = refl
+
+  -- a text was read, and the run is that of its lines
+  abbrev pub HasRead : Power D S → Power D S → LineBuffer → Option (List ℕ) → Option (List ℕ) → Option (List ℕ) → Option (List ℕ) → Type 0
+  HasRead old new line input input_left output output_left =
+      (text : List ℕ) × Consumes input input_left text × RunsSoFar old new text line output output_left
+
+  pub nothing_read : (k : Power D S) (line : LineBuffer) (input output : Option (List ℕ)) → Holds line [] → HasRead k k line input input output output
+  nothing_read k line input output empty = ([], no_text input, λ g m stands. begun g m k line output empty stands)
+
+  module _ (old mid : Power D S) (line : LineBuffer) (input read left output written : Option (List ℕ)) (so_far : HasRead old mid line input read output written) where
+    -- a read gave nothing
+    pub still_read : Consumes read left [] → HasRead old mid line input left output written
+    still_read nothing = (so_far.0, subst (Consumes input left) (append-nil so_far.0) (Consumes-trans input read left so_far.0 [] so_far.1 nothing), so_far.2)
+
+    module _ (bytes : List ℕ) (new : Power D S) (wrote : Option (List ℕ)) (more : Consumes read left bytes) where
+      pub piece_on : (next : LineBuffer) → ((g : Geometry) (m : Machine) (start : Power D S) (text : List ℕ) (out : Option (List ℕ)) →
+          SoFar disk view parts g m start mid text line out written → SoFar disk view parts g m start new (text ++ bytes) next out wrote) → HasRead old new next input left output wrote
+      piece_on next goes = (
+        so_far.0 ++ bytes,
+        Consumes-trans input read left so_far.0 bytes so_far.1 more,
+        λ g m stands. goes g m old so_far.0 output (so_far.2 g m stands),
+      )
+
+      pub piece_stops : ((g : Geometry) (m : Machine) (start : Power D S) (text : List ℕ) (out : Option (List ℕ)) →
+          SoFar disk view parts g m start mid text line out written → Stopped disk view parts g m start new (text ++ bytes) out wrote) → (e : RunFault) → e ≡ fault.Write →
+          RunsOver disk view parts old new input left output wrote (Err e)
+      piece_stops stops e write g m stands =
+          let s = stops g m old so_far.0 output (so_far.2 g m stands) in
+          (s.turns, s.run, subst (λ (d : RunFault). Does s.turns input left output wrote (Err d)) (sym write) (so_far.0 ++ bytes, Consumes-trans input read left so_far.0 bytes so_far.1 more, s.cut))
+
+  -- ---- the rest at the end
+
+  module _ (k new : Power D S) (line next : LineBuffer) (written wrote : Option (List ℕ)) (says : Line) (said : (l : List ℕ) → Holds line l → Says l says) (empty : Holds next [])
+      (is_empty : Bool) (tells : (l : List ℕ) → Holds line l → (IsTrue is_empty ↔ (l ≡ []))) (some : is_empty ≡ false) where
+    not_none : (l : List ℕ) → Holds line l → l ≡ [] → ⊥
+    not_none l held none = let told : IsTrue is_empty = (tells l held).1 none in cc
+
+    pub rest_ends : (result : Result (Unit {0}) RunFault) →
+        ((g : Geometry) (m : Machine) → Stands disk view parts g k m → TakesTurn disk view parts g m says k new written wrote result) →
+        OnOk result ((g : Geometry) (m : Machine) (start : Power D S) (text : List ℕ) (output : Option (List ℕ)) →
+        SoFar disk view parts g m start k text line output written → Ended disk view parts g m start new text output wrote)
+    rest_ends (Err e) turn = tt
+    rest_ends (Ok a) turn = λ g m start text output so_far.
+        let taken = turn g so_far.run.after so_far.run.stands in
+        ended_by_rest g m start k new text line next output written wrote so_far says said empty (Ok a) taken (not_none so_far.rest so_far.held) taken.writes
+
+    pub rest_stops : (result : Result (Unit {0}) RunFault) →
+        ((g : Geometry) (m : Machine) → Stands disk view parts g k m → TakesTurn disk view parts g m says k new written wrote result) →
+        OnErr result ((g : Geometry) (m : Machine) (start : Power D S) (text : List ℕ) (output : Option (List ℕ)) →
+        SoFar disk view parts g m start k text line output written → Stopped disk view parts g m start new text output wrote)
+    rest_stops (Ok a) turn = tt
+    rest_stops (Err e) turn = λ g m start text output so_far.
+        let taken = turn g so_far.run.after so_far.run.stands in
+        stopped_at_rest g m start k new text line next output written wrote so_far says said empty (Err e) taken (not_none so_far.rest so_far.held) taken.writes.1

@@ -1,16 +1,16 @@
 -- Runs of a script over a kernel.
-use Rattle.std.specs.Prelude.{◌≡◌, ◌⊎◌, ℕ, ◌+◌, ◌<◌, ◌≤◌, Bool, true, false, List, [], ◌∷◌, ◌++◌, Option, Result, Ok, Err, if◌then◌else◌}
-use Rattle.std.specs.Io.KnownBytes.{Appends, IsAtEnd}
+use Rattle.std.specs.Prelude.{◌≡◌, ◌⊎◌, ℕ, ◌+◌, ◌<◌, ◌≤◌, Bool, true, false, List, [], ◌∷◌, ◌++◌, map, Option, Result, Ok, Err, if◌then◌else◌}
+use Rattle.std.specs.List.{All, flat_map}
+use Rattle.std.specs.Io.KnownBytes.{Appends, Consumes, IsAtEnd}
 use Rattle.model.specs.declared.answer.Answer.TheVariants as answer
 use Rattle.model.specs.declared.answer.Refusal.TheVariants as refusal
 use Rattle.model.specs.declared.command.Command.{Command}
 use Rattle.model.specs.declared.geometry.Geometry.{Geometry}
-use Rattle.model.specs.declared.line.Line.{Line}
 use Rattle.model.specs.declared.line.Line.TheVariants as line
 use Rattle.model.specs.Machine.{Machine, candidates}
-use Rattle.model.specs.Run.{Reply, Told, Turn, IsRun, Replies, understood, reply_text, output_of}
+use Rattle.model.specs.Run.{Reply, Told, Turn, IsRun, lines_of, reply_text, output_of}
 use Rattle.model.specs.Step.{second}
-use Rattle.model.specs.Text.{Says}
+use Rattle.model.specs.Text.{Says, line_of}
 use Rattle.device.specs.Disk.{Image, Disk}
 use Rattle.device.specs.Moments.{LeavesOnly}
 use Rattle.capability.specs.Parts.{Parts}
@@ -20,8 +20,7 @@ use Rattle.kernel.specs.Denotes.{DenotesOne}
 use Rattle.kernel.specs.Standing.{Stands, disk_of}
 use Rattle.script.specs.declared.fault.RunFault.{RunFault}
 use Rattle.script.specs.declared.fault.RunFault.TheVariants as fault
-use Rattle.script.specs.Runs.{TakesLines, lines_in}
-use Rattle.script.specs.Writing.{Writes}
+use Rattle.script.specs.Lines.{IsOneLine}
 
 -- a kernel knows every command
 abbrev pub knows_all : Command → Bool
@@ -47,17 +46,38 @@ abbrev pub IsLeftIn : Geometry → ℕ → Machine → List Turn → Image → T
 IsLeftIn g size m [] c = DenotesOne g size (candidates m) c
 IsLeftIn g size m (t ∷ ts) c = DenotesOne g size (candidates m) c ⊎ IsSecondOf g size t.line t.before c ⊎ IsLeftIn g size t.after ts c
 
+-- the lines of the turns
+abbrev pub lines_in : List Turn → List (List ℕ)
+lines_in turns = map (λ t. t.line) turns
+
+-- a text is these lines, each with its newline, and then a rest that is no whole line
+pub record AreLines (text : List ℕ) (lines : List (List ℕ)) (rest : List ℕ) : Type 0 where
+  pub whole : text ≡ flat_map line_of lines ++ rest
+  pub each : All IsOneLine lines
+  pub none : IsOneLine rest
+
+-- the turns are the first lines of a text, and only the answer to the last of them may be cut short
+pub record IsCutShort (text : List ℕ) (turns : List Turn) (output output_left : Option (List ℕ)) : Type 0 where
+  pub others : List (List ℕ)
+  pub lines : lines_of text ≡ lines_in turns ++ others
+  pub front : List Turn
+  pub last : Turn
+  pub turns_are : turns ≡ front ++ last ∷ []
+  pub told : List ℕ
+  pub cut : List ℕ
+  pub answer : reply_text last.reply ≡ told ++ cut
+  pub written : Appends output output_left (output_of front ++ told)
+
 -- What a run with these turns read and wrote. At Ok all of the input was read, and each line of it is a turn whose
--- answer was written. Where the reader failed the same holds of the lines read whole. Where the writer failed only the
--- answer to the last line taken may be cut short.
+-- answer was written. Where the reader failed the same holds of the lines read whole. Where the writer failed the
+-- turns are the first of the lines read, and only the answer to the last may be cut short.
 abbrev pub Does : List Turn → Option (List ℕ) → Option (List ℕ) → Option (List ℕ) → Option (List ℕ) → Result (Unit {0}) RunFault → Type 0
 Does turns input input_left output output_left (Ok a) =
-    TakesLines input input_left (lines_in turns) [] × IsAtEnd input_left × Appends output output_left (output_of turns)
+    (text : List ℕ) × Consumes input input_left text × IsAtEnd input_left × (lines_of text ≡ lines_in turns) × Appends output output_left (output_of turns)
 Does turns input input_left output output_left (Err fault.Read) =
-    (rest : List ℕ) × TakesLines input input_left (lines_in turns) rest × Appends output output_left (output_of turns)
+    (text : List ℕ) × (rest : List ℕ) × Consumes input input_left text × AreLines text (lines_in turns) rest × Appends output output_left (output_of turns)
 Does turns input input_left output output_left (Err fault.Write) =
-    (front : List Turn) × (last : Turn) × (turns ≡ front ++ last ∷ []) × TakesLines input input_left (lines_in turns) []
-    × (told : List ℕ) × (cut : List ℕ) × (reply_text last.reply ≡ told ++ cut) × Appends output output_left (output_of front ++ told)
+    (text : List ℕ) × Consumes input input_left text × IsCutShort text turns output output_left
 
 -- the device failed at least as often as lines were answered so, and one was where it failed
 pub record AreTold (old new : Disk) (count : ℕ) : Type 0 where
@@ -81,15 +101,3 @@ module _ {D S : Type 0} (disk : D → Disk) (view : S → View D) (parts : S →
   RunsOver old new input input_left output output_left result =
       (g : Geometry) (m : Machine) → Stands disk view parts g old m →
       (turns : List Turn) × IsRunOf g m old new turns × Does turns input input_left output output_left result
-
-  -- a line was taken: the machine after it, and what a crash leaves in its course
-  pub record TakesTurn (g : Geometry) (m : Machine) (says : Line) (old new : Power D S) (written wrote : Option (List ℕ)) (result : Result (Unit {0}) RunFault) : Type 0 where
-    pub reply : Reply
-    pub after : Machine
-    pub replies : Replies g (understood knows_all says) m reply after
-    pub stands : Stands disk view parts g new after
-    pub size : (disk_of disk view parts new).sectors ≡ (disk_of disk view parts old).sectors
-    pub any_moment : LeavesOnly (disk_of disk view parts old) (disk_of disk view parts new) (λ c. DenotesOne g (disk_of disk view parts old).sectors (candidates m) c
-        ⊎ ((command : Command) × (says ≡ line.Command command) × DenotesOne g (disk_of disk view parts old).sectors (second m command) c))
-    pub faults : AreTold (disk_of disk view parts old) (disk_of disk view parts new) (if tells_fault reply then 1 else 0)
-    pub writes : Writes written wrote result (reply_text reply)

@@ -5,8 +5,7 @@ use Rattle.model.specs.declared.answer.Refusal.TheVariants as refusal
 use Rattle.model.specs.declared.geometry.Geometry.{Geometry}
 use Rattle.model.specs.Machine.{Machine, Running, Up}
 use Rattle.model.specs.Run.{Reply, Told, Turn, IsRun, output_of}
-use Rattle.script.specs.Runs.{lines_in}
-use Rattle.runs.specs.KernelRuns.{knows_all}
+use Rattle.runs.specs.KernelRuns.{knows_all, lines_in}
 
 -- neither memory ran out nor the device failed
 abbrev pub is_steady : Reply → Bool

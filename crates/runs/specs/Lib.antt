@@ -1,4 +1,4 @@
 pub use Rattle.kernel.specs.Standing
-pub use Rattle.script.specs.Runs
 pub mod KernelRuns
 pub mod Laws
+pub mod Taking

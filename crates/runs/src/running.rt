@@ -1,17 +1,51 @@
 // Runs of scripts over a kernel.
-ghost use Rattle.std.specs.Prelude.{ℕ, List};
+ghost use Rattle.std.specs.Prelude.{◌≡◌, ◌<◌, ◌++◌, ℕ, List, Option, length, OnOk, OnErr, IfErr};
 ghost use Rattle.model.specs.declared.geometry.Geometry.{Geometry};
 ghost use Rattle.model.specs.Machine.{Machine};
+ghost use Rattle.kernel.specs.declared.power.Power.{Power};
 ghost use Rattle.kernel.specs.Standing.{Stands};
-ghost use Rattle.runs.specs.KernelRuns.{RunsOver, TakesTurn};
+ghost use Rattle.runs.specs.KernelRuns.{RunsOver};
+ghost use Rattle.runs.specs.Taking.{Ended, ReadsPiece, SoFar, Stopped, TakesTurn};
 
 use device::Device;
 use kernel::Kernel;
 use model::Line;
 use object_cache::ObjectStore;
-use script::{RunFault, next_line, print_answer, print_bad_line};
+use script::{LineBuffer, RunFault, print_answer, print_bad_line};
 use std::alloc::Global;
-use std::io::{Read, Write};
+use std::io::{ErrorKind, Read, Write};
+
+// How many bytes a reader is asked for at a time.
+const PIECE_SIZE: usize = 4096;
+
+// What one read gave.
+enum Piece {
+    /// So many bytes.
+    Bytes(usize),
+    /// The input is at its end.
+    End,
+    /// Nothing: it was interrupted.
+    Nothing,
+}
+
+// Reads a piece of the script.
+fn read_piece<R: Read>(reader: &mut R, piece: &mut [u8]) -> Result<Piece, RunFault>
+    requires { 0 < length piece.old }
+    ensures bytes { ReadsPiece (R.remaining reader.old) (R.remaining reader.new) piece.new result }
+    ensures size { length piece.new ≡ length piece.old }
+{
+    match reader.read(piece) {
+        Ok(0) => Ok(Piece::End),
+        Ok(count) => Ok(Piece::Bytes(count)),
+        Err(error) => {
+            if error.kind() == ErrorKind::Interrupted {
+                Ok(Piece::Nothing)
+            } else {
+                Err(RunFault::Read)
+            }
+        }
+    }
+}
 
 // Does what a line says, and writes the answer.
 #[inline(never)]
@@ -21,8 +55,9 @@ fn take<D: Device, S: ObjectStore<D>, W: Write>(
     line: &Line,
     writer: &mut W,
 ) -> Result<(), RunFault>
-    ensures { (g : Geometry) (m : Machine) → Stands D.disk S.view S.parts g kernel.old m
+    ensures turn { (g : Geometry) (m : Machine) → Stands D.disk S.view S.parts g kernel.old m
         → TakesTurn D.disk S.view S.parts g m line.now kernel.old kernel.new (W.contents writer.old) (W.contents writer.new) result }
+    ensures fault { IfErr result (λ e. e ≡ RunFault.Write) }
 {
     match line {
         Line::Skip => Ok(()),
@@ -34,9 +69,56 @@ fn take<D: Device, S: ObjectStore<D>, W: Write>(
     }
 }
 
-/// Runs a script over a kernel: takes a line at a time from the reader, serves it, and writes the
-/// answer to each line that isn't skipped before it takes the next. A line that isn't of the grammar
-/// is answered `bad line`.
+// Takes each line that ends in a piece, and keeps the beginning of the next.
+fn take_piece<D: Device, S: ObjectStore<D>, W: Write>(
+    alloc: Global,
+    kernel: &mut Kernel<D, S>,
+    line: &mut LineBuffer,
+    piece: &[u8],
+    writer: &mut W,
+) -> Result<(), RunFault>
+    ensures goes_on { OnOk result ((g : Geometry) (m : Machine) (start : Power D S) (text : List ℕ) (output : Option (List ℕ))
+        → SoFar D.disk S.view S.parts g m start kernel.old text line.old output (W.contents writer.old)
+        → SoFar D.disk S.view S.parts g m start kernel.new (text ++ piece.now) line.new output (W.contents writer.new)) }
+    ensures stops { OnErr result ((g : Geometry) (m : Machine) (start : Power D S) (text : List ℕ) (output : Option (List ℕ))
+        → SoFar D.disk S.view S.parts g m start kernel.old text line.old output (W.contents writer.old)
+        → Stopped D.disk S.view S.parts g m start kernel.new (text ++ piece.now) output (W.contents writer.new)) }
+    ensures fault { IfErr result (λ e. e ≡ RunFault.Write) }
+{
+    for byte in piece {
+        if *byte == b'\n' {
+            take(alloc, kernel, &line.end(), writer)?;
+        } else {
+            line.push(*byte);
+        }
+    }
+    Ok(())
+}
+
+// Takes the rest at the end of the input, where it isn't empty.
+fn take_rest<D: Device, S: ObjectStore<D>, W: Write>(
+    alloc: Global,
+    kernel: &mut Kernel<D, S>,
+    line: &mut LineBuffer,
+    writer: &mut W,
+) -> Result<(), RunFault>
+    ensures ends { OnOk result ((g : Geometry) (m : Machine) (start : Power D S) (text : List ℕ) (output : Option (List ℕ))
+        → SoFar D.disk S.view S.parts g m start kernel.old text line.old output (W.contents writer.old)
+        → Ended D.disk S.view S.parts g m start kernel.new text output (W.contents writer.new)) }
+    ensures stops { OnErr result ((g : Geometry) (m : Machine) (start : Power D S) (text : List ℕ) (output : Option (List ℕ))
+        → SoFar D.disk S.view S.parts g m start kernel.old text line.old output (W.contents writer.old)
+        → Stopped D.disk S.view S.parts g m start kernel.new text output (W.contents writer.new)) }
+    ensures fault { IfErr result (λ e. e ≡ RunFault.Write) }
+{
+    if line.is_empty() {
+        return Ok(());
+    }
+    take(alloc, kernel, &line.end(), writer)
+}
+
+/// Runs a script over a kernel: reads it in pieces of 4096 bytes, which may end anywhere, serves the
+/// lines that end in a piece before it reads the next, and writes the answer to each line that isn't
+/// skipped before it takes the next line. A line that isn't of the grammar is answered `bad line`.
 ///
 /// What is written is the printed answers of a run of the machine on the commands that the lines
 /// name, from whichever machine the kernel stands for; power cuts and failures of the device are
@@ -44,8 +126,10 @@ fn take<D: Device, S: ObjectStore<D>, W: Write>(
 /// machines, or what one of its commands was to save. `fault` is answered at most as often as the
 /// device failed, and at least once where it did.
 ///
-/// `RunFault::Read` where the reader fails, `RunFault::Write` where the writer fails or takes
-/// nothing. The kernel then stands where the lines taken left it.
+/// `RunFault::Read` where the reader fails: then each line whose newline was read was answered.
+/// `RunFault::Write` where the writer fails or takes nothing: then only the answer to the last line
+/// that was taken may be cut short. The kernel then stands where the lines taken left it. A read
+/// that was interrupted is tried again. The lines and answers take no memory.
 pub fn run<D: Device, S: ObjectStore<D>, R: Read, W: Write>(
     alloc: Global,
     kernel: &mut Kernel<D, S>,
@@ -55,11 +139,16 @@ pub fn run<D: Device, S: ObjectStore<D>, R: Read, W: Write>(
     ensures { RunsOver D.disk S.view S.parts kernel.old kernel.new (R.remaining reader.old)
         (R.remaining reader.new) (W.contents writer.old) (W.contents writer.new) result }
 {
+    let mut piece = [0; PIECE_SIZE];
+    let mut line = LineBuffer::new();
     for _ in 0..u64::MAX {
-        let Some(line) = next_line(reader)? else {
-            return Ok(());
-        };
-        take(alloc, kernel, &line, writer)?;
+        match read_piece(reader, &mut piece)? {
+            Piece::Bytes(count) => {
+                take_piece(alloc, kernel, &mut line, &piece[..count], writer)?;
+            }
+            Piece::End => return take_rest(alloc, kernel, &mut line, writer),
+            Piece::Nothing => {}
+        }
     }
     Err(RunFault::Read)
 }

@@ -18,12 +18,12 @@ use Rattle.script.specs.Reading.{◌>>=◌, Words, Gives, number_in, number_at, 
 use Rattle.script.proofs.Numbers.{decimal_is_digits}
 
 -- the value of a step that did not fail
-bind_some : {A B : Type 0} (r : Option A) (f : A → Option B) (y : B) → (r >>= f) ≡ Some y → (x : A) × (r ≡ Some x) × (f x ≡ Some y)
+pub bind_some : {A B : Type 0} (r : Option A) (f : A → Option B) (y : B) → (r >>= f) ≡ Some y → (x : A) × (r ≡ Some x) × (f x ≡ Some y)
 bind_some (Some x) f y e = (x, refl, e)
 bind_some None f y e = absurd cc
 
 -- a test that did not fail
-guard_some : {A : Type 0} (b : Bool) (x y : A) → cond b (Some x) None ≡ Some y → (b ≡ true) × (x ≡ y)
+pub guard_some : {A : Type 0} (b : Bool) (x y : A) → cond b (Some x) None ≡ Some y → (b ≡ true) × (x ≡ y)
 guard_some true x y e = (refl, cc)
 guard_some false x y e = absurd cc
 
@@ -104,7 +104,7 @@ all_four limit a b c d pa pb pc pd (suc (suc zero)) e lt = pc
 all_four limit a b c d pa pb pc pd (suc (suc (suc zero))) e lt = pd
 all_four limit a b c d pa pb pc pd (suc (suc (suc (suc k)))) e lt = absurd (omega arith)
 
-some_is : {A : Type 0} (x y : A) → Some x ≡ Some y → x ≡ y
+pub some_is : {A : Type 0} (x y : A) → Some x ≡ Some y → x ≡ y
 some_is x y e = cc
 
 four_end : (read : Words → Option (ℕ × Words)) (limit : ℕ) → TakesOne read limit → (words : Words) (a b c d : ℕ × Words) (p : List ℕ × Words)
@@ -130,7 +130,7 @@ four_takes read limit takes words p e =
     let four = bind_some (read three.0.1) _ p three.2 in
     four_end read limit takes words one.0 two.0 three.0 four.0 p one.1 two.1 three.1 four.1 four.2
 
-number_takes : TakesOne number_at (2 ^ 64)
+pub number_takes : TakesOne number_at (2 ^ 64)
 unfolding number_at
 number_takes [] p e = absurd cc
 number_takes (word ∷ words) p e =

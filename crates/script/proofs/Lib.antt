@@ -1,11 +1,10 @@
-pub mod Begins
+mod CapabilityTexts
+mod CapabilityWords
 mod Commands
 mod Fronts
 mod Keywords
 mod Numbers
 mod Spellings
 mod Split
-mod Stores
-mod Taken
+mod Tables
 mod Texts
-pub mod Turns

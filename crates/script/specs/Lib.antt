@@ -1,6 +1,5 @@
 pub mod Keywords
 pub mod Lines
-pub mod Plain
+pub mod Named
 pub mod Reading
-pub mod Runs
 pub mod Writing

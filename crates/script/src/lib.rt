@@ -1,22 +1,21 @@
-//! The text of scripts: what a line says, what is written for an answer, and runs.
+//! The text of scripts: what a line says, and what is written for an answer.
 #![tactic(auto)]
 
 mod fault;
 mod keyword;
 mod line_text;
 mod lines;
-mod memory;
+mod named;
 mod number;
 mod parse;
-mod plain;
 mod print;
 mod shown;
-mod step;
 mod words;
 mod writing;
 
 pub use fault::RunFault;
-pub use lines::next_line;
+pub use line_text::LineText;
+pub use lines::LineBuffer;
+pub use named::{capability_of, state_of};
 pub use parse::parse_line;
-pub use plain::{first_run, run_plain};
 pub use print::{print_answer, print_bad_line};

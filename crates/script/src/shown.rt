@@ -73,8 +73,8 @@ fn push_capability(line: &mut LineText, capability: Capability)
     }
 }
 
-// The word of a state.
-fn state_word(state: State) -> &'static [u8]
+/// The word of a state.
+pub fn state_word(state: State) -> &'static [u8]
     ensures word { result.now ≡ state_text state }
     ensures short { length result.now ≤ 9 }
 {

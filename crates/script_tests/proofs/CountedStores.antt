@@ -8,7 +8,7 @@ use Rattle.gate.proofs.Standing.{LooksAs, looked_frames}
 use Rattle.model.specs.declared.frame.Frame.{Frame}
 use Rattle.model.specs.declared.geometry.Geometry.{Geometry}
 use Rattle.model.specs.Keepable.{IsSoundFrames}
-use Rattle.script.specs.Plain.{IsCounted, IsSoundStore}
+use Rattle.script_tests.specs.Stores.{IsCounted, IsSoundStore}
 use Rattle.space_bank.specs.Banks.{BanksState}
 
 module _ (old new : PlainState) (aside : LooksUp parts_of GoesOn old new) where

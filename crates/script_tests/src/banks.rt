@@ -1,13 +1,14 @@
 // Orders of banks, as scripts over the second world.
-use crate::worlds::{is_answered, second_world};
+use crate::worlds::{Turn, are_answered, is_answered};
+use kernel_tests::second_world;
 use std::alloc::Global;
 use std::process::Abort;
 use std::test::Fail;
 
 // A script over the second world is answered so.
 fn answers(rt: &impl Abort, alloc: Global, script: &[u8], expected: &[u8]) -> Result<(), Fail> {
-    let mut plain = second_world(alloc)?;
-    is_answered(rt, alloc, &mut plain, script, expected)
+    let plain = second_world(alloc)?;
+    is_answered(rt, alloc, &plain, script, expected)
 }
 
 // ---- what banks make and give up
@@ -322,21 +323,18 @@ done\ndone\ndone\ndone\ndone\ndone\ndone\ndone\ndone\ndone\ndone\ndone\ndone\ndo
 // All 13 free nodes are a chain of 14 banks, and for one bank more there is no number.
 #[test]
 fn a_chain_is_as_deep_as_there_are_nodes(rt: HostRuntime) -> Result<(), Fail> {
-    let mut plain = second_world(rt.alloc())?;
-    is_answered(&rt, rt.alloc(), &mut plain, DEEPEN, DEEPENED)?;
     let script = b"call 1 10 4 100 0 0 0 0 0 0\nshow 1\nshow 0\nshow 3\nshow 15\n";
     let expected = b"done\nprocess 1 owner 0 annex 2 running key 0 words 6 0 0 0 space void\n\
 register 1 process 1\nregister 2 bank 0\nregister 10 bank 15\nregister 11 bank 3\nend\n\
 bank 0 owner 0 limit 1000 used 15\nend\nbank 3 owner 0 limit 100 used 12\nend\n\
 bank 15 owner 14 limit 100 used 0\nend\n";
-    is_answered(&rt, rt.alloc(), &mut plain, script, expected)
+    let turns: [Turn<'_>; 2] = [(DEEPEN, DEEPENED), (script, expected)];
+    are_answered(&rt, rt.alloc(), &second_world(rt.alloc())?, &turns)
 }
 
 // A page of the deepest bank counts in each bank above it, and goes with the highest.
 #[test]
 fn the_banks_of_a_deep_chain_account_for_a_page(rt: HostRuntime) -> Result<(), Fail> {
-    let mut plain = second_world(rt.alloc())?;
-    is_answered(&rt, rt.alloc(), &mut plain, DEEPEN, DEEPENED)?;
     let script = b"call 1 10 1 0 0 0 0 0 0 0\nshow 16\nshow 0\nshow 3\nshow 9\nshow 15\n\
 call 1 10 8 0 0 0 0 0 0 0\nshow 1\ncall 1 11 6 0 0 0 0 0 0 0\n\
 show 0\nshow 3\nshow 9\nshow 15\nshow 16\n";
@@ -347,5 +345,6 @@ process 1 owner 0 annex 2 running key 0 words 0 87 1 100 space void\n\
 register 1 process 1\nregister 2 bank 0\nregister 10 bank 15\nregister 11 bank 3\nend\ndone\n\
 bank 0 owner 0 limit 1000 used 2\nend\nfree 3\nend\nfree 9\nend\nfree 15\nend\n\
 free 16\nend\n";
-    is_answered(&rt, rt.alloc(), &mut plain, script, expected)
+    let turns: [Turn<'_>; 2] = [(DEEPEN, DEEPENED), (script, expected)];
+    are_answered(&rt, rt.alloc(), &second_world(rt.alloc())?, &turns)
 }

@@ -7,12 +7,12 @@ ghost use Rattle.model.specs.World.{is_process};
 ghost use Rattle.capability.specs.Parts.{FreshFits, IsFreshAt, frames_of};
 ghost use Rattle.capability.specs.Plain.{IsThere, HasRoom, parts_of};
 
-use crate::worlds::{first_world, second_world};
 use capability::laws::{
     called_is_consumed, consume_keeps_sound_frames, given_up_is_rescinded,
     rescind_keeps_sound_frames,
 };
 use capability::{Fresh, ObjectTable, Plain, PrepareFault, PresentFrames, objects, roots, view};
+use kernel_tests::{first_world, second_world};
 use model::{Access, Cap, Capability, Content, Geometry, ObjectHeader, Role, State};
 use std::alloc::{AllocError, Global};
 use std::process::Abort;

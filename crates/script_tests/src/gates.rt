@@ -1,13 +1,14 @@
 // Invocations of processes and through gates, as scripts over the second world.
-use crate::worlds::{is_answered, second_world};
+use crate::worlds::is_answered;
+use kernel_tests::second_world;
 use std::alloc::Global;
 use std::process::Abort;
 use std::test::Fail;
 
 // A script over the second world is answered so.
 fn runs(rt: &impl Abort, alloc: Global, script: &[u8], expected: &[u8]) -> Result<(), Fail> {
-    let mut plain = second_world(alloc)?;
-    is_answered(rt, alloc, &mut plain, script, expected)
+    let plain = second_world(alloc)?;
+    is_answered(rt, alloc, &plain, script, expected)
 }
 
 // ---- gates
@@ -221,15 +222,7 @@ register 1 process 1\nregister 2 bank 0\nregister 3 start 3 7\nregister 4 proces
     runs(&rt, rt.alloc(), script, expected)
 }
 
-// ---- lines
-
-#[test]
-fn every_other_command_is_a_bad_line(rt: HostRuntime) -> Result<(), Fail> {
-    let script = b"evict 5\ncheckpoint\nstabilize 1\ncommit\nmigrate 1\nrestart\ncut\nshow 4\n";
-    let expected = b"bad line\nbad line\nbad line\nbad line\nbad line\nbad line\nbad line\n\
-annex 4 owner 0\nend\n";
-    runs(&rt, rt.alloc(), script, expected)
-}
+// ---- who may invoke
 
 #[test]
 fn who_does_not_run_does_nothing(rt: HostRuntime) -> Result<(), Fail> {

@@ -1,16 +1,19 @@
 // What each kind of capability is classified as.
-ghost use Rattle.script.specs.Plain.{IsSoundStore};
+ghost use Rattle.model.specs.Keepable.{AreKeepable};
+ghost use Rattle.capability.specs.Parts.{frames_of};
+ghost use Rattle.capability.specs.Plain.{parts_of};
 
-use crate::worlds::{first_world, is_answered, second_world};
+use crate::worlds::is_answered;
 use capability::{Plain, PresentFrames, objects};
+use kernel_tests::{first_world, second_world};
 use model::{Capability, Role};
 use std::process::Abort;
 use std::test::Fail;
 
 // Puts the capability that tells the kinds apart into a register of process 1.
 fn give_discrim(rt: &impl Abort, plain: &mut Plain, register: usize)
-    requires { IsSoundStore plain.old }
-    ensures { IsSoundStore plain.new }
+    requires { AreKeepable plain.old.geometry 0 (frames_of (parts_of plain.old)) }
+    ensures { AreKeepable plain.new.geometry 0 (frames_of (parts_of plain.new)) }
 {
     assert!(rt; plain.table().count() > 2);
     assert!(rt; plain.table().header(2).role != Role::Free);
@@ -48,7 +51,7 @@ process 1 owner 0 annex 2 running key 0 words 0 0 0 0 space void\nregister 5 nod
 register 6 page 16\nregister 7 discrim\nend\ndone\n\
 process 1 owner 0 annex 2 running key 0 words 1 0 0 0 space void\nregister 5 node 5\n\
 register 6 page 16\nregister 7 discrim\nend\n";
-    is_answered(&rt, alloc, &mut plain, script, expected)
+    is_answered(&rt, alloc, &plain, script, expected)
 }
 
 #[test]
@@ -66,7 +69,7 @@ register 2 bank 0\nregister 3 start 3 7\nregister 4 process 3\nregister 5 discri
 done\nprocess 1 owner 0 annex 2 running key 0 words 0 8 0 0 space void\n\
 register 1 process 1\nregister 2 bank 0\nregister 3 start 3 7\nregister 4 process 3\n\
 register 5 discrim\nend\n";
-    is_answered(&rt, alloc, &mut plain, script, expected)
+    is_answered(&rt, alloc, &plain, script, expected)
 }
 
 #[test]
@@ -83,5 +86,5 @@ process 3 owner 0 annex 4 running key 0 words 0 7 0 0 space void\nregister 5 res
 register 6 discrim\nend\ndone\ndone\n\
 process 3 owner 0 annex 4 running key 0 words 0 0 0 0 space void\nregister 6 discrim\n\
 end\n";
-    is_answered(&rt, alloc, &mut plain, script, expected)
+    is_answered(&rt, alloc, &plain, script, expected)
 }

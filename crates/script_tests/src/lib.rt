@@ -1,5 +1,5 @@
-//! The tests of the machine in memory, its orders and its scripts, through the public functions of
-//! the crates `capability`, `gate`, `processes` and `script`.
+//! The tests of the machine's orders and of scripts, through the public functions of the crates
+//! `capability`, `gate`, `processes`, `script` and `runs`.
 #![tactic(auto)]
 
 #[cfg(test)]
@@ -17,9 +17,11 @@ mod lines;
 #[cfg(test)]
 mod memory;
 #[cfg(test)]
+mod names;
+#[cfg(test)]
 mod orders;
 #[cfg(test)]
-mod runs;
+mod running;
 #[cfg(test)]
 mod steps;
 #[cfg(test)]

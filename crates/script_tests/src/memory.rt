@@ -1,8 +1,15 @@
 // Loads and stores in scripts: who may, where the way to a word stops, and what is read-only.
-use crate::worlds::{fill_log, is_answered, second_world, space_world, stale_world};
+use crate::worlds::{Turn, are_answered, is_answered};
+use kernel_tests::second_world;
 use std::alloc::Global;
 use std::process::Abort;
 use std::test::Fail;
+
+// Makes node 5 and page 16, and puts them into registers 5 and 6.
+const HOLDING: &[u8] = b"call 1 2 2 0 0 0 0 0 0 0\nsend 1 1 2 5 0 0 28 0 0 0\n\
+call 1 2 1 0 0 0 0 0 0 0\nsend 1 1 2 6 0 0 28 0 0 0\n";
+
+const HELD: &[u8] = b"done\ndone\ndone\ndone\n";
 
 // Gives node 5 spaces of itself 1 to 3 levels high in slots 1 to 3, page 16 in slots 4 and 31, a
 // number in slot 5, itself in slot 6, page 16 read-only in slot 7, and spaces of itself one level
@@ -21,52 +28,74 @@ done\ndone\ndone\ndone\ndone\ndone\ndone\ndone\ndone\n";
 
 // A script over the world whose node 5 has the tree is answered so.
 fn on_tree(rt: &impl Abort, alloc: Global, script: &[u8], expected: &[u8]) -> Result<(), Fail> {
-    let mut plain = space_world(rt, alloc)?;
-    is_answered(rt, alloc, &mut plain, TREE, GROWN)?;
-    is_answered(rt, alloc, &mut plain, script, expected)
+    let turns: [Turn<'_>; 3] = [(HOLDING, HELD), (TREE, GROWN), (script, expected)];
+    are_answered(rt, alloc, &second_world(alloc)?, &turns)
 }
 
 // ---- refusals
 
 #[test]
 fn only_a_running_process_has_a_memory(rt: HostRuntime) -> Result<(), Fail> {
-    let mut plain = second_world(rt.alloc())?;
     let script = b"load 1 0\nload 3 0\nload 5 0\nload 24 0\n\
 store 1 0 9\nstore 3 0 9\nstore 5 0 9\nstore 24 0 9\nshow 1\n";
     let expected = b"memory fault 1\nnot running\nno process\nno process\n\
 memory fault 1\nnot running\nno process\nno process\n\
 process 1 owner 0 annex 2 running key 0 words 0 0 0 0 space void\n\
 register 1 process 1\nregister 2 bank 0\nregister 3 start 3 7\nregister 4 process 3\nend\n";
-    is_answered(&rt, rt.alloc(), &mut plain, script, expected)
+    is_answered(
+        &rt,
+        rt.alloc(),
+        &second_world(rt.alloc())?,
+        script,
+        expected,
+    )
 }
+
+// Puts page 16 into slot 4 of node 5, and read-only into slot 7, and makes node 5 the space of
+// process 1. All of it is brought home, so that the log is empty.
+const AT_HOME: &[u8] = b"call 1 5 2 4 0 0 6 0 0 0\ncall 1 6 3 1 0 0 0 0 0 0\n\
+call 1 5 2 7 0 0 28 0 0 0\ncall 1 5 4 1 0 0 0 0 0 0\ncall 1 1 9 0 0 0 28 0 0 0\n\
+checkpoint\nstabilize 9\ncommit\nmigrate 9\n";
+
+const IS_HOME: &[u8] = b"done\ndone\ndone\ndone\ndone\nfrozen 4\nleft 0\ncommitted 1\nleft 0\n";
+
+// Makes nodes 6 to 15 and pages 17 to 20. With process 1 and its annex they are the 16 objects that
+// half of the log has room for.
+const FILLING: &[u8] = b"call 1 2 2 0 0 0 0 0 0 0\ncall 1 2 2 0 0 0 0 0 0 0\n\
+call 1 2 2 0 0 0 0 0 0 0\ncall 1 2 2 0 0 0 0 0 0 0\ncall 1 2 2 0 0 0 0 0 0 0\n\
+call 1 2 2 0 0 0 0 0 0 0\ncall 1 2 2 0 0 0 0 0 0 0\ncall 1 2 2 0 0 0 0 0 0 0\n\
+call 1 2 2 0 0 0 0 0 0 0\ncall 1 2 2 0 0 0 0 0 0 0\ncall 1 2 1 0 0 0 0 0 0 0\n\
+call 1 2 1 0 0 0 0 0 0 0\ncall 1 2 1 0 0 0 0 0 0 0\ncall 1 2 1 0 0 0 0 0 0 0\n";
+
+const FULL: &[u8] = b"done\ndone\ndone\ndone\ndone\ndone\ndone\ndone\ndone\ndone\n\
+done\ndone\ndone\ndone\n";
 
 #[test]
 fn a_fault_is_told_before_a_full_log(rt: HostRuntime) -> Result<(), Fail> {
-    let alloc = rt.alloc();
-    let mut plain = space_world(&rt, alloc)?;
-    let script = b"call 1 5 2 4 0 0 6 0 0 0\ncall 1 6 3 1 0 0 0 0 0 0\n\
-call 1 5 2 7 0 0 28 0 0 0\ncall 1 5 4 1 0 0 0 0 0 0\ncall 1 1 9 0 0 0 28 0 0 0\n";
-    let expected = b"done\ndone\ndone\ndone\ndone\n";
-    is_answered(&rt, alloc, &mut plain, script, expected)?;
-    fill_log(&rt, alloc, &mut plain)?;
     let script = b"store 1 2048 9\nstore 1 0 9\nstore 1 3584 9\nstore 1 16384 9\n\
-load 1 2048\nload 1 0\nstore 3 2048 9\nshow 16\n";
+load 1 2048\nload 1 0\nstore 5 2048 9\nshow 16\n";
     let expected = b"log full\nmemory fault 3\nmemory fault 5\nmemory fault 2\n\
 value 0\nmemory fault 3\nno process\npage 16 owner 0\nend\n";
-    is_answered(&rt, alloc, &mut plain, script, expected)
+    let turns: [Turn<'_>; 4] = [
+        (HOLDING, HELD),
+        (AT_HOME, IS_HOME),
+        (FILLING, FULL),
+        (script, expected),
+    ];
+    are_answered(&rt, rt.alloc(), &second_world(rt.alloc())?, &turns)
 }
 
 // ---- the way to a word
 
 #[test]
 fn a_page_is_a_space_of_512_words(rt: HostRuntime) -> Result<(), Fail> {
-    let mut plain = space_world(&rt, rt.alloc())?;
     let script = b"call 1 1 9 0 0 0 6 0 0 0\nload 1 511\nstore 1 511 18446744073709551615\n\
 load 1 511\nstore 1 0 7\nload 1 512\nstore 1 512 9\nload 1 18446744073709551615\nshow 16\n";
     let expected = b"done\nvalue 0\ndone\nvalue 18446744073709551615\ndone\n\
 memory fault 2\nmemory fault 2\nmemory fault 2\n\
 page 16 owner 0\nword 0 7\nword 511 18446744073709551615\nend\n";
-    is_answered(&rt, rt.alloc(), &mut plain, script, expected)
+    let turns: [Turn<'_>; 2] = [(HOLDING, HELD), (script, expected)];
+    are_answered(&rt, rt.alloc(), &second_world(rt.alloc())?, &turns)
 }
 
 // The way to page 16 goes through a slot of node 5 at each height, and slot 31 ends a space.
@@ -133,9 +162,8 @@ load 1 536870400\nload 1 0\nload 1 536870912\nstore 1 536870912 9\nload 1 536870
     let expected = b"done\nvalue 0\ndone\nvalue 7\nvalue 0\nmemory fault 3\nmemory fault 2\n\
 memory fault 2\nvalue 7\npage 16 owner 0\nword 511 7\nend\n";
     for script in heights {
-        let mut plain = second_world(rt.alloc())?;
-        is_answered(&rt, rt.alloc(), &mut plain, LADDER, CLIMBED)?;
-        is_answered(&rt, rt.alloc(), &mut plain, script, expected)?;
+        let turns: [Turn<'_>; 2] = [(LADDER, CLIMBED), (script, expected)];
+        are_answered(&rt, rt.alloc(), &second_world(rt.alloc())?, &turns)?;
     }
     Ok(())
 }
@@ -162,15 +190,22 @@ load 1 167772160\nload 1 51904512\nstore 1 51904512 9\n";
     on_tree(&rt, rt.alloc(), script, expected)
 }
 
+// Slot 4 of node 5 names page 16 as it was before it was given up and made again.
 #[test]
 fn a_stale_capability_on_the_way_is_a_hole(rt: HostRuntime) -> Result<(), Fail> {
-    let mut plain = stale_world(&rt, rt.alloc())?;
+    let renewing = b"call 1 5 2 4 0 0 6 0 0 0\ncall 1 2 5 0 0 0 6 0 0 0\n\
+call 1 2 1 0 0 0 0 0 0 0\n";
     let script = b"show 5\ncall 1 5 4 1 0 0 0 0 0 0\ncall 1 1 9 0 0 0 28 0 0 0\n\
 load 1 2048\nstore 1 2048 7\ncall 1 5 4 1 0 0 0 0 0 0\ncall 1 5 2 1 0 0 28 0 0 0\n\
 call 1 5 4 2 0 0 0 0 0 0\ncall 1 1 9 0 0 0 28 0 0 0\nload 1 18432\nstore 1 18432 7\nshow 16\n";
     let expected = b"node 5 owner 0\nend\ndone\ndone\nmemory fault 3\nmemory fault 3\n\
 done\ndone\ndone\ndone\nmemory fault 3\nmemory fault 3\npage 16 owner 0\nend\n";
-    is_answered(&rt, rt.alloc(), &mut plain, script, expected)
+    let turns: [Turn<'_>; 3] = [
+        (HOLDING, HELD),
+        (renewing, b"done\ndone\ndone\n"),
+        (script, expected),
+    ];
+    are_answered(&rt, rt.alloc(), &second_world(rt.alloc())?, &turns)
 }
 
 // ---- restrictions

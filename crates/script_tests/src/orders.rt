@@ -1,13 +1,14 @@
 // Orders on the objects of the first world.
-use crate::worlds::{first_world, is_answered};
+use crate::worlds::is_answered;
+use kernel_tests::first_world;
 use std::alloc::Global;
 use std::process::Abort;
 use std::test::Fail;
 
 // A script over the first world is answered so.
 fn answers(rt: &impl Abort, alloc: Global, script: &[u8], expected: &[u8]) -> Result<(), Fail> {
-    let mut plain = first_world(alloc)?;
-    is_answered(rt, alloc, &mut plain, script, expected)
+    let plain = first_world(alloc)?;
+    is_answered(rt, alloc, &plain, script, expected)
 }
 
 #[test]

@@ -4,11 +4,12 @@ ghost use Rattle.model.specs.Frame.{objects_of};
 ghost use Rattle.model.specs.World.{is_running_process};
 ghost use Rattle.capability.specs.Parts.{frames_of};
 ghost use Rattle.capability.specs.Plain.{parts_of};
-ghost use Rattle.script.specs.Plain.{IsCounted, IsSoundStore};
+ghost use Rattle.script_tests.specs.Stores.{IsCounted, IsSoundStore};
 
-use crate::worlds::{count_banks, register, second_world};
+use crate::worlds::{count_banks, register};
 use capability::{Plain, PrepareFault, PresentFrames, objects};
 use gate::InvokeFault;
+use kernel_tests::second_world;
 use model::{Answer, Invocation, Operation, State};
 use script::print_answer;
 use space_bank::Banks;

@@ -1,0 +1,90 @@
+-- The lines of a text that is read piece by piece.
+use Rattle.std.proofs.Common.{◌≡◌, ◌≢◌, ◌<◌, ◌≤◌, ◌+◌, zero, suc, ◌==◌, false, ℕ, List, [], ◌∷◌, ◌++◌, length, take, drop, refl, sym, ap, ◌∙◌, subst, append_assoc, append-nil, arith}
+use Rattle.std.specs.Prelude.{slice_index_or}
+use Rattle.std.proofs.lemmas.Bool.Decides.{nat_tests}
+use Rattle.std.proofs.lemmas.List.Concat.{flat_map-append}
+use Rattle.std.proofs.lemmas.List.Elements.{All-append, All-cons, All-head, All-nil, All-push, All-tail}
+use Rattle.std.specs.List.{All, flat_map}
+use Rattle.model.specs.Run.{lines_of}
+use Rattle.model.specs.Text.{line_of}
+use Rattle.script.specs.Lines.{IsOneLine}
+use Rattle.runs.specs.KernelRuns.{AreLines}
+
+-- a line that ends at its newline is the first, and what follows it the others
+first_line : (text rest : List ℕ) → IsOneLine text → lines_of (line_of text ++ rest) ≡ text ∷ lines_of rest
+first_line [] rest one = refl
+first_line (b ∷ bs) rest one =
+    let other : (b == 10) ≡ false = let ne : b ≢ 10 = one 0 0 (omega arith) in grind (arith, nat_tests) in
+    rw (other, first_line bs rest (λ k d lt. one (suc k) d (omega arith))) refl
+
+-- a rest that isn't empty and has no newline is one line
+last_line : (text : List ℕ) → IsOneLine text → (text ≡ [] → ⊥) → lines_of text ≡ text ∷ []
+last_line [] one some = absurd (some refl)
+last_line (b ∷ []) one some =
+    let other : (b == 10) ≡ false = let ne : b ≢ 10 = one 0 0 (omega arith) in grind (arith, nat_tests) in rw other refl
+last_line (b ∷ c ∷ bs) one some =
+    let other : (b == 10) ≡ false = let ne : b ≢ 10 = one 0 0 (omega arith) in grind (arith, nat_tests) in
+    rw (other, last_line (c ∷ bs) (λ k d lt. one (suc k) d (omega arith)) (λ is. cc)) refl
+
+lines_before : (lines : List (List ℕ)) (more : List ℕ) → All IsOneLine lines → lines_of (flat_map line_of lines ++ more) ≡ lines ++ lines_of more
+lines_before [] more each = refl
+lines_before (l ∷ ls) more each =
+    ap lines_of (append_assoc (line_of l) (flat_map line_of ls) more)
+    ∙ first_line l (flat_map line_of ls ++ more) (All-head IsOneLine l ls each)
+    ∙ ap (λ (xs : List (List ℕ)). l ∷ xs) (lines_before ls more (All-tail IsOneLine l ls each))
+
+-- of a text of which nothing was read
+pub no_lines : AreLines [] [] []
+no_lines = record { whole = refl; each = All-nil IsOneLine; none = All-nil (λ b. b ≢ 10) }
+
+-- another byte that is no newline
+pub byte_more : (text : List ℕ) (lines : List (List ℕ)) (rest : List ℕ) (byte : ℕ) → AreLines text lines rest → byte ≢ 10 →
+    AreLines (text ++ byte ∷ []) lines (rest ++ byte ∷ [])
+byte_more text lines rest byte are other = record {
+  whole = ap (λ (l : List ℕ). l ++ byte ∷ []) are.whole ∙ append_assoc (flat_map line_of lines) rest (byte ∷ []);
+  each = are.each;
+  none = All-push (λ (b : ℕ). b ≢ 10) rest byte are.none other;
+}
+
+-- and a newline
+pub line_more : (text : List ℕ) (lines : List (List ℕ)) (rest : List ℕ) → AreLines text lines rest → AreLines (text ++ 10 ∷ []) (lines ++ rest ∷ []) []
+line_more text lines rest are = record {
+  whole = ap (λ (l : List ℕ). l ++ 10 ∷ []) are.whole ∙ sym (simp (flat_map-append line_of lines (rest ∷ []), append-nil, append_assoc));
+  each = All-append IsOneLine lines (rest ∷ []) are.each (All-cons IsOneLine rest [] are.none (All-nil IsOneLine));
+  none = All-nil (λ b. b ≢ 10);
+}
+
+-- they are its first lines, whatever follows
+pub lines_first : (text : List ℕ) (lines : List (List ℕ)) (more : List ℕ) → AreLines text lines [] → lines_of (text ++ more) ≡ lines ++ lines_of more
+lines_first text lines more are =
+    ap (λ (l : List ℕ). lines_of (l ++ more)) (are.whole ∙ append-nil (flat_map line_of lines)) ∙ lines_before lines more are.each
+
+-- and all of them, where nothing is left, or with what is left
+pub lines_whole : (text : List ℕ) (lines : List (List ℕ)) → AreLines text lines [] → lines_of text ≡ lines
+lines_whole text lines are = ap lines_of (sym (append-nil text)) ∙ lines_first text lines [] are ∙ append-nil lines
+
+pub lines_with_rest : (text : List ℕ) (lines : List (List ℕ)) (rest : List ℕ) → AreLines text lines rest → (rest ≡ [] → ⊥) → lines_of text ≡ lines ++ rest ∷ []
+lines_with_rest text lines rest are some =
+    ap lines_of are.whole ∙ lines_before lines rest are.each ∙ ap (λ (l : List (List ℕ)). lines ++ l) (last_line rest are.none some)
+
+-- ---- a piece of a text
+
+-- its first bytes, and one more
+pub one_more : (xs : List ℕ) (i b : ℕ) → i < length xs → slice_index_or xs i 0 ≡ b → take (i + 1) xs ≡ take i xs ++ b ∷ []
+one_more [] i b within is = absurd (omega (arith, within))
+one_more (x ∷ xs) zero b within is = ap (λ (y : ℕ). y ∷ []) is
+one_more (x ∷ xs) (suc i) b within is =
+    let next : suc (i + 1) ≡ suc i + 1 = omega arith in
+    subst (λ (n : ℕ). take n (x ∷ xs) ≡ take (suc i) (x ∷ xs) ++ b ∷ []) next (ap (λ (ys : List ℕ). x ∷ ys) (one_more xs i b (omega (arith, within)) is))
+
+-- and all that follow
+pub one_and_more : (xs : List ℕ) (i b : ℕ) → i < length xs → slice_index_or xs i 0 ≡ b → xs ≡ (take i xs ++ b ∷ []) ++ drop (suc i) xs
+one_and_more [] i b within is = absurd (omega (arith, within))
+one_and_more (x ∷ xs) zero b within is = ap (λ (y : ℕ). y ∷ xs) is
+one_and_more (x ∷ xs) (suc i) b within is = ap (λ (ys : List ℕ). x ∷ ys) (one_and_more xs i b (omega (arith, within)) is)
+
+pub all_taken : (xs : List ℕ) (i : ℕ) → length xs ≤ i → take i xs ≡ xs
+all_taken [] zero beyond = refl
+all_taken [] (suc i) beyond = refl
+all_taken (x ∷ xs) zero beyond = absurd (omega (arith, beyond))
+all_taken (x ∷ xs) (suc i) beyond = ap (λ (ys : List ℕ). x ∷ ys) (all_taken xs i (omega (arith, beyond)))

@@ -1,0 +1,33 @@
+-- Turns of a run, one after another, and what they write.
+use Rattle.std.proofs.Common.{◌≡◌, ℕ, Bool, List, [], ◌∷◌, ◌++◌, Option, None, Some, refl, sym, ap, ◌∙◌, append_assoc, append-nil}
+use Rattle.std.specs.Io.KnownBytes.{Appends}
+use Rattle.std.proofs.lemmas.List.Concat.{flat_map-append}
+use Rattle.model.specs.declared.command.Command.{Command}
+use Rattle.model.specs.declared.geometry.Geometry.{Geometry}
+use Rattle.model.specs.Machine.{Machine}
+use Rattle.model.specs.Run.{Turn, IsTurn, IsRun, reply_text, output_of}
+use Rattle.runs.specs.KernelRuns.{lines_in}
+
+-- one more turn
+pub run_more : (g : Geometry) (knows : Command → Bool) (m : Machine) (ts : List Turn) (mid : Machine) (t : Turn) →
+    IsRun g knows m ts mid → t.before ≡ mid → IsTurn g knows t → IsRun g knows m (ts ++ t ∷ []) t.after
+run_more g knows m [] mid t run begins turn = (begins ∙ run, turn, refl)
+run_more g knows m (u ∷ us) mid t run begins turn = (run.0, run.1, run_more g knows u.after us mid t run.2 begins turn)
+
+pub lines_more : (ts : List Turn) (t : Turn) → lines_in (ts ++ t ∷ []) ≡ lines_in ts ++ t.line ∷ []
+lines_more [] t = refl
+lines_more (u ∷ us) t = ap (λ (ls : List (List ℕ)). u.line ∷ ls) (lines_more us t)
+
+pub output_more : (ts : List Turn) (t : Turn) → output_of (ts ++ t ∷ []) ≡ output_of ts ++ reply_text t.reply
+output_more ts t = simp (flat_map-append (λ (u : Turn). reply_text u.reply) ts (t ∷ []), append-nil)
+
+-- what is known to be written, one text after another
+pub appends_more : (a b c : Option (List ℕ)) (x y : List ℕ) → Appends a b x → Appends b c y → Appends a c (x ++ y)
+appends_more None b c x y p q = tt
+appends_more (Some xs) None c x y p q = absurd p
+appends_more (Some xs) (Some ys) None x y p q = absurd q
+appends_more (Some xs) (Some ys) (Some zs) x y p q = q ∙ ap (λ (l : List ℕ). l ++ y) p ∙ append_assoc xs x y
+
+pub appends_none : (old : Option (List ℕ)) → Appends old old []
+appends_none None = tt
+appends_none (Some xs) = sym (append-nil xs)

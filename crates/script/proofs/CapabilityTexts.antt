@@ -1,0 +1,102 @@
+-- A text is a capability's where its pieces are the capability's words.
+use Rattle.std.proofs.Common.{◌≡◌, ◌≢◌, ℕ, ◌<◌, ◌^◌, ◌==◌, not, Bool, true, false, if◌then◌else◌, List, [], ◌∷◌, ◌++◌, length, codes, decimal, All, refl, sym, ap, ◌∙◌, arith}
+use Rattle.std.specs.List.{flat_map, list_all}
+use Rattle.std.proofs.lemmas.List.Elements.{All-nil, All-cons, All-weaker}
+use Rattle.std.proofs.lemmas.List.Sums.{AllPass-from_list_all}
+use Rattle.std.proofs.lemmas.List.Splits.{join_with_byte-slice_split}
+use Rattle.model.specs.declared.access.Access.{Access}
+use Rattle.model.specs.declared.capability.Capability.{Capability}
+use Rattle.model.specs.declared.capability.Capability.TheVariants as capability
+use Rattle.model.specs.Text.{spaced, access_text, capability_text}
+use Rattle.model_laws.proofs.Spelling.{IsSpaceless, split_spaced, decimal_is_word}
+use Rattle.script.specs.Named.{access_words, capability_words}
+use Rattle.script.specs.Reading.{words_of}
+use Rattle.script.proofs.CapabilityWords.{HasText}
+use Rattle.script.proofs.Texts.{spaced_more}
+
+-- an access, as its word with a space before it
+access_is : (a : Access) → flat_map (λ w. 32 ∷ w) (access_words a) ≡ access_text a
+access_is a = go (a.0 == 0) (a.0 == 1) where
+  go : (b c : Bool) → flat_map (λ w. 32 ∷ w) (if b then [] else if c then codes "ro" ∷ [] else codes "weak" ∷ []) ≡ (if b then [] else if c then codes " ro" else codes " weak")
+  go true c = refl
+  go false true = refl
+  go false false = refl
+
+restricted : (word : List ℕ) (words : List (List ℕ)) (a : Access) → spaced (word ∷ words) ++ access_text a ≡ spaced (word ∷ (words ++ access_words a))
+restricted word words a = ap (λ (t : List ℕ). spaced (word ∷ words) ++ t) (sym (access_is a)) ∙ sym (spaced_more word words (access_words a))
+
+-- the text is the words, with one space between each two
+text_is : (c : Capability) → capability_text c ≡ spaced (capability_words c)
+unfolding capability_text capability_words
+text_is capability.Void = refl
+text_is (capability.Number n) = refl
+text_is (capability.Page o a) = restricted (codes "page") (decimal o ∷ []) a
+text_is (capability.Node o a) = restricted (codes "node") (decimal o ∷ []) a
+text_is (capability.Space o h a) = restricted (codes "space") (decimal o ∷ decimal h ∷ []) a
+text_is (capability.Process p) = refl
+text_is (capability.Start p key) = refl
+text_is (capability.Resume p) = refl
+text_is (capability.Bank b) = refl
+text_is capability.Discrim = refl
+
+-- ---- no word has a space
+
+abbrev AreWords : List (List ℕ) → Type 0
+AreWords words = All IsSpaceless words
+
+name_is : (text : List ℕ) → list_all (λ b. not (b == 32)) text ≡ true → IsSpaceless text
+name_is text test = All-weaker (λ b. not (b == 32) ≡ true) (λ b. (b == 32) ≡ false) (λ b e. other (b == 32) e) text (AllPass-from_list_all (λ b. not (b == 32)) text test)
+  where
+    other : (b : Bool) → not b ≡ true → b ≡ false
+    other true e = absurd cc
+    other false e = refl
+
+alone : (word : List ℕ) → IsSpaceless word → AreWords (word ∷ [])
+alone word is = All-cons IsSpaceless word [] is (All-nil IsSpaceless)
+
+named : (word : List ℕ) (n : ℕ) (words : List (List ℕ)) → IsSpaceless word → n < 2 ^ 64 → AreWords words → AreWords (word ∷ decimal n ∷ words)
+named word n words is small more = All-cons IsSpaceless word (decimal n ∷ words) is (All-cons IsSpaceless (decimal n) words (decimal_is_word n small).0 more)
+
+access_are : (a : Access) → AreWords (access_words a)
+access_are a = go (a.0 == 0) (a.0 == 1) where
+  go : (b c : Bool) → AreWords (if b then [] else if c then codes "ro" ∷ [] else codes "weak" ∷ [])
+  go true c = All-nil IsSpaceless
+  go false true = alone (codes "ro") (name_is (codes "ro") refl)
+  go false false = alone (codes "weak") (name_is (codes "weak") refl)
+
+words_are : (c : Capability) → HasText c → AreWords (capability_words c)
+unfolding capability_words
+words_are capability.Void has = alone (codes "void") (name_is (codes "void") refl)
+words_are (capability.Number n) has = named (codes "number") n [] (name_is (codes "number") refl) has.0 (All-nil IsSpaceless)
+words_are (capability.Page o a) has = named (codes "page") o (access_words a) (name_is (codes "page") refl) has.1 (access_are a)
+words_are (capability.Node o a) has = named (codes "node") o (access_words a) (name_is (codes "node") refl) has.1 (access_are a)
+words_are (capability.Space o h a) has =
+    named (codes "space") o (decimal h ∷ access_words a) (name_is (codes "space") refl) has.1
+    (All-cons IsSpaceless (decimal h) (access_words a) (decimal_is_word h (omega (arith, has.0.1))).0 (access_are a))
+words_are (capability.Process p) has = named (codes "process") p [] (name_is (codes "process") refl) has.1 (All-nil IsSpaceless)
+words_are (capability.Start p key) has =
+    named (codes "start") p (decimal key ∷ []) (name_is (codes "start") refl) has.1 (alone (decimal key) (decimal_is_word key (omega (arith, has.0))).0)
+words_are (capability.Resume p) has = named (codes "resume") p [] (name_is (codes "resume") refl) has.1 (All-nil IsSpaceless)
+words_are (capability.Bank b) has = named (codes "bank") b [] (name_is (codes "bank") refl) has.1 (All-nil IsSpaceless)
+words_are capability.Discrim has = alone (codes "discrim") (name_is (codes "discrim") refl)
+
+some_words : (c : Capability) → 0 < length (capability_words c)
+unfolding capability_words
+some_words capability.Void = omega arith
+some_words (capability.Number n) = omega arith
+some_words (capability.Page o a) = omega arith
+some_words (capability.Node o a) = omega arith
+some_words (capability.Space o h a) = omega arith
+some_words (capability.Process p) = omega arith
+some_words (capability.Start p key) = omega arith
+some_words (capability.Resume p) = omega arith
+some_words (capability.Bank b) = omega arith
+some_words capability.Discrim = omega arith
+
+-- ---- texts and pieces
+
+pub text_from_words : (text : List ℕ) (c : Capability) → words_of text ≡ capability_words c → capability_text c ≡ text
+text_from_words text c words = text_is c ∙ ap (λ (w : List (List ℕ)). spaced w) (sym words) ∙ join_with_byte-slice_split 32 text
+
+pub no_text : (text : List ℕ) (c : Capability) → HasText c → words_of text ≢ capability_words c → capability_text c ≢ text
+no_text text c has none spelt = none (ap words_of (sym spelt ∙ text_is c) ∙ split_spaced (capability_words c) (some_words c) (words_are c has))

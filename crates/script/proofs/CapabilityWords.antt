@@ -1,0 +1,248 @@
+-- A capability is read from its words, and from no others.
+use Rattle.std.proofs.Common.{◌≡◌, ◌≢◌, ℕ, ◌≤◌, ◌<◌, ◌^◌, ◌&&◌, nat_lt, nat_le, Bool, true, false, if◌then◌else◌, cond, List, [], ◌∷◌, ◌++◌, Option, None, Some, codes, decimal, inl, inr, append-nil, refl, sym, ap, ◌∙◌, subst, arith}
+use Rattle.std.specs.Prelude.{IfSome}
+use Rattle.std.specs.Str.{bytes_eq}
+use Rattle.std.proofs.lemmas.Slice.Eq.{bytes_eq-Decides}
+use Rattle.std.proofs.lemmas.Bool.{lt-ltb, ltb-true, le-leb, leb-true}
+use Rattle.model.specs.declared.access.Access.{Access}
+use Rattle.model.specs.declared.capability.Capability.{Capability}
+use Rattle.model.specs.declared.capability.Capability.TheVariants as capability
+use Rattle.model.specs.Capability.{IsAccess, IsWellFormed, named, weak}
+use Rattle.script.specs.declared.named.Kind.{Kind}
+use Rattle.script.specs.declared.named.Kind.TheVariants as kind
+use Rattle.script.specs.Named.{kind_name, access_words, capability_words, access_in, access_at, height_at, key_at, one_of, object_of, capability_at}
+use Rattle.script.specs.Reading.{Words, number_at}
+use Rattle.script.proofs.Commands.{bind_some, guard_some, both, some_is, number_again, number_takes}
+
+-- ---- what is spelt is read
+
+access_again : (a : Access) → IsAccess a → access_at (access_words a) ≡ Some (a, [])
+unfolding access_at access_in
+access_again a (inl is) = subst (λ (n : ℕ). access_at (access_words (record { 0 = n })) ≡ Some (record { 0 = n }, [])) (sym is) refl
+access_again a (inr (inl is)) = subst (λ (n : ℕ). access_at (access_words (record { 0 = n })) ≡ Some (record { 0 = n }, [])) (sym is) refl
+access_again a (inr (inr is)) = subst (λ (n : ℕ). access_at (access_words (record { 0 = n })) ≡ Some (record { 0 = n }, [])) (sym is) refl
+
+height_again : (h : ℕ) (rest : Words) → 1 ≤ h → h ≤ 4 → height_at (decimal h ∷ rest) ≡ Some (h, rest)
+unfolding height_at
+height_again h rest low high = rw (number_again h rest (omega arith), le-leb 1 h low, le-leb h 4 high) refl
+
+key_again : (key : ℕ) (rest : Words) → key < 2 ^ 16 → key_at (decimal key ∷ rest) ≡ Some (key, rest)
+unfolding key_at
+key_again key rest small = rw (number_again key rest (omega arith), lt-ltb key (2 ^ 16) small) refl
+
+-- the kind of a capability
+pub kind_for : Capability → Kind
+kind_for capability.Void = kind.Void
+kind_for (capability.Number n) = kind.Number
+kind_for (capability.Page o a) = kind.Page
+kind_for (capability.Node o a) = kind.Node
+kind_for (capability.Space o h a) = kind.Space
+kind_for (capability.Process p) = kind.Process
+kind_for (capability.Start p key) = kind.Start
+kind_for (capability.Resume p) = kind.Resume
+kind_for (capability.Bank b) = kind.Bank
+kind_for capability.Discrim = kind.Discrim
+
+-- what has a text: within its bounds, and of an object of 64 bits
+abbrev pub HasText : Capability → Type 0
+HasText c = IsWellFormed c × IfSome (named c) (λ o. o < 2 ^ 64)
+
+pub capability_again : (c : Capability) → HasText c
+    → (words : Words) × (capability_words c ≡ kind_name (kind_for c) ∷ words) × (capability_at (kind_for c) words ≡ Some (c, []))
+unfolding capability_words capability_at kind_for
+capability_again capability.Void has = ([], refl, refl)
+capability_again (capability.Number n) has = (decimal n ∷ [], refl, rw (number_again n [] has.0) refl)
+capability_again (capability.Page o a) has = (decimal o ∷ access_words a, refl, rw (number_again o (access_words a) has.1, access_again a has.0) refl)
+capability_again (capability.Node o a) has = (decimal o ∷ access_words a, refl, rw (number_again o (access_words a) has.1, access_again a has.0) refl)
+capability_again (capability.Space o h a) has = (
+  decimal o ∷ decimal h ∷ access_words a,
+  refl,
+  rw (number_again o (decimal h ∷ access_words a) has.1, height_again h (access_words a) has.0.0 has.0.1, access_again a has.0.2) refl,
+)
+capability_again (capability.Process p) has = (decimal p ∷ [], refl, rw (number_again p [] has.1) refl)
+capability_again (capability.Start p key) has =
+    (decimal p ∷ decimal key ∷ [], refl, rw (number_again p (decimal key ∷ []) has.1, key_again key [] has.0) refl)
+capability_again (capability.Resume p) has = (decimal p ∷ [], refl, rw (number_again p [] has.1) refl)
+capability_again (capability.Bank b) has = (decimal b ∷ [], refl, rw (number_again b [] has.1) refl)
+capability_again capability.Discrim has = ([], refl, refl)
+
+-- ---- what is read was spelt
+
+access_in_some : (word : List ℕ) (a : Access) → access_in word ≡ Some a → IsAccess a × (word ∷ [] ≡ access_words a)
+unfolding access_in
+access_in_some word a = go (bytes_eq word (codes "ro")) (bytes_eq word (codes "weak")) (bytes_eq-Decides word (codes "ro")).0 (bytes_eq-Decides word (codes "weak")).0
+  where
+    go : (b c : Bool) → (b ≡ true → word ≡ codes "ro") → (c ≡ true → word ≡ codes "weak")
+        → (if b then Some (record { 0 = 1 }) else if c then Some weak else None) ≡ Some a → IsAccess a × (word ∷ [] ≡ access_words a)
+    go true c ro other e =
+        subst (λ (x : Access). IsAccess x × (word ∷ [] ≡ access_words x)) (some_is _ _ e) (inr (inl refl), ap (λ (w : List ℕ). w ∷ []) (ro refl))
+    go false true ro other e =
+        subst (λ (x : Access). IsAccess x × (word ∷ [] ≡ access_words x)) (some_is _ _ e) (inr (inr refl), ap (λ (w : List ℕ). w ∷ []) (other refl))
+    go false false ro other e = absurd cc
+
+access_takes : (words : Words) (p : Access × Words) → access_at words ≡ Some p → IsAccess p.0 × (words ≡ access_words p.0 ++ p.1)
+unfolding access_at
+access_takes [] p e = subst (λ (q : Access × Words). IsAccess q.0 × ([] ≡ access_words q.0 ++ q.1)) (some_is _ _ e) (inl refl, refl)
+access_takes (word ∷ words) p e =
+    let b = bind_some (access_in word) (λ (a : Access). Some (a, words)) p e in
+    let f = access_in_some word b.0 b.1 in
+    subst (λ (q : Access × Words). IsAccess q.0 × (word ∷ words ≡ access_words q.0 ++ q.1)) (some_is _ _ b.2) (f.0, ap (λ (w : Words). w ++ words) f.1)
+
+height_takes : (words : Words) (p : ℕ × Words) → height_at words ≡ Some p → (1 ≤ p.0) × (p.0 ≤ 4) × (words ≡ decimal p.0 ∷ p.1)
+unfolding height_at
+height_takes words p e =
+    let b = bind_some (number_at words) (λ (h : ℕ × Words). cond (nat_le 1 h.0 && nat_le h.0 4) (Some h) None) p e in
+    let g = guard_some (nat_le 1 b.0.0 && nat_le b.0.0 4) b.0 p b.2 in
+    let tests = both (nat_le 1 b.0.0) (nat_le b.0.0 4) g.0 in
+    let t = number_takes words b.0 b.1 in
+    subst (λ (q : ℕ × Words). (1 ≤ q.0) × (q.0 ≤ 4) × (words ≡ decimal q.0 ∷ q.1)) g.1 (leb-true 1 b.0.0 tests.0, leb-true b.0.0 4 tests.1, t.1)
+
+key_takes : (words : Words) (p : ℕ × Words) → key_at words ≡ Some p → (p.0 < 2 ^ 16) × (words ≡ decimal p.0 ∷ p.1)
+unfolding key_at
+key_takes words p e =
+    let b = bind_some (number_at words) (λ (key : ℕ × Words). cond (nat_lt key.0 (2 ^ 16)) (Some key) None) p e in
+    let g = guard_some (nat_lt b.0.0 (2 ^ 16)) b.0 p b.2 in
+    let t = number_takes words b.0 b.1 in
+    subst (λ (q : ℕ × Words). (q.0 < 2 ^ 16) × (words ≡ decimal q.0 ∷ q.1)) g.1 (ltb-true b.0.0 (2 ^ 16) g.0, t.1)
+
+-- the capability that was read, and the words of it
+abbrev IsReadFrom : Kind → Words → Capability × Words → Type 0
+IsReadFrom k words p = IsWellFormed p.0 × (kind_name k ∷ words ≡ capability_words p.0 ++ p.1)
+
+one_takes : (make : ℕ → Capability) (words : Words) (p : Capability × Words) → one_of make words ≡ Some p
+    → (n : ℕ) × (n < 2 ^ 64) × (p.0 ≡ make n) × (words ≡ decimal n ∷ p.1)
+one_takes make words p e =
+    let b = bind_some (number_at words) (λ (n : ℕ × Words). Some (make n.0, n.1)) p e in
+    let t = number_takes words b.0 b.1 in
+    let is = some_is _ _ b.2 in
+    (b.0.0, t.0, sym (ap (λ (q : Capability × Words). q.0) is), t.1 ∙ ap (λ (q : Capability × Words). decimal b.0.0 ∷ q.1) is)
+
+object_takes : (make : ℕ → Access → Capability) (words : Words) (p : Capability × Words) → object_of make words ≡ Some p
+    → (o : ℕ) × (a : Access) × IsAccess a × (p.0 ≡ make o a) × (words ≡ decimal o ∷ (access_words a ++ p.1))
+object_takes make words p e =
+    let one = bind_some (number_at words) _ p e in
+    let two = bind_some (access_at one.0.1) _ p one.2 in
+    let t = number_takes words one.0 one.1 in
+    let u = access_takes one.0.1 two.0 two.1 in
+    let is = some_is _ _ two.2 in (
+      one.0.0,
+      two.0.0,
+      u.0,
+      sym (ap (λ (q : Capability × Words). q.0) is),
+      t.1 ∙ ap (λ (w : Words). decimal one.0.0 ∷ w) (u.1 ∙ ap (λ (q : Capability × Words). access_words two.0.0 ++ q.1) is),
+    )
+
+one_read : (k : Kind) (words : Words) (p : Capability × Words) (c : Capability) → p.0 ≡ c → IsWellFormed c → kind_name k ∷ words ≡ capability_words c ++ p.1 → IsReadFrom k words p
+one_read k words p c is well whole = rw is (well, whole)
+
+space_takes : (words : Words) (p : Capability × Words) → capability_at kind.Space words ≡ Some p → IsReadFrom kind.Space words p
+unfolding capability_at capability_words
+space_takes words p e =
+    let one = bind_some (number_at words) _ p e in
+    let two = bind_some (height_at one.0.1) _ p one.2 in
+    let three = bind_some (access_at two.0.1) _ p two.2 in
+    let t = number_takes words one.0 one.1 in
+    let u = height_takes one.0.1 two.0 two.1 in
+    let v = access_takes two.0.1 three.0 three.1 in
+    subst (IsReadFrom kind.Space words) (some_is _ _ three.2) (
+      (u.0, u.1, v.0),
+      ap (λ (w : Words). codes "space" ∷ w) (t.1 ∙ ap (λ (w : Words). decimal one.0.0 ∷ w) (u.2 ∙ ap (λ (w : Words). decimal two.0.0 ∷ w) v.1)),
+    )
+
+start_takes : (words : Words) (p : Capability × Words) → capability_at kind.Start words ≡ Some p → IsReadFrom kind.Start words p
+unfolding capability_at capability_words
+start_takes words p e =
+    let one = bind_some (number_at words) _ p e in
+    let two = bind_some (key_at one.0.1) _ p one.2 in
+    let t = number_takes words one.0 one.1 in
+    let u = key_takes one.0.1 two.0 two.1 in
+    subst (IsReadFrom kind.Start words) (some_is _ _ two.2) (u.0, ap (λ (w : Words). codes "start" ∷ w) (t.1 ∙ ap (λ (w : Words). decimal one.0.0 ∷ w) u.1))
+
+capability_takes : (k : Kind) (words : Words) (p : Capability × Words) → capability_at k words ≡ Some p → IsReadFrom k words p
+unfolding capability_at capability_words
+capability_takes kind.Void words p e = subst (IsReadFrom kind.Void words) (some_is _ _ e) (tt, refl)
+capability_takes kind.Number words p e =
+    let t = one_takes (λ n. capability.Number n) words p e in one_read kind.Number words p (capability.Number t.0) t.2 t.1 (ap (λ (w : Words). codes "number" ∷ w) t.3)
+capability_takes kind.Page words p e =
+    let t = object_takes (λ o a. capability.Page o a) words p e in one_read kind.Page words p (capability.Page t.0 t.1) t.3 t.2 (ap (λ (w : Words). codes "page" ∷ w) t.4)
+capability_takes kind.Node words p e =
+    let t = object_takes (λ o a. capability.Node o a) words p e in one_read kind.Node words p (capability.Node t.0 t.1) t.3 t.2 (ap (λ (w : Words). codes "node" ∷ w) t.4)
+capability_takes kind.Space words p e = space_takes words p e
+capability_takes kind.Process words p e =
+    let t = one_takes (λ n. capability.Process n) words p e in one_read kind.Process words p (capability.Process t.0) t.2 tt (ap (λ (w : Words). codes "process" ∷ w) t.3)
+capability_takes kind.Start words p e = start_takes words p e
+capability_takes kind.Resume words p e =
+    let t = one_takes (λ n. capability.Resume n) words p e in one_read kind.Resume words p (capability.Resume t.0) t.2 tt (ap (λ (w : Words). codes "resume" ∷ w) t.3)
+capability_takes kind.Bank words p e =
+    let t = one_takes (λ n. capability.Bank n) words p e in one_read kind.Bank words p (capability.Bank t.0) t.2 tt (ap (λ (w : Words). codes "bank" ∷ w) t.3)
+capability_takes kind.Discrim words p e = subst (IsReadFrom kind.Discrim words) (some_is _ _ e) (tt, refl)
+
+-- ---- the kind of a word
+
+kind_at : List ℕ → Option Kind
+kind_at word =
+    if bytes_eq word (codes "void") then Some kind.Void else
+    (if bytes_eq word (codes "number") then Some kind.Number else
+    (if bytes_eq word (codes "page") then Some kind.Page else
+    (if bytes_eq word (codes "node") then Some kind.Node else
+    (if bytes_eq word (codes "space") then Some kind.Space else
+    (if bytes_eq word (codes "process") then Some kind.Process else
+    (if bytes_eq word (codes "start") then Some kind.Start else
+    (if bytes_eq word (codes "resume") then Some kind.Resume else
+    (if bytes_eq word (codes "bank") then Some kind.Bank else
+    (if bytes_eq word (codes "discrim") then Some kind.Discrim else None)))))))))
+
+kind_at_name : (k : Kind) → kind_at (kind_name k) ≡ Some k
+unfolding kind_at
+kind_at_name kind.Void = refl
+kind_at_name kind.Number = refl
+kind_at_name kind.Page = refl
+kind_at_name kind.Node = refl
+kind_at_name kind.Space = refl
+kind_at_name kind.Process = refl
+kind_at_name kind.Start = refl
+kind_at_name kind.Resume = refl
+kind_at_name kind.Bank = refl
+kind_at_name kind.Discrim = refl
+
+one_kind : (j k : Kind) → kind_name j ≡ kind_name k → j ≡ k
+one_kind j k same = some_is j k (sym (kind_at_name j) ∙ ap kind_at same ∙ kind_at_name k)
+
+-- ---- what the words of a text name
+
+-- what was read is any capability with these words
+arguments_are : (words rest : Words) (word : List ℕ) (k : Kind) (c : Capability) → words ≡ word ∷ rest → word ≡ kind_name k → HasText c → words ≡ capability_words c
+    → capability_at k rest ≡ Some (c, [])
+arguments_are words rest word k c split is has whole =
+    let again = capability_again c has in
+    let both_are : word ∷ rest ≡ kind_name (kind_for c) ∷ again.0 = sym split ∙ whole ∙ again.1 in
+    let same : kind_name k ≡ kind_name (kind_for c) = cc in
+    let key : k ≡ kind_for c = one_kind k (kind_for c) same in
+    let left : rest ≡ again.0 = cc in
+    rw (key, left) again.2
+
+pub capability_found : (words rest left : Words) (word : List ℕ) (k : Kind) (c : Capability) → words ≡ word ∷ rest → word ≡ kind_name k
+    → capability_at k rest ≡ Some (c, left) → left ≡ [] → IsWellFormed c × (words ≡ capability_words c)
+capability_found words rest left word k c split is read none =
+    let taken = capability_takes k rest (c, left) read in
+    (taken.0, split ∙ ap (λ (w : List ℕ). w ∷ rest) is ∙ taken.1 ∙ ap (λ (w : Words). capability_words c ++ w) none ∙ append-nil (capability_words c))
+
+pub no_words : (c : Capability) → HasText c → [] ≢ capability_words c
+no_words c has e = let again = capability_again c has in absurd (cc (again.1))
+
+pub no_kind : (words rest : Words) (word : List ℕ) → words ≡ word ∷ rest → ((k : Kind) → word ≢ kind_name k) → (c : Capability) → HasText c → words ≢ capability_words c
+no_kind words rest word split none c has whole =
+    let again = capability_again c has in
+    let both_are : word ∷ rest ≡ kind_name (kind_for c) ∷ again.0 = sym split ∙ whole ∙ again.1 in
+    none (kind_for c) cc
+
+pub no_arguments : (words rest : Words) (word : List ℕ) (k : Kind) → words ≡ word ∷ rest → word ≡ kind_name k → capability_at k rest ≡ None
+    → (c : Capability) → HasText c → words ≢ capability_words c
+no_arguments words rest word k split is none c has whole = let read = arguments_are words rest word k c split is has whole in absurd cc
+
+pub words_left_over : (words rest left : Words) (word : List ℕ) (k : Kind) (d : Capability) → words ≡ word ∷ rest → word ≡ kind_name k → capability_at k rest ≡ Some (d, left)
+    → left ≢ [] → (c : Capability) → HasText c → words ≢ capability_words c
+words_left_over words rest left word k d split is read some c has whole =
+    let other = arguments_are words rest word k c split is has whole in
+    let same : (d, left) ≡ (c, []) = some_is _ _ (sym read ∙ other) in
+    some (ap (λ (q : Capability × Words). q.1) same)

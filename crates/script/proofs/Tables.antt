@@ -1,0 +1,32 @@
+-- Every kind and every state has a place in the table that the words are looked up in.
+use Rattle.std.proofs.Common.{◌≢◌, ℕ, ◌<◌, List, [], ◌∷◌, get_or, arith}
+use Rattle.model.specs.declared.object.State.{State}
+use Rattle.model.specs.declared.object.State.TheVariants.{Available, Running, Waiting}
+use Rattle.model.specs.Text.{state_text}
+use Rattle.script.specs.declared.named.Kind.{Kind}
+use Rattle.script.specs.declared.named.Kind.TheVariants.{Void, Number, Page, Node, Space, Process, Start, Resume, Bank, Discrim}
+use Rattle.script.specs.Named.{kind_name}
+
+abbrev pub every_kind : List Kind
+every_kind = Void ∷ Number ∷ Page ∷ Node ∷ Space ∷ Process ∷ Start ∷ Resume ∷ Bank ∷ Discrim ∷ []
+
+-- a word that is the name of none in the table is the name of none
+pub no_kind_left : (word : List ℕ) → ((i : ℕ) → i < 10 → word ≢ kind_name (get_or every_kind i Discrim)) → (k : Kind) → word ≢ kind_name k
+no_kind_left word none Void = none 0 (omega arith)
+no_kind_left word none Number = none 1 (omega arith)
+no_kind_left word none Page = none 2 (omega arith)
+no_kind_left word none Node = none 3 (omega arith)
+no_kind_left word none Space = none 4 (omega arith)
+no_kind_left word none Process = none 5 (omega arith)
+no_kind_left word none Start = none 6 (omega arith)
+no_kind_left word none Resume = none 7 (omega arith)
+no_kind_left word none Bank = none 8 (omega arith)
+no_kind_left word none Discrim = none 9 (omega arith)
+
+abbrev pub every_state : List State
+every_state = Available ∷ Running ∷ Waiting ∷ []
+
+pub no_state_left : (word : List ℕ) → ((i : ℕ) → i < 3 → state_text (get_or every_state i Waiting) ≢ word) → (s : State) → state_text s ≢ word
+no_state_left word none Available = none 0 (omega arith)
+no_state_left word none Running = none 1 (omega arith)
+no_state_left word none Waiting = none 2 (omega arith)
