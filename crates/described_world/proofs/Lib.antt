@@ -1,0 +1,7 @@
+pub mod Entries
+pub mod KeptFrames
+pub mod LaidFrames
+pub mod Lists
+pub mod NamedTargets
+pub mod WholeProcesses
+pub mod Worlds

@@ -1,0 +1,8 @@
+use Rattle.std.proofs.Common.{◌≡◌, drop, replicate}
+use Rattle.model.specs.Frame.{void_held}
+use Rattle.described_world.specs.Laid.{set_each, slot_held}
+use Rattle.described_world.proofs.objects.slots_of.Given as goal
+
+abbrev pub invariant-loop-entry : goal.invariant-loop-entry
+invariant-loop-entry l =
+    set_each (λ s. s.index) slot_held (drop l.entry-index l.entries) l.slots ≡ set_each (λ s. s.index) slot_held l.entries (replicate 32 void_held)

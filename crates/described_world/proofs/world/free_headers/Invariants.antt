@@ -1,0 +1,6 @@
+use Rattle.std.proofs.Common.{◌≡◌, replicate}
+use Rattle.model.specs.Frame.{blank_header}
+use Rattle.described_world.proofs.world.free_headers.Given as goal
+
+abbrev pub invariant-loop : goal.invariant-loop
+invariant-loop l = l.headers.items ≡ replicate l.counter blank_header

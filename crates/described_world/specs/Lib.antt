@@ -1,0 +1,3 @@
+pub mod Described
+pub mod Laid
+pub mod Laws

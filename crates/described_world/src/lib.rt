@@ -1,0 +1,16 @@
+//! The world that a description of an image names: the frame of each number.
+#![tactic(auto)]
+
+mod fault;
+mod fields;
+mod laws;
+mod laying;
+mod numbers;
+mod objects;
+mod targets;
+mod world;
+
+pub use fault::WorldFault;
+pub use laws::described_is_whole;
+pub use laying::lay_world;
+pub use world::World;

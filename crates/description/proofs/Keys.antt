@@ -1,0 +1,15 @@
+-- Keys that are known, and texts that are the same.
+use Rattle.std.proofs.Common.{◌≡◌, ℕ, Bool, ◌||◌, List, [], ◌∷◌, map, nat_eq, nat_cmp, is_eq, Bor, refl, sym, arith}
+use Rattle.std.proofs.lemmas.Bool.Decides.{nat_tests}
+use Rattle.std.proofs.lemmas.Cmp.{same_from_slice_cmp}
+use Rattle.std.specs.Cmp.Lexicographic.{slice_cmp, pointwise}
+use Rattle.std.specs.List.{list_any}
+use Rattle.toml.specs.Data.{same_key}
+
+same_text : (a b : List ℕ) → pointwise nat_eq a b ≡ same_key b a
+same_text a b = sym (same_from_slice_cmp nat_cmp is_eq (λ y x. pointwise nat_eq x y) refl (λ _ _. refl) (λ _ _. refl) (λ x y xs ys o h. grind (arith, nat_tests)) b a (slice_cmp nat_cmp b a) refl)
+
+-- the key is the text of one of these
+pub among : (names : List (Bor (List ℕ))) (key : List ℕ) → list_any (λ y. pointwise nat_eq y.now key) names ≡ list_any (same_key key) (map (λ k. k.now) names)
+among [] key = refl
+among (n ∷ ns) key = rw (same_text n.now key, among ns key)

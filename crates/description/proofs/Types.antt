@@ -1,0 +1,62 @@
+-- Values of their types, and of others.
+use Rattle.std.proofs.Common.{◌≡◌, ◌≢◌, ℕ, ◌^◌, ◌<◌, ℤ, pos, negsuc, true, false, Option, Some, None, List, IfSome, IfNone, refl, sym, ap, ◌∙◌, arith}
+use Rattle.std.proofs.lemmas.Option.{none-some, same_Some}
+use Rattle.std.specs.Prelude.{unsigned_abs}
+use Rattle.std.specs.Int.{is_negative}
+use Rattle.std.proofs.lemmas.Bool.{false≢true}
+use Rattle.model.specs.Capability.{IsWellFormed, named}
+use Rattle.model.specs.Text.{capability_text, state_text}
+use Rattle.model.specs.declared.capability.Capability.{Capability}
+use Rattle.model.specs.declared.object.State.{State}
+use Rattle.toml.specs.Data.{Data, string, integer, float, boolean, datetime, array, table, as_integer, as_str}
+use Rattle.description.specs.Reading.{IsCapability, IsState}
+
+pub integer_is : (d : Data) (z : ℤ) → Some z ≡ as_integer d → d ≡ integer z
+integer_is (string s) z e = absurd (none-some z (sym e))
+integer_is (integer y) z e = ap integer (sym (same_Some z y e))
+integer_is (float x) z e = absurd (none-some z (sym e))
+integer_is (boolean b) z e = absurd (none-some z (sym e))
+integer_is (datetime dt) z e = absurd (none-some z (sym e))
+integer_is (array ds) z e = absurd (none-some z (sym e))
+integer_is (table ms) z e = absurd (none-some z (sym e))
+
+pub string_is : (d : Data) (text : List ℕ) → Some text ≡ as_str d → d ≡ string text
+string_is (string s) text e = ap string (sym (same_Some text s e))
+string_is (integer y) text e = absurd (none-some text (sym e))
+string_is (float x) text e = absurd (none-some text (sym e))
+string_is (boolean b) text e = absurd (none-some text (sym e))
+string_is (datetime dt) text e = absurd (none-some text (sym e))
+string_is (array ds) text e = absurd (none-some text (sym e))
+string_is (table ms) text e = absurd (none-some text (sym e))
+
+-- a negative number is none
+pub negative : (d : Data) (z : ℤ) → Some z ≡ as_integer d → is_negative z ≡ true → (n : ℕ) → d ≡ integer (pos n) → ⊥
+negative d (pos m) is below n e = let none : ⊥ = grind (arith, below) in absurd none
+negative d (negsuc m) is below n e = grind (arith, same_Some (negsuc m) (pos n) (is ∙ ap as_integer e))
+
+-- one that isn't negative is
+pub natural : (d : Data) (z : ℤ) → Some z ≡ as_integer d → is_negative z ≡ false → d ≡ integer (pos (unsigned_abs z))
+natural d (pos n) is above = integer_is d (pos n) is
+natural d (negsuc n) is above = absurd (false≢true (sym above))
+
+-- what is no integer is no number
+pub no_number : (d : Data) → None ≡ as_integer d → (n : ℕ) → d ≡ integer (pos n) → ⊥
+no_number d none n e = none-some (pos n) (none ∙ ap as_integer e)
+
+-- what is found to a text
+pub capability_told : (d : Data) (text : List ℕ) (r : Option Capability) → Some text ≡ as_str d → IfSome r (λ c. IsWellFormed c × (capability_text c ≡ text)) → IfNone r ((c : Capability) → IsWellFormed c → IfSome (named c) (λ n. n < 2 ^ 64) → capability_text c ≢ text) → IsCapability d r
+capability_told d text None is some none = (text, string_is d text is, none)
+capability_told d text (Some c) is some none = (some.0, string_is d text is ∙ ap string (sym some.1))
+
+pub state_told : (d : Data) (text : List ℕ) (r : Option State) → Some text ≡ as_str d → IfSome r (λ s. state_text s ≡ text) → IfNone r ((s : State) → state_text s ≢ text) → IsState d r
+state_told d text None is some none = (text, string_is d text is, none)
+state_told d text (Some s) is some none = string_is d text is ∙ ap string (sym some)
+
+-- what is no text tells neither
+pub no_capability : (d : Data) → None ≡ as_str d → (r : Option Capability) → IsCapability d r → ⊥
+no_capability d none None told = none-some told.0 (none ∙ ap as_str told.1)
+no_capability d none (Some c) told = none-some (capability_text c) (none ∙ ap as_str told.1)
+
+pub no_state : (d : Data) → None ≡ as_str d → (r : Option State) → IsState d r → ⊥
+no_state d none None told = none-some told.0 (none ∙ ap as_str told.1)
+no_state d none (Some s) told = none-some (state_text s) (none ∙ ap as_str told)

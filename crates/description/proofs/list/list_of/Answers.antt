@@ -1,0 +1,27 @@
+use Rattle.std.proofs.Common.{◌≡◌, ◌<◌, true, length, get_or, arith}
+use Rattle.std.specs.Result.{is_ok}
+use Rattle.std.proofs.lemmas.Grind.{common_steps}
+use Rattle.toml.specs.View.{view}
+use Rattle.description.specs.Reading.{IsList}
+use Rattle.description.proofs.Elements.{each_read, one_more}
+use Rattle.description.proofs.Parts.{failed_list}
+use Rattle.description.proofs.list.list_of.Goals as goal
+
+pub returns-in_err-entry : goal.returns-in_err-entry
+returns-in_err-entry g c =
+    let P = g.T.FromValue.IsSaid in
+    let vs = c.in_ok-items.items.now.items in
+    let v = c.index.result.now in
+    let within : c.loop-i.i < length vs = grind (arith, common_steps) in
+    let at : get_or vs c.loop-i.i v ≡ v = grind (arith, common_steps) in
+    failed_list (λ x. P (view v) x) (λ xs. IsList P (view c.args.value.now) xs) c.in_err-entry.field-0.0 c.from_residual-in_err-entry.result c.from_residual-in_err-entry.ensures.1 c.in_err-entry.ensures
+    (λ xs list. each_read P (view c.args.value.now) vs c.loop-i.i xs v c.in_ok-items.ensures within at list)
+
+pub loop-i-preserved : goal.loop-i-preserved
+loop-i-preserved g c =
+    let vs = c.in_ok-items.items.now.items in
+    let v = c.index.result.now in
+    let within : c.loop-i.i < length vs = grind (arith, common_steps) in
+    let at : get_or vs c.loop-i.i v ≡ v = grind (arith, common_steps) in
+    let ok : is_ok c.push.result ≡ true = grind (arith, common_steps) in
+    rw (c.push.ensures.items, ok) (one_more g.T.FromValue.IsSaid vs c.loop-i.i c.loop-i.list.items v c.in_ok-entry.entry within at c.loop-i.invariant c.in_ok-entry.ensures)

@@ -1,0 +1,8 @@
+use Rattle.std.proofs.Common.{[]}
+use Rattle.toml.specs.View.{view}
+use Rattle.description.specs.Reading.{IsList}
+use Rattle.description.proofs.Keyed.{list_held}
+use Rattle.description.proofs.list.list_or_empty.Goals as goal
+
+pub returns-in-Some : goal.returns-in-Some
+returns-in-Some g c = list_held (IsList g.T.FromValue.IsSaid) [] _ (view c.in-Some.value.now) c.list_of.result c.in-Some.ensures c.list_of.ensures

@@ -1,0 +1,7 @@
+use Rattle.toml.specs.View.{table_view}
+use Rattle.description.specs.Reading.{IsNode}
+use Rattle.description.proofs.Parts.{failed}
+use Rattle.description.proofs.object.read_node.Goals as goal
+
+pub returns-in_err-check_keys : goal.returns-in_err-check_keys
+returns-in_err-check_keys c = failed _ (IsNode (table_view c.args.table.now)) c.in_err-check_keys.field-0.0 c.from_residual.result c.from_residual.ensures.1 c.in_err-check_keys.ensures (λ _ is. (tt, is.known))

@@ -1,0 +1,129 @@
+-- What a table says.
+use Rattle.std.specs.Prelude.{◌≡◌, ◌≢◌, ℕ, ◌^◌, ◌<◌, pos, Bool, true, ◌&&◌, Option, None, Some, List, [], ◌∷◌, length, codes, IfSome, IsTrue, IsSomeAnd, MatchOption}
+use Rattle.std.specs.List.{list_any}
+use Rattle.image_writer.specs.declared.number_range.NumberRange.{NumberRange}
+use Rattle.model.specs.Capability.{IsWellFormed, named}
+use Rattle.model.specs.Text.{capability_text, state_text}
+use Rattle.model.specs.declared.capability.Capability.{Capability}
+use Rattle.model.specs.declared.capability.Capability.TheVariants.{Void}
+use Rattle.model.specs.declared.geometry.Geometry.{Geometry}
+use Rattle.model.specs.declared.object.State.{State}
+use Rattle.toml.specs.Data.{Data, integer, string, array, table, Items, no_items, item, Members, no_members, member, get_member, same_key}
+use Rattle.description.specs.declared.entry.BankEntry.{BankEntry}
+use Rattle.description.specs.declared.entry.Description.{Description}
+use Rattle.description.specs.declared.entry.NodeEntry.{NodeEntry}
+use Rattle.description.specs.declared.entry.PageEntry.{PageEntry}
+use Rattle.description.specs.declared.entry.ProcessEntry.{ProcessEntry}
+use Rattle.description.specs.declared.entry.SlotEntry.{SlotEntry}
+use Rattle.description.specs.declared.entry.WordEntry.{WordEntry}
+
+-- Values
+
+abbrev pub IsNumber : Data → ℕ → Type 0
+IsNumber d n = d ≡ integer (pos n)
+
+-- a text, and the capability that has it, or none where none has it (numbers of objects have 64 bits)
+abbrev pub IsCapability : Data → Option Capability → Type 0
+IsCapability d (Some c) = IsWellFormed c × (d ≡ string (capability_text c))
+IsCapability d None = (text : List ℕ) × (d ≡ string text) × ((c : Capability) → IsWellFormed c → IfSome (named c) (λ n. n < 2 ^ 64) → capability_text c ≢ text)
+
+-- a text, and the state that has it, or none where no state has it
+abbrev pub IsState : Data → Option State → Type 0
+IsState d (Some s) = d ≡ string (state_text s)
+IsState d None = (text : List ℕ) × (d ≡ string text) × ((s : State) → state_text s ≢ text)
+
+-- a list of two values
+abbrev pub IsPair : {A B : Type 0} → (Data → A → Type 0) → (Data → B → Type 0) → Data → A → B → Type 0
+IsPair P Q d x y = (a : Data) × (b : Data) × (d ≡ array (item a (item b no_items))) × P a x × Q b y
+
+-- a list with one value for each of these
+abbrev pub AreItems : {A : Type 0} → (Data → A → Type 0) → Items → List A → Type 0
+AreItems P no_items [] = Unit {0}
+AreItems P no_items (x ∷ xs) = ⊥
+AreItems P (item d ds) [] = ⊥
+AreItems P (item d ds) (x ∷ xs) = P d x × AreItems P ds xs
+
+abbrev pub IsList : {A : Type 0} → (Data → A → Type 0) → Data → List A → Type 0
+IsList P d xs = (ds : Items) × (d ≡ array ds) × AreItems P ds xs
+
+-- a list of four numbers
+abbrev pub AreFour : Data → List ℕ → Type 0
+AreFour d xs = (length xs ≡ 4) × IsList IsNumber d xs
+
+abbrev pub IsTable : {A : Type 0} → (Members → A → Type 0) → Data → A → Type 0
+IsTable P d x = (ms : Members) × (d ≡ table ms) × P ms x
+
+-- Keys
+
+-- the table has no other keys than these
+abbrev pub has_only : List (List ℕ) → Members → Bool
+has_only keys no_members = true
+has_only keys (member k d ms) = list_any (same_key k) keys && has_only keys ms
+
+-- the value at a key, which is there
+abbrev pub At : {A : Type 0} → List ℕ → (Data → A → Type 0) → Members → A → Type 0
+At key P ms x = IsSomeAnd (get_member key ms) (λ d. P d x)
+
+-- the value at a key, or else this one
+abbrev pub AtOr : {A : Type 0} → A → List ℕ → (Data → A → Type 0) → Members → A → Type 0
+AtOr default key P ms x = MatchOption (get_member key ms) (x ≡ default) (λ d. P d x)
+
+-- Entries
+
+abbrev pub IsSlot : Data → SlotEntry → Type 0
+IsSlot d e = IsPair IsNumber IsCapability d e.index e.capability
+
+abbrev pub IsWord : Data → WordEntry → Type 0
+IsWord d e = IsPair IsNumber IsNumber d e.index e.word
+
+abbrev pub IsRange : Data → NumberRange → Type 0
+IsRange d r = IsPair IsNumber IsNumber d r.first r.count
+
+pub record IsBank (ms : Members) (bank : BankEntry) : Type 0 where
+  pub known : IsTrue (has_only (codes "number" ∷ codes "owner" ∷ codes "limit" ∷ []) ms)
+  pub number : At (codes "number") IsNumber ms bank.number
+  pub owner : At (codes "owner") IsNumber ms bank.owner
+  pub limit : At (codes "limit") IsNumber ms bank.limit
+
+pub record IsProcess (ms : Members) (process : ProcessEntry) : Type 0 where
+  pub known : IsTrue (has_only (codes "root" ∷ codes "annex" ∷ codes "owner" ∷ codes "state" ∷ codes "key" ∷ codes "words" ∷ codes "space" ∷ codes "registers" ∷ []) ms)
+  pub root : At (codes "root") IsNumber ms process.root
+  pub annex : At (codes "annex") IsNumber ms process.annex
+  pub owner : At (codes "owner") IsNumber ms process.owner
+  pub state : At (codes "state") IsState ms process.state
+  pub key : AtOr 0 (codes "key") IsNumber ms process.key
+  pub words : AtOr (0 ∷ 0 ∷ 0 ∷ 0 ∷ []) (codes "words") AreFour ms process.words
+  pub space : AtOr (Some Void) (codes "space") IsCapability ms process.space
+  pub registers : AtOr [] (codes "registers") (IsList IsSlot) ms process.registers.items
+
+pub record IsNode (ms : Members) (node : NodeEntry) : Type 0 where
+  pub known : IsTrue (has_only (codes "number" ∷ codes "owner" ∷ codes "slots" ∷ []) ms)
+  pub number : At (codes "number") IsNumber ms node.number
+  pub owner : At (codes "owner") IsNumber ms node.owner
+  pub slots : AtOr [] (codes "slots") (IsList IsSlot) ms node.slots.items
+
+pub record IsPage (ms : Members) (page : PageEntry) : Type 0 where
+  pub known : IsTrue (has_only (codes "number" ∷ codes "owner" ∷ codes "words" ∷ []) ms)
+  pub number : At (codes "number") IsNumber ms page.number
+  pub owner : At (codes "owner") IsNumber ms page.owner
+  pub words : AtOr [] (codes "words") (IsList IsWord) ms page.words.items
+
+pub record IsGeometry (ms : Members) (g : Geometry) : Type 0 where
+  pub nodes : At (codes "nodes") IsNumber ms g.nodes
+  pub pages : At (codes "pages") IsNumber ms g.pages
+  pub log : At (codes "log") IsNumber ms g.log
+
+-- all nodes, and then all pages
+abbrev pub whole_ranges : Geometry → List NumberRange
+whole_ranges g = record { first = 0; count = g.nodes } ∷ record { first = g.nodes; count = g.pages } ∷ []
+
+-- a table is that of a description
+pub record IsDescription (ms : Members) (d : Description) : Type 0 where
+  pub known : IsTrue (has_only (codes "nodes" ∷ codes "pages" ∷ codes "log" ∷ codes "age" ∷ codes "ranges" ∷ codes "bank" ∷ codes "process" ∷ codes "node" ∷ codes "page" ∷ []) ms)
+  pub geometry : IsGeometry ms d.geometry
+  pub age : AtOr 0 (codes "age") IsNumber ms d.age
+  pub ranges : AtOr (whole_ranges d.geometry) (codes "ranges") (IsList IsRange) ms d.ranges.items
+  pub banks : AtOr [] (codes "bank") (IsList (IsTable IsBank)) ms d.banks.items
+  pub processes : AtOr [] (codes "process") (IsList (IsTable IsProcess)) ms d.processes.items
+  pub nodes : AtOr [] (codes "node") (IsList (IsTable IsNode)) ms d.nodes.items
+  pub pages : AtOr [] (codes "page") (IsList (IsTable IsPage)) ms d.pages.items

@@ -1,0 +1,13 @@
+//! Descriptions of images: what a TOML table says that an image is to hold.
+#![tactic(auto)]
+
+mod entry;
+mod fault;
+mod list;
+mod member;
+mod object;
+mod read;
+mod value;
+
+pub use entry::{BankEntry, Description, NodeEntry, PageEntry, ProcessEntry, SlotEntry, WordEntry};
+pub use fault::ReadFault;

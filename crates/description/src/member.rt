@@ -1,0 +1,91 @@
+// What a table has at its keys.
+ghost use Rattle.std.specs.Prelude.{◌≡◌, IsTrue, Some, map, option_map};
+ghost use Rattle.std.specs.List.{list_any};
+ghost use Rattle.model.specs.declared.capability.Capability.TheVariants.{Void};
+ghost use Rattle.toml.specs.Data.{get_member, same_key};
+ghost use Rattle.toml.specs.View.{table_view, view};
+ghost use Rattle.description.specs.Outcomes.{Reads};
+ghost use Rattle.description.specs.Reading.{At, AtOr, IsCapability, IsNumber, IsState, has_only};
+
+use crate::fault::ReadFault;
+use crate::value::{capability_at, number_of, state_at};
+use model::{Capability, State};
+use toml::{Table, Value};
+
+// Whether a key is one of these.
+fn is_among(key: &str, known: &[&str]) -> bool
+    ensures { result ≡ list_any (same_key key.now) (map (λ k. k.now) known.now) }
+{
+    known.contains(&key)
+}
+
+// Whether a table has no other keys than these.
+fn has_only(table: &Table, known: &[&str]) -> bool
+    ensures { result ≡ has_only (map (λ k. k.now) known.now) (table_view table.now) }
+{
+    'keys: for (key, _) in table.iter() {
+        if !is_among(key.as_str(), known) {
+            return false;
+        }
+    }
+    true
+}
+
+// A table has no other keys than these.
+pub(crate) fn check_keys(table: &Table, known: &[&str]) -> Result<(), ReadFault>
+    ensures { Reads (λ _. IsTrue (has_only (map (λ k. k.now) known.now) (table_view table.now)))
+        result }
+{
+    if has_only(table, known) {
+        Ok(())
+    } else {
+        Err(ReadFault::Shape)
+    }
+}
+
+// What a table has at a key.
+pub(crate) fn member<'a>(table: &'a Table, key: &str) -> Option<&'a Value>
+    ensures { option_map (λ v. view v.now) result ≡ get_member key.now (table_view table.now) }
+{
+    table.get(key)
+}
+
+// The number at a key.
+pub(crate) fn number(table: &Table, key: &str) -> Result<u64, ReadFault>
+    ensures { Reads (At key.now IsNumber (table_view table.now)) result }
+{
+    match member(table, key) {
+        Some(value) => number_of(value),
+        None => Err(ReadFault::Shape),
+    }
+}
+
+// The number at a key, or else 0.
+pub(crate) fn number_or_zero(table: &Table, key: &str) -> Result<u64, ReadFault>
+    ensures { Reads (AtOr 0 key.now IsNumber (table_view table.now)) result }
+{
+    match member(table, key) {
+        Some(value) => number_of(value),
+        None => Ok(0),
+    }
+}
+
+// The state at a key.
+pub(crate) fn state(table: &Table, key: &str) -> Result<Option<State>, ReadFault>
+    ensures { Reads (At key.now IsState (table_view table.now)) result }
+{
+    match member(table, key) {
+        Some(value) => state_at(value),
+        None => Err(ReadFault::Shape),
+    }
+}
+
+// The capability at a key, or else void.
+pub(crate) fn capability_or_void(table: &Table, key: &str) -> Result<Option<Capability>, ReadFault>
+    ensures { Reads (AtOr (Some Void) key.now IsCapability (table_view table.now)) result }
+{
+    match member(table, key) {
+        Some(value) => capability_at(value),
+        None => Ok(Some(Capability::Void)),
+    }
+}

@@ -1,0 +1,4 @@
+mod DescribedOnce
+mod Rules
+mod Refusals
+mod Images

@@ -1,0 +1,128 @@
+-- What is refused whatever the device, and with which fault.
+use Rattle.std.proofs.Common.{◌≡◌, ◌≢◌, ℕ, ◌<◌, ◌≤◌, List, ap, refl, subst, sym, arith, ◌∙◌}
+use Rattle.std.specs.Prelude.{IfErr, OnOk, Result, Ok, Err}
+use Rattle.toml.specs.Data.{Members}
+use Rattle.device.specs.Disk.{Disk}
+use Rattle.model.specs.declared.capability.Cap.{Cap}
+use Rattle.model.specs.declared.frame.Frame.{Frame}
+use Rattle.model.specs.declared.frame.ObjectHeader.{ObjectHeader}
+use Rattle.model.specs.declared.geometry.Geometry.{Geometry}
+use Rattle.model.specs.declared.object.Content.{Content}
+use Rattle.model.specs.Frame.{frames_in}
+use Rattle.model.specs.Keepable.{IsSoundFrames}
+use Rattle.consistency.proofs.Unsound.{sound_banked, sound_named}
+use Rattle.consistency.specs.declared.reason.Inconsistency.{Inconsistency}
+use Rattle.consistency.specs.declared.reason.Inconsistency.TheVariants.{BadCapability, BadProcess, BadBank}
+use Rattle.consistency.specs.Consistency.{AreBanked, AreNamed, AreWholeProcesses, IsInconsistent}
+use Rattle.description.specs.declared.entry.Description.{Description}
+use Rattle.description.specs.Reading.{IsDescription}
+use Rattle.described_world.specs.Described.{HasFields, HasNumbers, IsDescribed}
+use Rattle.image_builder.specs.declared.fault.BuildFault.{BuildFault}
+use Rattle.image_builder.specs.declared.fault.BuildFault.TheVariants.{Shape, Limits, Number, Field, Target, Owner, Small, Failed, NoMemory}
+use Rattle.image_builder.specs.Built.{Builds, BuildsFrom, IsAccepted, IsRefused, IsWithinLimits, Refuses, Rule, TellsNoSize, fault_number}
+use Rattle.image_builder.specs.Checked.{AreLaid, IsRefusedEarly, IsSoundDescription}
+use Rattle.image_builder.proofs.DescribedOnce.{described_once}
+use Rattle.image_builder.proofs.Rules.{all_kept, field_broken, limits_broken, number_broken, owner_broken, small_broken, target_broken}
+
+-- a lesser fault isn't that of the device
+unfailed : (fault : BuildFault) → fault_number fault < 8 → fault ≢ Failed
+unfailed fault lesser is = omega (arith, lesser, ap fault_number is)
+
+module _ (d : Description) (limits : IsWithinLimits d) where
+  pub number_refused : (HasNumbers d → ⊥) → IsRefusedEarly d Number
+  number_refused broken = record {
+    early = unfailed Number (omega arith);
+    refused = λ sectors. number_broken d sectors limits broken;
+  }
+
+  pub field_refused : HasNumbers d × (HasFields d → ⊥) → IsRefusedEarly d Field
+  field_refused told = record {
+    early = unfailed Field (omega arith);
+    refused = λ sectors. field_broken d sectors limits told.0 told.1;
+  }
+
+  pub target_refused : HasNumbers d × HasFields d × ((fs : List Frame) → IsDescribed d fs → AreNamed fs → ⊥) → IsRefusedEarly d Target
+  target_refused told = record {
+    early = unfailed Target (omega arith);
+    refused = λ sectors. target_broken d sectors limits told.0 told.1 (λ rule. told.2 rule.0 rule.1 rule.2);
+  }
+
+  module _ (hs : List ObjectHeader) (cs : List (Content Cap)) (laid : AreLaid d hs cs) where
+    -- other frames that are described are these
+    as_laid : (P : List Frame → Type 0) (fs : List Frame) → IsDescribed d fs → P fs → P (frames_in hs cs)
+    as_laid P fs described p = subst P (described_once d fs (frames_in hs cs) described laid.described) p
+
+    capability_refused : (AreNamed (frames_in hs cs) → ⊥) → IsRefusedEarly d Target
+    capability_refused bad = target_refused (laid.numbers, laid.fields, λ fs described named. bad (as_laid AreNamed fs described named))
+
+    bank_refused : AreNamed (frames_in hs cs) → (AreBanked (frames_in hs cs) → ⊥) → IsRefusedEarly d Owner
+    bank_refused named bad = record {
+      early = unfailed Owner (omega arith);
+      refused = λ sectors. owner_broken d sectors limits laid.numbers laid.fields (frames_in hs cs, laid.described, named)
+          (λ rule. bad (as_laid AreBanked rule.0 rule.1 rule.2));
+    }
+
+    -- a process is never the reason
+    pub no_bad_process : AreWholeProcesses (frames_in hs cs) → (why : Inconsistency) → IsInconsistent (frames_in hs cs) why → why ≢ BadProcess
+    no_bad_process whole why is bad = absurd ((subst (λ (w : Inconsistency). IsInconsistent (frames_in hs cs) w) bad is).1 whole)
+
+    -- the fault for a reason
+    pub reason_refused : AreWholeProcesses (frames_in hs cs) → (why : Inconsistency) (fault : BuildFault) → IsInconsistent (frames_in hs cs) why →
+        (why ≡ BadCapability → fault ≡ Target) → (why ≡ BadBank → fault ≡ Owner) → IsRefusedEarly d fault
+    reason_refused whole BadCapability fault is target owner = subst (λ (f : BuildFault). IsRefusedEarly d f) (sym (target refl)) (capability_refused is)
+    reason_refused whole BadProcess fault is target owner = absurd (is.1 whole)
+    reason_refused whole BadBank fault is target owner = subst (λ (f : BuildFault). IsRefusedEarly d f) (sym (owner refl)) (bank_refused is.0 is.2)
+
+    pub sound_description : (g : Geometry) → g ≡ d.geometry → IsSoundFrames g d.age (frames_in hs cs) → IsSoundDescription d
+    sound_description g same sound = record {
+      numbers = laid.numbers;
+      fields = laid.fields;
+      frames = frames_in hs cs;
+      described = laid.described;
+      sound = subst (λ (h : Geometry). IsSoundFrames h d.age (frames_in hs cs)) same sound;
+    }
+
+  module _ (s : IsSoundDescription d) (sectors : ℕ) where
+    target_kept : Rule d sectors Target
+    target_kept = (s.frames, s.described, sound_named d.geometry d.age s.frames s.sound)
+
+    owner_kept : Rule d sectors Owner
+    owner_kept = (s.frames, s.described, sound_banked d.geometry d.age s.frames s.sound)
+
+    pub small_refused : (Rule d sectors Small → ⊥) → IsRefused d sectors Small
+    small_refused broken = small_broken d sectors limits s.numbers s.fields target_kept owner_kept broken
+
+    pub accepted : Rule d sectors Small → IsAccepted d sectors
+    accepted small = all_kept d sectors limits s.numbers s.fields target_kept owner_kept small
+
+-- a table is refused as its description is
+refuses : (ms : Members) (d : Description) (sectors : ℕ) (fault : BuildFault) → IsDescription ms d → IsRefused d sectors fault → Refuses ms sectors fault
+refuses ms d sectors Shape is refused = absurd (refused.broken tt)
+refuses ms d sectors Limits is refused = (d, is, refused)
+refuses ms d sectors Number is refused = (d, is, refused)
+refuses ms d sectors Field is refused = (d, is, refused)
+refuses ms d sectors Target is refused = (d, is, refused)
+refuses ms d sectors Owner is refused = (d, is, refused)
+refuses ms d sectors Small is refused = (d, is, refused)
+refuses ms d sectors Failed is refused = (d, is, refused)
+refuses ms d sectors NoMemory is refused = tt
+
+-- where the last call decides
+pub failed_refused : {T : Type 0} (d : Description) (sectors : ℕ) (r : Result T BuildFault) → IsAccepted d sectors → IfErr r (λ fault. fault ≡ Failed) →
+    IfErr r (λ fault. IsRefused d sectors fault)
+failed_refused d sectors (Ok x) all told = told
+failed_refused d sectors (Err fault) all told = subst (λ (f : BuildFault). IsRefused d sectors f) (sym told) all
+
+pub refused_from : {T : Type 0} (ms : Members) (d : Description) (sectors : ℕ) (r : Result T BuildFault) → IsDescription ms d →
+    IfErr r (λ fault. IsRefused d sectors fault) → IfErr r (λ fault. Refuses ms sectors fault)
+refused_from ms d sectors (Ok x) is told = told
+refused_from ms d sectors (Err fault) is told = refuses ms d sectors fault is told
+
+pub built_from : {T : Type 0} (ms : Members) (d : Description) (old new : Disk) (r : Result T BuildFault) → IsDescription ms d →
+    OnOk r (Builds d old new) → OnOk r (BuildsFrom ms old new)
+built_from ms d old new (Ok x) is built = (d, is, built)
+built_from ms d old new (Err fault) is built = built
+
+-- no size is told of a description outside the limits
+pub size_refused : (ms : Members) (d : Description) (fault : BuildFault) → IsDescription ms d → fault ≡ Limits → (IsWithinLimits d → ⊥) → TellsNoSize ms fault
+size_refused ms d fault is limits broken = subst (λ (f : BuildFault). TellsNoSize ms f) (sym limits) (d, is, broken)

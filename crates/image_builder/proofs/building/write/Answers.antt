@@ -1,0 +1,12 @@
+use Rattle.image_builder.specs.Checked.{AreLaid}
+use Rattle.image_builder.proofs.Images.{builds}
+use Rattle.image_builder.proofs.building.write.Goals as goal
+
+pub returns-in-Ok-clause-built : goal.returns-in-Ok-clause-built
+returns-in-Ok-clause-built g c =
+    let d = c.args.description.now in
+    let hs = c.deref.result.now in
+    let cs = c.deref-2.result.now in
+    let laid : AreLaid d hs cs = rw (c.deref.ensures.value, c.deref-2.ensures.value) c.requires.laid in
+    builds d hs cs laid c.requires.limits c.requires.sound (g.D.Device.disk c.args.device.now) (g.D.Device.disk c.write_image.new.device)
+    c.args.superblock.now c.requires.plan c.requires.inside c.in-Ok.ensures.denotes c.in-Ok.ensures.crash c.in-Ok.ensures.elsewhere

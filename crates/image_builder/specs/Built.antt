@@ -1,0 +1,92 @@
+-- What `build` answers, and what the device then holds.
+use Rattle.std.specs.Prelude.{◌≡◌, ◌≢◌, ℕ, ◌^◌, ◌<◌, ◌≤◌, List}
+use Rattle.toml.specs.Data.{Members}
+use Rattle.model.specs.declared.frame.Frame.{Frame}
+use Rattle.model.specs.Keepable.{IsSoundFrames}
+use Rattle.device.specs.Disk.{Disk, Image}
+use Rattle.device.specs.Calls.{Elsewhere}
+use Rattle.layout.specs.Image.{Denotes}
+use Rattle.layout.specs.Superblock.{Plan}
+use Rattle.migrator.specs.Saved.{Holds}
+use Rattle.image_writer.specs.Laid.{MayBeLaid, plan_from}
+use Rattle.image_writer.specs.Written.{first_saved, first_state}
+use Rattle.consistency.specs.Consistency.{AreBanked, AreNamed}
+use Rattle.description.specs.declared.entry.Description.{Description}
+use Rattle.description.specs.Reading.{IsDescription}
+use Rattle.described_world.specs.Described.{HasFields, HasNumbers, IsDescribed}
+use Rattle.image_builder.specs.declared.fault.BuildFault.{BuildFault}
+use Rattle.image_builder.specs.declared.fault.BuildFault.TheVariants.{Shape, Limits, Number, Field, Target, Owner, Small, Failed, NoMemory}
+
+-- the number of a fault: of those that hold the least is told
+abbrev pub fault_number : BuildFault → ℕ
+fault_number Shape = 1
+fault_number Limits = 2
+fault_number Number = 3
+fault_number Field = 4
+fault_number Target = 5
+fault_number Owner = 6
+fault_number Small = 7
+fault_number Failed = 8
+fault_number NoMemory = 9
+
+-- where the parts of the image lie
+abbrev pub plan_for : Description → Plan
+plan_for d = plan_from d.geometry d.ranges.items
+
+-- objects, ranges and an age that an image may have
+pub record IsWithinLimits (d : Description) : Type 0 where
+  pub laid : MayBeLaid d.geometry d.ranges.items
+  pub age : d.age ≤ 2 ^ 62
+
+-- the rule that a fault is told for, where an image is built on a device of so many sectors
+abbrev pub Rule : Description → ℕ → BuildFault → Type 0
+Rule d sectors Limits = IsWithinLimits d
+Rule d sectors Number = HasNumbers d
+Rule d sectors Field = HasFields d
+Rule d sectors Target = (frames : List Frame) × IsDescribed d frames × AreNamed frames
+Rule d sectors Owner = (frames : List Frame) × IsDescribed d frames × AreBanked frames
+Rule d sectors Small = (plan_for d).total ≤ sectors
+Rule d sectors _ = Unit {0}
+
+-- all rules are kept
+abbrev pub IsAccepted : Description → ℕ → Type 0
+IsAccepted d sectors = (fault : BuildFault) → Rule d sectors fault
+
+-- a rule is broken, and those of all lesser faults are kept
+pub record IsFirstBroken (d : Description) (sectors : ℕ) (fault : BuildFault) : Type 0 where
+  pub kept : (lesser : BuildFault) → fault_number lesser < fault_number fault → Rule d sectors lesser
+  pub broken : Rule d sectors fault → ⊥
+
+-- a description is refused with a fault; with the last two for what isn't its own
+abbrev pub IsRefused : Description → ℕ → BuildFault → Type 0
+IsRefused d sectors Failed = IsAccepted d sectors
+IsRefused d sectors NoMemory = Unit {0}
+IsRefused d sectors fault = IsFirstBroken d sectors fault
+
+-- a table is
+abbrev pub Refuses : Members → ℕ → BuildFault → Type 0
+Refuses ms sectors Shape = (d : Description) → IsDescription ms d → ⊥
+Refuses ms sectors NoMemory = Unit {0}
+Refuses ms sectors fault = (d : Description) × IsDescription ms d × IsRefused d sectors fault
+
+-- what no number of sectors is told for
+abbrev pub TellsNoSize : Members → BuildFault → Type 0
+TellsNoSize ms Shape = (d : Description) → IsDescription ms d → ⊥
+TellsNoSize ms Limits = (d : Description) × IsDescription ms d × (IsWithinLimits d → ⊥)
+TellsNoSize ms NoMemory = Unit {0}
+TellsNoSize ms _ = ⊥
+
+-- an image of a description is built over what a device held: it has the described frames, which stand for a sound
+-- world, at the described age, and one checkpoint of generation 0 with nothing in the log; a crash leaves the same
+pub record Builds (d : Description) (old new : Disk) : Type 0 where
+  pub accepted : IsAccepted d old.sectors
+  pub frames : List Frame
+  pub described : IsDescribed d frames
+  pub sound : IsSoundFrames d.geometry d.age frames
+  pub denotes : Denotes new.seen new.sectors (first_state (plan_for d) d.age frames)
+  pub crash : (c : Image) → new.may_leave c → Holds new.sectors c (first_saved d.geometry d.age frames)
+  pub elsewhere : Elsewhere 0 (plan_for d).total old.seen new.seen
+
+-- so is that of a table
+abbrev pub BuildsFrom : Members → Disk → Disk → Type 0
+BuildsFrom ms old new = (d : Description) × IsDescription ms d × Builds d old new

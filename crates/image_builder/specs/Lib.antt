@@ -1,0 +1,3 @@
+pub mod Built
+pub mod Checked
+pub mod Laws

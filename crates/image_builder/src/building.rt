@@ -1,0 +1,122 @@
+// Building images.
+ghost use Rattle.std.specs.Prelude.{◌≡◌, ◌≢◌, ◌<◌, ◌≤◌, ◌↔◌, IfOk, IfErr, IsErrOf, OnOk};
+ghost use Rattle.toml.specs.View.{table_view};
+ghost use Rattle.device.specs.Calls.{Elsewhere};
+ghost use Rattle.description.specs.Reading.{IsDescription};
+ghost use Rattle.image_builder.specs.Built.{Builds, BuildsFrom, IsRefused, IsWithinLimits, Refuses, TellsNoSize, plan_for};
+ghost use Rattle.image_builder.specs.Checked.{AreLaid, IsSoundDescription};
+
+use crate::fault::BuildFault;
+use crate::reading::{plan, read};
+use crate::worlds::{check_described, lay};
+use described_world::World;
+use description::Description;
+use device::Device;
+use image_writer::write_image;
+use layout::Superblock;
+use std::alloc::Global;
+use toml::Table;
+
+/// How many sectors a device needs for the image of a table's description.
+///
+/// `Shape` and `Limits` as `build` answers them, and `NoMemory` where memory ran out. No other fault
+/// is told, whatever else is wrong with the description.
+pub fn sectors_needed(alloc: Global, table: &Table) -> Result<u64, BuildFault>
+    ensures needed { IfOk result (λ needed. (d : Description)
+        × IsDescription (table_view table.now) d
+        × IsWithinLimits d
+        × (needed ≡ (plan_for d).total)) }
+    ensures refused { IfErr result (λ fault. TellsNoSize (table_view table.now) fault) }
+{
+    let description = read(alloc, table)?;
+    let superblock = plan(&description)?;
+    Ok(superblock.total())
+}
+
+// Writes described frames.
+fn write<D: Device>(
+    device: &mut D,
+    superblock: &Superblock,
+    description: &Description,
+    world: &World,
+) -> Result<(), BuildFault>
+    requires limits { IsWithinLimits description.now }
+    requires plan { superblock.now ≡ plan_for description.now }
+    requires inside { superblock.now.total ≤ (D.disk device.old).sectors }
+    requires laid { AreLaid description.now world.now.headers.items world.now.contents.items }
+    requires sound { IsSoundDescription description.now }
+    ensures built { OnOk result (Builds description.now (D.disk device.old) (D.disk device.new)) }
+    ensures refused { IfErr result (λ fault. fault ≡ BuildFault.Failed) }
+    ensures size { (D.disk device.new).sectors ≡ (D.disk device.old).sectors }
+    ensures later { (D.disk device.old).failures ≤ (D.disk device.new).failures }
+    ensures cause { IsErrOf result BuildFault.Failed
+        ↔ ((D.disk device.old).failures < (D.disk device.new).failures) }
+{
+    match write_image(
+        device,
+        superblock,
+        description.age,
+        &world.headers,
+        &world.contents,
+    ) {
+        Ok(()) => Ok(()),
+        Err(_) => Err(BuildFault::Failed),
+    }
+}
+
+// Builds the image of a description.
+fn build_described<D: Device>(
+    alloc: Global,
+    description: &Description,
+    device: &mut D,
+) -> Result<(), BuildFault>
+    ensures built { OnOk result (Builds description.now (D.disk device.old) (D.disk device.new)) }
+    ensures refused { IfErr result (λ fault.
+        IsRefused description.now (D.disk device.old).sectors fault) }
+    ensures untouched { IfErr result (λ fault.
+        fault ≢ BuildFault.Failed → device.new ≡ device.old) }
+    ensures size { (D.disk device.new).sectors ≡ (D.disk device.old).sectors }
+    ensures later { (D.disk device.old).failures ≤ (D.disk device.new).failures }
+    ensures cause { IsErrOf result BuildFault.Failed
+        ↔ ((D.disk device.old).failures < (D.disk device.new).failures) }
+{
+    let superblock = plan(description)?;
+    check_described(alloc, description)?;
+    let sectors = device.sectors();
+    if sectors < superblock.total() {
+        return Err(BuildFault::Small);
+    }
+    let world = lay(alloc, description)?;
+    write(device, &superblock, description, &world)
+}
+
+/// Builds the image of a table's description over whatever a device holds: the described frames,
+/// the numbers that aren't named free, at the described age, with one committed checkpoint of
+/// generation 0 and nothing in the log. The home ranges lie from sector 5 on in their order, and
+/// the two halves of the log behind them. From `Ok` on a read gives that image, each crash leaves
+/// it, and its frames stand for a sound world. Sectors behind it hold what they held.
+///
+/// Of the faults that hold the least is answered:
+/// `Shape` where the table isn't that of a description; `Limits` where no image has so many objects
+/// or slots, such ranges or such an age; `Number` where a number isn't one of its kind or is named
+/// twice; `Field` where a field is bad; `Target` where a capability names an object of another kind,
+/// or resumes a process that doesn't wait; `Owner` where the banks aren't a tree that owns all
+/// objects within their limits; `Small` where the device has fewer sectors than `sectors_needed`
+/// tells; `Failed` exactly where the device failed; and `NoMemory` where memory ran out.
+///
+/// The device is as it was, but after `Failed`: then the image's sectors may hold any bytes.
+pub fn build<D: Device>(alloc: Global, table: &Table, device: &mut D) -> Result<(), BuildFault>
+    ensures built { OnOk result
+        (BuildsFrom (table_view table.now) (D.disk device.old) (D.disk device.new)) }
+    ensures refused { IfErr result (λ fault.
+        Refuses (table_view table.now) (D.disk device.old).sectors fault) }
+    ensures untouched { IfErr result (λ fault.
+        fault ≢ BuildFault.Failed → device.new ≡ device.old) }
+    ensures size { (D.disk device.new).sectors ≡ (D.disk device.old).sectors }
+    ensures later { (D.disk device.old).failures ≤ (D.disk device.new).failures }
+    ensures cause { IsErrOf result BuildFault.Failed
+        ↔ ((D.disk device.old).failures < (D.disk device.new).failures) }
+{
+    let description = read(alloc, table)?;
+    build_described(alloc, &description, device)
+}

@@ -1,0 +1,80 @@
+// The worlds that descriptions name.
+ghost use Rattle.std.specs.Prelude.{◌≡◌, ◌≢◌, IfOk, IfErr, OnOk};
+ghost use Rattle.model.specs.Frame.{frames_in};
+ghost use Rattle.model.specs.Keepable.{IsSoundFrames};
+ghost use Rattle.capability.specs.Parts.{frames_of};
+ghost use Rattle.capability.specs.Plain.{parts_of};
+ghost use Rattle.image_builder.specs.Built.{IsWithinLimits};
+ghost use Rattle.image_builder.specs.Checked.{AreLaid, IsRefusedEarly, IsSoundDescription};
+
+use crate::fault::BuildFault;
+use capability::Plain;
+use consistency::{CheckFault, Inconsistency, check};
+use described_world::{World, WorldFault, described_is_whole, lay_world};
+use description::Description;
+use std::alloc::Global;
+
+/// Lays the frames of a description.
+pub(crate) fn lay(alloc: Global, description: &Description) -> Result<World, BuildFault>
+    requires { IsWithinLimits description.now }
+    ensures laid { IfOk result (λ w. AreLaid description.now w.headers.items w.contents.items) }
+    ensures refused { IfErr result (λ fault. IsRefusedEarly description.now fault) }
+{
+    match lay_world(alloc, description) {
+        Ok(world) => Ok(world),
+        Err(WorldFault::Number) => Err(BuildFault::Number),
+        Err(WorldFault::Field) => Err(BuildFault::Field),
+        Err(WorldFault::Target) => Err(BuildFault::Target),
+        Err(WorldFault::NoMemory) => Err(BuildFault::NoMemory),
+    }
+}
+
+// The fault for a reason why frames are inconsistent. Processes are never one.
+fn fault_for(why: Inconsistency) -> BuildFault
+    requires { why ≢ Inconsistency.BadProcess }
+    ensures target { why ≡ Inconsistency.BadCapability → result ≡ BuildFault.Target }
+    ensures owner { why ≡ Inconsistency.BadBank → result ≡ BuildFault.Owner }
+{
+    match why {
+        Inconsistency::BadCapability => BuildFault::Target,
+        Inconsistency::BadProcess => unreachable!(),
+        Inconsistency::BadBank => BuildFault::Owner,
+    }
+}
+
+// Checks described frames.
+fn check_frames(
+    alloc: Global,
+    description: &Description,
+    frames: &mut Plain,
+) -> Result<(), BuildFault>
+    requires limits { IsWithinLimits description.now }
+    requires geometry { frames.old.geometry ≡ description.now.geometry }
+    requires laid { AreLaid description.now frames.old.headers frames.old.contents }
+    ensures sound { OnOk result (IsSoundDescription description.now) }
+    ensures refused { IfErr result (λ fault. IsRefusedEarly description.now fault) }
+{
+    described_is_whole();
+    match check(alloc, frames, description.age) {
+        Ok(()) => Ok(()),
+        Err(CheckFault::Inconsistent(why)) => Err(fault_for(why)),
+        Err(CheckFault::NoMemory) => Err(BuildFault::NoMemory),
+        Err(CheckFault::Failed) => unreachable!(),
+    }
+}
+
+/// Checks that the frames of a description stand for a sound world.
+pub(crate) fn check_described(alloc: Global, description: &Description) -> Result<(), BuildFault>
+    requires { IsWithinLimits description.now }
+    ensures sound { OnOk result (IsSoundDescription description.now) }
+    ensures refused { IfErr result (λ fault. IsRefusedEarly description.now fault) }
+{
+    let World { headers, contents } = lay(alloc, description)?;
+    match Plain::new(alloc, description.geometry, headers, contents) {
+        Ok(frames) => {
+            let mut frames = frames;
+            check_frames(alloc, description, &mut frames)
+        }
+        Err(_) => Err(BuildFault::NoMemory),
+    }
+}

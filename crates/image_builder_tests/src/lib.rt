@@ -1,0 +1,10 @@
+//! The tests of `image_builder`, through its public functions. They stand apart from it, so that it
+//! is proved once, and not a second time with its tests.
+#![tactic(auto)]
+
+#[cfg(test)]
+mod faults;
+#[cfg(test)]
+mod images;
+#[cfg(test)]
+mod texts;
