@@ -1,2 +1,2 @@
-mod FirstRuns
-mod OneByte
+mod BuiltImages
+mod RunImages

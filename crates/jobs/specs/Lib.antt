@@ -1,1 +1,2 @@
-pub mod FirstWorld
+pub mod Faults
+pub mod Images

@@ -1,29 +1,125 @@
 // Why a command of `eros` fails.
-ghost use Rattle.std.specs.Prelude.{◌≡◌};
+ghost use Rattle.std.specs.Prelude.{◌≡◌, ◌≤◌, length};
+ghost use Rattle.model.specs.Text.{line_of};
+ghost use Rattle.script.specs.Writing.{Writes};
+ghost use Rattle.jobs.specs.Faults.{build_text, IsTold, build_text, fault_text, open_text, reason_number, run_fault, status_of};
 
-use script::RunFault;
-use thiserror::Error;
+use image_builder::BuildFault;
+use layout::BadImage;
+use migrator::OpenFault;
+use script::{LineText, RunFault};
+use std::io::Write;
 
-/// Why a command of `eros` failed. It is told on standard error, and the status is 1.
-#[derive(Clone, Copy, PartialEq, Eq, Debug, Error)]
+/// Why a command of `eros` failed.
+#[derive(Clone, Copy, PartialEq, Eq, Debug)]
 pub enum Fault {
-    #[error("cannot read script")]
+    /// The file of the description can't be read.
+    CannotReadDescription,
+    /// The description isn't TOML.
+    NotToml,
+    /// The file of the image can't be made, or is too small.
+    CannotWriteImage,
+    /// The file of the image can't be opened as a device.
+    CannotOpenImage,
+    /// The file of the script can't be read.
     CannotReadScript,
-    #[error("cannot write output")]
+    /// Standard output can't be written.
     CannotWriteOutput,
-    #[error("no memory")]
+    /// Memory ran out.
     NoMemory,
+    /// No image was built.
+    Build(BuildFault),
+    /// The device isn't opened.
+    Open(OpenFault),
 }
 
 impl Fault {
     /// What a run's failure is to the program.
-    pub fn of_run(fault: RunFault) -> Fault
-        ensures read { fault ≡ RunFault.Read → result ≡ Fault.CannotReadScript }
-        ensures write { fault ≡ RunFault.Write → result ≡ Fault.CannotWriteOutput }
+    pub(crate) fn of_run(fault: RunFault) -> Fault
+        ensures { result ≡ run_fault fault }
     {
         match fault {
             RunFault::Read => Fault::CannotReadScript,
             RunFault::Write => Fault::CannotWriteOutput,
+        }
+    }
+}
+
+// What is told where no image was built.
+fn build_line(fault: BuildFault) -> LineText
+    ensures text { result ≡ build_text fault }
+    ensures short { length result ≤ 60 }
+{
+    match fault {
+        BuildFault::Small => LineText::new(b"eros: cannot write image"),
+        BuildFault::Failed => LineText::new(b"eros: device failed"),
+        BuildFault::NoMemory => LineText::new(b"eros: no memory"),
+        BuildFault::Shape
+        | BuildFault::Limits
+        | BuildFault::Number
+        | BuildFault::Field
+        | BuildFault::Target
+        | BuildFault::Owner => LineText::numbered(b"eros: bad description", fault.number()),
+    }
+}
+
+// The number of a reason to refuse an image: their order, from 1.
+fn number_of(reason: BadImage) -> u64
+    ensures { result ≡ reason_number reason }
+{
+    reason as u64
+}
+
+// What is told where a device isn't opened.
+fn open_line(fault: OpenFault) -> LineText
+    ensures text { result ≡ open_text fault }
+    ensures short { length result ≤ 60 }
+{
+    match fault {
+        OpenFault::Failed => LineText::new(b"eros: device failed"),
+        OpenFault::NoMemory => LineText::new(b"eros: no memory"),
+        OpenFault::Bad(reason) => LineText::numbered(b"eros: bad image", number_of(reason)),
+    }
+}
+
+impl Fault {
+    // What is told of it.
+    fn line(self) -> LineText
+        ensures text { result ≡ fault_text self }
+        ensures short { length result ≤ 60 }
+    {
+        match self {
+            Fault::CannotReadDescription => LineText::new(b"eros: cannot read description"),
+            Fault::NotToml => LineText::new(b"eros: bad description"),
+            Fault::CannotWriteImage => LineText::new(b"eros: cannot write image"),
+            Fault::CannotOpenImage => LineText::new(b"eros: cannot open image"),
+            Fault::CannotReadScript => LineText::new(b"eros: cannot read script"),
+            Fault::CannotWriteOutput => LineText::new(b"eros: cannot write output"),
+            Fault::NoMemory => LineText::new(b"eros: no memory"),
+            Fault::Build(fault) => build_line(fault),
+            Fault::Open(fault) => open_line(fault),
+        }
+    }
+
+    /// Writes it as a line. `RunFault::Write` where the writer fails or takes nothing.
+    pub fn tell<V: Write>(self, errors: &mut V) -> Result<(), RunFault>
+        ensures { Writes (V.contents errors.old) (V.contents errors.new) result
+            (line_of (fault_text self)) }
+    {
+        self.line().write_to(errors)
+    }
+}
+
+/// The status of a command that came to this: 0 for success, and 1 for a fault, which is told first.
+pub(crate) fn status<V: Write>(outcome: Result<(), Fault>, errors: &mut V) -> u8
+    ensures status { result ≡ status_of outcome }
+    ensures told { IsTold outcome (V.contents errors.old) (V.contents errors.new) }
+{
+    match outcome {
+        Ok(()) => 0,
+        Err(fault) => {
+            let _told = fault.tell(errors);
+            1
         }
     }
 }

@@ -1,10 +1,12 @@
-//! What each command of `eros` does once its files are open, over any reader and writer.
+//! What each command of `eros` does once its files are open, over any device, reader and writer.
 #![tactic(auto)]
 
+mod building;
+mod checking;
 mod fault;
-mod first_world;
-mod single_bytes;
+mod running;
 
+pub use building::build_image;
+pub use checking::check_image;
 pub use fault::Fault;
-pub use first_world::run_first;
-pub use single_bytes::SingleBytes;
+pub use running::run_image;

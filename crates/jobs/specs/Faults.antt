@@ -1,0 +1,65 @@
+-- What is told of a fault, and the status of a command.
+use Rattle.std.specs.Prelude.{◌≡◌, ℕ, List, [], ◌∷◌, ◌++◌, codes, decimal, Option, Result, Ok, Err}
+use Rattle.layout.specs.declared.bad_image.BadImage.{BadImage}
+use Rattle.layout.specs.declared.bad_image.BadImage.TheVariants as bad
+use Rattle.migrator.specs.declared.open_fault.OpenFault.{OpenFault}
+use Rattle.migrator.specs.declared.open_fault.OpenFault.TheVariants as opening
+use Rattle.model.specs.Text.{line_of, spaced}
+use Rattle.image_builder.specs.declared.fault.BuildFault.{BuildFault}
+use Rattle.image_builder.specs.declared.fault.BuildFault.TheVariants as build
+use Rattle.image_builder.specs.Built.{fault_number}
+use Rattle.script.specs.declared.fault.RunFault.{RunFault}
+use Rattle.script.specs.declared.fault.RunFault.TheVariants as run
+use Rattle.script.specs.Writing.{Writes}
+use Rattle.jobs.specs.declared.fault.Fault.{Fault}
+use Rattle.jobs.specs.declared.fault.Fault.TheVariants as fault
+
+-- the number of a reason to refuse an image
+abbrev pub reason_number : BadImage → ℕ
+reason_number bad.Small = 1
+reason_number bad.NotASuperblock = 2
+reason_number bad.BadGeometry = 3
+reason_number bad.NoHeader = 4
+reason_number bad.BadHeader = 5
+reason_number bad.BadDirectory = 6
+reason_number bad.BadFrame = 7
+reason_number bad.BadCapability = 8
+reason_number bad.BadProcess = 9
+reason_number bad.BadBank = 10
+
+abbrev pub build_text : BuildFault → List ℕ
+build_text build.Small = codes "eros: cannot write image"
+build_text build.Failed = codes "eros: device failed"
+build_text build.NoMemory = codes "eros: no memory"
+build_text why = spaced (codes "eros: bad description" ∷ decimal (fault_number why) ∷ [])
+
+abbrev pub open_text : OpenFault → List ℕ
+open_text opening.Failed = codes "eros: device failed"
+open_text opening.NoMemory = codes "eros: no memory"
+open_text (opening.Bad reason) = spaced (codes "eros: bad image" ∷ decimal (reason_number reason) ∷ [])
+
+abbrev pub fault_text : Fault → List ℕ
+fault_text fault.CannotReadDescription = codes "eros: cannot read description"
+fault_text fault.NotToml = codes "eros: bad description"
+fault_text fault.CannotWriteImage = codes "eros: cannot write image"
+fault_text fault.CannotOpenImage = codes "eros: cannot open image"
+fault_text fault.CannotReadScript = codes "eros: cannot read script"
+fault_text fault.CannotWriteOutput = codes "eros: cannot write output"
+fault_text fault.NoMemory = codes "eros: no memory"
+fault_text (fault.Build why) = build_text why
+fault_text (fault.Open why) = open_text why
+
+-- what a run's failure is to the program
+abbrev pub run_fault : RunFault → Fault
+run_fault run.Read = fault.CannotReadScript
+run_fault run.Write = fault.CannotWriteOutput
+
+-- the status of a command
+abbrev pub status_of : Result (Unit {0}) Fault → ℕ
+status_of (Ok a) = 0
+status_of (Err why) = 1
+
+-- a fault was told on a line of its own, as far as it could be written
+abbrev pub IsTold : Result (Unit {0}) Fault → Option (List ℕ) → Option (List ℕ) → Type 0
+IsTold (Ok a) old new = new ≡ old
+IsTold (Err why) old new = (wrote : Result (Unit {0}) RunFault) × Writes old new wrote (line_of (fault_text why))

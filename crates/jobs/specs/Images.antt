@@ -1,0 +1,74 @@
+-- What the commands do with images.
+use Rattle.std.specs.Prelude.{◌≡◌, ◌≢◌, ◌↔◌, ◌<◌, ℕ, List, [], ◌∷◌, codes, decimal, Option, Some, Result, Ok, Err}
+use Rattle.std.specs.Io.KnownBytes.{Appends}
+use Rattle.toml.specs.Data.{Members}
+use Rattle.model.specs.declared.geometry.Geometry.{Geometry}
+use Rattle.model.specs.Machine.{Saved}
+use Rattle.model.specs.Text.{line_of, spaced}
+use Rattle.device.specs.Disk.{Disk}
+use Rattle.migrator.specs.declared.open_fault.OpenFault.{OpenFault}
+use Rattle.capability.specs.Parts.{Parts}
+use Rattle.object_cache.specs.Store.{View}
+use Rattle.kernel.specs.declared.power.Power.{Power}
+use Rattle.kernel.specs.Opening.{Opens, RefusesToOpen}
+use Rattle.kernel.specs.Denotes.{Denotes}
+use Rattle.description.specs.declared.entry.Description.{Description}
+use Rattle.description.specs.Reading.{IsDescription}
+use Rattle.image_builder.specs.declared.fault.BuildFault.TheVariants as build
+use Rattle.image_builder.specs.Built.{BuildsFrom, Refuses, plan_for}
+use Rattle.runs.specs.KernelRuns.{RunsOver}
+use Rattle.script.specs.declared.fault.RunFault.{RunFault}
+use Rattle.script.specs.declared.fault.RunFault.TheVariants as run
+use Rattle.script.specs.Writing.{AppendsFront}
+use Rattle.jobs.specs.declared.fault.Fault.{Fault}
+use Rattle.jobs.specs.declared.fault.Fault.TheVariants as fault
+
+-- what is told of an image that was built, and of one that can be opened
+abbrev pub built_text : ℕ → List ℕ
+built_text total = spaced (codes "built" ∷ decimal total ∷ codes "sectors" ∷ [])
+
+abbrev pub checked_text : ℕ → ℕ → ℕ → List ℕ
+checked_text generation age entries =
+    spaced (codes "ok generation" ∷ decimal generation ∷ codes "age" ∷ decimal age ∷ codes "entries" ∷ decimal entries ∷ [])
+
+-- the total of the image of a table is told
+abbrev pub TellsTotal : Members → (List ℕ → Type 0) → Type 0
+TellsTotal ms Told = (d : Description) × IsDescription ms d × Told (line_of (built_text (plan_for d).total))
+
+-- an image was built and its total told; or it was built, and that couldn't be written whole; or none was
+abbrev pub BuildsImage : {D : Type 0} → (D → Disk) → Members → D → D → Option (List ℕ) → Option (List ℕ) → Result (Unit {0}) Fault → Type 0
+BuildsImage disk ms old new output output_left (Ok a) = BuildsFrom ms (disk old) (disk new) × TellsTotal ms (Appends output output_left)
+BuildsImage disk ms old new output output_left (Err fault.CannotWriteOutput) = BuildsFrom ms (disk old) (disk new) × TellsTotal ms (AppendsFront output output_left)
+BuildsImage disk ms old new output output_left (Err (fault.Build why)) =
+    Refuses ms (disk old).sectors why × (why ≢ build.Failed → new ≡ old) × ((why ≡ build.Failed) ↔ ((disk old).failures < (disk new).failures)) × (output_left ≡ output)
+BuildsImage disk ms old new output output_left (Err _) = ⊥
+
+-- a device isn't opened, and nothing is read or written
+abbrev pub StaysShut : {D : Type 0} → (D → Disk) → D → OpenFault → Type 0
+StaysShut disk device why = (back : _) × RefusesToOpen disk device back why
+
+-- The parameters are ghost members of a device and of an object store.
+module _ {D S : Type 0} (disk : D → Disk) (view : S → View D) (parts : S → Parts) where
+  -- a kernel was opened, and a script run over it with this outcome
+  abbrev pub OpensAndRuns : D → Option (List ℕ) → Option (List ℕ) → Option (List ℕ) → Option (List ℕ) → Result (Unit {0}) RunFault → Type 0
+  OpensAndRuns device input input_left output output_left outcome =
+      (first : Power D S) × (last : Power D S) × Opens disk view parts device first × RunsOver disk view parts first last input input_left output output_left outcome
+
+  -- so it was; or the device wasn't opened, and nothing was read or written
+  abbrev pub RunsImage : D → Option (List ℕ) → Option (List ℕ) → Option (List ℕ) → Option (List ℕ) → Result (Unit {0}) Fault → Type 0
+  RunsImage device input input_left output output_left (Ok a) = OpensAndRuns device input input_left output output_left (Ok tt)
+  RunsImage device input input_left output output_left (Err fault.CannotReadScript) = OpensAndRuns device input input_left output output_left (Err run.Read)
+  RunsImage device input input_left output output_left (Err fault.CannotWriteOutput) = OpensAndRuns device input input_left output output_left (Err run.Write)
+  RunsImage device input input_left output output_left (Err (fault.Open why)) = StaysShut disk device why × (input_left ≡ input) × (output_left ≡ output)
+  RunsImage device input input_left output output_left (Err _) = ⊥
+
+-- a device was opened, and what is saved on it told; or that couldn't be written whole; or it wasn't opened
+abbrev pub TellsSaved : {D : Type 0} → (D → Disk) → D → (List ℕ → Type 0) → Type 0
+TellsSaved disk device Told =
+    (geometry : Geometry) × (saved : Saved) × Denotes geometry (disk device).sectors (disk device).seen saved × Told (line_of (checked_text saved.generation saved.world.age saved.entries))
+
+abbrev pub ChecksImage : {D : Type 0} → (D → Disk) → D → Option (List ℕ) → Option (List ℕ) → Result (Unit {0}) Fault → Type 0
+ChecksImage disk device output output_left (Ok a) = TellsSaved disk device (Appends output output_left)
+ChecksImage disk device output output_left (Err fault.CannotWriteOutput) = TellsSaved disk device (AppendsFront output output_left)
+ChecksImage disk device output output_left (Err (fault.Open why)) = StaysShut disk device why × (output_left ≡ output)
+ChecksImage disk device output output_left (Err _) = ⊥

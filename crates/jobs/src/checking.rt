@@ -1,0 +1,59 @@
+// The command that checks an image.
+ghost use Rattle.std.specs.Prelude.{◌≡◌, ◌≤◌, Result, length};
+ghost use Rattle.jobs.specs.Faults.{IsTold, status_of};
+ghost use Rattle.jobs.specs.Images.{ChecksImage, checked_text};
+
+use crate::fault::{Fault, status};
+use device::Device;
+use kernel::Kernel;
+use migrator::Checkpoint;
+use object_cache::PlainStore;
+use script::LineText;
+use std::alloc::Global;
+use std::io::Write;
+
+// What is told of an image that can be opened.
+fn checked_line(saved: Checkpoint) -> LineText
+    ensures text { result ≡ checked_text saved.generation saved.age saved.entries }
+    ensures short { length result ≤ 120 }
+{
+    let mut line = LineText::numbered(b"ok generation", saved.generation);
+    line.named(b"age", saved.age);
+    line.named(b"entries", saved.entries);
+    line
+}
+
+// Opens a device, and tells what checkpoint it holds.
+fn open_and_tell<D: Device, W: Write>(alloc: Global, device: D, writer: &mut W) -> Result<(), Fault>
+    ensures { ChecksImage D.disk device (W.contents writer.old) (W.contents writer.new) result }
+{
+    let kernel = match Kernel::<D, PlainStore<D>>::open(alloc, device, ()) {
+        Ok(kernel) => kernel,
+        Err(refused) => return Err(Fault::Open(refused.fault)),
+    };
+    match kernel.saved() {
+        Some(saved) => match checked_line(saved).write_to(writer) {
+            Ok(()) => Ok(()),
+            Err(_) => Err(Fault::CannotWriteOutput),
+        },
+        None => unreachable!(),
+    }
+}
+
+/// Opens a device as a run does, and writes `ok generation G age A entries E` of the checkpoint that
+/// it holds; then the status is 0. After a fault one line is written to `errors`, and the status is
+/// 1: `bad image` with a number from 1 to 10, `device failed` or `no memory` where the device isn't
+/// opened, and `cannot write output` where the writer fails. The device isn't written.
+pub fn check_image<D: Device, W: Write, V: Write>(
+    alloc: Global,
+    device: D,
+    writer: &mut W,
+    errors: &mut V,
+) -> u8
+    ensures { (outcome : Result (Unit {0}) Fault) × (result ≡ status_of outcome)
+        × IsTold outcome (V.contents errors.old) (V.contents errors.new)
+        × ChecksImage D.disk device (W.contents writer.old) (W.contents writer.new) outcome }
+{
+    let outcome = open_and_tell(alloc, device, writer);
+    status(outcome, errors)
+}

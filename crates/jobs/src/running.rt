@@ -1,0 +1,55 @@
+// The command that runs a script over an image.
+ghost use Rattle.std.specs.Prelude.{◌≡◌, Result};
+ghost use Rattle.jobs.specs.Faults.{IsTold, status_of};
+ghost use Rattle.jobs.specs.Images.{RunsImage};
+
+use crate::fault::{Fault, status};
+use device::Device;
+use kernel::Kernel;
+use object_cache::ObjectStore;
+use runs::run;
+use std::alloc::Global;
+use std::io::{Read, Write};
+
+// Opens a device, and runs a script over it.
+fn open_and_run<D: Device, S: ObjectStore<D>, R: Read, W: Write>(
+    alloc: Global,
+    device: D,
+    setting: S::Setting,
+    reader: &mut R,
+    writer: &mut W,
+) -> Result<(), Fault>
+    ensures { RunsImage D.disk S.view S.parts device (R.remaining reader.old)
+        (R.remaining reader.new) (W.contents writer.old) (W.contents writer.new) result }
+{
+    let mut kernel = match Kernel::<D, S>::open(alloc, device, setting) {
+        Ok(kernel) => kernel,
+        Err(refused) => return Err(Fault::Open(refused.fault)),
+    };
+    match run(alloc, &mut kernel, reader, writer) {
+        Ok(()) => Ok(()),
+        Err(fault) => Err(Fault::of_run(fault)),
+    }
+}
+
+/// Opens a device that holds an image, runs a script over it, and writes the answers; then the
+/// status is 0, whatever they are. After a fault one line is written to `errors`, and the status is
+/// 1: `bad image` with a number from 1 to 10, `device failed` or `no memory` where the device isn't
+/// opened, of which nothing was read or written; `cannot read script` and `cannot write output`
+/// where the reader or the writer fails.
+pub fn run_image<D: Device, S: ObjectStore<D>, R: Read, W: Write, V: Write>(
+    alloc: Global,
+    device: D,
+    setting: S::Setting,
+    reader: &mut R,
+    writer: &mut W,
+    errors: &mut V,
+) -> u8
+    ensures { (outcome : Result (Unit {0}) Fault) × (result ≡ status_of outcome)
+        × IsTold outcome (V.contents errors.old) (V.contents errors.new)
+        × RunsImage D.disk S.view S.parts device (R.remaining reader.old)
+        (R.remaining reader.new) (W.contents writer.old) (W.contents writer.new) outcome }
+{
+    let outcome = open_and_run::<D, S, R, W>(alloc, device, setting, reader, writer);
+    status(outcome, errors)
+}
