@@ -4,6 +4,7 @@
 #include <stdlib.h>
 
 extern void *__libc_malloc(size_t size);
+extern void *__libc_calloc(size_t count, size_t size);
 extern void *__libc_realloc(void *old, size_t size);
 
 static long to_refuse = -1;
@@ -20,6 +21,10 @@ static int is_refused(void) {
 
 void *malloc(size_t size) {
     return is_refused() ? NULL : __libc_malloc(size);
+}
+
+void *calloc(size_t count_of, size_t size) {
+    return is_refused() ? NULL : __libc_calloc(count_of, size);
 }
 
 void *realloc(void *old, size_t size) {
