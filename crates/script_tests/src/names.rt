@@ -2,66 +2,39 @@
 use model::{Access, Capability, State};
 use script::{capability_of, state_of};
 
+fn page(access: Access) -> Capability {
+    Capability::Page { object: 16, access }
+}
+
+fn node(access: Access) -> Capability {
+    Capability::Node { object: 5, access }
+}
+
+fn space(height: u8, access: Access) -> Capability {
+    Capability::Space {
+        object: 5,
+        height,
+        access,
+    }
+}
+
 #[test]
 fn each_form_names_a_capability(rt: HostRuntime) {
-    let full = Access::full();
-    let weak = Access::weak();
-    let read_only = Access::READ_ONLY;
+    let start = Capability::Start {
+        process: 3,
+        key: 65535,
+    };
     let forms: [(&[u8], Capability); 14] = [
         (b"void", Capability::Void),
         (b"number 18446744073709551615", Capability::Number(u64::MAX)),
-        (
-            b"page 16",
-            Capability::Page {
-                object: 16,
-                access: full,
-            },
-        ),
-        (
-            b"page 16 ro",
-            Capability::Page {
-                object: 16,
-                access: read_only,
-            },
-        ),
-        (
-            b"page 16 weak",
-            Capability::Page {
-                object: 16,
-                access: weak,
-            },
-        ),
-        (
-            b"node 5 weak",
-            Capability::Node {
-                object: 5,
-                access: weak,
-            },
-        ),
-        (
-            b"space 5 4",
-            Capability::Space {
-                object: 5,
-                height: 4,
-                access: full,
-            },
-        ),
-        (
-            b"space 5 1 ro",
-            Capability::Space {
-                object: 5,
-                height: 1,
-                access: read_only,
-            },
-        ),
+        (b"page 16", page(Access::full())),
+        (b"page 16 ro", page(Access::READ_ONLY)),
+        (b"page 16 weak", page(Access::weak())),
+        (b"node 5 weak", node(Access::weak())),
+        (b"space 5 4", space(4, Access::full())),
+        (b"space 5 1 ro", space(1, Access::READ_ONLY)),
         (b"process 3", Capability::Process(3)),
-        (
-            b"start 3 65535",
-            Capability::Start {
-                process: 3,
-                key: 65535,
-            },
-        ),
+        (b"start 3 65535", start),
         (b"resume 1", Capability::Resume(1)),
         (b"bank 0", Capability::Bank(0)),
         (b"discrim", Capability::Discrim),
