@@ -14,6 +14,7 @@ use Rattle.model.specs.Capability.{IsWellFormed}
 use Rattle.model.specs.Frame.{blank_frame, frame_at, void_held}
 use Rattle.model.specs.Keepable.{AreKeepable, AreKeptSlots, Follows, IsCount, IsKept, IsKeptCap, IsKeepable}
 use Rattle.model.specs.Sound.{IsOfKind, IsSpace, object_count}
+use Rattle.capability.specs.Plain.{fresh_cap}
 use Rattle.layout.specs.Superblock.{IsGeometry}
 use Rattle.description.specs.declared.entry.BankEntry.{BankEntry}
 use Rattle.description.specs.declared.entry.Description.{Description}
@@ -23,7 +24,7 @@ use Rattle.description.specs.declared.entry.ProcessEntry.{ProcessEntry}
 use Rattle.description.specs.declared.entry.SlotEntry.{SlotEntry}
 use Rattle.description.specs.declared.entry.WordEntry.{WordEntry}
 use Rattle.described_world.specs.declared.world.World.{World}
-use Rattle.described_world.specs.Described.{AreSlots, AreWords, HasFields, HasNamedWords, HasNumbers, HoldsNamed, IsCapability, IsDescribed, IsProcessEntry, IsSpaceEntry, first_held, first_named}
+use Rattle.described_world.specs.Described.{AreSlots, AreWords, HasFields, HasNamedWords, HasNumbers, HoldsNamed, IsCapability, IsDescribed, IsProcessEntry, IsSpaceEntry, first_named}
 use Rattle.described_world.specs.Laid.{AreTargets, Entry, Fits, HasProcessTargets, HasTargets, IsLaid, IsTarget, OfAnnex, OfBank, OfNode, OfPage, OfRoot, entries, frame_of, laid, number_of, slot_held, slots_of, words_of}
 use Rattle.described_world.proofs.Entries.{IsFrameOf, IsOf, entries_distinct, entries_of, in_range, numbers_are, of_entries}
 use Rattle.described_world.proofs.LaidFrames.{laid_both}
@@ -47,7 +48,7 @@ holds_named first es are = record {
       ∙ ap Some
       (each_at (λ s. s.index) slot_held es void_slots i void_held are.distinct (λ k d inside. subst (λ n. (slice_index_or es k d).index < n) (sym (length-replicate 32 void_held)) (are.places k d inside).1)
       ∙ ap (λ v. first_named (λ s. s.index) slot_held v es i) (same_at 32 i void_held)
-      ∙ first_map (λ s. s.index) (λ s. unwrap_or s.capability Void) first_held Void es i);
+      ∙ first_map (λ s. s.index) (λ s. unwrap_or s.capability Void) fresh_cap Void es i);
 }
 
 pub holds_words : (es : List WordEntry) → AreWords es → HasNamedWords es (words_of es)
@@ -95,11 +96,11 @@ follows g (Resume p) is formed target = ((target, node_fits g p is target), no_c
 follows g (Bank b) is formed target = ((target, node_fits g b is target), no_count)
 follows g Discrim is formed target = refl
 
-slot_kept : (g : Geometry) (o : Option Capability) → IsGeometry g → IsCapability o → IsTarget g (unwrap_or o Void) → IsKeptCap g 0 (first_held (unwrap_or o Void))
+slot_kept : (g : Geometry) (o : Option Capability) → IsGeometry g → IsCapability o → IsTarget g (unwrap_or o Void) → IsKeptCap g 0 (fresh_cap (unwrap_or o Void))
 slot_kept g None is formed target = absurd formed
 slot_kept g (Some c) is formed target = follows g c is formed target
 
-space_kept : (g : Geometry) (o : Option Capability) → IsGeometry g → IsSpaceEntry o → IsTarget g (unwrap_or o Void) → IsKeptCap g 0 (first_held (unwrap_or o Void)) × IsSpace (unwrap_or o Void)
+space_kept : (g : Geometry) (o : Option Capability) → IsGeometry g → IsSpaceEntry o → IsTarget g (unwrap_or o Void) → IsKeptCap g 0 (fresh_cap (unwrap_or o Void)) × IsSpace (unwrap_or o Void)
 space_kept g None is formed target = absurd formed
 space_kept g (Some c) is formed target = (follows g c is formed.0 target, formed.1)
 

@@ -17,11 +17,12 @@ use Rattle.model.specs.Frame.{blank_frame, current_count, frame_at, header_at, h
 use Rattle.model.specs.Keepable.{caps_in}
 use Rattle.model.specs.Object.{role_of}
 use Rattle.model.specs.Sound.{IsOfKind, object_count}
+use Rattle.capability.specs.Plain.{fresh_cap}
 use Rattle.description.specs.declared.entry.Description.{Description}
 use Rattle.description.specs.declared.entry.NodeEntry.{NodeEntry}
 use Rattle.description.specs.declared.entry.SlotEntry.{SlotEntry}
 use Rattle.consistency.specs.Consistency.{AreNamed, IsNamed, NamesItsRole, is_waiting_root}
-use Rattle.described_world.specs.Described.{AreSlots, HasFields, HasNumbers, HoldsNamed, IsDescribed, IsProcessEntry, first_frame, first_held}
+use Rattle.described_world.specs.Described.{AreSlots, HasFields, HasNumbers, HoldsNamed, IsDescribed, IsProcessEntry, first_frame}
 use Rattle.described_world.specs.Laid.{AreTargets, Entry, HasProcessTargets, HasTargets, IsTarget, OfAnnex, OfBank, OfNode, OfPage, OfRoot, number_of}
 use Rattle.described_world.proofs.Entries.{HasRange, IsFrameOf, described_cases, described_of, in_range}
 use Rattle.described_world.proofs.Lists.{all_from, all_got, first_of}
@@ -146,7 +147,7 @@ module _ (d : Description) (fs : List Frame) (numbers : HasNumbers d) (is : IsDe
   role_target (Bank b) names = a_bank b names
   role_target Discrim names = tt
 
-  held_target : (c : Capability) → IsNamed fs (first_held c) → IsTarget d.geometry c
+  held_target : (c : Capability) → IsNamed fs (fresh_cap c) → IsTarget d.geometry c
   held_target c named = role_target c (named.live (never_raised d fs c numbers is))
 
   -- the capabilities of slots
@@ -154,8 +155,8 @@ module _ (d : Description) (fs : List Frame) (numbers : HasNumbers d) (is : IsDe
   slots_targets first es slots are holds named = all_from _ es (λ s of.
       let place = All-contains (λ t. (first ≤ t.index) × (t.index < 32)) es s are.places of in
       let what = first_of (λ t. t.index) (λ t. unwrap_or t.capability Void) Void es s are.distinct of in
-      let held : IsNamed fs (first_held (unwrap_or s.capability Void)) =
-      all_got (IsNamed fs) slots s.index _ named (holds.each s.index place.1 ∙ ap (λ c. Some (first_held c)) what) in
+      let held : IsNamed fs (fresh_cap (unwrap_or s.capability Void)) =
+      all_got (IsNamed fs) slots s.index _ named (holds.each s.index place.1 ∙ ap (λ c. Some (fresh_cap c)) what) in
       held_target (unwrap_or s.capability Void) held)
 
   named_in : (n : ℕ) (f : Frame) → AreNamed fs → frame_at fs n ≡ f → All (IsNamed fs) (caps_in f.content)
@@ -167,7 +168,7 @@ module _ (d : Description) (fs : List Frame) (numbers : HasNumbers d) (is : IsDe
         let good : IsProcessEntry p = All-contains IsProcessEntry d.processes.items p fields.processes of in
         let root = described_of d fs (OfRoot p) is of in
         let annex = described_of d fs (OfAnnex p) is of in
-        let held : IsNamed fs (first_held root.1) = All-head (IsNamed fs) (first_held root.1) [] (named_in p.root _ named root.4) in
+        let held : IsNamed fs (fresh_cap root.1) = All-head (IsNamed fs) (fresh_cap root.1) [] (named_in p.root _ named root.4) in
         record {
           space = subst (λ (o : Option Capability). IsTarget d.geometry (unwrap_or o Void)) (sym root.3) (held_target root.1 held);
           registers = slots_targets 1 p.registers.items annex.0 good.registers annex.1 (named_in p.annex _ named annex.2);

@@ -12,6 +12,7 @@ use Rattle.model.specs.Capability.{IsWellFormed}
 use Rattle.model.specs.Frame.{frame_at, blank_frame}
 use Rattle.model.specs.Object.{role_of}
 use Rattle.model.specs.Sound.{IsSpace, object_count}
+use Rattle.capability.specs.Plain.{fresh_cap}
 use Rattle.description.specs.declared.entry.Description.{Description}
 use Rattle.description.specs.declared.entry.NodeEntry.{NodeEntry}
 use Rattle.description.specs.declared.entry.PageEntry.{PageEntry}
@@ -81,10 +82,6 @@ pub record HasFields (d : Description) : Type 0 where
 
 -- The frames.
 
--- a capability as it is held first: no count was ever raised
-abbrev pub first_held : Capability → Cap
-first_held c = record { what = c; count = 0 }
-
 -- what is named for an index: by the first entry for it, else nothing is
 abbrev pub first_named : {E V : Type 0} → (E → ℕ) → (E → V) → V → List E → ℕ → V
 first_named index value nothing [] i = nothing
@@ -101,7 +98,7 @@ word_named_at entries i = first_named (λ w. w.index) (λ w. w.word) 0 entries i
 -- 32 slots, and 512 words, as they are named
 pub record HoldsNamed (entries : List SlotEntry) (slots : List Cap) : Type 0 where
   pub count : length slots ≡ 32
-  pub each : (i : ℕ) → i < 32 → slice_get slots i ≡ Some (first_held (named_at entries i))
+  pub each : (i : ℕ) → i < 32 → slice_get slots i ≡ Some (fresh_cap (named_at entries i))
 
 pub record HasNamedWords (entries : List WordEntry) (words : List ℕ) : Type 0 where
   pub count : length words ≡ 512
@@ -116,7 +113,7 @@ first_frame owner held =
 abbrev pub IsRootFrame : ProcessEntry → Frame → Type 0
 IsRootFrame p f = (state : State) × (space : Capability) × (p.state ≡ Some state) × (p.space ≡ Some space)
     × (f ≡ first_frame p.owner (content.Root
-    (record { state = state; words = p.words; key = p.key; annex = p.annex; space = first_held space })))
+    (record { state = state; words = p.words; key = p.key; annex = p.annex; space = fresh_cap space })))
 
 abbrev pub IsAnnexFrame : ProcessEntry → Frame → Type 0
 IsAnnexFrame p f = (slots : List Cap) × HoldsNamed p.registers.items slots × (f ≡ first_frame p.owner (content.Annex slots))

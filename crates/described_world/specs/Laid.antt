@@ -12,6 +12,7 @@ use Rattle.model.specs.declared.object.State.TheVariants.{Available}
 use Rattle.model.specs.Frame.{frames_in, void_held}
 use Rattle.model.specs.Keepable.{AreKeptWords}
 use Rattle.model.specs.Sound.{object_count}
+use Rattle.capability.specs.Plain.{fresh_cap}
 use Rattle.description.specs.declared.entry.BankEntry.{BankEntry}
 use Rattle.description.specs.declared.entry.Description.{Description}
 use Rattle.description.specs.declared.entry.NodeEntry.{NodeEntry}
@@ -19,7 +20,7 @@ use Rattle.description.specs.declared.entry.PageEntry.{PageEntry}
 use Rattle.description.specs.declared.entry.ProcessEntry.{ProcessEntry}
 use Rattle.description.specs.declared.entry.SlotEntry.{SlotEntry}
 use Rattle.description.specs.declared.entry.WordEntry.{WordEntry}
-use Rattle.described_world.specs.Described.{first_frame, first_held}
+use Rattle.described_world.specs.Described.{first_frame}
 use Rattle.described_world.specs.declared.world.World.{World}
 
 -- an object that is named
@@ -49,7 +50,7 @@ set_each index value (e ∷ es) xs = set_each index value es (slice_set xs (inde
 
 -- slots and words with those that are named, over void ones and zeros
 abbrev pub slot_held : SlotEntry → Cap
-slot_held s = first_held (unwrap_or s.capability Void)
+slot_held s = fresh_cap (unwrap_or s.capability Void)
 
 unfoldable pub slots_of : List SlotEntry → List Cap
 slots_of slots = set_each (λ s. s.index) slot_held slots (replicate 32 void_held)
@@ -63,7 +64,7 @@ root_of p = content.Root (record {
   words = p.words;
   key = p.key;
   annex = p.annex;
-  space = first_held (unwrap_or p.space Void);
+  space = fresh_cap (unwrap_or p.space Void);
 })
 
 -- the frame of an object

@@ -2,7 +2,7 @@
 ghost use Rattle.std.specs.Prelude.{◌≡◌, ◌<◌, ◌^◌, length, map, vec_len, IfOk, OnOk};
 ghost use Rattle.std.specs.List.{All};
 ghost use Rattle.model.specs.Keepable.{AreKeptWords};
-ghost use Rattle.described_world.specs.Described.{first_held};
+ghost use Rattle.capability.specs.Plain.{fresh_cap};
 ghost use Rattle.described_world.specs.Laid.{slot_held, slots_of, words_of, root_of, IsLaid};
 ghost use Rattle.described_world.specs.Laid.{Entry, OfBank, OfRoot, OfAnnex, OfNode, OfPage};
 
@@ -13,7 +13,7 @@ use std::alloc::{AllocError, Global};
 
 // A capability as it is held first.
 fn first_held(what: Capability) -> Cap
-    ensures { result ≡ first_held what }
+    ensures { result ≡ fresh_cap what }
 {
     Cap { what, count: 0 }
 }

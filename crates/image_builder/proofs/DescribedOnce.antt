@@ -13,13 +13,14 @@ use Rattle.model.specs.declared.frame.Frame.{Frame}
 use Rattle.model.specs.declared.object.Content.TheVariants as content
 use Rattle.model.specs.declared.object.State.{State}
 use Rattle.model.specs.Frame.{blank_frame, frame_at, void_held}
+use Rattle.capability.specs.Plain.{fresh_cap}
 use Rattle.description.specs.declared.entry.Description.{Description}
 use Rattle.description.specs.declared.entry.NodeEntry.{NodeEntry}
 use Rattle.description.specs.declared.entry.PageEntry.{PageEntry}
 use Rattle.description.specs.declared.entry.ProcessEntry.{ProcessEntry}
 use Rattle.description.specs.declared.entry.SlotEntry.{SlotEntry}
 use Rattle.description.specs.declared.entry.WordEntry.{WordEntry}
-use Rattle.described_world.specs.Described.{HasNamedWords, HoldsNamed, IsAnnexFrame, IsDescribed, IsNodeFrame, IsPageFrame, IsRootFrame, first_frame, first_held, named_at, node_numbers, page_numbers, word_named_at}
+use Rattle.described_world.specs.Described.{HasNamedWords, HoldsNamed, IsAnnexFrame, IsDescribed, IsNodeFrame, IsPageFrame, IsRootFrame, first_frame, named_at, node_numbers, page_numbers, word_named_at}
 
 -- a number is in a list or it isn't
 in_or_out : (ns : List ℕ) (n : ℕ) → Contains ns n ⊎ (Contains ns n → ⊥)
@@ -36,8 +37,8 @@ slots_once : (entries : List SlotEntry) (xs ys : List Cap) → HoldsNamed entrie
 slots_once entries xs ys one other = ext_get_or void_held xs ys (one.count ∙ sym other.count)
     (λ i inside.
     let known : i < 32 = omega (arith, inside, one.count) in
-    get_or_from_slice_get xs i (first_held (named_at entries i)) void_held (one.each i known)
-    ∙ sym (get_or_from_slice_get ys i (first_held (named_at entries i)) void_held (other.each i known)))
+    get_or_from_slice_get xs i (fresh_cap (named_at entries i)) void_held (one.each i known)
+    ∙ sym (get_or_from_slice_get ys i (fresh_cap (named_at entries i)) void_held (other.each i known)))
 
 words_once : (entries : List WordEntry) (xs ys : List ℕ) → HasNamedWords entries xs → HasNamedWords entries ys → xs ≡ ys
 words_once entries xs ys one other = ext_get_or 0 xs ys (one.count ∙ sym other.count)
@@ -51,8 +52,8 @@ root_once p f g one other =
     let state : one.0 ≡ other.0 = ap (λ (o : Option State). unwrap_or o one.0) (sym one.2 ∙ other.2) in
     let space : one.1 ≡ other.1 = ap (λ (o : Option Capability). unwrap_or o one.1) (sym one.3 ∙ other.3) in
     one.4
-    ∙ ap (λ (s : State). first_frame p.owner (content.Root (record { state = s; words = p.words; key = p.key; annex = p.annex; space = first_held one.1 }))) state
-    ∙ ap (λ (c : Capability). first_frame p.owner (content.Root (record { state = other.0; words = p.words; key = p.key; annex = p.annex; space = first_held c }))) space
+    ∙ ap (λ (s : State). first_frame p.owner (content.Root (record { state = s; words = p.words; key = p.key; annex = p.annex; space = fresh_cap one.1 }))) state
+    ∙ ap (λ (c : Capability). first_frame p.owner (content.Root (record { state = other.0; words = p.words; key = p.key; annex = p.annex; space = fresh_cap c }))) space
     ∙ sym other.4
 
 annex_once : (p : ProcessEntry) (f g : Frame) → IsAnnexFrame p f → IsAnnexFrame p g → f ≡ g

@@ -1,4 +1,4 @@
-use Rattle.std.specs.Prelude.{◌≡◌, ℕ, ◌==◌, Bool, true, false, if◌then◌else◌, List, [], ◌∷◌, ◌++◌}
+use Rattle.std.specs.Prelude.{◌≡◌, ℕ, ◌==◌, if◌then◌else◌, List, [], ◌∷◌, ◌++◌}
 use Rattle.std.specs.List.{flat_map}
 use Rattle.model.specs.declared.answer.Answer.{Answer}
 use Rattle.model.specs.declared.command.Command.{Command}
@@ -22,12 +22,6 @@ pub record Turn : Type 0 where
   pub reply : Reply
   pub after : Machine
 
--- what a line says to a program that knows only some commands: any other is bad
-abbrev pub understood : (Command → Bool) → Line → Line
-understood knows line.Skip = line.Skip
-understood knows line.Bad = line.Bad
-understood knows (line.Command c) = if knows c then line.Command c else line.Bad
-
 -- a skipped or bad line is no step of the machine
 abbrev pub Replies : Geometry → Line → Machine → Reply → Machine → Type 0
 Replies g line.Skip before reply after = (reply ≡ Nothing) × (after ≡ before)
@@ -35,13 +29,13 @@ Replies g line.Bad before reply after = (reply ≡ BadLine) × (after ≡ before
 Replies g (line.Command c) before reply after = (a : Answer) × (reply ≡ Told a) × Step g before c a after
 
 -- the turn answers what its line says
-abbrev pub IsTurn : Geometry → (Command → Bool) → Turn → Type 0
-IsTurn g knows t = (l : Line) × Says t.line l × Replies g (understood knows l) t.before t.reply t.after
+abbrev pub IsTurn : Geometry → Turn → Type 0
+IsTurn g t = (l : Line) × Says t.line l × Replies g l t.before t.reply t.after
 
 -- a run: each turn begins where the one before it ended
-abbrev pub IsRun : Geometry → (Command → Bool) → Machine → List Turn → Machine → Type 0
-IsRun g knows m [] last = last ≡ m
-IsRun g knows m (t ∷ ts) last = (t.before ≡ m) × IsTurn g knows t × IsRun g knows t.after ts last
+abbrev pub IsRun : Geometry → Machine → List Turn → Machine → Type 0
+IsRun g m [] last = last ≡ m
+IsRun g m (t ∷ ts) last = (t.before ≡ m) × IsTurn g t × IsRun g t.after ts last
 
 abbrev pub reply_text : Reply → List ℕ
 reply_text Nothing = []

@@ -57,7 +57,7 @@ RunsScript =
     let turns : List Turn = i0_turn (replicate 257 97) BadLine ∷ i0_turn (codes "show 01") BadLine
     ∷ i0_turn (codes "show 5") (Told (shown i0.objects 5)) ∷ [] in
     (lines_of (replicate 257 97 ++ 10 ∷ codes "show 01" ++ 10 ∷ codes "show 5") ≡ map (λ t. t.line) turns)
-    × IsRun small (λ c. true) (Up (at_world i0)) turns (Up (at_world i0))
+    × IsRun small (Up (at_world i0)) turns (Up (at_world i0))
     × (output_of turns ≡ flat_map line_of (codes "bad line" ∷ codes "bad line" ∷ codes "free 5" ∷ codes "end" ∷ []))
 
 -- what is written for each refusal

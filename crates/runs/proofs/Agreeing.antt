@@ -10,11 +10,11 @@ use Rattle.model.specs.declared.geometry.Geometry.{Geometry}
 use Rattle.model.specs.declared.line.Line.{Line}
 use Rattle.model.specs.declared.line.Line.TheVariants as line
 use Rattle.model.specs.Machine.{Machine, Running, Up}
-use Rattle.model.specs.Run.{Reply, Told, Turn, IsRun, Replies, understood, reply_text, output_of}
+use Rattle.model.specs.Run.{Reply, Told, Turn, IsRun, Replies, reply_text, output_of}
 use Rattle.model.specs.Step.{Answers, Outcome, Step, carried_out, refusal_of}
 use Rattle.model.specs.Text.{Says}
 use Rattle.model_laws.proofs.Spelling.{says_one}
-use Rattle.runs.specs.KernelRuns.{knows_all, lines_in}
+use Rattle.runs.specs.KernelRuns.{lines_in}
 use Rattle.runs.specs.Laws.{SteadyRunsAgree, is_steady}
 
 -- two answers of a machine that is up, which stays up
@@ -47,7 +47,7 @@ record AgreeOn (p q : Reply) (a b : Machine) : Type 0 where
   first : a ≡ Up then_up
   second : b ≡ Up then_up
 
-replies_agree : (g : Geometry) (s : Running) (l : Line) (p q : Reply) (a b : Machine) → Replies g (understood knows_all l) (Up s) p a → Replies g (understood knows_all l) (Up s) q b →
+replies_agree : (g : Geometry) (s : Running) (l : Line) (p q : Reply) (a b : Machine) → Replies g l (Up s) p a → Replies g l (Up s) q b →
     is_steady p ≡ true → is_steady q ≡ true → AgreeOn p q a b
 replies_agree g s line.Skip p q a b x y steady_p steady_q = record { then_up = s; replies = x.0 ∙ sym y.0; first = x.1; second = y.1 }
 replies_agree g s line.Bad p q a b x y steady_p steady_q = record { then_up = s; replies = x.0 ∙ sym y.0; first = x.1; second = y.1 }
@@ -72,10 +72,10 @@ runs_agree g s (t ∷ ts) (u ∷ us) a b run_a run_b same steady_a steady_b =
     let turn_t = run_a.1 in
     let turn_u = run_b.1 in
     let one : turn_u.0 ≡ turn_t.0 = says_one u.line turn_u.0 turn_t.0 turn_u.1 (subst (λ (text : List ℕ). Says text turn_t.0) heads.0 turn_t.1) in
-    let first : Replies g (understood knows_all turn_t.0) (Up s) t.reply t.after = subst (λ (m : Machine). Replies g (understood knows_all turn_t.0) m t.reply t.after) run_a.0 turn_t.2 in
-    let second : Replies g (understood knows_all turn_t.0) (Up s) u.reply u.after =
-    subst (λ (l : Line). Replies g (understood knows_all l) (Up s) u.reply u.after) one (subst (λ (m : Machine). Replies g (understood knows_all turn_u.0) m u.reply u.after) run_b.0 turn_u.2) in
+    let first : Replies g turn_t.0 (Up s) t.reply t.after = subst (λ (m : Machine). Replies g turn_t.0 m t.reply t.after) run_a.0 turn_t.2 in
+    let second : Replies g turn_t.0 (Up s) u.reply u.after =
+    subst (λ (l : Line). Replies g l (Up s) u.reply u.after) one (subst (λ (m : Machine). Replies g turn_u.0 m u.reply u.after) run_b.0 turn_u.2) in
     let told = replies_agree g s turn_t.0 t.reply u.reply t.after u.after first second steady_a.0 steady_b.0 in
     let rest = runs_agree g told.then_up ts us a b
-    (subst (λ (m : Machine). IsRun g knows_all m ts a) told.first run_a.2) (subst (λ (m : Machine). IsRun g knows_all m us b) told.second run_b.2) heads.1 steady_a.1 steady_b.1 in
+    (subst (λ (m : Machine). IsRun g m ts a) told.first run_a.2) (subst (λ (m : Machine). IsRun g m us b) told.second run_b.2) heads.1 steady_a.1 steady_b.1 in
     (output_cons t ts ∙ ap (λ (r : Reply). reply_text r ++ output_of ts) told.replies ∙ ap (λ (xs : List ℕ). reply_text u.reply ++ xs) rest.0 ∙ sym (output_cons u us), rest.1)

@@ -1,18 +1,17 @@
 -- Turns of a run, one after another, and what they write.
-use Rattle.std.proofs.Common.{◌≡◌, ℕ, Bool, List, [], ◌∷◌, ◌++◌, Option, None, Some, refl, sym, ap, ◌∙◌, append_assoc, append-nil}
+use Rattle.std.proofs.Common.{◌≡◌, ℕ, List, [], ◌∷◌, ◌++◌, Option, None, Some, refl, sym, ap, ◌∙◌, append_assoc, append-nil}
 use Rattle.std.specs.Io.KnownBytes.{Appends}
 use Rattle.std.proofs.lemmas.List.Concat.{flat_map-append}
-use Rattle.model.specs.declared.command.Command.{Command}
 use Rattle.model.specs.declared.geometry.Geometry.{Geometry}
 use Rattle.model.specs.Machine.{Machine}
 use Rattle.model.specs.Run.{Turn, IsTurn, IsRun, reply_text, output_of}
 use Rattle.runs.specs.KernelRuns.{lines_in}
 
 -- one more turn
-pub run_more : (g : Geometry) (knows : Command → Bool) (m : Machine) (ts : List Turn) (mid : Machine) (t : Turn) →
-    IsRun g knows m ts mid → t.before ≡ mid → IsTurn g knows t → IsRun g knows m (ts ++ t ∷ []) t.after
-run_more g knows m [] mid t run begins turn = (begins ∙ run, turn, refl)
-run_more g knows m (u ∷ us) mid t run begins turn = (run.0, run.1, run_more g knows u.after us mid t run.2 begins turn)
+pub run_more : (g : Geometry) (m : Machine) (ts : List Turn) (mid : Machine) (t : Turn) →
+    IsRun g m ts mid → t.before ≡ mid → IsTurn g t → IsRun g m (ts ++ t ∷ []) t.after
+run_more g m [] mid t run begins turn = (begins ∙ run, turn, refl)
+run_more g m (u ∷ us) mid t run begins turn = (run.0, run.1, run_more g u.after us mid t run.2 begins turn)
 
 pub lines_more : (ts : List Turn) (t : Turn) → lines_in (ts ++ t ∷ []) ≡ lines_in ts ++ t.line ∷ []
 lines_more [] t = refl

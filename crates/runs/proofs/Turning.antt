@@ -12,7 +12,7 @@ use Rattle.model.specs.declared.geometry.Geometry.{Geometry}
 use Rattle.model.specs.declared.line.Line.{Line}
 use Rattle.model.specs.declared.line.Line.TheVariants as line
 use Rattle.model.specs.Machine.{Machine, Running, Saved, Up, Down, candidates}
-use Rattle.model.specs.Run.{Reply, Nothing, BadLine, Told, Turn, IsRun, Replies, lines_of, understood, reply_text, output_of}
+use Rattle.model.specs.Run.{Reply, Nothing, BadLine, Told, Turn, IsRun, Replies, lines_of, reply_text, output_of}
 use Rattle.model.specs.Step.{second}
 use Rattle.model.specs.Text.{Says, bad_line}
 use Rattle.device.specs.Disk.{Image, Disk}
@@ -29,7 +29,7 @@ use Rattle.script.specs.declared.fault.RunFault.TheVariants as fault
 use Rattle.script.specs.declared.lines.LineBuffer.{LineBuffer}
 use Rattle.script.specs.Lines.{Holds}
 use Rattle.script.specs.Writing.{AppendsFront, Writes}
-use Rattle.runs.specs.KernelRuns.{AreLines, AreTold, Does, IsCutShort, IsLeftIn, IsRunOf, IsSecondOf, RunsOver, fault_count, knows_all, lines_in, tells_fault}
+use Rattle.runs.specs.KernelRuns.{AreLines, AreTold, Does, IsCutShort, IsLeftIn, IsRunOf, IsSecondOf, RunsOver, fault_count, lines_in, tells_fault}
 use Rattle.runs.specs.Taking.{Ended, SoFar, Stopped, TakesTurn}
 use Rattle.runs.proofs.ScriptLines.{byte_more, line_more, lines_first, lines_whole, lines_with_rest, no_lines}
 use Rattle.runs.proofs.TurnLists.{appends_more, appends_none, lines_more, output_more, run_more}
@@ -50,7 +50,7 @@ module _ (g : Geometry) (size : ℕ) (c : Image) where
   more_left m (u ∷ us) t (inr (inr there)) = inr (inr (more_left u.after us t there))
 
   -- and so is what its last turn allows
-  last_left : (m mid : Machine) (ts : List Turn) (t : Turn) → IsRun g knows_all m ts mid → t.before ≡ mid → DenotesOne g size (candidates mid) c ⊎ IsSecondOf g size t.line t.before c →
+  last_left : (m mid : Machine) (ts : List Turn) (t : Turn) → IsRun g m ts mid → t.before ≡ mid → DenotesOne g size (candidates mid) c ⊎ IsSecondOf g size t.line t.before c →
       IsLeftIn g size m (ts ++ t ∷ []) c
   last_left m mid [] t run begins (inl here) = inl (subst (λ (x : Machine). DenotesOne g size (candidates x) c) run here)
   last_left m mid [] t run begins (inr besides) = inr (inl besides)
@@ -106,7 +106,7 @@ module _ {D S : Type 0} (disk : D → Disk) (view : S → View D) (parts : S →
 
   -- a line that is no command
   no_command : (g : Geometry) (m : Machine) (says : Line) (p : Power D S) (written wrote : Option (List ℕ)) (result : Result (Unit {0}) RunFault) (reply : Reply) →
-      Stands disk view parts g p m → Replies g (understood knows_all says) m reply m → tells_fault reply ≡ false → Writes written wrote result (reply_text reply) →
+      Stands disk view parts g p m → Replies g says m reply m → tells_fault reply ≡ false → Writes written wrote result (reply_text reply) →
       TakesTurn disk view parts g m says p p written wrote result
   no_command g m says p written wrote result reply stands replies fine writes =
       let d = disk_of disk view parts p in
@@ -210,7 +210,7 @@ module _ {D S : Type 0} (disk : D → Disk) (view : S → View D) (parts : S →
     more_run : IsRunOf disk view parts g m old new turns_on
     more_run = record {
       after = turn.after;
-      run = run_more g knows_all m so_far.turns so_far.run.after turn_of so_far.run.run refl (says, said so_far.rest so_far.held, turn.replies);
+      run = run_more g m so_far.turns so_far.run.after turn_of so_far.run.run refl (says, said so_far.rest so_far.held, turn.replies);
       stands = turn.stands;
       size = turn.size ∙ so_far.run.size;
       any_moment = leaves_on {old = disk_of disk view parts old} {mid = disk_of disk view parts mid} {new = disk_of disk view parts new} {P = IsLeftIn g size m turns_on} first_moments last_moments;

@@ -22,10 +22,6 @@ use Rattle.script.specs.declared.fault.RunFault.{RunFault}
 use Rattle.script.specs.declared.fault.RunFault.TheVariants as fault
 use Rattle.script.specs.Lines.{IsOneLine}
 
--- a kernel knows every command
-abbrev pub knows_all : Command → Bool
-knows_all c = true
-
 -- whether a line was answered `fault`
 abbrev pub tells_fault : Reply → Bool
 tells_fault (Told (answer.Refused refusal.Fault)) = true
@@ -90,7 +86,7 @@ module _ {D S : Type 0} (disk : D → Disk) (view : S → View D) (parts : S →
   -- moment in its course leaves what the run allows
   pub record IsRunOf (g : Geometry) (m : Machine) (old new : Power D S) (turns : List Turn) : Type 0 where
     pub after : Machine
-    pub run : IsRun g knows_all m turns after
+    pub run : IsRun g m turns after
     pub stands : Stands disk view parts g new after
     pub size : (disk_of disk view parts new).sectors ≡ (disk_of disk view parts old).sectors
     pub any_moment : LeavesOnly (disk_of disk view parts old) (disk_of disk view parts new) (IsLeftIn g (disk_of disk view parts old).sectors m turns)

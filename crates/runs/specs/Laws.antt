@@ -5,7 +5,7 @@ use Rattle.model.specs.declared.answer.Refusal.TheVariants as refusal
 use Rattle.model.specs.declared.geometry.Geometry.{Geometry}
 use Rattle.model.specs.Machine.{Machine, Running, Up}
 use Rattle.model.specs.Run.{Reply, Told, Turn, IsRun, output_of}
-use Rattle.runs.specs.KernelRuns.{knows_all, lines_in}
+use Rattle.runs.specs.KernelRuns.{lines_in}
 
 -- neither memory ran out nor the device failed
 abbrev pub is_steady : Reply → Bool
@@ -19,5 +19,5 @@ AreSteady (t ∷ ts) = (is_steady t.reply ≡ true) × AreSteady ts
 
 -- two such runs of a machine that is up on the same lines write the same and end at the same machine
 abbrev pub SteadyRunsAgree : Type 0
-SteadyRunsAgree = (g : Geometry) (s : Running) (ts us : List Turn) (a b : Machine) → IsRun g knows_all (Up s) ts a → IsRun g knows_all (Up s) us b → lines_in ts ≡ lines_in us →
+SteadyRunsAgree = (g : Geometry) (s : Running) (ts us : List Turn) (a b : Machine) → IsRun g (Up s) ts a → IsRun g (Up s) us b → lines_in ts ≡ lines_in us →
     AreSteady ts → AreSteady us → (output_of ts ≡ output_of us) × (a ≡ b)

@@ -6,7 +6,7 @@ use Rattle.model.specs.declared.geometry.Geometry.{Geometry}
 use Rattle.model.specs.declared.line.Line.{Line}
 use Rattle.model.specs.declared.line.Line.TheVariants as line
 use Rattle.model.specs.Machine.{Machine, candidates}
-use Rattle.model.specs.Run.{Reply, Turn, Replies, understood, lines_of, reply_text, output_of}
+use Rattle.model.specs.Run.{Reply, Turn, Replies, lines_of, reply_text, output_of}
 use Rattle.model.specs.Step.{second}
 use Rattle.device.specs.Disk.{Disk}
 use Rattle.device.specs.Moments.{LeavesOnly}
@@ -22,7 +22,7 @@ use Rattle.script.specs.Lines.{Holds}
 use Rattle.script.specs.Writing.{Writes}
 use Rattle.runs.specs.declared.running.Piece.{Piece}
 use Rattle.runs.specs.declared.running.Piece.TheVariants as piece
-use Rattle.runs.specs.KernelRuns.{AreLines, AreTold, IsCutShort, IsRunOf, knows_all, lines_in, tells_fault}
+use Rattle.runs.specs.KernelRuns.{AreLines, AreTold, IsCutShort, IsRunOf, lines_in, tells_fault}
 
 -- bytes were read, or none
 abbrev pub ReadsPiece : Option (List ℕ) → Option (List ℕ) → List ℕ → Result Piece RunFault → Type 0
@@ -37,7 +37,7 @@ module _ {D S : Type 0} (disk : D → Disk) (view : S → View D) (parts : S →
   pub record TakesTurn (g : Geometry) (m : Machine) (says : Line) (old new : Power D S) (written wrote : Option (List ℕ)) (result : Result (Unit {0}) RunFault) : Type 0 where
     pub reply : Reply
     pub after : Machine
-    pub replies : Replies g (understood knows_all says) m reply after
+    pub replies : Replies g says m reply after
     pub stands : Stands disk view parts g new after
     pub size : (disk_of disk view parts new).sectors ≡ (disk_of disk view parts old).sectors
     pub any_moment : LeavesOnly (disk_of disk view parts old) (disk_of disk view parts new) (λ c. DenotesOne g (disk_of disk view parts old).sectors (candidates m) c
