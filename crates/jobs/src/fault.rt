@@ -2,7 +2,7 @@
 ghost use Rattle.std.specs.Prelude.{◌≡◌, ◌≤◌, length};
 ghost use Rattle.model.specs.Text.{line_of};
 ghost use Rattle.script.specs.Writing.{Writes};
-ghost use Rattle.jobs.specs.Faults.{build_text, IsTold, build_text, fault_text, open_text, reason_number, run_fault, status_of};
+ghost use Rattle.jobs.specs.Faults.{IsTold, build_text, fault_text, open_text, reason_number, run_fault, status_of};
 
 use image_builder::BuildFault;
 use layout::BadImage;

@@ -24,7 +24,7 @@ use Rattle.kernel.specs.declared.power.Power.{Power}
 use Rattle.kernel.specs.declared.power.Power.TheVariants as power
 use Rattle.kernel.specs.Denotes.{saved_of, DenotesOne, Leaves, LeavesOne}
 use Rattle.kernel.specs.Opening.{IsNoReason, IsSomeDown, Opens, RefusesToOpen, ReopensAs, Reopened, Wakes, refused_by}
-use Rattle.kernel.specs.Standing.{Asks, HasDevice, IsCaused, IsDeviceOf, IsSomeMachine, IsSomeUp, IsUp, Serves, ServesFrom, Stands, disk_of, running}
+use Rattle.kernel.specs.Standing.{Asks, GoesDown, HasDevice, IsCaused, IsDeviceOf, IsSomeMachine, IsSomeUp, IsUp, Serves, ServesFrom, Stands, disk_of, running}
 use Rattle.kernel.proofs.Crashes.{leaves_end, leaves_here, among}
 use Rattle.kernel.proofs.Denoted.{one_denoted, one_not_bad}
 
@@ -171,7 +171,7 @@ module _ {D S : Type 0} (disk : D → Disk) (view : S → View D) (parts : S →
   stays power.Between q c a other fine asks g m stands = absurd asks
 
   -- the device failed
-  pub goes_down : (p q : Power D S) (c : Command) (a : Answer) (d : D) → a ≡ answer.Refused refusal.Fault → Asks disk view parts p c a q → IsDeviceOf disk view parts q d → Serves disk view parts p c a (power.Down d)
+  goes_down : (p q : Power D S) (c : Command) (a : Answer) (d : D) → a ≡ answer.Refused refusal.Fault → Asks disk view parts p c a q → IsDeviceOf disk view parts q d → Serves disk view parts p c a (power.Down d)
   goes_down (power.Up l) (power.Up k) c a d told asks is g (Up r) stands =
       let s = asks.0 g stands.0 in
       let ss : List Saved = candidates (Up (running disk view parts l)) ++ second (Up (running disk view parts l)) c in
@@ -209,6 +209,17 @@ module _ {D S : Type 0} (disk : D → Disk) (view : S → View D) (parts : S →
   disk_beneath (power.Up l) d is old a caused = subst (λ (x : D). IsCaused old (disk x) a) (sym is) caused
   disk_beneath (power.Down e) d is old a caused = subst (λ (x : D). IsCaused old (disk x) a) (sym is) caused
   disk_beneath power.Between d is old a caused = absurd is
+
+  -- so it is with a kernel that went down
+  pub goes_down_after : (p q r : Power D S) (c : Command) (a : Answer) → a ≡ answer.Refused refusal.Fault → Asks disk view parts p c a q → GoesDown disk view parts q r → Serves disk view parts p c a r
+  goes_down_after p q (power.Down d) c a told asks is = goes_down p q c a d told asks is
+  goes_down_after p q (power.Up l) c a told asks is = absurd is
+  goes_down_after p q power.Between c a told asks is = absurd is
+
+  pub down_cause : (p q r : Power D S) (c : Command) (a : Answer) → Asks disk view parts p c a q → GoesDown disk view parts q r → IsCaused (disk_of disk view parts p) (disk_of disk view parts r) a
+  down_cause p q (power.Down d) c a asks is = disk_beneath q d is (disk_of disk view parts p) a (asked_cause p q c a asks)
+  down_cause p q (power.Up l) c a asks is = absurd is
+  down_cause p q power.Between c a asks is = absurd is
 
   -- ---- opened, and opened again
 

@@ -128,6 +128,11 @@ module _ {D S : Type 0} (disk : D → Disk) (view : S → View D) (parts : S →
   HasDevice power.Between = ⊥
   HasDevice _ = Unit {0}
 
+  -- it goes down with the device beneath it
+  abbrev pub GoesDown : Power D S → Power D S → Type 0
+  GoesDown old (power.Down d) = IsDeviceOf old d
+  GoesDown old _ = ⊥
+
   -- a store that is up was asked, or the machine is down
   abbrev pub Asks : Power D S → Command → Answer → Power D S → Type 0
   Asks (power.Up l) c a (power.Up k) = ServesUp l c a k × IsCaused (disk_at l) (disk_at k) a

@@ -9,6 +9,7 @@ use object_cache::ObjectStore;
 
 /// Asks that an object leave memory. It is refused by `BadNumber` where no object has the number,
 /// and by `Fault` where the device failed. It takes no memory.
+#[inline(never)]
 pub fn evict<D: Device, S: ObjectStore<D>>(live: &mut Live<S>, number: u64) -> Answer
     requires { IsSomeUp D.disk S.view S.parts live.old }
     ensures serves { ServesUp D.disk S.view S.parts live.old (command.Evict number) result live.new }

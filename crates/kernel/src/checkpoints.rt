@@ -11,6 +11,7 @@ use object_cache::ObjectStore;
 ///
 /// It is refused by the first that applies of `Worn` at the greatest age, `CheckpointRunning` where
 /// one is on its way, and `MigrationPending` where the last one isn't home.
+#[inline(never)]
 pub fn checkpoint<D: Device, S: ObjectStore<D>>(live: &mut Live<S>) -> Answer
     requires { IsSomeUp D.disk S.view S.parts live.old }
     ensures serves { ServesUp D.disk S.view S.parts live.old command.Checkpoint result live.new }
@@ -34,6 +35,7 @@ pub fn checkpoint<D: Device, S: ObjectStore<D>>(live: &mut Live<S>) -> Answer
 
 /// Writes so many frozen objects to the log. It is refused by `NoCheckpoint` where none is on its
 /// way, and by `Fault` where the device failed.
+#[inline(never)]
 pub fn stabilize<D: Device, S: ObjectStore<D>>(live: &mut Live<S>, count: u64) -> Answer
     requires { IsSomeUp D.disk S.view S.parts live.old }
     ensures serves { ServesUp D.disk S.view S.parts live.old (command.Stabilize count) result live.new }
@@ -52,6 +54,7 @@ pub fn stabilize<D: Device, S: ObjectStore<D>>(live: &mut Live<S>, count: u64) -
 /// Makes the frozen objects the saved ones. It is refused by `NoCheckpoint` where none is on its
 /// way, by `NotStable` while some of it isn't in the log, and by `Fault` where the device failed:
 /// then what is saved is either of the two.
+#[inline(never)]
 pub fn commit<D: Device, S: ObjectStore<D>>(live: &mut Live<S>) -> Answer
     requires { IsSomeUp D.disk S.view S.parts live.old }
     ensures serves { ServesUp D.disk S.view S.parts live.old command.Commit result live.new }
@@ -71,6 +74,7 @@ pub fn commit<D: Device, S: ObjectStore<D>>(live: &mut Live<S>) -> Answer
 }
 
 /// Copies so many saved objects home. It is refused by `Fault` where the device failed.
+#[inline(never)]
 pub fn migrate<D: Device, S: ObjectStore<D>>(live: &mut Live<S>, count: u64) -> Answer
     requires { IsSomeUp D.disk S.view S.parts live.old }
     ensures serves { ServesUp D.disk S.view S.parts live.old (command.Migrate count) result live.new }

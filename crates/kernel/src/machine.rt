@@ -5,7 +5,7 @@ ghost use Rattle.model.specs.declared.geometry.Geometry.{Geometry};
 ghost use Rattle.model.specs.Machine.{Saved};
 ghost use Rattle.model.specs.Step.{opens};
 ghost use Rattle.kernel.specs.Denotes.{Leaves};
-ghost use Rattle.kernel.specs.Standing.{Asks, IsCaused, IsDeviceOf, IsSomeMachine, IsSomeUp, IsTold, Serves, ServesUp, disk_at, disk_of};
+ghost use Rattle.kernel.specs.Standing.{Asks, GoesDown, HasDevice, IsCaused, IsDeviceOf, IsSomeMachine, IsSomeUp, IsTold, Serves, ServesUp, disk_at, disk_of};
 ghost use Rattle.kernel.specs.Opening.{IsNoReason, IsSomeDown, Opens, RefusesToOpen, Reopened, refused_by};
 
 use crate::power::{Live, Power};
@@ -106,6 +106,16 @@ impl<D: Device, S: ObjectStore<D>> Machine<D, S> {
         }
     }
 
+    // Goes down after a failure of the device.
+    #[inline(never)]
+    fn go_down(&mut self)
+        requires { HasDevice D.disk S.view S.parts self.old.power }
+        ensures { GoesDown D.disk S.view S.parts self.old.power self.new.power }
+    {
+        let device = device_of::<D, S>(mem::replace(&mut self.power, Power::Between));
+        self.power = Power::Down(device);
+    }
+
     // Serves a command that doesn't open the device. After a failure the machine is down.
     fn go_on(&mut self, alloc: Global, command: Command) -> Answer
         requires some { IsSomeMachine D.disk S.view S.parts self.old.power }
@@ -116,8 +126,7 @@ impl<D: Device, S: ObjectStore<D>> Machine<D, S> {
     {
         let answer = self.ask(alloc, command);
         if is_fault(&answer) {
-            let device = device_of::<D, S>(mem::replace(&mut self.power, Power::Between));
-            self.power = Power::Down(device);
+            self.go_down();
         }
         answer
     }
@@ -147,6 +156,7 @@ impl<D: Device, S: ObjectStore<D>> Machine<D, S> {
     }
 
     // Opens the device again.
+    #[inline(never)]
     fn restart(&mut self, alloc: Global) -> Answer
         requires { IsSomeMachine D.disk S.view S.parts self.old.power }
         ensures serves { Serves D.disk S.view S.parts self.old.power command.Restart result self.new.power }
@@ -158,6 +168,7 @@ impl<D: Device, S: ObjectStore<D>> Machine<D, S> {
     }
 
     // Cuts the power, and opens the device again.
+    #[inline(never)]
     fn cut(&mut self, alloc: Global) -> Answer
         requires { IsSomeMachine D.disk S.view S.parts self.old.power }
         ensures serves { Serves D.disk S.view S.parts self.old.power command.Cut result self.new.power }

@@ -64,6 +64,7 @@ pub fn store<D: Device, S: ObjectStore<D>>(
 }
 
 /// Tells of an object.
+#[inline(never)]
 pub fn show<D: Device, S: ObjectStore<D>>(alloc: Global, live: &mut Live<S>, number: u64) -> Answer
     requires { IsSomeUp D.disk S.view S.parts live.old }
     ensures serves { ServesUp D.disk S.view S.parts live.old (command.Show number) result live.new }

@@ -1,9 +1,10 @@
 -- The lines of a text that is read piece by piece.
-use Rattle.std.proofs.Common.{◌≡◌, ◌≢◌, ◌<◌, ◌≤◌, ◌+◌, zero, suc, ◌==◌, false, ℕ, List, [], ◌∷◌, ◌++◌, length, take, drop, refl, sym, ap, ◌∙◌, subst, append_assoc, append-nil, arith}
+use Rattle.std.proofs.Common.{◌≡◌, ◌≢◌, ◌<◌, ◌+◌, ◌-◌, zero, suc, ◌==◌, false, ℕ, List, [], ◌∷◌, ◌++◌, length, take, drop, refl, sym, ap, ◌∙◌, append_assoc, append-nil, arith}
 use Rattle.std.specs.Prelude.{slice_index_or}
 use Rattle.std.proofs.lemmas.Bool.Decides.{nat_tests}
+use Rattle.std.proofs.lemmas.List.{length-drop, take_all}
 use Rattle.std.proofs.lemmas.List.Concat.{flat_map-append}
-use Rattle.std.proofs.lemmas.List.Elements.{All-append, All-cons, All-head, All-nil, All-push, All-tail}
+use Rattle.std.proofs.lemmas.List.Elements.{All-append, All-cons, All-head, All-nil, All-tail}
 use Rattle.std.specs.List.{All, flat_map}
 use Rattle.model.specs.Run.{lines_of}
 use Rattle.model.specs.Text.{line_of}
@@ -37,13 +38,13 @@ lines_before (l ∷ ls) more each =
 pub no_lines : AreLines [] [] []
 no_lines = record { whole = refl; each = All-nil IsOneLine; none = All-nil (λ b. b ≢ 10) }
 
--- another byte that is no newline
-pub byte_more : (text : List ℕ) (lines : List (List ℕ)) (rest : List ℕ) (byte : ℕ) → AreLines text lines rest → byte ≢ 10 →
-    AreLines (text ++ byte ∷ []) lines (rest ++ byte ∷ [])
-byte_more text lines rest byte are other = record {
-  whole = ap (λ (l : List ℕ). l ++ byte ∷ []) are.whole ∙ append_assoc (flat_map line_of lines) rest (byte ∷ []);
+-- more bytes without a newline
+pub bytes_more : (text : List ℕ) (lines : List (List ℕ)) (rest bytes : List ℕ) → AreLines text lines rest → IsOneLine bytes →
+    AreLines (text ++ bytes) lines (rest ++ bytes)
+bytes_more text lines rest bytes are more = record {
+  whole = ap (λ (l : List ℕ). l ++ bytes) are.whole ∙ append_assoc (flat_map line_of lines) rest bytes;
   each = are.each;
-  none = All-push (λ (b : ℕ). b ≢ 10) rest byte are.none other;
+  none = All-append (λ (b : ℕ). b ≢ 10) rest bytes are.none more;
 }
 
 -- and a newline
@@ -69,22 +70,22 @@ lines_with_rest text lines rest are some =
 
 -- ---- a piece of a text
 
--- its first bytes, and one more
-pub one_more : (xs : List ℕ) (i b : ℕ) → i < length xs → slice_index_or xs i 0 ≡ b → take (i + 1) xs ≡ take i xs ++ b ∷ []
-one_more [] i b within is = absurd (omega (arith, within))
-one_more (x ∷ xs) zero b within is = ap (λ (y : ℕ). y ∷ []) is
-one_more (x ∷ xs) (suc i) b within is =
-    let next : suc (i + 1) ≡ suc i + 1 = omega arith in
-    subst (λ (n : ℕ). take n (x ∷ xs) ≡ take (suc i) (x ∷ xs) ++ b ∷ []) next (ap (λ (ys : List ℕ). x ∷ ys) (one_more xs i b (omega (arith, within)) is))
-
--- and all that follow
+-- its first bytes, one more, and all that follow
 pub one_and_more : (xs : List ℕ) (i b : ℕ) → i < length xs → slice_index_or xs i 0 ≡ b → xs ≡ (take i xs ++ b ∷ []) ++ drop (suc i) xs
 one_and_more [] i b within is = absurd (omega (arith, within))
 one_and_more (x ∷ xs) zero b within is = ap (λ (y : ℕ). y ∷ xs) is
 one_and_more (x ∷ xs) (suc i) b within is = ap (λ (ys : List ℕ). x ∷ ys) (one_and_more xs i b (omega (arith, within)) is)
 
-pub all_taken : (xs : List ℕ) (i : ℕ) → length xs ≤ i → take i xs ≡ xs
-all_taken [] zero beyond = refl
-all_taken [] (suc i) beyond = refl
-all_taken (x ∷ xs) zero beyond = absurd (omega (arith, beyond))
-all_taken (x ∷ xs) (suc i) beyond = ap (λ (ys : List ℕ). x ∷ ys) (all_taken xs i (omega (arith, beyond)))
+-- a line is taken off what is left of it
+pub line_taken : (piece read rest : List ℕ) (end : ℕ) → piece ≡ read ++ rest → end < length rest → slice_index_or rest end 0 ≡ 10 →
+    piece ≡ ((read ++ take end rest) ++ 10 ∷ []) ++ drop (suc end) rest
+line_taken piece read rest end is within newline =
+    is ∙ ap (λ (r : List ℕ). read ++ r) (one_and_more rest end 10 within newline)
+    ∙ sym (append_assoc read (take end rest ++ 10 ∷ []) (drop (suc end) rest))
+    ∙ ap (λ (r : List ℕ). r ++ drop (suc end) rest) (sym (append_assoc read (take end rest) (10 ∷ [])))
+
+-- what follows a place, as a slice
+pub rest_of : (xs : List ℕ) (i : ℕ) → take (length xs - (i + 1)) (drop (i + 1) xs) ≡ drop (suc i) xs
+rest_of xs i =
+    let next : i + 1 ≡ suc i = omega arith in
+    take_all (length xs - (i + 1)) (drop (i + 1) xs) (omega (arith, length-drop (i + 1) xs)) ∙ ap (λ (n : ℕ). drop n xs) next

@@ -1,6 +1,6 @@
 -- Turns of a kernel, one after another.
-use Rattle.std.proofs.Common.{◌≡◌, ◌≢◌, ◌⊎◌, ℕ, ◌+◌, ◌<◌, ◌≤◌, Bool, true, false, List, [], ◌∷◌, ◌++◌, Option, None, Some, Ok, Err, refl, sym, ap, ◌∙◌, subst, ⊎_elim, inl, inr, append_assoc, append-nil, arith}
-use Rattle.std.specs.Prelude.{◌↔◌, IsTrue, OnErr, OnOk, Result, if◌then◌else◌}
+use Rattle.std.proofs.Common.{◌≡◌, ◌⊎◌, ℕ, ◌+◌, ◌<◌, ◌≤◌, suc, take, drop, length, Bool, true, false, List, [], ◌∷◌, ◌++◌, Option, None, Some, Ok, Err, refl, sym, ap, ◌∙◌, subst, ⊎_elim, inl, inr, append_assoc, append-nil, arith}
+use Rattle.std.specs.Prelude.{◌↔◌, slice_index_or, IsTrue, OnErr, OnOk, Result, if◌then◌else◌}
 use Rattle.std.proofs.lemmas.Bool.{cases_lt}
 use Rattle.std.proofs.KnownBytes.{Consumes-trans}
 use Rattle.std.specs.Io.KnownBytes.{Appends, Consumes}
@@ -27,11 +27,11 @@ use Rattle.kernel.specs.Standing.{IsCaused, Serves, Stands, disk_of}
 use Rattle.script.specs.declared.fault.RunFault.{RunFault}
 use Rattle.script.specs.declared.fault.RunFault.TheVariants as fault
 use Rattle.script.specs.declared.lines.LineBuffer.{LineBuffer}
-use Rattle.script.specs.Lines.{Holds}
+use Rattle.script.specs.Lines.{Holds, IsOneLine}
 use Rattle.script.specs.Writing.{AppendsFront, Writes}
 use Rattle.runs.specs.KernelRuns.{AreLines, AreTold, Does, IsCutShort, IsLeftIn, IsRunOf, IsSecondOf, RunsOver, fault_count, lines_in, tells_fault}
 use Rattle.runs.specs.Taking.{Ended, SoFar, Stopped, TakesTurn}
-use Rattle.runs.proofs.ScriptLines.{byte_more, line_more, lines_first, lines_whole, lines_with_rest, no_lines}
+use Rattle.runs.proofs.ScriptLines.{bytes_more, line_more, line_taken, lines_first, lines_whole, lines_with_rest, no_lines}
 use Rattle.runs.proofs.TurnLists.{appends_more, appends_none, lines_more, output_more, run_more}
 
 -- ---- what a crash leaves
@@ -168,16 +168,16 @@ module _ {D S : Type 0} (disk : D → Disk) (view : S → View D) (parts : S →
     written = appends_none output;
   }
 
-  -- a byte more of a line
-  pub longer : (g : Geometry) (m : Machine) (old new : Power D S) (text : List ℕ) (line longer : LineBuffer) (output output_left : Option (List ℕ)) (byte : ℕ) →
-      SoFar disk view parts g m old new text line output output_left → byte ≢ 10 → ((l : List ℕ) → Holds line l → Holds longer (l ++ byte ∷ [])) →
-      SoFar disk view parts g m old new (text ++ byte ∷ []) longer output output_left
-  longer g m old new text line buffer output output_left byte so_far other pushed = record {
+  -- more bytes of a line
+  pub longer : (g : Geometry) (m : Machine) (old new : Power D S) (text : List ℕ) (line longer : LineBuffer) (output output_left : Option (List ℕ)) (bytes : List ℕ) →
+      SoFar disk view parts g m old new text line output output_left → IsOneLine bytes → ((l : List ℕ) → Holds line l → Holds longer (l ++ bytes)) →
+      SoFar disk view parts g m old new (text ++ bytes) longer output output_left
+  longer g m old new text line buffer output output_left bytes so_far one extended = record {
     turns = so_far.turns;
-    rest = so_far.rest ++ byte ∷ [];
+    rest = so_far.rest ++ bytes;
     run = so_far.run;
-    lines = byte_more text (lines_in so_far.turns) so_far.rest byte so_far.lines other;
-    held = pushed so_far.rest so_far.held;
+    lines = bytes_more text (lines_in so_far.turns) so_far.rest bytes so_far.lines one;
+    held = extended so_far.rest so_far.held;
     written = so_far.written;
   }
 
@@ -279,11 +279,15 @@ module _ {D S : Type 0} (disk : D → Disk) (view : S → View D) (parts : S →
     pub none_read : Goes [] first begun_line had
     none_read g m start text output so_far = subst (λ (t : List ℕ). SoFar disk view parts g m start first t begun_line output had) (sym (append-nil text)) so_far
 
-    pub goes_longer : (read : List ℕ) (k : Power D S) (line longer_line : LineBuffer) (written : Option (List ℕ)) (byte : ℕ) → Goes read k line written → byte ≢ 10 →
-        ((l : List ℕ) → Holds line l → Holds longer_line (l ++ byte ∷ [])) → Goes (read ++ byte ∷ []) k longer_line written
-    goes_longer read k line longer_line written byte goes other pushed g m start text output so_far =
-        subst (λ (t : List ℕ). SoFar disk view parts g m start k t longer_line output written) (append_assoc text read (byte ∷ []))
-        (longer g m start k (text ++ read) line longer_line output written byte (goes g m start text output so_far) other pushed)
+    pub goes_longer : (read : List ℕ) (k : Power D S) (line longer_line : LineBuffer) (written : Option (List ℕ)) (bytes : List ℕ) → Goes read k line written → IsOneLine bytes →
+        ((l : List ℕ) → Holds line l → Holds longer_line (l ++ bytes)) → Goes (read ++ bytes) k longer_line written
+    goes_longer read k line longer_line written bytes goes one extended g m start text output so_far =
+        subst (λ (t : List ℕ). SoFar disk view parts g m start k t longer_line output written) (append_assoc text read bytes)
+        (longer g m start k (text ++ read) line longer_line output written bytes (goes g m start text output so_far) one extended)
+
+    -- so were the first bytes of a piece, of which these are left
+    abbrev pub GoesTo : List ℕ → List ℕ → Power D S → LineBuffer → Option (List ℕ) → Type 0
+    GoesTo piece rest k line written = (read : List ℕ) × (piece ≡ read ++ rest) × Goes read k line written
 
     module _ (read : List ℕ) (k new : Power D S) (line next : LineBuffer) (written wrote : Option (List ℕ)) (goes : Goes read k line written) (says : Line)
         (said : (l : List ℕ) → Holds line l → Says l says) (empty : Holds next []) where
@@ -304,6 +308,35 @@ module _ {D S : Type 0} (disk : D → Disk) (view : S → View D) (parts : S →
           subst (λ (t : List ℕ). Stopped disk view parts g m start new t output wrote)
           (append_assoc (text ++ read) (10 ∷ []) more ∙ append_assoc text read (10 ∷ more) ∙ ap (λ (t : List ℕ). text ++ t) (sym (append_assoc read (10 ∷ []) more) ∙ sym is))
           (stopped g m start k new (text ++ read) line next output written wrote now says said empty (Err e) taken more taken.writes.1)
+
+    -- what is left of a piece begins with a line, which was taken
+    module _ (piece rest : List ℕ) (k new : Power D S) (line whole_line next : LineBuffer) (written wrote : Option (List ℕ)) (goes : GoesTo piece rest k line written)
+        (end : ℕ) (within : end < length rest) (one : IsOneLine (take end rest)) (newline : slice_index_or rest end 0 ≡ 10)
+        (extended : (l : List ℕ) → Holds line l → Holds whole_line (l ++ take end rest))
+        (says : Line) (said : (l : List ℕ) → Holds whole_line l → Says l says) (empty : Holds next []) where
+      with_line : Goes (goes.0 ++ take end rest) k whole_line written
+      with_line = goes_longer goes.0 k line whole_line written (take end rest) goes.2 one extended
+
+      pub goes_to_next : ((g : Geometry) (m : Machine) → Stands disk view parts g k m → TakesTurn disk view parts g m says k new written wrote (Ok tt)) →
+          GoesTo piece (drop (suc end) rest) new next wrote
+      goes_to_next turn = (
+        (goes.0 ++ take end rest) ++ 10 ∷ [],
+        line_taken piece goes.0 rest end goes.1 within newline,
+        goes_newline (goes.0 ++ take end rest) k new whole_line next written wrote with_line says said empty turn,
+      )
+
+      pub stops_in_piece : (e : RunFault) →
+          ((g : Geometry) (m : Machine) → Stands disk view parts g k m → TakesTurn disk view parts g m says k new written wrote (Err e)) →
+          (g : Geometry) (m : Machine) (start : Power D S) (text : List ℕ) (output : Option (List ℕ)) →
+          SoFar disk view parts g m start first text begun_line output had → Stopped disk view parts g m start new (text ++ piece) output wrote
+      stops_in_piece e = stops_newline (goes.0 ++ take end rest) k new whole_line next written wrote with_line says said empty e (drop (suc end) rest) piece
+          (line_taken piece goes.0 rest end goes.1 within newline)
+
+    -- or it has no newline
+    pub goes_to_end : (piece rest : List ℕ) (k : Power D S) (line longer_line : LineBuffer) (written : Option (List ℕ)) → GoesTo piece rest k line written → IsOneLine rest →
+        ((l : List ℕ) → Holds line l → Holds longer_line (l ++ rest)) → Goes piece k longer_line written
+    goes_to_end piece rest k line longer_line written goes one extended =
+        subst (λ (read : List ℕ). Goes read k longer_line written) (sym goes.1) (goes_longer goes.0 k line longer_line written rest goes.2 one extended)
 
   -- ---- a run
 

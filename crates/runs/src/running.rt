@@ -1,9 +1,10 @@
 // Runs of scripts over a kernel.
-ghost use Rattle.std.specs.Prelude.{◌≡◌, ◌<◌, ◌++◌, ℕ, List, Option, length, OnOk, OnErr, IfErr};
+ghost use Rattle.std.specs.Prelude.{◌≡◌, ◌<◌, ◌++◌, ℕ, List, Option, length, slice_index_or, take, OnOk, OnErr, IfErr, IfNone, IfSome};
 ghost use Rattle.model.specs.declared.geometry.Geometry.{Geometry};
 ghost use Rattle.model.specs.Machine.{Machine};
 ghost use Rattle.kernel.specs.declared.power.Power.{Power};
 ghost use Rattle.kernel.specs.Standing.{Stands};
+ghost use Rattle.script.specs.Lines.{IsOneLine};
 ghost use Rattle.runs.specs.KernelRuns.{RunsOver};
 ghost use Rattle.runs.specs.Taking.{Ended, ReadsPiece, SoFar, Stopped, TakesTurn};
 
@@ -69,6 +70,15 @@ fn take<D: Device, S: ObjectStore<D>, W: Write>(
     }
 }
 
+// Where the first line ends.
+fn end_of_line(bytes: &[u8]) -> Option<usize>
+    ensures some { IfSome result (λ end. (end < length bytes.now)
+        × IsOneLine (take end bytes.now) × (slice_index_or bytes.now end 0 ≡ 10)) }
+    ensures none { IfNone result (IsOneLine bytes.now) }
+{
+    bytes.iter().position(|byte| *byte == b'\n')
+}
+
 // Takes each line that ends in a piece, and keeps the beginning of the next.
 fn take_piece<D: Device, S: ObjectStore<D>, W: Write>(
     alloc: Global,
@@ -85,13 +95,13 @@ fn take_piece<D: Device, S: ObjectStore<D>, W: Write>(
         → Stopped D.disk S.view S.parts g m start kernel.new (text ++ piece.now) output (W.contents writer.new)) }
     ensures fault { IfErr result (λ e. e ≡ RunFault.Write) }
 {
-    for byte in piece {
-        if *byte == b'\n' {
-            take(alloc, kernel, &line.end(), writer)?;
-        } else {
-            line.push(*byte);
-        }
+    let mut rest = piece;
+    while let Some(end) = end_of_line(rest) {
+        line.extend(&rest[..end]);
+        take(alloc, kernel, &line.end(), writer)?;
+        rest = &rest[end + 1..];
     }
+    line.extend(rest);
     Ok(())
 }
 

@@ -1,17 +1,18 @@
-// A line of a script, gathered byte by byte.
-ghost use Rattle.std.specs.Prelude.{◌≡◌, ◌↔◌, List, ℕ, [], ◌∷◌, ◌++◌, IsTrue};
+// A line of a script, gathered piece by piece.
+ghost use Rattle.std.specs.Prelude.{◌≡◌, ◌↔◌, List, ℕ, [], ◌++◌, IsTrue};
 ghost use Rattle.script.specs.Lines.{Holds};
 ghost use Rattle.model.specs.Text.{Says};
 
 use crate::parse::{LONGEST_LINE, parse_line};
+use arrayvec::ArrayVec;
 use model::Line;
 
 /// A line of which some bytes were read. It keeps as many as a line may have; of a longer line it
 /// is kept that it is too long.
 #[derive(Drop)]
 pub struct LineBuffer {
-    text: [u8; LONGEST_LINE],
-    count: usize,
+    text: ArrayVec<u8, LONGEST_LINE>,
+    is_long: bool,
 }
 
 impl LineBuffer {
@@ -20,8 +21,8 @@ impl LineBuffer {
         ensures { Holds result [] }
     {
         LineBuffer {
-            text: [0; LONGEST_LINE],
-            count: 0,
+            text: ArrayVec::new(),
+            is_long: false,
         }
     }
 
@@ -29,18 +30,15 @@ impl LineBuffer {
     pub fn is_empty(&self) -> bool
         ensures { (line : List ℕ) → Holds self.now line → (IsTrue result ↔ (line ≡ [])) }
     {
-        self.count == 0
+        !self.is_long && self.text.is_empty()
     }
 
-    /// Adds a byte to it.
-    pub fn push(&mut self, byte: u8)
-        ensures { (line : List ℕ) → Holds self.old line → Holds self.new (line ++ byte ∷ []) }
+    /// Adds bytes to it.
+    pub fn extend(&mut self, bytes: &[u8])
+        ensures { (line : List ℕ) → Holds self.old line → Holds self.new (line ++ bytes.now) }
     {
-        if self.count < LONGEST_LINE {
-            self.text[self.count] = byte;
-            self.count += 1;
-        } else {
-            self.count = LONGEST_LINE + 1;
+        if self.text.try_extend_from_slice(bytes).is_err() {
+            self.is_long = true;
         }
     }
 
@@ -49,11 +47,13 @@ impl LineBuffer {
         ensures says { (line : List ℕ) → Holds self.old line → Says line result }
         ensures begun { Holds self.new [] }
     {
-        let line = match self.text.get(..self.count) {
-            Some(line) => parse_line(line),
-            None => Line::Bad,
+        let line = if self.is_long {
+            Line::Bad
+        } else {
+            parse_line(self.text.as_slice())
         };
-        self.count = 0;
+        self.text.clear();
+        self.is_long = false;
         line
     }
 }

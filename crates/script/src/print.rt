@@ -1,6 +1,6 @@
 // The text of an answer.
-ghost use Rattle.std.specs.Prelude.{◌≡◌, ◌≤◌, [], ◌∷◌, length, decimal};
-ghost use Rattle.model.specs.Text.{refusal_text, printed, bad_line};
+ghost use Rattle.std.specs.Prelude.{◌≡◌, ◌≤◌, [], ◌∷◌, codes, length, decimal};
+ghost use Rattle.model.specs.Text.{bad_line, line_of, printed, refusal_text, spaced};
 ghost use Rattle.script.specs.Writing.{Writes};
 
 use crate::fault::RunFault;
@@ -32,6 +32,36 @@ fn refusal_line(refusal: Refusal) -> LineText
     }
 }
 
+// Writes a line that has a word and a number.
+#[inline(never)]
+fn print_numbered<W: Write>(word: &[u8], number: u64, writer: &mut W) -> Result<(), RunFault>
+    requires { length word.now ≤ 298 }
+    ensures { Writes (W.contents writer.old) (W.contents writer.new) result
+        (line_of (spaced (word.now ∷ decimal number ∷ []))) }
+{
+    LineText::numbered(word, number).write_to(writer)
+}
+
+// Writes at which generation and age the machine stands.
+#[inline(never)]
+fn print_place<W: Write>(generation: u64, age: u64, writer: &mut W) -> Result<(), RunFault>
+    ensures { Writes (W.contents writer.old) (W.contents writer.new) result
+        (line_of (spaced (codes "at" ∷ decimal generation ∷ decimal age ∷ []))) }
+{
+    let mut line = LineText::numbered(b"at", generation);
+    line.number(age);
+    line.write_to(writer)
+}
+
+// Writes a refusal.
+#[inline(never)]
+fn print_refusal<W: Write>(refusal: Refusal, writer: &mut W) -> Result<(), RunFault>
+    ensures { Writes (W.contents writer.old) (W.contents writer.new) result
+        (line_of (refusal_text refusal)) }
+{
+    refusal_line(refusal).write_to(writer)
+}
+
 /// Writes the text of an answer: one line, or for an object several, the last of which is `end`.
 ///
 /// `Err(RunFault::Write)` where the writer fails or takes nothing: what was written is then a
@@ -42,20 +72,12 @@ pub fn print_answer<W: Write>(answer: &Answer, writer: &mut W) -> Result<(), Run
 {
     match answer {
         Answer::Done => write_fully(writer, b"done\n"),
-        Answer::Value(word) => LineText::numbered(b"value", *word).write_to(writer),
-        Answer::MemoryFault(fault) => LineText::numbered(b"memory fault", *fault as u64).write_to(
-            writer,
-        ),
-        Answer::Frozen(count) => LineText::numbered(b"frozen", *count).write_to(writer),
-        Answer::Left(count) => LineText::numbered(b"left", *count).write_to(writer),
-        Answer::Committed(generation) => LineText::numbered(b"committed", *generation).write_to(
-            writer,
-        ),
-        Answer::At { generation, age } => {
-            let mut line = LineText::numbered(b"at", *generation);
-            line.number(*age);
-            line.write_to(writer)
-        }
+        Answer::Value(word) => print_numbered(b"value", *word, writer),
+        Answer::MemoryFault(fault) => print_numbered(b"memory fault", *fault as u64, writer),
+        Answer::Frozen(count) => print_numbered(b"frozen", *count, writer),
+        Answer::Left(count) => print_numbered(b"left", *count, writer),
+        Answer::Committed(generation) => print_numbered(b"committed", *generation, writer),
+        Answer::At { generation, age } => print_place(*generation, *age, writer),
         Answer::Shown {
             number,
             object,
@@ -65,7 +87,7 @@ pub fn print_answer<W: Write>(answer: &Answer, writer: &mut W) -> Result<(), Run
             print_object(*number, object, registers, *used, writer)?;
             write_fully(writer, b"end\n")
         }
-        Answer::Refused(refusal) => refusal_line(*refusal).write_to(writer),
+        Answer::Refused(refusal) => print_refusal(*refusal, writer),
     }
 }
 

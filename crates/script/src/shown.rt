@@ -187,6 +187,7 @@ fn held_by(registers: &Option<Slots<Capability>>) -> &[Capability]
 }
 
 /// Writes the lines of an object but the last.
+#[inline(never)]
 pub fn print_object<W: Write>(
     number: u64,
     object: &Object,

@@ -1,8 +1,11 @@
-use Rattle.std.proofs.Common.{take}
-use Rattle.runs.proofs.Turning.{Goes}
+use Rattle.std.proofs.Common.{length}
+use Rattle.runs.proofs.Turning.{GoesTo}
 use Rattle.runs.proofs.running.take_piece.Given as goal
 
-abbrev pub invariant-loop-byte : goal.invariant-loop-byte
-invariant-loop-byte g l =
-    Goes g.D.Device.disk g.S.ObjectStore.view g.S.PresentFrames.parts g.met.D.Device.only_now l.fn.kernel l.fn.line (g.W.Write.contents l.fn.writer)
-    (take l.byte-index l.piece) l.kernel l.line (g.W.Write.contents l.writer)
+abbrev pub invariant-loop-end : goal.invariant-loop-end
+invariant-loop-end g l =
+    GoesTo g.D.Device.disk g.S.ObjectStore.view g.S.PresentFrames.parts g.met.D.Device.only_now l.fn.kernel l.fn.line (g.W.Write.contents l.fn.writer)
+    l.piece l.rest l.kernel l.line (g.W.Write.contents l.writer)
+
+abbrev pub decreases-loop-end : goal.decreases-loop-end
+decreases-loop-end g l = length l.rest
