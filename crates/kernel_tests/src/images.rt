@@ -3,6 +3,9 @@ ghost use Rattle.std.specs.Prelude.{◌≡◌, ◌≤◌, ◌^◌, IfOk};
 ghost use Rattle.model.specs.Keepable.{AreKeepable, IsSoundFrames};
 ghost use Rattle.capability.specs.Parts.{frames_of};
 ghost use Rattle.capability.specs.Plain.{parts_of};
+ghost use Rattle.device.specs.Disk.{Image};
+ghost use Rattle.migrator.specs.Saved.{Holds};
+ghost use Rattle.image_writer.specs.Written.{first_saved};
 
 use capability::{Plain, PresentFrames};
 use device::Device;
@@ -75,6 +78,10 @@ fn copy_contents(alloc: Global, plain: &Plain) -> Result<Vec<Content<Cap>>, Allo
 pub fn written<D: Device>(alloc: Global, device: D, plain: &Plain, age: u64) -> Result<D, Fail>
     requires age { age ≤ 2 ^ 62 }
     requires keepable { AreKeepable plain.now.geometry 0 (frames_of (parts_of plain.now)) }
+    ensures holds { IfOk result (λ d. Holds (D.disk d).sectors (D.disk d).seen
+        (first_saved plain.now.geometry age (frames_of (parts_of plain.now)))) }
+    ensures crash { IfOk result (λ d. (c : Image) → (D.disk d).may_leave c → Holds (D.disk d).sectors c
+        (first_saved plain.now.geometry age (frames_of (parts_of plain.now)))) }
 {
     let mut device = device;
     let geometry = plain.geometry();

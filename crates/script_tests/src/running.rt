@@ -274,13 +274,50 @@ fn is_answered_in_two(
     Ok(())
 }
 
+// A script over the second world is answered so, in pieces of each width.
+fn is_answered_by_widths(
+    rt: &impl Abort,
+    alloc: Global,
+    script: &[u8],
+    expected: &[u8],
+) -> Result<(), Fail> {
+    let plain = second_world(alloc)?;
+    for width in WIDTHS {
+        let mut reader = Pieces::new(script, width, true);
+        let mut answers = Vec::new(alloc);
+        let outcome = run_over(alloc, device_of(alloc, &plain)?, &mut reader, &mut answers)?;
+        assert_eq!(rt; outcome, Ok(()), "pieces of {width}");
+        assert_eq!(rt; answers.as_slice(), expected, "pieces of {width}");
+    }
+    Ok(())
+}
+
 #[test]
 fn a_script_may_be_cut_anywhere(rt: HostRuntime) -> Result<(), Fail> {
     let script = b"call 1 2 1 0 0 0 0 0 0 0\nsend 1 28 2 0 42 0 0 0 0 0\ncheckpoint\n\
 send 1 28 2 0 43 0 0 0 0 0\nstabilize 5\ncommit\ncut\nshow 16\n";
     let expected =
         b"done\ndone\nfrozen 3\ndone\nleft 0\ncommitted 1\nat 1 3\npage 16 owner 0\nword 0 42\nend\n";
+    is_answered_by_widths(&rt, rt.alloc(), script, expected)?;
     is_answered_in_two(&rt, rt.alloc(), script, expected)
+}
+
+#[test]
+fn calls_may_be_cut_anywhere(rt: HostRuntime) -> Result<(), Fail> {
+    let script = b"call 1 3 5 0 0 0 2 0 0 0\nshow 3\ncall 1 2 1 0 0 0 0 0 0 0\n";
+    let expected = b"done\n\
+process 3 owner 0 annex 4 running key 7 words 5 0 0 0 space void\n\
+register 28 bank 0\nregister 31 resume 1\nend\nnot running\n";
+    is_answered_by_widths(&rt, rt.alloc(), script, expected)?;
+    is_answered_in_two(&rt, rt.alloc(), script, expected)
+}
+
+#[test]
+fn bad_lines_may_be_cut_anywhere(rt: HostRuntime) -> Result<(), Fail> {
+    let script = joined(rt.alloc(), &[&[b'a'; 257], b"\nshow 01\nshow 5"])?;
+    let expected = b"bad line\nbad line\nfree 5\nend\n";
+    is_answered_by_widths(&rt, rt.alloc(), script.as_slice(), expected)?;
+    is_answered_in_two(&rt, rt.alloc(), script.as_slice(), expected)
 }
 
 #[test]
