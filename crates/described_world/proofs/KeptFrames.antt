@@ -24,7 +24,7 @@ use Rattle.description.specs.declared.entry.ProcessEntry.{ProcessEntry}
 use Rattle.description.specs.declared.entry.SlotEntry.{SlotEntry}
 use Rattle.description.specs.declared.entry.WordEntry.{WordEntry}
 use Rattle.described_world.specs.declared.world.World.{World}
-use Rattle.described_world.specs.Described.{AreSlots, AreWords, HasFields, HasNamedWords, HasNumbers, HoldsNamed, IsCapability, IsDescribed, IsProcessEntry, IsSpaceEntry, first_named}
+use Rattle.described_world.specs.Described.{AreSlots, AreWords, HasFields, HasNamedWords, HasNumbers, HoldsNamed, IsSomeCapability, IsDescribed, IsProcessEntry, IsSpaceEntry, first_named}
 use Rattle.described_world.specs.Laid.{AreTargets, Entry, Fits, HasProcessTargets, HasTargets, IsLaid, IsTarget, OfAnnex, OfBank, OfNode, OfPage, OfRoot, entries, frame_of, laid, number_of, slot_held, slots_of, words_of}
 use Rattle.described_world.proofs.Entries.{IsFrameOf, IsOf, entries_distinct, entries_of, in_range, numbers_are, of_entries}
 use Rattle.described_world.proofs.LaidFrames.{laid_both}
@@ -96,7 +96,7 @@ follows g (Resume p) is formed target = ((target, node_fits g p is target), no_c
 follows g (Bank b) is formed target = ((target, node_fits g b is target), no_count)
 follows g Discrim is formed target = refl
 
-slot_kept : (g : Geometry) (o : Option Capability) → IsGeometry g → IsCapability o → IsTarget g (unwrap_or o Void) → IsKeptCap g 0 (fresh_cap (unwrap_or o Void))
+slot_kept : (g : Geometry) (o : Option Capability) → IsGeometry g → IsSomeCapability o → IsTarget g (unwrap_or o Void) → IsKeptCap g 0 (fresh_cap (unwrap_or o Void))
 slot_kept g None is formed target = absurd formed
 slot_kept g (Some c) is formed target = follows g c is formed target
 

@@ -48,15 +48,15 @@ pub record HasNumbers (d : Description) : Type 0 where
 -- The fields.
 
 -- a text was that of a capability
-abbrev pub IsCapability : Option Capability → Type 0
-IsCapability None = ⊥
-IsCapability (Some c) = IsWellFormed c
+abbrev pub IsSomeCapability : Option Capability → Type 0
+IsSomeCapability None = ⊥
+IsSomeCapability (Some c) = IsWellFormed c
 
 -- each slot that is named is one from the first on, none comes twice, and each has a capability
 pub record AreSlots (first : ℕ) (slots : List SlotEntry) : Type 0 where
   pub places : All (λ s. (first ≤ s.index) × (s.index < 32)) slots
   pub distinct : AreDistinct (map (λ s. s.index) slots)
-  pub held : All (λ s. IsCapability s.capability) slots
+  pub held : All (λ s. IsSomeCapability s.capability) slots
 
 -- each word that is named is one of a page, and none comes twice
 pub record AreWords (words : List WordEntry) : Type 0 where

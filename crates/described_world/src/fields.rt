@@ -3,7 +3,7 @@ ghost use Rattle.std.specs.Prelude.{◌≡◌, ◌<◌, ◌≤◌, ◌^◌, ◌�
 ghost use Rattle.std.specs.List.{All, Any};
 ghost use Rattle.model.specs.Capability.{IsAccess, IsWellFormed};
 ghost use Rattle.model.specs.Sound.{IsSpace};
-ghost use Rattle.described_world.specs.Described.{AreDistinct, AreSlots, AreWords, HasFields, IsCapability, IsProcessEntry, IsSpaceEntry};
+ghost use Rattle.described_world.specs.Described.{AreDistinct, AreSlots, AreWords, HasFields, IsSomeCapability, IsProcessEntry, IsSpaceEntry};
 
 use bitflags::Flags;
 use description::{Description, ProcessEntry, SlotEntry, WordEntry};
@@ -48,7 +48,7 @@ fn may_be_space(capability: Capability) -> bool
 }
 
 fn is_capability(capability: Option<Capability>) -> bool
-    ensures { IsTrue result ↔ IsCapability capability }
+    ensures { IsTrue result ↔ IsSomeCapability capability }
 {
     match capability {
         Some(capability) => is_well_formed(capability),

@@ -12,7 +12,7 @@ use model::{Cap, Capability, Content, Root, Slots, State, Words};
 use std::alloc::{AllocError, Global};
 
 // A capability as it is held first.
-fn first_held(what: Capability) -> Cap
+fn fresh_cap(what: Capability) -> Cap
     ensures { result ≡ fresh_cap what }
 {
     Cap { what, count: 0 }
@@ -22,7 +22,7 @@ fn first_held(what: Capability) -> Cap
 fn slot_held(slot: &SlotEntry) -> Cap
     ensures { result ≡ slot_held slot.now }
 {
-    first_held(slot.capability.unwrap_or(Capability::Void))
+    fresh_cap(slot.capability.unwrap_or(Capability::Void))
 }
 
 // Slots with those that are named, the others void.
@@ -70,7 +70,7 @@ fn root_of(process: &ProcessEntry) -> Content<Cap>
         words: process.words,
         key: process.key as u16,
         annex: process.annex,
-        space: first_held(process.space.unwrap_or(Capability::Void)),
+        space: fresh_cap(process.space.unwrap_or(Capability::Void)),
     })
 }
 
