@@ -1,7 +1,7 @@
 // Homes of objects.
 ghost use Rattle.std.specs.Prelude.{◌≡◌, IfOk};
 
-use crate::rig::{Rig, front, room};
+use crate::rig::{Rig, front};
 use device::{Device, Memory, Outcome};
 use frame_io::ReadFault;
 use home_ranges::Home;
@@ -94,7 +94,7 @@ fn home_frame(
     rig: &mut Rig<Memory>,
     number: u64,
 ) -> Result<(ObjectHeader, Body, Room), Fail> {
-    let mut room = room(alloc)?;
+    let mut room = Room::new(alloc)?;
     let (header, body) = rig.read_home(number, &mut room).ok().ok_or("a frame")?;
     Ok((header, body, room))
 }
@@ -128,7 +128,7 @@ fn a_node_has_two_sectors(rt: HostRuntime) -> Result<(), Fail> {
 #[test]
 fn a_malformed_node_is_refused(rt: HostRuntime) -> Result<(), Fail> {
     let mut rig = rig(rt.alloc())?;
-    let mut room = room(rt.alloc())?;
+    let mut room = Room::new(rt.alloc())?;
     rig.put_sector(13, &[9; 512])?;
     let refused = rig.read_home(4, &mut room).err();
     assert_eq!(rt; refused, Some(ReadFault::Bad(BadImage::BadFrame)));
@@ -171,7 +171,7 @@ fn a_page_has_nine_sectors(rt: HostRuntime) -> Result<(), Fail> {
 #[test]
 fn a_malformed_page_is_refused(rt: HostRuntime) -> Result<(), Fail> {
     let mut rig = rig(rt.alloc())?;
-    let mut room = room(rt.alloc())?;
+    let mut room = Room::new(rt.alloc())?;
     let mut sector = [0; 512];
     sector[1] = 1;
     rig.put_sector(55, &sector)?;
@@ -184,7 +184,7 @@ fn a_malformed_page_is_refused(rt: HostRuntime) -> Result<(), Fail> {
 // stopped.
 fn stopped_after(alloc: Global, calls: u64) -> Result<[bool; 4], Fail> {
     let mut rig = rig(alloc)?.fused(calls);
-    let mut room = room(alloc)?;
+    let mut room = Room::new(alloc)?;
     Ok([
         rig.write_home(15, Content::Bank { limit: 8 }).is_err(),
         rig.read_home(15, &mut room).err() == Some(ReadFault::Failed),

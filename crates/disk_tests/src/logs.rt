@@ -1,9 +1,9 @@
 // Slots and directories of the log.
 use crate::next::NO_ENTRY;
-use crate::rig::{AGE, Rig, front, room};
+use crate::rig::{AGE, Rig, front};
 use device::{Memory, Outcome, SECTOR_SIZE};
 use frame_io::ReadFault;
-use layout::{BadImage, Body, CheckpointHeader, Entry, Gate};
+use layout::{BadImage, Body, CheckpointHeader, Entry, Gate, Room};
 use model::{Content, Role, Words};
 use std::alloc::Global;
 use std::test::Fail;
@@ -22,7 +22,7 @@ fn with_a_bank(alloc: Global) -> Result<Rig<Memory>, Fail> {
 #[test]
 fn a_node_is_read_back_from_its_slot(rt: HostRuntime) -> Result<(), Fail> {
     let mut rig = with_a_bank(rt.alloc())?;
-    let mut room = room(rt.alloc())?;
+    let mut room = Room::new(rt.alloc())?;
     let (header, body) = rig.read_slot(3, 2, 5, &mut room).ok().ok_or("a frame")?;
     assert_eq!(rt; header, front(Role::Bank));
     assert!(rt; matches!(body, Body::Bank { limit: 8 }));
@@ -43,7 +43,7 @@ fn a_malformed_node_in_a_slot_is_refused(rt: HostRuntime) -> Result<(), Fail> {
     let mut sector = [0; SECTOR_SIZE];
     sector[0] = 6;
     rig.put_sector(272, &sector)?;
-    let mut room = room(rt.alloc())?;
+    let mut room = Room::new(rt.alloc())?;
     let refused = rig.read_slot(3, 2, 5, &mut room).err();
     assert_eq!(rt; refused, Some(ReadFault::Bad(BadImage::BadFrame)));
     Ok(())
@@ -61,7 +61,7 @@ fn with_a_page(alloc: Global) -> Result<Rig<Memory>, Fail> {
 #[test]
 fn a_page_is_read_back_from_its_slot(rt: HostRuntime) -> Result<(), Fail> {
     let mut rig = with_a_page(rt.alloc())?;
-    let mut room = room(rt.alloc())?;
+    let mut room = Room::new(rt.alloc())?;
     let (header, body) = rig.read_slot(0, 1, 16, &mut room).ok().ok_or("a frame")?;
     assert_eq!(rt; header, front(Role::Page));
     assert!(rt; matches!(body, Body::Page));
@@ -85,7 +85,7 @@ fn a_page_in_a_slot_has_nine_sectors(rt: HostRuntime) -> Result<(), Fail> {
 fn a_malformed_page_in_a_slot_is_refused(rt: HostRuntime) -> Result<(), Fail> {
     let mut rig = with_a_page(rt.alloc())?;
     rig.put_sector(118, &[9; SECTOR_SIZE])?;
-    let mut room = room(rt.alloc())?;
+    let mut room = Room::new(rt.alloc())?;
     let refused = rig.read_slot(0, 1, 16, &mut room).err();
     assert_eq!(rt; refused, Some(ReadFault::Bad(BadImage::BadFrame)));
     Ok(())

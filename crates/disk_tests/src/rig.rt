@@ -9,8 +9,7 @@ use home_ranges::Home;
 use layout::{
     Body, CheckpointHeader, Entry, Gate, HomeRange, Room, Superblock, encode_gate, encode_header,
 };
-use model::{Cap, Content, Geometry, ObjectHeader, Role, Slots, Words};
-use std::alloc::{AllocError, Global};
+use model::{Cap, Content, Geometry, ObjectHeader, Role};
 use std::marker::Model;
 use std::test::Fail;
 
@@ -24,14 +23,6 @@ pub(crate) fn front(role: Role) -> ObjectHeader {
         calls: 2,
         owner: 3,
     }
-}
-
-/// Room for the body of a frame, with void slots and words of 0.
-pub(crate) fn room(alloc: Global) -> Result<Room, AllocError> {
-    Ok(Room {
-        slots: Slots::new(alloc, Cap::void())?,
-        words: Words::new(alloc)?,
-    })
 }
 
 /// A device with homes and a log: 16 nodes from sector 5 on, 8 pages from sector 37 on, and the

@@ -10,7 +10,7 @@ ghost use Rattle.image_writer.specs.Written.{first_saved};
 use capability::{Plain, PresentFrames};
 use device::Device;
 use image_writer::{NumberRange, lay_out, write_image};
-use model::{Cap, Content, ObjectHeader, Root};
+use model::{Cap, Content, ObjectHeader};
 use std::alloc::{AllocError, Global};
 use std::test::Fail;
 
@@ -31,26 +31,6 @@ pub fn second_world(alloc: Global) -> Result<Plain, AllocError>
     Plain::i0(alloc)
 }
 
-// What an object holds, again.
-fn copy_content(alloc: Global, content: &Content<Cap>) -> Result<Content<Cap>, AllocError>
-    ensures { IfOk result (λ copy. copy ≡ content.now) }
-{
-    match content {
-        Content::Free => Ok(Content::Free),
-        Content::Page(words) => Ok(Content::Page(words.copy(alloc)?)),
-        Content::Node(slots) => Ok(Content::Node(slots.copy(alloc)?)),
-        Content::Root(root) => Ok(Content::Root(Root {
-            state: root.state,
-            words: root.words,
-            key: root.key,
-            annex: root.annex,
-            space: root.space,
-        })),
-        Content::Annex(registers) => Ok(Content::Annex(registers.copy(alloc)?)),
-        Content::Bank { limit } => Ok(Content::Bank { limit: *limit }),
-    }
-}
-
 // The headers of all objects.
 fn copy_headers(alloc: Global, plain: &Plain) -> Result<Vec<ObjectHeader>, AllocError>
     ensures { IfOk result (λ headers. headers.items ≡ plain.now.headers) }
@@ -68,7 +48,7 @@ fn copy_contents(alloc: Global, plain: &Plain) -> Result<Vec<Content<Cap>>, Allo
 {
     let mut contents = Vec::new(alloc);
     for number in 0..plain.table().count() {
-        contents.push(copy_content(alloc, plain.frame(number))?)?;
+        contents.push(plain.frame(number).copy(alloc)?)?;
     }
     Ok(contents)
 }

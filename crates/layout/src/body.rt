@@ -1,5 +1,9 @@
 // What is read of a frame beside its header, and the room for it.
+ghost use Rattle.std.specs.Prelude.{◌≡◌, IfOk, replicate};
+ghost use Rattle.model.specs.Frame.{void_held};
+
 use model::{Cap, Root, Slots, Words};
+use std::alloc::{AllocError, Global};
 
 /// What a frame holds, but for the words of a page and the slots of a node or an annex: those are
 /// left in a `Room`.
@@ -18,4 +22,17 @@ pub enum Body {
 pub struct Room {
     pub slots: Slots<Cap>,
     pub words: Words,
+}
+
+impl Room {
+    /// Room with void slots and words of 0. Fails only where memory runs out.
+    pub fn new(alloc: Global) -> Result<Room, AllocError>
+        ensures slots { IfOk result (λ room. room.slots ≡ replicate 32 void_held) }
+        ensures words { IfOk result (λ room. room.words ≡ replicate 512 0) }
+    {
+        Ok(Room {
+            slots: Slots::new(alloc, Cap::void())?,
+            words: Words::new(alloc)?,
+        })
+    }
 }

@@ -66,16 +66,9 @@ fn copy_words(words: &mut [u64], bytes: &mut [u8], rounds: u64) -> u64
     done
 }
 
-fn room(alloc: Global) -> Result<Room, AllocError> {
-    Ok(Room {
-        slots: Slots::new(alloc, Cap::void())?,
-        words: Words::new(alloc)?,
-    })
-}
-
 fn page_frames(alloc: Global, rounds: u64) -> Result<u64, AllocError> {
     let mut bytes = vec![in alloc; 0; PAGE_FRAME_BYTES]?;
-    let mut room = room(alloc)?;
+    let mut room = Room::new(alloc)?;
     let mut words = Words::new(alloc)?;
     words.set(3, 99);
     let page = Content::Page(words);
@@ -92,7 +85,7 @@ fn node_frames(alloc: Global, rounds: u64) -> Result<u64, AllocError> {
         count: 7,
     };
     let mut bytes = vec![in alloc; 0; NODE_FRAME_BYTES]?;
-    let mut room = room(alloc)?;
+    let mut room = Room::new(alloc)?;
     let node = Content::Node(Slots::new(alloc, held)?);
     let into = bytes.as_mut_slice();
     Ok(code(NODE, header(Role::Node), &node, into, &mut room, rounds))

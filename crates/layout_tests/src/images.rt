@@ -7,7 +7,7 @@ use layout::{
     decode_superblock, encode_capability, encode_frame, encode_gate, encode_header,
     encode_superblock, total_in,
 };
-use model::{Cap, Capability, Content, Geometry, ObjectHeader, Role, Root, Slots, State, Words};
+use model::{Cap, Capability, Content, Geometry, ObjectHeader, Role, Root, State, Words};
 use std::alloc::{AllocError, Global};
 use std::process::Abort;
 use std::test::Fail;
@@ -25,24 +25,17 @@ const NODE: u64 = 15;
 
 const PAGE: u64 = 16;
 
-fn room(alloc: Global) -> Result<Room, AllocError> {
-    Ok(Room {
-        slots: Slots::new(alloc, Cap::void())?,
-        words: Words::new(alloc)?,
-    })
-}
-
 fn is_node_frame(alloc: Global, bytes: &[u8]) -> Result<bool, AllocError>
     requires { length bytes.now ≡ 1024 }
 {
-    let mut room = room(alloc)?;
+    let mut room = Room::new(alloc)?;
     Ok(decode_frame(bytes, GEOMETRY, NODE, AGE, &mut room).is_ok())
 }
 
 fn is_page_frame(alloc: Global, bytes: &[u8]) -> Result<bool, AllocError>
     requires { length bytes.now ≡ 4608 }
 {
-    let mut room = room(alloc)?;
+    let mut room = Room::new(alloc)?;
     Ok(decode_frame(bytes, GEOMETRY, PAGE, AGE, &mut room).is_ok())
 }
 
@@ -184,7 +177,7 @@ fn node_frames(rt: HostRuntime) -> Result<(), Fail> {
 fn root_of(alloc: Global, bytes: &[u8]) -> Result<Root<Cap>, Fail>
     requires { length bytes.now ≡ 1024 }
 {
-    let mut room = room(alloc)?;
+    let mut room = Room::new(alloc)?;
     let (header, body) = decode_frame(bytes, GEOMETRY, NODE, AGE, &mut room)
         .ok()
         .ok_or("a root")?;
@@ -326,7 +319,7 @@ fn written_page_frame(rt: HostRuntime) -> Result<(), Fail> {
 fn read_page(rt: &impl Abort, alloc: Global, spelt: &[u8]) -> Result<(), Fail>
     requires { length spelt.now ≡ 4608 }
 {
-    let mut room = room(alloc)?;
+    let mut room = Room::new(alloc)?;
     let (header, body) = decode_frame(spelt, GEOMETRY, PAGE, AGE, &mut room)
         .ok()
         .ok_or("a page")?;

@@ -1,8 +1,9 @@
 // Objects, and what they hold.
-ghost use Rattle.std.specs.Prelude.{◌≡◌};
+ghost use Rattle.std.specs.Prelude.{◌≡◌, IfOk};
 ghost use Rattle.model.specs.Object.{role_of, role_number, state_number};
 
 use contents::{Slots, Words};
+use std::alloc::{AllocError, Global};
 
 /// What an object is.
 #[derive(Clone, Copy, PartialEq, Eq, Debug)]
@@ -90,6 +91,28 @@ impl<C> Content<C> {
             Content::Root(_) => Role::Root,
             Content::Annex(_) => Role::Annex,
             Content::Bank { .. } => Role::Bank,
+        }
+    }
+}
+
+impl<C: Copy> Content<C> {
+    /// The same again. Fails only where memory runs out.
+    pub fn copy(&self, alloc: Global) -> Result<Self, AllocError>
+        ensures { IfOk result (λ copy. copy ≡ self.now) }
+    {
+        match self {
+            Content::Free => Ok(Content::Free),
+            Content::Page(words) => Ok(Content::Page(words.copy(alloc)?)),
+            Content::Node(slots) => Ok(Content::Node(slots.copy(alloc)?)),
+            Content::Root(root) => Ok(Content::Root(Root {
+                state: root.state,
+                words: root.words,
+                key: root.key,
+                annex: root.annex,
+                space: root.space,
+            })),
+            Content::Annex(registers) => Ok(Content::Annex(registers.copy(alloc)?)),
+            Content::Bank { limit } => Ok(Content::Bank { limit: *limit }),
         }
     }
 }

@@ -2,11 +2,12 @@
 ghost use Rattle.std.specs.Prelude.{◌≡◌, ◌≢◌, ℕ, ◌<◌, length, map, IfOk, OnOk};
 ghost use Rattle.std.specs.List.{All, Contains};
 ghost use Rattle.model.specs.Frame.{frame_at};
+ghost use Rattle.object_cache.specs.declared.snapshot.Snapshot.TheVariants.{Below};
 ghost use Rattle.object_cache.specs.Frozen.{snapshot_at, snapshot_of, KeepsFrozen};
 ghost use Rattle.object_cache.specs.PlainStore.{present_frames};
 
 use capability::{Plain, PresentFrames};
-use model::{Cap, Content, Frame, Root};
+use model::Frame;
 use std::alloc::{AllocError, Global};
 
 /// Where the frozen frame of an object is.
@@ -20,26 +21,6 @@ pub enum Snapshot {
     Copied(Frame),
 }
 
-// What an object holds, again. Fails only where memory runs out.
-fn copy_content(alloc: Global, content: &Content<Cap>) -> Result<Content<Cap>, AllocError>
-    ensures { IfOk result (λ copy. copy ≡ content.now) }
-{
-    match content {
-        Content::Free => Ok(Content::Free),
-        Content::Page(words) => Ok(Content::Page(words.copy(alloc)?)),
-        Content::Node(slots) => Ok(Content::Node(slots.copy(alloc)?)),
-        Content::Root(root) => Ok(Content::Root(Root {
-            state: root.state,
-            words: root.words,
-            key: root.key,
-            annex: root.annex,
-            space: root.space,
-        })),
-        Content::Annex(registers) => Ok(Content::Annex(registers.copy(alloc)?)),
-        Content::Bank { limit } => Ok(Content::Bank { limit: *limit }),
-    }
-}
-
 // Copies a present object.
 #[tactic(auto, using(capability::proofs::Frames::frame_in))]
 fn copy_frame(alloc: Global, present: &Plain, number: u64) -> Result<Frame, AllocError>
@@ -48,7 +29,7 @@ fn copy_frame(alloc: Global, present: &Plain, number: u64) -> Result<Frame, Allo
     ensures { IfOk result (λ frame. frame ≡ frame_at (present_frames present.now) number) }
 {
     let header = present.table().header(number);
-    let content = copy_content(alloc, present.frame(number))?;
+    let content = present.frame(number).copy(alloc)?;
     Ok(Frame { header, content })
 }
 
@@ -98,13 +79,12 @@ pub(crate) fn copy_frozen(
 pub(crate) fn freeze_written(present: &Plain, snapshots: &mut [Snapshot])
     requires each { length present.now.headers ≡ length snapshots.old }
     requires marks { length present.now.touched ≡ length snapshots.old }
+    requires none { (n : ℕ) → snapshot_at snapshots.old n ≡ Below }
     ensures { snapshots.new ≡ map snapshot_of present.now.touched }
 {
     for number in 0..snapshots.len() {
-        snapshots[number] = if present.is_touched(number as u64) {
-            Snapshot::Present
-        } else {
-            Snapshot::Below
-        };
+        if present.is_touched(number as u64) {
+            snapshots[number] = Snapshot::Present;
+        }
     }
 }

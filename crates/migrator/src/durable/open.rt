@@ -15,7 +15,7 @@ use ckpt_log::Log;
 use device::Device;
 use home_ranges::Home;
 use layout::{CheckpointHeader, Entry, Room, Superblock};
-use model::{Cap, Geometry, ObjectHeader, Slots, Words};
+use model::{Geometry, ObjectHeader};
 use std::alloc::{AllocError, Global};
 
 /// A store that was opened, and the headers of all of its saved frames.
@@ -61,14 +61,6 @@ fn blank_entries(alloc: Global, count: u64) -> Result<Vec<Entry>, AllocError>
         entries.push(blank)?;
     }
     Ok(entries)
-}
-
-// Room for the body of any object.
-fn blank_room(alloc: Global) -> Result<Room, AllocError> {
-    Ok(Room {
-        slots: Slots::new(alloc, Cap::void())?,
-        words: Words::new(alloc)?,
-    })
 }
 
 impl Reserve {
@@ -144,7 +136,7 @@ fn read_parts<D: Device>(alloc: Global, device: &mut D) -> Result<Parts, OpenFau
 {
     match read_plan(device) {
         Ok(superblock) => match Reserve::new(alloc, superblock.geometry()) {
-            Ok(reserve) => match blank_room(alloc) {
+            Ok(reserve) => match Room::new(alloc) {
                 Ok(room) => {
                     let mut room = room;
                     read_into(device, &superblock, reserve, &mut room)

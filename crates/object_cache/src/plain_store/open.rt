@@ -17,7 +17,7 @@ use capability::Plain;
 use device::Device;
 use layout::{Body, Room};
 use migrator::{Durable, OpenFault, OpenRefused, Opened};
-use model::{Cap, Content, Geometry, ObjectHeader, Slots, Words};
+use model::{Cap, Content, Geometry, ObjectHeader};
 use std::alloc::{AllocError, Global};
 
 // The present objects, and where the frozen frames are.
@@ -25,14 +25,6 @@ use std::alloc::{AllocError, Global};
 struct Objects {
     present: Plain,
     snapshots: Vec<Snapshot>,
-}
-
-// Room for the body of any object.
-fn blank_room(alloc: Global) -> Result<Room, AllocError> {
-    Ok(Room {
-        slots: Slots::new(alloc, Cap::void())?,
-        words: Words::new(alloc)?,
-    })
 }
 
 // So many frozen frames, none of which is in memory.
@@ -152,7 +144,7 @@ impl Reserve {
             reserve.snapshots.items ≡ replicate count Below) }
     {
         Ok(Reserve {
-            room: blank_room(alloc)?,
+            room: Room::new(alloc)?,
             contents: Vec::with_capacity(alloc, count)?,
             snapshots: blank_snapshots(alloc, count)?,
         })
