@@ -7,8 +7,7 @@ mod commits;
 mod homes;
 #[cfg(test)]
 mod logs;
+#[cfg(test)]
 mod next;
 #[cfg(test)]
 mod rig;
-
-pub use next::{NO_ENTRY, publish_next};

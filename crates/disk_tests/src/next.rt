@@ -1,4 +1,4 @@
-// A caller of the commit, as a store is one. It is no test, so that an edit of it is tried too.
+// A caller of the commit, as a store is one.
 ghost use Rattle.std.specs.Prelude.{◌≡◌, ◌≤◌};
 
 use ckpt_log::Log;
@@ -7,12 +7,12 @@ use frame_io::ReadFault;
 use layout::{CheckpointHeader, Entry};
 
 /// An entry that stands where none was read.
-pub const NO_ENTRY: Entry = Entry { object: 0, slot: 0 };
+pub(crate) const NO_ENTRY: Entry = Entry { object: 0, slot: 0 };
 
 /// Syncs the device, publishes the header after the committed one on a log of 16 slots, and
 /// answers whether that succeeded. A header whose sequence number would be more than twice its age
 /// isn't published.
-pub fn publish_next<D: Device>(device: &mut D, log: &Log) -> Result<bool, ReadFault>
+pub(crate) fn publish_next<D: Device>(device: &mut D, log: &Log) -> Result<bool, ReadFault>
     requires slots { log.now.geometry.log ≡ 16 }
     requires inside { log.now.total ≤ (D.disk device.old).sectors }
     requires headers { 5 ≤ (D.disk device.old).sectors }

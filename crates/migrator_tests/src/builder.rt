@@ -16,7 +16,7 @@ use std::marker::Model;
 /// on, behind them the pages, and behind those the two halves of the log. A call for an object, a
 /// slot or a sector that isn't there fails.
 #[derive(Drop)]
-pub struct Builder<D: Device> {
+pub(crate) struct Builder<D: Device> {
     device: D,
     superblock: Superblock,
 }
@@ -61,7 +61,7 @@ fn superblock(geometry: Geometry) -> Option<Superblock> {
 impl<D: Device> Builder<D> {
     /// A builder of an image of so many objects. `None` where that is outside the limits, or the
     /// device has too few sectors.
-    pub fn new(device: D, geometry: Geometry) -> Option<Self> {
+    pub(crate) fn new(device: D, geometry: Geometry) -> Option<Self> {
         let superblock = superblock(geometry)?;
         if device.sectors() < 5 || device.sectors() < superblock.total() {
             return None;
@@ -70,7 +70,7 @@ impl<D: Device> Builder<D> {
     }
 
     /// The bytes of a sector.
-    pub fn sector(&mut self, at: u64) -> Result<[u8; SECTOR_SIZE], Failed> {
+    pub(crate) fn sector(&mut self, at: u64) -> Result<[u8; SECTOR_SIZE], Failed> {
         let mut sector = [0; SECTOR_SIZE];
         if at >= self.superblock.total() {
             return Err(Failed);
@@ -80,7 +80,7 @@ impl<D: Device> Builder<D> {
     }
 
     /// Writes a sector.
-    pub fn put_sector(&mut self, at: u64, sector: &[u8; SECTOR_SIZE]) -> Result<(), Failed> {
+    pub(crate) fn put_sector(&mut self, at: u64, sector: &[u8; SECTOR_SIZE]) -> Result<(), Failed> {
         if at >= self.superblock.total() {
             return Err(Failed);
         }
@@ -88,14 +88,18 @@ impl<D: Device> Builder<D> {
     }
 
     /// Writes the superblock.
-    pub fn put_superblock(&mut self) -> Result<(), Failed> {
+    pub(crate) fn put_superblock(&mut self) -> Result<(), Failed> {
         let mut sector = [0; SECTOR_SIZE];
         encode_superblock(&self.superblock, &mut sector);
         self.put_sector(0, &sector)
     }
 
     /// Writes a header with its gate in the slot of its sequence number.
-    pub fn put_header(&mut self, header: CheckpointHeader, gate: Gate) -> Result<(), Failed> {
+    pub(crate) fn put_header(
+        &mut self,
+        header: CheckpointHeader,
+        gate: Gate,
+    ) -> Result<(), Failed> {
         let at = 1 + 2 * (header.sequence % 2);
         let mut sector = [0; SECTOR_SIZE];
         encode_header(header, &mut sector);
@@ -105,7 +109,12 @@ impl<D: Device> Builder<D> {
     }
 
     /// Writes the home frame of an object.
-    pub fn put_home(&mut self, alloc: Global, number: u64, value: u64) -> Result<(), Failed> {
+    pub(crate) fn put_home(
+        &mut self,
+        alloc: Global,
+        number: u64,
+        value: u64,
+    ) -> Result<(), Failed> {
         let geometry = self.superblock.geometry();
         if number >= geometry.nodes + geometry.pages {
             return Err(Failed);
@@ -116,7 +125,7 @@ impl<D: Device> Builder<D> {
     }
 
     /// Writes the home frames of all objects, each with its number as its value.
-    pub fn put_homes(&mut self, alloc: Global) -> Result<(), Failed> {
+    pub(crate) fn put_homes(&mut self, alloc: Global) -> Result<(), Failed> {
         let geometry = self.superblock.geometry();
         for number in 0..geometry.nodes + geometry.pages {
             self.put_home(alloc, number, number)?;
@@ -126,7 +135,7 @@ impl<D: Device> Builder<D> {
 
     /// Writes the frame of an object into the slot that an entry names, in the half of a
     /// generation.
-    pub fn put_slot(
+    pub(crate) fn put_slot(
         &mut self,
         alloc: Global,
         generation: u64,
@@ -144,7 +153,11 @@ impl<D: Device> Builder<D> {
     }
 
     /// Writes the directory of the half of a generation.
-    pub fn put_directory(&mut self, generation: u64, entries: &[Entry]) -> Result<(), Failed> {
+    pub(crate) fn put_directory(
+        &mut self,
+        generation: u64,
+        entries: &[Entry],
+    ) -> Result<(), Failed> {
         if entries.len() as u64 > self.superblock.geometry().log {
             return Err(Failed);
         }
@@ -152,7 +165,7 @@ impl<D: Device> Builder<D> {
     }
 
     /// Makes what was written durable, and gives the device back.
-    pub fn finish(self) -> Result<D, Failed> {
+    pub(crate) fn finish(self) -> Result<D, Failed> {
         let Builder { mut device, .. } = self;
         device.sync()?;
         Ok(device)

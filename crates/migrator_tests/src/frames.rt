@@ -5,7 +5,7 @@ ghost use Rattle.migrator_tests.specs.Rig.{IsPage};
 
 use device::Failed;
 use layout::{Body, Room};
-use model::{Cap, Content, Geometry, ObjectHeader, Role, Slots, Words};
+use model::{Cap, Content, Geometry, ObjectHeader, Role, Words};
 use std::alloc::{AllocError, Global};
 
 /// The header of each frame that is written.
@@ -57,12 +57,4 @@ pub(crate) fn value_of(body: &Body, room: &Room) -> Option<u64> {
         Body::Page => Some(room.words.get(0)),
         _ => None,
     }
-}
-
-/// Room for the body of any object.
-pub(crate) fn blank_room(alloc: Global) -> Result<Room, AllocError> {
-    Ok(Room {
-        slots: Slots::new(alloc, Cap::void())?,
-        words: Words::new(alloc)?,
-    })
 }

@@ -1,9 +1,11 @@
-//! The tests of `migrator`, through its public functions, and what they are written with.
+//! The tests of `migrator`, through its public functions.
 #![tactic(auto)]
 
+#[cfg(test)]
 mod builder;
 #[cfg(test)]
 mod commits;
+#[cfg(test)]
 mod frames;
 #[cfg(test)]
 mod greatest;
@@ -17,9 +19,7 @@ mod opens;
 mod puts;
 #[cfg(test)]
 mod refusals;
+#[cfg(test)]
 mod rig;
 #[cfg(test)]
 mod stops;
-
-pub use builder::Builder;
-pub use rig::Rig;

@@ -3,7 +3,7 @@ ghost use Rattle.std.specs.Prelude.{◌≡◌, IfOk};
 ghost use Rattle.layout.specs.Image.{sectors_from};
 ghost use Rattle.layout.specs.Superblock.{IsPlan, superblock_bytes};
 
-use crate::frames::{blank_room, frame, value_of};
+use crate::frames::{frame, value_of};
 use device::{Device, Failed, SECTOR_SIZE};
 use frame_io::read_sectors;
 use layout::{BadImage, Room, Superblock, decode_superblock, spell_one_value};
@@ -17,7 +17,7 @@ use std::marker::Model;
 /// for fails: for an object that isn't there, for more frames than there is room for, at an age
 /// that isn't later, or after a commit or a migration that failed.
 #[derive(Drop)]
-pub struct Rig<D: Device> {
+pub(crate) struct Rig<D: Device> {
     store: Durable<D>,
     room: Room,
     geometry: Geometry,
@@ -62,7 +62,7 @@ fn read_superblock<D: Device>(device: &mut D) -> Result<Superblock, OpenFault>
 
 impl<D: Device> Rig<D> {
     /// Opens a device, whose superblock is read once more for that.
-    pub fn open(alloc: Global, device: D) -> Result<Self, OpenRefused<D>> {
+    pub(crate) fn open(alloc: Global, device: D) -> Result<Self, OpenRefused<D>> {
         let mut device = device;
         spell_one_value();
         let superblock = match read_superblock(&mut device) {
@@ -70,7 +70,7 @@ impl<D: Device> Rig<D> {
             Err(fault) => return Err(OpenRefused { fault, device }),
         };
         let geometry = superblock.geometry();
-        let Ok(room) = blank_room(alloc) else {
+        let Ok(room) = Room::new(alloc) else {
             return Err(OpenRefused {
                 fault: OpenFault::NoMemory,
                 device,
@@ -89,18 +89,18 @@ impl<D: Device> Rig<D> {
     }
 
     /// What is told of the committed checkpoint.
-    pub fn saved(&self) -> Checkpoint {
+    pub(crate) fn saved(&self) -> Checkpoint {
         self.store.saved()
     }
 
     /// Gives the device back.
-    pub fn into_device(self) -> D {
+    pub(crate) fn into_device(self) -> D {
         let Rig { store, .. } = self;
         store.into_device()
     }
 
     /// The value of the newest frame of an object.
-    pub fn fetch(&mut self, number: u64) -> Result<u64, Failed> {
+    pub(crate) fn fetch(&mut self, number: u64) -> Result<u64, Failed> {
         if number >= self.geometry.nodes + self.geometry.pages {
             return Err(Failed);
         }
@@ -109,7 +109,7 @@ impl<D: Device> Rig<D> {
     }
 
     /// Puts a frame of an object, with a value.
-    pub fn put(&mut self, alloc: Global, number: u64, value: u64) -> Result<(), Failed> {
+    pub(crate) fn put(&mut self, alloc: Global, number: u64, value: u64) -> Result<(), Failed> {
         let objects = self.geometry.nodes + self.geometry.pages;
         if number >= objects || self.working >= self.geometry.log {
             return Err(Failed);
@@ -120,7 +120,12 @@ impl<D: Device> Rig<D> {
     }
 
     /// Puts a frame of an object for the checkpoint on its way, with a value.
-    pub fn put_frozen(&mut self, alloc: Global, number: u64, value: u64) -> Result<(), Refusal> {
+    pub(crate) fn put_frozen(
+        &mut self,
+        alloc: Global,
+        number: u64,
+        value: u64,
+    ) -> Result<(), Refusal> {
         let objects = self.geometry.nodes + self.geometry.pages;
         if number >= objects || self.frozen >= self.size {
             return Err(Refusal::Failed);
@@ -133,7 +138,7 @@ impl<D: Device> Rig<D> {
     }
 
     /// Freezes what was put, for a checkpoint that writes so many objects.
-    pub fn freeze(&mut self, size: u64) -> Result<(), Refusal> {
+    pub(crate) fn freeze(&mut self, size: u64) -> Result<(), Refusal> {
         if size < self.working || size > self.geometry.log {
             return Err(Refusal::Failed);
         }
@@ -149,7 +154,7 @@ impl<D: Device> Rig<D> {
     }
 
     /// Commits the checkpoint on its way at an age, and answers its generation.
-    pub fn commit(&mut self, age: u64) -> Result<u64, Refusal> {
+    pub(crate) fn commit(&mut self, age: u64) -> Result<u64, Refusal> {
         let is_later = age > self.store.saved().age && age <= MAX_AGE;
         if !self.sound || !is_later {
             return Err(Refusal::Failed);
@@ -168,7 +173,7 @@ impl<D: Device> Rig<D> {
     }
 
     /// Copies so many of the saved frames home, and answers how many are left.
-    pub fn migrate(&mut self, count: u64) -> Result<u64, Failed> {
+    pub(crate) fn migrate(&mut self, count: u64) -> Result<u64, Failed> {
         if !self.sound {
             return Err(Failed);
         }

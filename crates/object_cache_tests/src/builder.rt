@@ -14,7 +14,7 @@ use std::marker::Model;
 /// the halves of the log begin at sectors 109 and 254. A call for an object or a sector that isn't
 /// there fails.
 #[derive(Drop)]
-pub struct Builder<D: Device> {
+pub(crate) struct Builder<D: Device> {
     device: D,
     superblock: Superblock,
 }
@@ -52,7 +52,7 @@ fn superblock() -> Option<Superblock> {
 
 impl<D: Device> Builder<D> {
     /// A builder of an image. `None` where the device has too few sectors.
-    pub fn new(device: D) -> Option<Self> {
+    pub(crate) fn new(device: D) -> Option<Self> {
         let superblock = superblock()?;
         if device.sectors() < 5 || device.sectors() < superblock.total() {
             return None;
@@ -61,7 +61,7 @@ impl<D: Device> Builder<D> {
     }
 
     /// Writes a sector.
-    pub fn put_sector(&mut self, at: u64, sector: &[u8; SECTOR_SIZE]) -> Result<(), Failed> {
+    pub(crate) fn put_sector(&mut self, at: u64, sector: &[u8; SECTOR_SIZE]) -> Result<(), Failed> {
         if at >= self.superblock.total() {
             return Err(Failed);
         }
@@ -69,14 +69,18 @@ impl<D: Device> Builder<D> {
     }
 
     /// Writes the superblock.
-    pub fn put_superblock(&mut self) -> Result<(), Failed> {
+    pub(crate) fn put_superblock(&mut self) -> Result<(), Failed> {
         let mut sector = [0; SECTOR_SIZE];
         encode_superblock(&self.superblock, &mut sector);
         self.put_sector(0, &sector)
     }
 
     /// Writes a header with its gate in the slot of its sequence number.
-    pub fn put_header(&mut self, header: CheckpointHeader, gate: Gate) -> Result<(), Failed> {
+    pub(crate) fn put_header(
+        &mut self,
+        header: CheckpointHeader,
+        gate: Gate,
+    ) -> Result<(), Failed> {
         let at = 1 + 2 * (header.sequence % 2);
         let mut sector = [0; SECTOR_SIZE];
         encode_header(header, &mut sector);
@@ -86,7 +90,7 @@ impl<D: Device> Builder<D> {
     }
 
     /// Writes the home frame that an object begins with.
-    pub fn put_home(&mut self, alloc: Global, number: u64) -> Result<(), Failed> {
+    pub(crate) fn put_home(&mut self, alloc: Global, number: u64) -> Result<(), Failed> {
         let geometry = self.superblock.geometry();
         if number >= geometry.nodes + geometry.pages {
             return Err(Failed);
@@ -99,7 +103,7 @@ impl<D: Device> Builder<D> {
     }
 
     /// Makes what was written durable, and gives the device back.
-    pub fn finish(self) -> Result<D, Failed> {
+    pub(crate) fn finish(self) -> Result<D, Failed> {
         let Builder { mut device, .. } = self;
         device.sync()?;
         Ok(device)

@@ -1,19 +1,19 @@
 //! The tests of `object_cache`, through its public functions, and what they are written with.
 #![tactic(auto)]
 
+#[cfg(test)]
 mod builder;
 #[cfg(test)]
 mod calls;
+#[cfg(test)]
 mod frames;
 #[cfg(test)]
 mod freezes;
 #[cfg(test)]
 mod images;
+#[cfg(test)]
 mod rig;
 #[cfg(test)]
 mod steps;
 #[cfg(test)]
 mod stops;
-
-pub use builder::Builder;
-pub use rig::Rig;

@@ -12,7 +12,7 @@ use std::marker::Model;
 /// fails: for an object that isn't there or of another kind, at an age that is too low, or after a
 /// failure of the device.
 #[derive(Drop)]
-pub struct Rig<D: Device> {
+pub(crate) struct Rig<D: Device> {
     store: PlainStore<D>,
     /// The present and the frozen frames can be kept at these ages.
     age: u64,
@@ -34,7 +34,7 @@ impl<D: Device> Model for Rig<D> {
 
 impl<D: Device> Rig<D> {
     /// Opens a device.
-    pub fn open(alloc: Global, device: D) -> Result<Self, OpenRefused<D>> {
+    pub(crate) fn open(alloc: Global, device: D) -> Result<Self, OpenRefused<D>> {
         match PlainStore::open(alloc, device, ()) {
             Ok(store) => {
                 let age = store.saved().age;
@@ -50,28 +50,28 @@ impl<D: Device> Rig<D> {
     }
 
     /// Gives the device back.
-    pub fn into_device(self) -> D {
+    pub(crate) fn into_device(self) -> D {
         let Rig { store, .. } = self;
         store.into_device()
     }
 
     /// How much there is room for.
-    pub fn geometry(&self) -> Geometry {
+    pub(crate) fn geometry(&self) -> Geometry {
         self.store.geometry()
     }
 
     /// What is told of the committed checkpoint.
-    pub fn saved(&self) -> Checkpoint {
+    pub(crate) fn saved(&self) -> Checkpoint {
         self.store.saved()
     }
 
     /// How many objects of a checkpoint on its way aren't in the log, where there is one.
-    pub fn left(&self) -> Option<u64> {
+    pub(crate) fn left(&self) -> Option<u64> {
         self.store.left()
     }
 
     /// An object's header and its value.
-    pub fn look(
+    pub(crate) fn look(
         &mut self,
         alloc: Global,
         number: u64,
@@ -89,7 +89,12 @@ impl<D: Device> Rig<D> {
     }
 
     /// Puts a value into the first word of a page. What is no page stays.
-    pub fn set_word(&mut self, alloc: Global, number: u64, value: u64) -> Result<(), PrepareFault> {
+    pub(crate) fn set_word(
+        &mut self,
+        alloc: Global,
+        number: u64,
+        value: u64,
+    ) -> Result<(), PrepareFault> {
         if number >= self.store.table().count() {
             return Err(PrepareFault::Failed);
         }
@@ -103,7 +108,12 @@ impl<D: Device> Rig<D> {
     }
 
     /// Puts a number into slot 1 of a node or an annex. What is neither stays.
-    pub fn set_slot(&mut self, alloc: Global, number: u64, value: u64) -> Result<(), PrepareFault> {
+    pub(crate) fn set_slot(
+        &mut self,
+        alloc: Global,
+        number: u64,
+        value: u64,
+    ) -> Result<(), PrepareFault> {
         if number >= self.store.table().count() {
             return Err(PrepareFault::Failed);
         }
@@ -117,7 +127,12 @@ impl<D: Device> Rig<D> {
     }
 
     /// Puts a value into the first word of a process.
-    pub fn set_root(&mut self, alloc: Global, number: u64, value: u64) -> Result<(), PrepareFault> {
+    pub(crate) fn set_root(
+        &mut self,
+        alloc: Global,
+        number: u64,
+        value: u64,
+    ) -> Result<(), PrepareFault> {
         if number >= self.store.table().count() {
             return Err(PrepareFault::Failed);
         }
@@ -134,7 +149,7 @@ impl<D: Device> Rig<D> {
     }
 
     /// Makes a free number a bank with a limit, or a page.
-    pub fn claim(
+    pub(crate) fn claim(
         &mut self,
         alloc: Global,
         number: u64,
@@ -161,7 +176,7 @@ impl<D: Device> Rig<D> {
     }
 
     /// Frees a number: both of its counts are one more.
-    pub fn reset(&mut self, alloc: Global, number: u64) -> Result<(), PrepareFault> {
+    pub(crate) fn reset(&mut self, alloc: Global, number: u64) -> Result<(), PrepareFault> {
         if number >= self.store.table().count() || self.age >= MAX_AGE {
             return Err(PrepareFault::Failed);
         }
@@ -180,7 +195,7 @@ impl<D: Device> Rig<D> {
     }
 
     /// Gives an object another owner. One that is free has none.
-    pub fn set_owner(
+    pub(crate) fn set_owner(
         &mut self,
         alloc: Global,
         number: u64,
@@ -202,7 +217,7 @@ impl<D: Device> Rig<D> {
     }
 
     /// Makes the call count of an object one more.
-    pub fn consume(&mut self, alloc: Global, number: u64) -> Result<(), PrepareFault> {
+    pub(crate) fn consume(&mut self, alloc: Global, number: u64) -> Result<(), PrepareFault> {
         if number >= self.store.table().count() || self.age >= MAX_AGE {
             return Err(PrepareFault::Failed);
         }
@@ -220,7 +235,12 @@ impl<D: Device> Rig<D> {
     }
 
     /// Announces two numbers, or one twice.
-    pub fn announce(&mut self, alloc: Global, one: u64, other: u64) -> Result<(), PrepareFault> {
+    pub(crate) fn announce(
+        &mut self,
+        alloc: Global,
+        one: u64,
+        other: u64,
+    ) -> Result<(), PrepareFault> {
         let count = self.store.table().count();
         if one >= count || other >= count {
             return Err(PrepareFault::Failed);
@@ -229,7 +249,7 @@ impl<D: Device> Rig<D> {
     }
 
     /// Puts an object out of memory, where the store may.
-    pub fn evict(&mut self, number: u64) -> Result<(), Failed> {
+    pub(crate) fn evict(&mut self, number: u64) -> Result<(), Failed> {
         if number >= self.store.table().count() {
             return Err(Failed);
         }
@@ -237,7 +257,7 @@ impl<D: Device> Rig<D> {
     }
 
     /// Begins a checkpoint, and answers how many objects it writes.
-    pub fn freeze(&mut self) -> Result<u64, Failed> {
+    pub(crate) fn freeze(&mut self) -> Result<u64, Failed> {
         if !self.sound || self.store.saved().entries != 0 {
             return Err(Failed);
         }
@@ -252,7 +272,7 @@ impl<D: Device> Rig<D> {
     }
 
     /// Writes so many of the frozen objects to the log, and answers how many are left.
-    pub fn stabilize(&mut self, count: u64) -> Result<u64, Failed> {
+    pub(crate) fn stabilize(&mut self, count: u64) -> Result<u64, Failed> {
         if !self.sound {
             return Err(Failed);
         }
@@ -269,7 +289,7 @@ impl<D: Device> Rig<D> {
     }
 
     /// Commits the checkpoint on its way at an age, and answers its generation.
-    pub fn commit(&mut self, age: u64) -> Result<u64, Failed> {
+    pub(crate) fn commit(&mut self, age: u64) -> Result<u64, Failed> {
         if age <= self.store.saved().age || age > MAX_AGE {
             return Err(Failed);
         }
@@ -294,7 +314,7 @@ impl<D: Device> Rig<D> {
     }
 
     /// Copies so many of the saved objects home, and answers how many are left.
-    pub fn migrate(&mut self, count: u64) -> Result<u64, Failed> {
+    pub(crate) fn migrate(&mut self, count: u64) -> Result<u64, Failed> {
         if !self.sound {
             return Err(Failed);
         }
