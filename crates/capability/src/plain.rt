@@ -1,10 +1,11 @@
 // The store in memory.
-ghost use Rattle.std.specs.Prelude.{◌≡◌, ◌≢◌, ℕ, ◌+◌, ◌<◌, ◌≤◌, ◌^◌, ◌↔◌, false, length, replicate, slice_index_or, IfOk, OnOk, OnErr, IsErrOf};
+ghost use Rattle.std.specs.Prelude.{◌≡◌, ◌≢◌, ℕ, ◌+◌, ◌<◌, ◌≤◌, ◌^◌, ◌↔◌, false, length, replicate, slice_index_or, None, IfSome, IfOk, OnOk, OnErr, IsErrOf};
 ghost use Rattle.std.specs.List.{All, Contains};
 ghost use Rattle.model.specs.Frame.{header_at};
 ghost use Rattle.model.specs.Keepable.{AreKeepable};
 ghost use Rattle.model.specs.Machine.{touching, touched_count, untouched};
 ghost use Rattle.model.specs.Sound.{object_count};
+ghost use Rattle.number_set.specs.Marks.{IsNextMarked, HasNoneMarked};
 ghost use Rattle.capability.specs.Parts.{frames_of};
 ghost use Rattle.capability.specs.Plain.{GoesOn, HasRoom, IsThere, parts_of, with_content_at};
 
@@ -13,6 +14,7 @@ use crate::plain::touched::{fresh_count, mark};
 use crate::present::{Fresh, MAX_FETCHED, PrepareFault, PresentFrames};
 use crate::table::ObjectTable;
 use model::{Cap, Content, Geometry, ObjectHeader, Role};
+use number_set::NumberSet;
 use std::alloc::{AllocError, Global};
 use std::marker::Model;
 use std::mem;
@@ -30,10 +32,10 @@ pub struct Plain {
     geometry: Geometry,
     table: ObjectTable,
     contents: Vec<Content<Cap>>,
-    touched: Vec<bool>,
+    touched: NumberSet,
     /// Blank bodies for free numbers that were announced. `Free` where there is none.
     rooms: Vec<Content<Cap>>,
-    /// How many of `touched` are true.
+    /// How many numbers are in `touched`.
     count: u64,
     age: u64,
 }
@@ -47,13 +49,13 @@ impl Model for Plain {
       geometry = p.geometry;
       headers = p.table;
       contents = p.contents.items;
-      touched = p.touched.items;
+      touched = p.touched;
       rooms = p.rooms.items;
       age = p.age;
     } };
 
     ghost invariant = { λ p.
-        IsWholeStore p.geometry p.table p.contents.items p.touched.items p.rooms.items p.count };
+        IsWholeStore p.geometry p.table p.contents.items p.touched p.rooms.items p.count };
 }
 
 impl Plain {
@@ -77,7 +79,7 @@ impl Plain {
         }) }
     {
         let count = contents.len();
-        let touched = vec![in alloc; false; count]?;
+        let touched = NumberSet::new(alloc, count)?;
         let mut rooms = Vec::with_capacity(alloc, count)?;
         push_free(&mut rooms, count)?;
         Ok(Plain {
@@ -96,7 +98,18 @@ impl Plain {
         requires { number < length self.now.headers }
         ensures { result ≡ slice_index_or self.now.touched number false }
     {
-        self.touched[number as usize]
+        self.touched.contains(number as usize)
+    }
+
+    /// The least number from a number on that was written since that was last forgotten.
+    pub fn next_touched(&self, from: u64) -> Option<u64>
+        ensures some { IfSome result (λ number. IsNextMarked self.now.touched from number) }
+        ensures none { result ≡ None → HasNoneMarked self.now.touched from }
+    {
+        match self.touched.next(from as usize) {
+            Some(number) => Some(number as u64),
+            None => None,
+        }
     }
 
     /// How many numbers were written since that was last forgotten, at most as many as half of the
@@ -112,7 +125,7 @@ impl Plain {
     pub fn forget_touched(&mut self)
         ensures { self.new ≡ record self.old { touched = untouched self.old.geometry } }
     {
-        self.touched.fill(false);
+        self.touched.clear();
         self.count = 0;
     }
 
@@ -151,7 +164,7 @@ impl Plain {
         ensures cause { IsErrOf result PrepareFault.Failed → ⊥ }
     {
         let fresh = fresh_count(&self.touched, written);
-        if self.count + fresh > self.geometry.log {
+        if fresh > self.geometry.log - self.count {
             return Err(PrepareFault::LogFull);
         }
         match put_aside(alloc, self.geometry, &self.table, &mut self.rooms, written) {

@@ -23,7 +23,7 @@ use Rattle.capability.specs.Parts.{AreGivenUp, IsOnce, KeepsAside, Parts, frames
 use Rattle.space_bank.specs.Banks.{AreCounted, BanksState, KeepsObjects}
 use Rattle.space_bank.specs.Carrying.{CarriesOut, MayGiveUp, MayServe, marks_of}
 use Rattle.space_bank.specs.Chains.{IsRaised}
-use Rattle.space_bank.specs.Free.{is_marked}
+use Rattle.number_set.specs.Marks.{is_marked}
 use Rattle.space_bank.proofs.Standing.{few_allocations, few_calls, serve_count, serve_tree}
 use Rattle.space_bank.proofs.Tallies.{counted_from, marks_counted}
 

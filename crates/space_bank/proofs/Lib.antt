@@ -6,7 +6,6 @@ mod Ending
 mod Found
 mod Giving
 mod Lists
-mod Marks
 mod Owners
 mod Plans
 mod Returning

@@ -20,7 +20,7 @@ use Rattle.model_laws.proofs.SoundEdits.{at_map}
 use Rattle.capability.specs.Parts.{Parts, frames_of}
 use Rattle.space_bank.specs.Banks.{AreCounted, BanksState}
 use Rattle.space_bank.specs.Carrying.{AreHandedOn, CarriesOut, MayServe}
-use Rattle.space_bank.specs.Free.{is_marked}
+use Rattle.number_set.specs.Marks.{is_marked}
 use Rattle.space_bank.proofs.Ending.{IsReleased, counted_gone}
 use Rattle.space_bank.proofs.Owners.{handed_same}
 use Rattle.space_bank.proofs.Standing.{few_allocations, few_calls, serve_now, serve_tree}

@@ -20,7 +20,7 @@ use Rattle.model_laws.proofs.BankUsage.{usage_new, usage_new_bank}
 use Rattle.space_bank.specs.Banks.{AreCounted, BanksState}
 use Rattle.space_bank.specs.Carrying.{marks_of}
 use Rattle.space_bank.specs.Chains.{IsRaised}
-use Rattle.space_bank.specs.Free.{is_marked}
+use Rattle.number_set.specs.Marks.{is_marked}
 
 -- one more of a list was marked as free
 pub marked_more : (before now next : List Bool) (list : List ℕ) (i : ℕ) → i < length list → slice_index list i < length now

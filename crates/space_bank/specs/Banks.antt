@@ -13,7 +13,7 @@ use Rattle.model.specs.Sound.{MayBeHeld, object_count}
 use Rattle.model.specs.World.{content_at}
 use Rattle.capability.specs.Parts.{AreSound, Parts, frames_of}
 use Rattle.space_bank.specs.declared.plan.BankPlan.{BankPlan}
-use Rattle.space_bank.specs.Free.{is_marked}
+use Rattle.number_set.specs.Marks.{is_marked}
 
 -- Which nodes and which pages are free, counted from the first of each; by number of a bank how many objects it
 -- accounts for, and its limit; and the numbers that were listed for an order, with so much room for them.

@@ -3,7 +3,7 @@ use Rattle.std.specs.Prelude.{◌≡◌, ℕ, ◌+◌, ◌<◌, Bool, List, leng
 use Rattle.model.specs.declared.object.Object.{Object}
 use Rattle.model.specs.Object.{is_free}
 use Rattle.model.specs.World.{content_at}
-use Rattle.space_bank.specs.Free.{is_marked}
+use Rattle.number_set.specs.Marks.{is_marked}
 
 -- so many marks, of which each tells whether a number is free, from a first number on
 pub record AreMarked (os : List Object) (first count : ℕ) (marks : List Bool) : Type 0 where

@@ -1,6 +1,5 @@
 pub use Rattle.capability.specs.Parts
 pub use Rattle.model.specs.Banking
-pub mod Free
 pub mod Banks
 pub mod Chains
 pub mod Counting

@@ -2,7 +2,7 @@
 ghost use Rattle.std.specs.Prelude.{◌≡◌, ℕ, slice_index};
 ghost use Rattle.space_bank.specs.Banks.{AreCounted};
 
-use crate::free_numbers::FreeNumbers;
+use number_set::NumberSet;
 use std::marker::Model;
 
 /// Which numbers are free, and for each bank its limit and how many objects it accounts for.
@@ -11,8 +11,8 @@ use std::marker::Model;
 /// call but the counting takes memory.
 #[derive(Drop)]
 pub struct Banks {
-    pub(crate) nodes: FreeNumbers,
-    pub(crate) pages: FreeNumbers,
+    pub(crate) nodes: NumberSet,
+    pub(crate) pages: NumberSet,
     pub(crate) usages: Vec<u64>,
     pub(crate) limits: Vec<u64>,
     pub(crate) listed: Vec<u64>,

@@ -13,7 +13,7 @@ ghost use Rattle.space_bank.specs.Counting.{AreMarked};
 
 use crate::banks::Banks;
 use crate::chains::raise;
-use crate::free_numbers::FreeNumbers;
+use number_set::NumberSet;
 use crate::walking::{is_free, owner};
 use capability::{PrepareFault, PresentFrames, objects};
 use model::{Content, Role};
@@ -107,13 +107,13 @@ fn free_numbers<F: PresentFrames>(
     store: &F,
     first: u64,
     count: u64,
-) -> Result<FreeNumbers, AllocError>
+) -> Result<NumberSet, AllocError>
     requires roles { HaveTheirRoles (frames_of (F.parts store.now)) }
     requires fits { first + count < 2 ^ 64 }
     ensures { IfOk result
         (AreMarked (objects_of (frames_of (F.parts store.now))) first count) }
 {
-    let mut numbers = FreeNumbers::new(alloc, count as usize)?;
+    let mut numbers = NumberSet::new(alloc, count as usize)?;
     for number in 0..count {
         numbers.set(number as usize, is_free(store, first + number));
     }

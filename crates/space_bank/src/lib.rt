@@ -8,7 +8,6 @@ mod banks;
 mod carrying;
 mod chains;
 mod counting;
-mod free_numbers;
 mod giving_up;
 mod handing;
 mod listing;

@@ -3,12 +3,12 @@ ghost use Rattle.std.specs.Prelude.{◌≡◌, ℕ, ◌+◌, ◌<◌, ◌++◌, 
 ghost use Rattle.std.specs.List.{All};
 ghost use Rattle.model.specs.Revoke.{is_member};
 
-use crate::free_numbers::FreeNumbers;
+use number_set::NumberSet;
 
 /// Makes a number free, or takes it.
 pub(crate) fn mark(
-    nodes: &mut FreeNumbers,
-    pages: &mut FreeNumbers,
+    nodes: &mut NumberSet,
+    pages: &mut NumberSet,
     first_page: usize,
     number: u64,
     free: bool,
@@ -29,8 +29,8 @@ pub(crate) fn mark(
 
 /// Makes numbers free.
 pub(crate) fn mark_free(
-    nodes: &mut FreeNumbers,
-    pages: &mut FreeNumbers,
+    nodes: &mut NumberSet,
+    pages: &mut NumberSet,
     first_page: usize,
     numbers: &[u64],
 )

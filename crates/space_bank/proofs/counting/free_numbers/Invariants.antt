@@ -3,7 +3,7 @@ use Rattle.model.specs.Frame.{objects_of}
 use Rattle.model.specs.Object.{is_free}
 use Rattle.model.specs.World.{content_at}
 use Rattle.capability.specs.Parts.{frames_of}
-use Rattle.space_bank.specs.Free.{is_marked}
+use Rattle.number_set.specs.Marks.{is_marked}
 use Rattle.space_bank.proofs.counting.free_numbers.Given as goal
 
 abbrev pub invariant-loop-number : goal.invariant-loop-number

@@ -1,5 +1,4 @@
 use Rattle.std.proofs.Common.{rules, ◌≡◌, ℕ, Bool, false, List, length, replicate, refl, ap, sym, ◌∙◌, subst}
-use Rattle.std.specs.Vec.{vec_len}
 use Rattle.model.specs.Machine.{untouched}
 use Rattle.model.specs.Sound.{object_count}
 use Rattle.capability.specs.Plain.{PlainState}
@@ -17,9 +16,9 @@ returns c =
       geometry = c.self.inside.geometry;
       headers = c.self.inside.table;
       contents = c.self.inside.contents.items;
-      touched = c.self.inside.touched.items;
+      touched = c.self.inside.touched;
       rooms = c.self.inside.rooms.items;
       age = c.self.inside.age;
     } in
-    let count : vec_len c.self.inside.touched ≡ object_count c.self.inside.geometry = search rules in
-    forgotten state c.args.self.now c.fill.new.self.items c.self.view_is (c.fill.ensures.items (λ y is. is) ∙ ap (λ (n : ℕ). replicate n false) count)
+    let count : length c.self.inside.touched ≡ object_count c.self.inside.geometry = search rules in
+    forgotten state c.args.self.now c.clear.new.self c.self.view_is (c.clear.ensures ∙ ap (λ (n : ℕ). replicate n false) count)

@@ -20,10 +20,10 @@ pub returns : goal.returns
 unfolding untouched
 returns c =
     let count : c.len-count.result ≡ object_count c.args.geometry = search rules in
-    let touched : c.in_ok-touched.touched.items ≡ untouched c.args.geometry = c.in_ok-touched.ensures.items_if_clones_equal (λ y is. is) ∙ ap (λ (n : ℕ). replicate n false) count in
-    of_parts c.args.geometry c.new.result c.args.headers.items c.args.contents.items c.in_ok-touched.touched.items (untouched c.args.geometry)
+    let touched : c.in_ok-touched.touched ≡ untouched c.args.geometry = c.in_ok-touched.ensures ∙ ap (λ (n : ℕ). replicate n false) count in
+    of_parts c.args.geometry c.new-2.result c.args.headers.items c.args.contents.items c.in_ok-touched.touched (untouched c.args.geometry)
     c.push_free.new.contents.items (replicate (object_count c.args.geometry) content.Free)
-    c.new.ensures
+    c.new-2.ensures
     touched
     (c.in_ok-push_free.ensures ∙ ap (λ (xs : List (Content Cap)). xs ++ replicate c.len-count.result content.Free) c.in_ok-rooms.ensures.items
     ∙ ap (λ (n : ℕ). replicate {A = Content Cap} n content.Free) count)

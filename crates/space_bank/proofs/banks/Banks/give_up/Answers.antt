@@ -7,7 +7,7 @@ use Rattle.model.specs.Revoke.{is_member, rescind}
 use Rattle.capability.specs.Parts.{frames_of}
 use Rattle.space_bank.specs.Banks.{BanksState}
 use Rattle.space_bank.specs.Chains.{IsRaised}
-use Rattle.space_bank.specs.Free.{is_marked}
+use Rattle.number_set.specs.Marks.{is_marked}
 use Rattle.space_bank.proofs.Ending.{AreKnown, ended_aside, ended_carried, enough_used, list_allocations, list_calls, list_marks, released_then, rest_is}
 use Rattle.space_bank.proofs.banks.Banks.give_up.Goals as goal
 
