@@ -105,6 +105,7 @@ impl Plain {
     pub fn next_touched(&self, from: u64) -> Option<u64>
         ensures some { IfSome result (λ number. IsNextMarked self.now.touched from number) }
         ensures none { result ≡ None → HasNoneMarked self.now.touched from }
+        ensures few { length self.now.touched < 2 ^ 64 }
     {
         match self.touched.next(from as usize) {
             Some(number) => Some(number as u64),

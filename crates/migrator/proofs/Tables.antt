@@ -1,9 +1,11 @@
 -- What is known of a table of places.
-use Rattle.std.proofs.Common.{◌≡◌, ℕ, zero, suc, ◌+◌, ◌-◌, ◌<◌, ◌≤◌, Option, Some, None, List, [], ◌∷◌, ◌++◌, length, get_or, set, take, drop, refl, sym, ap, subst, ◌∙◌, inl, inr, arith, length-take-le}
+use native.Mathlib.Numerals.{unary_clauses}
+use Rattle.std.proofs.Common.{◌≡◌, ℕ, zero, suc, ◌+◌, ◌-◌, ◌<◌, ◌≤◌, Bool, true, false, Option, Some, None, List, [], ◌∷◌, ◌++◌, length, map, set, take, drop, refl, sym, ap, subst, ◌∙◌, inl, inr, arith, length-append, length-take-le}
 use Rattle.std.specs.Prelude.{replicate}
 use Rattle.std.proofs.lemmas.Bool.{cases_eq}
-use Rattle.std.proofs.Math.Seq.{take-nil}
-use Rattle.std.proofs.lemmas.List.{get_or-set_same, get_or-set_other, get_or_default, get_or-replicate, take_more, take_all, drop_all, append-nil, length-replicate, same_lists}
+use Rattle.std.proofs.Math.ListN.{get_or-map}
+use Rattle.std.proofs.lemmas.List.{get_or-set_same, get_or-set_other, get_or_default, take_all, drop_all, append-nil, nil_from_length, length-map, map-set}
+use Rattle.number_set.specs.Marks.{is_marked, IsNextMarked, HasNoneMarked}
 use Rattle.model.specs.declared.geometry.Geometry.{Geometry}
 use Rattle.layout.specs.declared.directory.Entry.{Entry}
 use Rattle.layout.specs.Directory.{entry_at, AreRising, IsEntry, IsDirectory}
@@ -11,7 +13,7 @@ use Rattle.layout.specs.Image.{slot_in}
 use Rattle.layout.proofs.SlotsOf.{slot_here, slot_behind, own_slot, two_objects}
 use Rattle.migrator.specs.declared.table.Place.{Place}
 use Rattle.migrator.specs.declared.table.Place.TheVariants.{Nowhere, Torn, Whole}
-use Rattle.migrator.specs.Table.{place_at, slot_of, has_slot, has_frame, tally, taken_count, whole_count, slot_or, slot_for, IsTable, entry_before, entries_from, entries_of}
+use Rattle.migrator.specs.Table.{place_at, slot_of, is_held, has_slot, has_frame, tally, taken_count, whole_count, slot_or, slot_for, IsTable, entry_before, entries_from, entries_of}
 
 -- ---- counts
 
@@ -138,50 +140,6 @@ table_set ps n q is lt has = set_by (slot_of (place_at ps n)) ps n q is lt refl 
 
 -- ---- entries
 
-entry_on : (n : ℕ) (o : Option ℕ) (xs ys : List Entry) → entry_before n o (xs ++ ys) ≡ entry_before n o xs ++ ys
-entry_on n None xs ys = refl
-entry_on n (Some s) xs ys = refl
-
-entries-append : (n : ℕ) (ps qs : List Place) → entries_from n (ps ++ qs) ≡ entries_from n ps ++ entries_from (n + length ps) qs
-entries-append n [] qs = let none : n + 0 ≡ n = omega arith in ap (λ (k : ℕ). entries_from k qs) (sym none)
-entries-append n (p ∷ ps) qs =
-    let next : n + 1 + length ps ≡ n + suc (length ps) = omega arith in
-    ap (entry_before n (slot_of p)) (entries-append (n + 1) ps qs) ∙ entry_on n (slot_of p) (entries_from (n + 1) ps) (entries_from (n + 1 + length ps) qs)
-    ∙ ap (λ (k : ℕ). entry_before n (slot_of p) (entries_from (n + 1) ps) ++ entries_from k qs) next
-
--- one place more
-pub entries-more : (ps : List Place) (i : ℕ) (d : Place) → i < length ps → entries_of (take (i + 1) ps) ≡ entries_of (take i ps) ++ entry_before i (slot_of (get_or ps i d)) []
-unfolding entries_of
-entries-more ps i d lt =
-    let size : 0 + length (take i ps) ≡ i = omega (arith, length-take-le i ps (omega (arith, lt))) in
-    ap (entries_from 0) (take_more ps i d lt) ∙ entries-append 0 (take i ps) (get_or ps i d ∷ [])
-    ∙ ap (λ (k : ℕ). entries_from 0 (take i ps) ++ entries_from k (get_or ps i d ∷ [])) size
-
-pub no_entries : entries_of [] ≡ []
-unfolding entries_of
-no_entries = refl
-
-tally-append : (has : Place → ℕ) (ps qs : List Place) → tally has (ps ++ qs) ≡ tally has ps + tally has qs
-unfolding tally
-tally-append has [] qs = omega arith
-tally-append has (p ∷ ps) qs = let rest = tally-append has ps qs in omega (arith, rest)
-
-pub tally-more : (has : Place → ℕ) (ps : List Place) (i : ℕ) (d : Place) → i < length ps → tally has (take (i + 1) ps) ≡ tally has (take i ps) + has (get_or ps i d)
-unfolding tally
-tally-more has ps i d lt =
-    let more = tally-append has (take i ps) (get_or ps i d ∷ []) in
-    ap (tally has) (take_more ps i d lt) ∙ omega (arith, more)
-
-pub tally-none : (has : Place → ℕ) → tally has [] ≡ 0
-unfolding tally
-tally-none has = refl
-
-tally-take : (has : Place → ℕ) (ps : List Place) (i : ℕ) → tally has (take i ps) ≤ tally has ps
-unfolding tally
-tally-take has [] i = subst (λ (xs : List Place). tally has xs ≤ 0) (sym (take-nil i)) (omega arith)
-tally-take has (p ∷ ps) zero = omega arith
-tally-take has (p ∷ ps) (suc i) = let rest = tally-take has ps i in omega (arith, rest)
-
 entry_length : (n : ℕ) (p : Place) (es : List Entry) → length (entry_before n (slot_of p) es) ≡ has_slot p + length es
 entry_length n Nowhere es = omega arith
 entry_length n (Torn s) es = omega arith
@@ -195,6 +153,83 @@ length_from n (p ∷ ps) = let rest = length_from (n + 1) ps in let here = entry
 pub length_entries : (ps : List Place) → length (entries_of ps) ≡ taken_count ps
 unfolding entries_of
 length_entries ps = length_from 0 ps
+
+-- ---- the objects that have a slot
+
+-- a mark is whether the object has one
+mark_is : (ps : List Place) (n : ℕ) → is_marked (map is_held ps) n ≡ is_held (place_at ps n)
+mark_is ps n = get_or-map is_held ps n Nowhere
+
+held_has : (p : Place) → is_held p ≡ true → has_slot p ≡ 1
+held_has Nowhere held = absurd cc
+held_has (Torn s) held = refl
+held_has (Whole s) held = refl
+
+unheld_slot : (p : Place) → is_held p ≡ false → slot_of p ≡ None
+unheld_slot Nowhere unheld = refl
+unheld_slot (Torn s) unheld = absurd cc
+unheld_slot (Whole s) unheld = absurd cc
+
+-- the entries of the objects from the n-th on, of which the number is i
+entries_step : (i n : ℕ) (ps : List Place) → entries_from i (drop n ps) ≡ entry_before i (slot_of (place_at ps n)) (entries_from (i + 1) (drop (n + 1) ps))
+entries_step i zero [] = refl
+entries_step i (suc n) [] = simp unary_clauses refl
+entries_step i zero (p ∷ ps) = refl
+entries_step i (suc n) (p ∷ ps) = simp unary_clauses (simp unary_clauses at (entries_step i n ps))
+
+-- objects without a slot add none
+entries_unheld : (ps : List Place) (from k : ℕ) → ((m : ℕ) → from ≤ m → m < from + k → is_marked (map is_held ps) m ≡ false) → entries_from from (drop from ps) ≡ entries_from (from + k) (drop (from + k) ps)
+entries_unheld ps from zero none = simp unary_clauses refl
+entries_unheld ps from (suc k) none =
+    let rest : List Entry = entries_from (from + 1) (drop (from + 1) ps) in
+    let here = unheld_slot (place_at ps from) (sym (mark_is ps from) ∙ none from (omega arith) (omega arith)) in
+    let next : from + 1 + k ≡ from + suc k = omega arith in
+    entries_step from from ps ∙ ap (λ (o : Option ℕ). entry_before from o rest) here ∙ entries_unheld ps (from + 1) k (λ m past within. none m (omega arith) (omega arith))
+    ∙ ap (λ (n : ℕ). entries_from n (drop n ps)) next
+
+-- the next object with a slot has the next entry
+pub next_held : (ps : List Place) (from n s : ℕ) → IsNextMarked (map is_held ps) from n → slot_of (place_at ps n) ≡ Some s → entries_from from (drop from ps) ≡ record { object = n; slot = s } ∷ entries_from (n + 1) (drop (n + 1) ps)
+next_held ps from n s next has =
+    let end : from + (n - from) ≡ n = omega (arith, next.past) in
+    entries_unheld ps from (n - from) (λ m past within. next.least m past (omega (arith, end)))
+    ∙ ap (λ (m : ℕ). entries_from m (drop m ps)) end ∙ entries_step n n ps ∙ ap (λ (o : Option ℕ). entry_before n o (entries_from (n + 1) (drop (n + 1) ps))) has
+
+-- and where there is none, there are no more entries
+pub none_held : (ps : List Place) (from : ℕ) → HasNoneMarked (map is_held ps) from → entries_from from (drop from ps) ≡ []
+none_held ps from none =
+    entries_unheld ps from (length ps) (λ m past within. none m past)
+    ∙ ap (entries_from (from + length ps)) (drop_all (from + length ps) ps (omega arith))
+
+-- as many entries are left as were not yet written
+pub entries_left : (ps : List Place) (into rest : List Entry) (count : ℕ) → count ≤ length into → entries_of ps ≡ take count into ++ rest → count + length rest ≡ taken_count ps
+entries_left ps into rest count within are = let all = ap length are in omega (arith, all, length_entries ps, length-append (take count into) rest, length-take-le count into within)
+
+-- so all are written in the end
+pub entries_done : (ps : List Place) (into rest : List Entry) (count taken : ℕ) → count ≤ length into → entries_of ps ≡ take count into ++ rest → taken ≡ taken_count ps → count ≡ taken → take taken into ≡ entries_of ps
+entries_done ps into rest count taken within are total done =
+    let none : rest ≡ [] = nil_from_length rest (omega (arith, entries_left ps into rest count within are)) in
+    ap (λ (n : ℕ). take n into) (sym done) ∙ sym (append-nil (take count into)) ∙ ap (λ (es : List Entry). take count into ++ es) (sym none) ∙ sym are
+
+-- ---- all slots are taken away
+
+pub none_taken : (ps : List Place) → HasNoneMarked (map is_held ps) 0 → taken_count ps ≡ 0
+none_taken ps none = sym (length_from 0 ps) ∙ ap length (none_held ps 0 none)
+
+-- one is taken away
+pub one_less : (ps : List Place) (n : ℕ) → IsNextMarked (map is_held ps) 0 n → taken_count (set ps n Nowhere) + 1 ≡ taken_count ps
+one_less ps n next =
+    let within : n < length ps = omega (arith, next.inside, length-map ps is_held) in
+    let after = tally-set has_slot ps n Nowhere within in
+    let one = held_has (place_at ps n) (sym (mark_is ps n) ∙ next.marked) in
+    omega (arith, after, one)
+
+-- and then none has one
+pub all_nowhere : (ps : List Place) → taken_count ps ≡ 0 → ps ≡ replicate (length ps) Nowhere
+unfolding tally
+all_nowhere [] none = refl
+all_nowhere (Nowhere ∷ ps) none = ap (λ (qs : List Place). Nowhere ∷ qs) (all_nowhere ps (omega (arith, none)))
+all_nowhere (Torn s ∷ ps) none = absurd (omega (arith, none))
+all_nowhere (Whole s ∷ ps) none = absurd (omega (arith, none))
 
 -- ---- the slots that the entries give
 
@@ -317,37 +352,23 @@ pub table_is : (items now : List Place) (n : ℕ) (q : Place) → items ≡ now 
 table_is items now n q same lt has is =
     table_set items n q is (subst (λ (xs : List Place). n < length xs) (sym same) lt) (has ∙ ap (λ (xs : List Place). Some (slot_for xs n)) (sym same))
 
-pub blank_is : (ps : List Place) (n : ℕ) → ps ≡ replicate n Nowhere → IsTable ps × (0 ≡ taken_count ps) × (0 ≡ whole_count ps)
-blank_is ps n is =
-    subst (λ (xs : List Place). IsTable xs × (0 ≡ taken_count xs) × (0 ≡ whole_count xs)) (sym is) (blank_table n, sym (tally-blank has_slot n refl), sym (tally-blank has_frame n refl))
+slot_held : (p : Place) (s : ℕ) → slot_of p ≡ Some s → is_held p ≡ true
+slot_held Nowhere s has = absurd cc
+slot_held (Torn t) s has = refl
+slot_held (Whole t) s has = refl
 
-pub blank_whole : (items new : List Place) (n len : ℕ) → new ≡ replicate n Nowhere → n ≡ length items → len ≡ length items → take len (new ++ drop (length new) items) ≡ replicate n Nowhere
-blank_whole items new n len is count size =
-    let long : length new ≡ n = ap length is ∙ length-replicate {A = Place} n Nowhere in
-    let rest : drop (length new) items ≡ [] = drop_all (length new) items (omega (arith, long, count)) in
-    ap (λ (xs : List Place). take len (new ++ xs)) rest ∙ ap (take len) (append-nil new) ∙ take_all len new (omega (arith, long, count, size)) ∙ is
+pub held_set : (ps : List Place) (held : List Bool) (n s : ℕ) (q : Place) → held ≡ map is_held ps → slot_of q ≡ Some s → set held n true ≡ map is_held (set ps n q)
+held_set ps held n s q are has =
+    ap (λ (bs : List Bool). set bs n true) are ∙ ap (set (map is_held ps) n) (sym (slot_held q s has)) ∙ sym (map-set is_held ps n q)
 
-pub all_blank : (ps : List Place) (i n : ℕ) → n ≤ i → length ps ≡ n → ((k : ℕ) → k < i → place_at ps k ≡ Nowhere) → ps ≡ replicate n Nowhere
-all_blank ps i n done size each =
-    same_lists ps (replicate n Nowhere) (size ∙ sym (length-replicate {A = Place} n Nowhere))
-    (λ k d lt. get_or_default ps k d Nowhere lt ∙ each k (omega (arith, lt, size, done)) ∙ sym (get_or-replicate n k Nowhere d (omega (arith, lt, size))))
+pub blank_is : (ps : List Place) (held : List Bool) (n : ℕ) → ps ≡ replicate n Nowhere → held ≡ map is_held ps → IsTable ps × (held ≡ map is_held ps) × (0 ≡ taken_count ps) × (0 ≡ whole_count ps)
+blank_is ps held n is marks =
+    subst (λ (xs : List Place). IsTable xs × (held ≡ map is_held ps) × (0 ≡ taken_count xs) × (0 ≡ whole_count xs)) (sym is) (blank_table n, marks, sym (tally-blank has_slot n refl), sym (tally-blank has_frame n refl))
 
-pub room_more : (ps : List Place) (i count room : ℕ) → i < length ps → count ≡ taken_count (take i ps) → taken_count ps ≤ room → count + has_slot (place_at ps i) ≤ room
-room_more ps i count room lt is few =
-    let more = tally-more has_slot ps i Nowhere lt in
-    let most = tally-take has_slot ps (i + 1) in
-    omega (arith, more, most, is, few)
-
-pub entries_on : (ps : List Place) (i count count' : ℕ) (into into' : List Entry) → i < length ps → count ≡ taken_count (take i ps) → take count into ≡ entries_of (take i ps)
-    → count' ≡ count + has_slot (place_at ps i) → take count' into' ≡ take count into ++ entry_before i (slot_of (place_at ps i)) []
-    → (count' ≡ taken_count (take (i + 1) ps)) × (take count' into' ≡ entries_of (take (i + 1) ps))
-entries_on ps i count count' into into' lt total are more put = (
-  more ∙ ap (λ (n : ℕ). n + has_slot (place_at ps i)) total ∙ sym (tally-more has_slot ps i Nowhere lt),
-  put ∙ ap (λ (es : List Entry). es ++ entry_before i (slot_of (place_at ps i)) []) are ∙ sym (entries-more ps i Nowhere lt),
-)
-
-pub entries_all : (ps : List Place) (i : ℕ) → length ps ≤ i → take i ps ≡ ps
-entries_all ps i done = take_all i ps done
+-- no object is held
+pub unheld_all : (n : ℕ) → replicate n false ≡ map is_held (replicate n Nowhere)
+unheld_all zero = refl
+unheld_all (suc n) = ap (λ (bs : List Bool). false ∷ bs) (unheld_all n)
 
 pub rewritten : {X : Type 0} (items new : List X) (len : ℕ) → length new ≡ length items → len ≡ length items → take len (new ++ drop (length new) items) ≡ new
 rewritten {X = X} items new len long size =

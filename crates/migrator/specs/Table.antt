@@ -12,6 +12,12 @@ slot_of Nowhere = None
 slot_of (Torn s) = Some s
 slot_of (Whole s) = Some s
 
+-- whether an object has a slot
+abbrev pub is_held : Place → Bool
+is_held Nowhere = false
+is_held (Torn s) = true
+is_held (Whole s) = true
+
 abbrev pub is_whole : Place → Bool
 is_whole Nowhere = false
 is_whole (Torn s) = false

@@ -1,8 +1,9 @@
 // Which slots of a half of the log objects have.
-ghost use Rattle.std.specs.Prelude.{◌≡◌, ◌+◌, ◌<◌, ◌≤◌, ◌++◌, [], Some, length, take, replicate, slice_set, IfOk};
-ghost use Rattle.migrator.specs.Table.{place_at, slot_of, slot_for, has_slot, has_frame, taken_count, whole_count, entry_before, entries_of};
+ghost use Rattle.std.specs.Prelude.{◌≡◌, ◌+◌, ◌<◌, ◌≤◌, [], ◌∷◌, None, Some, length, map, take, drop, replicate, slice_set, IfSome, IfOk};
+ghost use Rattle.migrator.specs.Table.{place_at, slot_of, slot_for, is_held, has_slot, has_frame, taken_count, whole_count, entries_from, entries_of};
 
 use layout::Entry;
+use number_set::NumberSet;
 use std::alloc::{AllocError, Global};
 use std::marker::Model;
 
@@ -59,6 +60,8 @@ impl Place {
 #[derive(Drop)]
 pub(crate) struct Table {
     places: Vec<Place>,
+    /// Which objects have a slot.
+    held: NumberSet,
     /// How many objects have a slot.
     taken: u64,
     /// How many of them have their frame in it.
@@ -66,15 +69,16 @@ pub(crate) struct Table {
 }
 
 impl Model for Table {
-    ghost use Rattle.std.specs.Prelude.{◌≡◌, List};
+    ghost use Rattle.std.specs.Prelude.{◌≡◌, List, map};
     ghost use Rattle.migrator.specs.declared.table.Place.{Place};
-    ghost use Rattle.migrator.specs.Table.{IsTable, taken_count, whole_count};
+    ghost use Rattle.migrator.specs.Table.{IsTable, is_held, taken_count, whole_count};
 
     ghost Value = { List Place };
 
     ghost view = { λ t. t.places.items };
 
     ghost invariant = { λ t. IsTable t.places.items
+        × (t.held ≡ map is_held t.places.items)
         × (t.taken ≡ taken_count t.places.items)
         × (t.whole ≡ whole_count t.places.items) };
 }
@@ -90,48 +94,61 @@ fn blank_places(alloc: Global, count: usize) -> Result<Vec<Place>, AllocError>
     Ok(places)
 }
 
-// Takes their slots from all objects.
-fn clear_places(places: &mut [Place])
-    ensures { places.new ≡ replicate (length places.old) Place.Nowhere }
+// Takes its slot from each object that has one.
+fn clear_places(places: &mut [Place], held: &mut NumberSet, taken: u64)
+    requires held { held.old ≡ map is_held places.old }
+    requires taken { taken ≡ taken_count places.old }
+    ensures places { places.new ≡ replicate (length places.old) Place.Nowhere }
+    ensures held { held.new ≡ map is_held places.new }
 {
-    for index in 0..places.len() {
-        places[index] = Place::Nowhere;
-    }
-}
-
-// Puts the entry of an object behind those that are there, where it has a slot. Answers how many
-// there are.
-fn push_entry(number: usize, place: Place, into: &mut [Entry], count: usize) -> usize
-    requires room { count + has_slot place ≤ length into.old }
-    ensures count { result ≡ count + has_slot place }
-    ensures entries { take result into.new
-        ≡ take count into.old ++ entry_before number (slot_of place) [] }
-    ensures length { length into.new ≡ length into.old }
-{
-    match place.slot() {
-        None => count,
-        Some(slot) => {
-            into[count] = Entry {
-                object: number as u64,
-                slot,
-            };
-            count + 1
+    for _ in 0..taken {
+        match held.next(0) {
+            None => unreachable!(),
+            Some(number) => {
+                places[number] = Place::Nowhere;
+                held.set(number, false);
+            }
         }
     }
 }
 
-// Writes the entries of the objects that have a slot, and answers how many there are.
-fn fill_entries(places: &[Place], into: &mut [Entry]) -> usize
-    requires room { taken_count places.now ≤ length into.old }
-    ensures count { result ≡ taken_count places.now }
-    ensures entries { take result into.new ≡ entries_of places.now }
+// The entry of the first object from a number on that has a slot.
+fn next_entry(places: &[Place], held: &NumberSet, from: usize) -> Option<Entry>
+    requires held { held.now ≡ map is_held places.now }
+    ensures some { IfSome result (λ entry. entries_from from (drop from places.now)
+        ≡ entry ∷ entries_from (entry.object + 1) (drop (entry.object + 1) places.now)) }
+    ensures known { IfSome result (λ entry. entry.object < length places.now) }
+    ensures none { result ≡ None → entries_from from (drop from places.now) ≡ [] }
+{
+    let number = held.next(from)?;
+    match places[number].slot() {
+        None => unreachable!(),
+        Some(slot) => Some(Entry {
+            object: number as u64,
+            slot,
+        }),
+    }
+}
+
+// Writes the entries of the objects that have a slot.
+#[tactic(auto, unfolding(crate::specs::Table::entries_of))]
+fn fill_entries(places: &[Place], held: &NumberSet, taken: u64, into: &mut [Entry])
+    requires held { held.now ≡ map is_held places.now }
+    requires taken { taken ≡ taken_count places.now }
+    requires room { taken ≤ length into.old }
+    ensures entries { take taken into.new ≡ entries_of places.now }
     ensures length { length into.new ≡ length into.old }
 {
-    let mut count = 0;
-    for (number, place) in places.iter().enumerate() {
-        count = push_entry(number, *place, into, count);
+    let mut from = 0;
+    for index in 0..taken as usize {
+        match next_entry(places, held, from) {
+            None => unreachable!(),
+            Some(entry) => {
+                into[index] = entry;
+                from = entry.object as usize + 1;
+            }
+        }
     }
-    count
 }
 
 impl Table {
@@ -140,8 +157,10 @@ impl Table {
         ensures { IfOk result (λ table. table ≡ replicate count Place.Nowhere) }
     {
         let places = blank_places(alloc, count)?;
+        let held = NumberSet::new(alloc, count)?;
         Ok(Table {
             places,
+            held,
             taken: 0,
             whole: 0,
         })
@@ -191,13 +210,14 @@ impl Table {
         self.taken = self.taken + place.slots() - old.slots();
         self.whole = self.whole + place.frames() - old.frames();
         self.places[number as usize] = place;
+        self.held.set(number as usize, true);
     }
 
     /// Takes their slots from all objects.
     pub(crate) fn clear(&mut self)
         ensures { self.new ≡ replicate (length self.old) Place.Nowhere }
     {
-        clear_places(&mut self.places);
+        clear_places(&mut self.places, &mut self.held, self.taken);
         self.taken = 0;
         self.whole = 0;
     }
@@ -210,6 +230,7 @@ impl Table {
         ensures entries { take result into.new ≡ entries_of self.now }
         ensures length { length into.new ≡ length into.old }
     {
-        fill_entries(&self.places, into)
+        fill_entries(&self.places, &self.held, self.taken, into);
+        self.taken as usize
     }
 }

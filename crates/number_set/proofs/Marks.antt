@@ -248,6 +248,10 @@ module _ (count : ℕ) (words summary : List ℕ) (sums : IsSummed count words s
   count_is : length marks ≡ count
   count_is = sym (ap length is_marks) ∙ length_marks count words
 
+  -- there are no more marks than machine numbers
+  pub few_marks : length marks < 2 ^ 64
+  few_marks = omega (arith, count_is, sums.fits)
+
   module _ (seen : List ℕ) (is_seen : seen ≡ words) where
     -- a number is in a word
     pub has_word : (n : ℕ) → n < length marks → n / 64 < length seen

@@ -3,5 +3,7 @@
 
 mod bits;
 mod set;
+#[cfg(test)]
+mod tests;
 
 pub use set::NumberSet;

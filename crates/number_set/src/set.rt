@@ -1,5 +1,5 @@
 // A set of numbers, as bits with a summary.
-ghost use Rattle.std.specs.Prelude.{◌≡◌, ◌<◌, length, replicate, slice_index_or, slice_set, false, IfSome, IfOk, None};
+ghost use Rattle.std.specs.Prelude.{◌≡◌, ◌<◌, ◌^◌, length, replicate, slice_index_or, slice_set, false, IfSome, IfOk, None};
 ghost use Rattle.number_set.specs.Marks.{IsNextMarked, HasNoneMarked};
 
 use crate::bits::{WORD_BITS, first_summed, has_bit, put_bit};
@@ -74,6 +74,7 @@ impl NumberSet {
     pub fn next(&self, from: usize) -> Option<usize>
         ensures some { IfSome result (λ number. IsNextMarked self.now from number) }
         ensures none { result ≡ None → HasNoneMarked self.now from }
+        ensures few { length self.now < 2 ^ 64 }
     {
         first_summed(&self.words, &self.summary, from)
     }

@@ -21,7 +21,7 @@ use Rattle.object_cache.specs.declared.snapshot.Snapshot.TheVariants.{Below, Pre
 use Rattle.object_cache.specs.Frozen.{snapshot_at, frozen_frame, below_at, frozen_frames, is_pending, pending_count, AreFrozen, KeepsFrozen}
 use Rattle.object_cache.specs.FrozenLaws.{frozen_equal}
 use Rattle.object_cache.specs.PlainStore.{StoreState, IsStore, GoesOnIn, IsAnnouncedIn, present_frames}
-use Rattle.object_cache.proofs.Snapshots.{listed_marked}
+use Rattle.object_cache.proofs.Copies.{listed_marked}
 
 -- ---- copies
 
@@ -70,8 +70,8 @@ frozen_stay fs ss ts keeps f are =
     }
 
 -- the store stands
-pub stands_copied : (s : Stored) (p : PlainState) (ss ts : List Snapshot) (next : ℕ) → KeepsFrozen (present_frames p) ss ts → IsStore s p ss next → IsStore s p ts next
-stands_copied s p ss ts next keeps is =
+pub stands_copied : (s : Stored) (p : PlainState) (ss ts : List Snapshot) → KeepsFrozen (present_frames p) ss ts → IsStore s p ss → IsStore s p ts
+stands_copied s p ss ts keeps is =
     let fs : List Frame = present_frames p in
     let frozen : frozen_frames s fs ts ≡ frozen_frames s fs ss = frozen_copied fs ss ts keeps s in
     record {
@@ -87,7 +87,6 @@ stands_copied s p ss ts next keeps is =
       running = λ f some. frozen_stay fs ss ts keeps f (is.running f some);
       keepable = λ f some. subst (AreKeepable s.saved.geometry most) (sym frozen) (is.keepable f some);
       unwritten = λ n blank. is.unwritten n blank ∙ ap (λ (xs : List Frame). frame_at xs n) (sym frozen);
-      done = λ n lt. still_below fs ss ts keeps n (is.done n lt);
     }
 
 module _ {D : Type 0} (disk : D → Disk) where
@@ -122,9 +121,9 @@ grows (Ok x) old new ns done same = subst (λ (t : List Bool). Grows old t) (sym
 grows (Err e) old new ns done same = subst (λ (t : List Bool). Grows old t) (sym same) (record { count = refl; marks = λ n blank. blank })
 
 -- the same objects, and no mark is taken away
-pub stands_announced : (s : Stored) (p q : PlainState) (ss : List Snapshot) (next : ℕ) → q.headers ≡ p.headers → q.contents ≡ p.contents → q.geometry ≡ p.geometry
-    → Grows p.touched q.touched → touched_count q.touched ≤ q.geometry.log → IsStore s p ss next → IsStore s q ss next
-stands_announced s p q ss next headers contents geometry marks within is =
+pub stands_announced : (s : Stored) (p q : PlainState) (ss : List Snapshot) → q.headers ≡ p.headers → q.contents ≡ p.contents → q.geometry ≡ p.geometry
+    → Grows p.touched q.touched → touched_count q.touched ≤ q.geometry.log → IsStore s p ss → IsStore s q ss
+stands_announced s p q ss headers contents geometry marks within is =
     let fs : present_frames q ≡ present_frames p = ap (λ (hs : List ObjectHeader). frames_in hs q.contents) headers ∙ ap (λ (cs : List (Content Cap)). frames_in p.headers cs) contents in
     let frozen : frozen_frames s (present_frames q) ss ≡ frozen_frames s (present_frames p) ss = ap (λ (xs : List Frame). frozen_frames s xs ss) fs in
     let place : q.geometry ≡ s.saved.geometry = geometry ∙ is.geometry in
@@ -142,7 +141,6 @@ stands_announced s p q ss next headers contents geometry marks within is =
       keepable = λ f some. subst (AreKeepable s.saved.geometry most) (sym frozen) (is.keepable f some);
       unwritten = λ n blank.
           ap (λ (xs : List Frame). frame_at xs n) fs ∙ is.unwritten n (marks.marks n blank) ∙ ap (λ (xs : List Frame). frame_at xs n) (sym frozen);
-      done = is.done;
     }
 
 -- each number of a list that was announced is

@@ -1,4 +1,4 @@
-mod Snapshots
+mod Copies
 mod Keeping
 mod Counts
 mod Putting

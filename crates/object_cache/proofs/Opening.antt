@@ -137,14 +137,14 @@ module _ {D : Type 0} (disk : D → Disk) (device : D) (d0 d : DurableState D) (
   unfolding s0
   content_count = ap length contents_are ∙ length-map s0.saved.frames (λ (f : Frame). f.content) ∙ count
 
-  first_stands : IsStore s0 p ss 0
+  first_stands : IsStore s0 p ss
   unfolding s0
   first_stands = opened_stands s0 p ss count opened.working opened.frozen (ap (λ (x : PlainState). x.geometry) present) frames_are header_count content_count
       (ap (λ (x : PlainState). x.touched) present) blank
 
-  pub open_stands : IsStore (stored_of disk d) p ss 0
+  pub open_stands : IsStore (stored_of disk d) p ss
   unfolding s0
-  open_stands = subst (λ (x : Stored). IsStore x p ss 0) (sym reads.stored) first_stands
+  open_stands = subst (λ (x : Stored). IsStore x p ss) (sym reads.stored) first_stands
 
   pub open_opens : (disk d.beneath).failures ≡ (disk d0.beneath).failures → Opens disk device (parts_of disk (record { durable = d; present = p; snapshots = ss })) (view_of disk (record { durable = d; present = p; snapshots = ss }))
   unfolding s0

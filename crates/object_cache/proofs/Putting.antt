@@ -46,7 +46,7 @@ held_none Absent = inl refl
 held_none Broken = inr (λ e. cc)
 held_none (Kept f) = inr (λ e. cc)
 
-module _ (s : Stored) (p : PlainState) (ss : List Snapshot) (next n : ℕ) (f : Frozen) (is : IsStore s p ss next) (some : s.frozen ≡ Some f) (pending : snapshot_at ss n ≢ Below) (known : n < length ss) where
+module _ (s : Stored) (p : PlainState) (ss : List Snapshot) (n : ℕ) (f : Frozen) (is : IsStore s p ss) (some : s.frozen ≡ Some f) (pending : snapshot_at ss n ≢ Below) (known : n < length ss) where
   abbrev pub fs : List Frame
   fs = present_frames p
 
@@ -150,12 +150,9 @@ module _ (s : Stored) (p : PlainState) (ss : List Snapshot) (next n : ℕ) (f : 
       some_same : {a b : Frozen} → Some a ≡ Some b → a ≡ b
       some_same e = cc
 
-    put_done : (m : ℕ) → m < n → ((i : ℕ) → i < n → snapshot_at ss i ≡ Below) → snapshot_at ts m ≡ Below
-    put_done m lt first = get_or-set_other ss n m Below Below (λ e. omega (arith, e, lt)) ∙ first m lt
-
     -- the store stands
-    pub stands_put : ((i : ℕ) → i < n → snapshot_at ss i ≡ Below) → IsStore s1 p ts n
-    stands_put first = record {
+    pub stands_put : IsStore s1 p ts
+    stands_put = record {
       geometry = is.geometry;
       headers = is.headers;
       contents = is.contents;
@@ -168,7 +165,6 @@ module _ (s : Stored) (p : PlainState) (ss : List Snapshot) (next n : ℕ) (f : 
       running = λ g is_some. subst (λ (h : Frozen). AreFrozen h ts) (the_one g is_some) are_put;
       keepable = λ g is_some. subst (AreKeepable s.saved.geometry most) (sym frozen_put_same) (is.keepable f some);
       unwritten = λ m blank. is.unwritten m blank ∙ ap (λ (xs : List Frame). frame_at xs m) (sym frozen_put_same);
-      done = λ m lt. put_done m lt first;
     }
 
     -- and one is left less
@@ -226,8 +222,8 @@ module _ (s : Stored) (p : PlainState) (ss : List Snapshot) (next n : ℕ) (f : 
     once = torn_once;
   }
 
-  pub stands_torn : ((i : ℕ) → i < n → snapshot_at ss i ≡ Below) → IsStore s2 p ss n
-  stands_torn first = record {
+  pub stands_torn : IsStore s2 p ss
+  stands_torn = record {
     geometry = is.geometry;
     headers = is.headers;
     contents = is.contents;
@@ -240,7 +236,6 @@ module _ (s : Stored) (p : PlainState) (ss : List Snapshot) (next n : ℕ) (f : 
     running = λ g is_some. subst (λ (h : Frozen). AreFrozen h ss) (some_same (sym (ap (option_map (with_put n Broken)) some) ∙ is_some)) are_torn;
     keepable = λ g is_some. subst (AreKeepable s.saved.geometry most) (sym frozen_torn_same) (is.keepable f some);
     unwritten = λ m blank. is.unwritten m blank ∙ ap (λ (xs : List Frame). frame_at xs m) (sym frozen_torn_same);
-    done = first;
   } where
     some_same : {a b : Frozen} → Some a ≡ Some b → a ≡ b
     some_same e = cc

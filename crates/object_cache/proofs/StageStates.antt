@@ -26,7 +26,7 @@ none_in f (Some x) is = absurd cc
 some_frozen : {a b : FrozenFrames} → Some a ≡ Some b → a ≡ b
 some_frozen e = cc
 
-module _ {D : Type 0} (disk : D → Disk) (s t : StoreState D) (next : ℕ) (same : s ≡ t) (is : IsStore (stored_of disk s.durable) s.present s.snapshots next) where
+module _ {D : Type 0} (disk : D → Disk) (s t : StoreState D) (same : s ≡ t) (is : IsStore (stored_of disk s.durable) s.present s.snapshots) where
   abbrev pub st : Stored
   st = stored_of disk s.durable
 
@@ -50,19 +50,19 @@ module _ {D : Type 0} (disk : D → Disk) (s t : StoreState D) (next : ℕ) (sam
     kept : AreKeepable st.saved.geometry most (present_frames s.present)
     kept = subst (λ (r : StoreState D). AreKeepable (stored_of disk r.durable).saved.geometry most (present_frames r.present)) (sym same) keepable
 
-    pub freeze_stands : IsStore (stored_of disk d) q ss 0
+    pub freeze_stands : IsStore (stored_of disk d) q ss
     freeze_stands =
-        subst (λ (x : Stored). IsStore x q ss 0) (sym begun)
-        (subst (λ (x : PlainState). IsStore (freezing size st) x ss 0) (sym forgot)
-        (subst (λ (x : List Snapshot). IsStore (freezing size st) (record s.present { touched = untouched s.present.geometry }) x 0) (sym marked)
-        (begun_stands st s.present s.snapshots next size is (idle_here none) kept count)))
+        subst (λ (x : Stored). IsStore x q ss) (sym begun)
+        (subst (λ (x : PlainState). IsStore (freezing size st) x ss) (sym forgot)
+        (subst (λ (x : List Snapshot). IsStore (freezing size st) (record s.present { touched = untouched s.present.geometry }) x) (sym marked)
+        (begun_stands st s.present s.snapshots size is (idle_here none) kept count)))
 
     pub freeze_aside : aside_in (stored_of disk d) (frozen_frames (stored_of disk d) (present_frames q) ss) ≡ store.freezing (present_frames t.present) (touched_count t.present.touched) (view_of disk t).aside
     freeze_aside =
         ap (λ (x : Stored). aside_in x (frozen_frames x (present_frames q) ss)) begun
         ∙ ap (λ (x : PlainState). aside_in (freezing size st) (frozen_frames (freezing size st) (present_frames x) ss)) forgot
         ∙ ap (λ (x : List Snapshot). aside_in (freezing size st) (frozen_frames (freezing size st) (present_frames s.present) x)) marked
-        ∙ begun_aside st s.present s.snapshots next size is (idle_here none) kept count
+        ∙ begun_aside st s.present s.snapshots size is (idle_here none) kept count
         ∙ ap (λ (r : StoreState D). store.freezing (present_frames r.present) (touched_count r.present.touched) (view_of disk r).aside) same
 
   -- ---- commit
@@ -90,20 +90,20 @@ module _ {D : Type 0} (disk : D → Disk) (s t : StoreState D) (next : ℕ) (sam
       same_frozen e = cc
 
     overlaid_frames : (f : Frozen) → st.frozen ≡ Some f → own.0.frames ≡ overlaid f.put st.saved.frames
-    overlaid_frames f some = sym (ap (λ (h : FrozenFrames). h.frames) found.2) ∙ frozen_overlaid st s.present s.snapshots next f age is some (only_one f some)
+    overlaid_frames f some = sym (ap (λ (h : FrozenFrames). h.frames) found.2) ∙ frozen_overlaid st s.present s.snapshots f age is some (only_one f some)
 
     pub keepable_here : (f : Frozen) → (stored_of disk s.durable).frozen ≡ Some f → AreKeepable (stored_of disk s.durable).saved.geometry age (next_saved age f (stored_of disk s.durable).saved).frames
     keepable_here f some = subst (AreKeepable st.saved.geometry age) (overlaid_frames f some) own.1.keepable
 
     module _ (d : DurableState D) where
-      pub commit_stands : {T E : Type 0} (r : Result T E) → OnOk r (stored_of disk d ≡ committed age found.0 (stored_of disk s.durable)) → OnErr r (stored_of disk d ≡ stored_of disk s.durable) → IsStore (stored_of disk d) s.present s.snapshots next
-      commit_stands (Ok x) done unchanged = subst (λ (x : Stored). IsStore x s.present s.snapshots next) (sym done) (over_stands st s.present s.snapshots next found.0 age is found.1 stable)
-      commit_stands (Err e) done unchanged = subst (λ (x : Stored). IsStore x s.present s.snapshots next) (sym unchanged) is
+      pub commit_stands : {T E : Type 0} (r : Result T E) → OnOk r (stored_of disk d ≡ committed age found.0 (stored_of disk s.durable)) → OnErr r (stored_of disk d ≡ stored_of disk s.durable) → IsStore (stored_of disk d) s.present s.snapshots
+      commit_stands (Ok x) done unchanged = subst (λ (x : Stored). IsStore x s.present s.snapshots) (sym done) (over_stands st s.present s.snapshots found.0 age is found.1 stable)
+      commit_stands (Err e) done unchanged = subst (λ (x : Stored). IsStore x s.present s.snapshots) (sym unchanged) is
 
       commit_done : (f : FrozenFrames) → (view_of disk s).aside.frozen ≡ Some f → stored_of disk d ≡ committed age found.0 st → (view_of disk (record { durable = d; present = s.present; snapshots = s.snapshots })).aside ≡ store.committed age f (view_of disk s).aside
       commit_done f some done =
           ap (λ (x : Stored). aside_in x (frozen_frames x (present_frames s.present) s.snapshots)) done
-          ∙ over_aside st s.present s.snapshots next found.0 age is found.1 stable
+          ∙ over_aside st s.present s.snapshots found.0 age is found.1 stable
           ∙ ap (λ (h : FrozenFrames). store.committed age h (view_of disk s).aside) (some_frozen (sym (ap (option_map (frozen_in st fs)) found.1) ∙ some))
 
       commit_on : {T E : Type 0} (r : Result T E) (f : FrozenFrames) → (view_of disk s).aside.frozen ≡ Some f → OnOk r (stored_of disk d ≡ committed age found.0 st) → OnOk r ((view_of disk (record { durable = d; present = s.present; snapshots = s.snapshots })).aside ≡ store.committed age f (view_of disk s).aside)
@@ -117,7 +117,7 @@ module _ {D : Type 0} (disk : D → Disk) (s t : StoreState D) (next : ℕ) (sam
 
       commit_next : (f : FrozenFrames) → (view_of disk s).aside.frozen ≡ Some f → next_saved age found.0 st.saved ≡ store.next_saved age f st.saved
       commit_next f some =
-          ap (λ (x : Aside). x.saved) (over_aside st s.present s.snapshots next found.0 age is found.1 stable)
+          ap (λ (x : Aside). x.saved) (over_aside st s.present s.snapshots found.0 age is found.1 stable)
           ∙ ap (λ (h : FrozenFrames). store.next_saved age h st.saved) (some_frozen (sym (ap (option_map (frozen_in st fs)) found.1) ∙ some))
 
       pub commit_moments : LeavesEither (disk s.durable.beneath) (disk d.beneath) (stored_of disk s.durable).saved (next_saved age found.0 (stored_of disk s.durable).saved)
@@ -129,12 +129,12 @@ module _ {D : Type 0} (disk : D → Disk) (s t : StoreState D) (next : ℕ) (sam
 
   module _ (d : DurableState D) (count : ℕ) where
     pub migrate_stands : {T E : Type 0} (r : Result T E) → OnOk r (stored_of disk d ≡ moved count (stored_of disk s.durable)) →
-        OnErr r ((k : ℕ) × (k ≤ (stored_of disk s.durable).to_move) × (stored_of disk d ≡ record (stored_of disk s.durable) { to_move = k })) → IsStore (stored_of disk d) s.present s.snapshots next
-    migrate_stands (Ok x) done left = subst (λ (x : Stored). IsStore x s.present s.snapshots next) (sym done) (moved_stands st s.present s.snapshots next count is)
-    migrate_stands (Err e) done left = subst (λ (x : Stored). IsStore x s.present s.snapshots next) (sym left.2) (home_stands st s.present s.snapshots next false left.0 is)
+        OnErr r ((k : ℕ) × (k ≤ (stored_of disk s.durable).to_move) × (stored_of disk d ≡ record (stored_of disk s.durable) { to_move = k })) → IsStore (stored_of disk d) s.present s.snapshots
+    migrate_stands (Ok x) done left = subst (λ (x : Stored). IsStore x s.present s.snapshots) (sym done) (moved_stands st s.present s.snapshots count is)
+    migrate_stands (Err e) done left = subst (λ (x : Stored). IsStore x s.present s.snapshots) (sym left.2) (home_stands st s.present s.snapshots false left.0 is)
 
     migrate_on : {T E : Type 0} (r : Result T E) → OnOk r (stored_of disk d ≡ moved count st) → OnOk r ((view_of disk (record { durable = d; present = s.present; snapshots = s.snapshots })).aside ≡ store.moved count (view_of disk s).aside)
-    migrate_on (Ok x) done = ap (λ (x : Stored). aside_in x (frozen_frames x (present_frames s.present) s.snapshots)) done ∙ moved_aside st s.present s.snapshots next count
+    migrate_on (Ok x) done = ap (λ (x : Stored). aside_in x (frozen_frames x (present_frames s.present) s.snapshots)) done ∙ moved_aside st s.present s.snapshots count
     migrate_on (Err e) done = tt
 
     pub migrate_aside : {T E : Type 0} (r : Result T E) → OnOk r (stored_of disk d ≡ moved count (stored_of disk s.durable)) → OnOk r ((view_of disk (record { durable = d; present = s.present; snapshots = s.snapshots })).aside ≡ store.moved count (view_of disk t).aside)

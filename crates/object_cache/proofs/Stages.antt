@@ -54,7 +54,7 @@ idle_below s o n none = ap (λ (x : Option Frozen). put_or (frozen_put x n) (fra
 
 -- ---- a checkpoint begins
 
-module _ (s : Stored) (p : PlainState) (ss : List Snapshot) (next size : ℕ) (is : IsStore s p ss next) (none : s.frozen ≡ None) where
+module _ (s : Stored) (p : PlainState) (ss : List Snapshot) (size : ℕ) (is : IsStore s p ss) (none : s.frozen ≡ None) where
   abbrev pub begun : Stored
   begun = freezing size s
 
@@ -105,7 +105,7 @@ module _ (s : Stored) (p : PlainState) (ss : List Snapshot) (next size : ℕ) (i
         once = λ n. subst (λ (x : Put). kept_frame x + is_pending (snapshot_at marks n) ≤ 1) (sym (absent n)) (let one = pending_one (snapshot_at marks n) in omega (arith, one));
       }
 
-      pub begun_stands : IsStore begun (record p { touched = untouched p.geometry }) marks 0
+      pub begun_stands : IsStore begun (record p { touched = untouched p.geometry }) marks
       begun_stands = record {
         geometry = is.geometry;
         headers = is.headers;
@@ -119,7 +119,6 @@ module _ (s : Stored) (p : PlainState) (ss : List Snapshot) (next size : ℕ) (i
         running = λ f some. subst (λ (h : Frozen). AreFrozen h marks) (some_same some) begun_are;
         keepable = λ f some. subst (AreKeepable s.saved.geometry most) (sym begun_frozen) keepable;
         unwritten = λ n blank. ap (λ (xs : List Frame). frame_at xs n) (sym begun_frozen);
-        done = λ n lt. absurd (omega (arith, lt));
       } where
         some_same : {a b : Frozen} → Some a ≡ Some b → a ≡ b
         some_same e = cc
@@ -134,7 +133,7 @@ module _ (s : Stored) (p : PlainState) (ss : List Snapshot) (next size : ℕ) (i
 
 -- ---- it is committed
 
-module _ (s : Stored) (p : PlainState) (ss : List Snapshot) (next : ℕ) (f : Frozen) (age : ℕ) (is : IsStore s p ss next) (some : s.frozen ≡ Some f) (stable : left_of f ≡ 0) where
+module _ (s : Stored) (p : PlainState) (ss : List Snapshot) (f : Frozen) (age : ℕ) (is : IsStore s p ss) (some : s.frozen ≡ Some f) (stable : left_of f ≡ 0) where
   abbrev pub over : Stored
   over = committed age f s
 
@@ -159,7 +158,7 @@ module _ (s : Stored) (p : PlainState) (ss : List Snapshot) (next : ℕ) (f : Fr
       ∙ ap (λ (xs : List Frame). frame_at xs n) (sym frozen_overlaid)
       ∙ frozen_at s (present_frames p) ss n lt)
 
-  pub over_stands : IsStore over p ss next
+  pub over_stands : IsStore over p ss
   over_stands = record {
     geometry = is.geometry;
     headers = is.headers;
@@ -173,7 +172,6 @@ module _ (s : Stored) (p : PlainState) (ss : List Snapshot) (next : ℕ) (f : Fr
     running = λ g e. absurd cc;
     keepable = λ g e. absurd cc;
     unwritten = λ n blank. is.unwritten n blank ∙ ap (λ (xs : List Frame). frame_at xs n) (sym frozen_over);
-    done = λ n lt. below_all n;
   }
 
   pub over_aside : aside_in over (frozen_frames over (present_frames p) ss) ≡ store.committed age (frozen_in s (frozen_frames s (present_frames p) ss) f) (aside_in s (frozen_frames s (present_frames p) ss))
@@ -188,12 +186,12 @@ saved_with b saved = if b then home_saved saved else saved
 abbrev pub stored_with : Stored → Bool → ℕ → Stored
 stored_with s b k = record { working = s.working; frozen = s.frozen; saved = saved_with b s.saved; to_move = k }
 
-module _ (s : Stored) (p : PlainState) (ss : List Snapshot) (next : ℕ) where
+module _ (s : Stored) (p : PlainState) (ss : List Snapshot) where
   pub frozen_home : (b : Bool) (k : ℕ) → frozen_frames (stored_with s b k) (present_frames p) ss ≡ frozen_frames s (present_frames p) ss
   frozen_home true k = frozen_equal s (stored_with s true k) (present_frames p) (present_frames p) ss ss refl (λ n lt. refl)
   frozen_home false k = frozen_equal s (stored_with s false k) (present_frames p) (present_frames p) ss ss refl (λ n lt. refl)
 
-  pub home_stands : (b : Bool) (k : ℕ) → IsStore s p ss next → IsStore (stored_with s b k) p ss next
+  pub home_stands : (b : Bool) (k : ℕ) → IsStore s p ss → IsStore (stored_with s b k) p ss
   home_stands true k is = record {
     geometry = is.geometry;
     headers = is.headers;
@@ -207,7 +205,6 @@ module _ (s : Stored) (p : PlainState) (ss : List Snapshot) (next : ℕ) where
     running = is.running;
     keepable = λ f some. subst (AreKeepable s.saved.geometry most) (sym (frozen_home true k)) (is.keepable f some);
     unwritten = λ n blank. is.unwritten n blank ∙ ap (λ (xs : List Frame). frame_at xs n) (sym (frozen_home true k));
-    done = is.done;
   }
   home_stands false k is = record {
     geometry = is.geometry;
@@ -222,10 +219,9 @@ module _ (s : Stored) (p : PlainState) (ss : List Snapshot) (next : ℕ) where
     running = is.running;
     keepable = λ f some. subst (AreKeepable s.saved.geometry most) (sym (frozen_home false k)) (is.keepable f some);
     unwritten = λ n blank. is.unwritten n blank ∙ ap (λ (xs : List Frame). frame_at xs n) (sym (frozen_home false k));
-    done = is.done;
   }
 
-  pub moved_stands : (n : ℕ) → IsStore s p ss next → IsStore (moved n s) p ss next
+  pub moved_stands : (n : ℕ) → IsStore s p ss → IsStore (moved n s) p ss
   moved_stands n is = home_stands (s.to_move - n == 0) (s.to_move - n) is
 
   pub moved_aside : (n : ℕ) → aside_in (moved n s) (frozen_frames (moved n s) (present_frames p) ss) ≡ store.moved n (aside_in s (frozen_frames s (present_frames p) ss))
@@ -235,7 +231,7 @@ module _ (s : Stored) (p : PlainState) (ss : List Snapshot) (next : ℕ) where
 
 pub opened_stands : (s : Stored) (p : PlainState) (ss : List Snapshot) → length s.saved.frames ≡ object_count s.saved.geometry → s.working ≡ replicate (length s.saved.frames) Absent → s.frozen ≡ None →
     p.geometry ≡ s.saved.geometry → present_frames p ≡ s.saved.frames → length p.headers ≡ object_count s.saved.geometry → length p.contents ≡ object_count s.saved.geometry → p.touched ≡ untouched s.saved.geometry →
-    ss ≡ replicate (object_count s.saved.geometry) Below → IsStore s p ss 0
+    ss ≡ replicate (object_count s.saved.geometry) Below → IsStore s p ss
 opened_stands s p ss frames working none geometry same headers contents touched blank = record {
   geometry = geometry;
   headers = headers;
@@ -254,7 +250,6 @@ opened_stands s p ss frames working none geometry same headers contents touched 
     | inr past ↦ get_or_past (present_frames p) n blank_frame (let size = ap length same in omega (arith, past, size))
         ∙ sym (get_or_past (frozen_frames s (present_frames p) ss) n blank_frame (let size = length_frozen s (present_frames p) ss in omega (arith, past, size)))
   ];
-  done = λ n lt. absurd (omega (arith, lt));
 } where
   below : (n : ℕ) → snapshot_at ss n ≡ Below
   below n = elim (cases_lt n (object_count s.saved.geometry)) [

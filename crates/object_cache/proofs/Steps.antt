@@ -1,5 +1,5 @@
 -- One frozen frame after the other is put.
-use Rattle.std.proofs.Common.{◌≡◌, ℕ, zero, suc, ◌+◌, ◌-◌, ◌<◌, ◌≤◌, List, [], ◌∷◌, length, slice_index_or, set, refl, sym, ap, subst, ◌∙◌, arith, Option, Some, None}
+use Rattle.std.proofs.Common.{◌≡◌, ℕ, ◌+◌, ◌-◌, ◌<◌, ◌≤◌, List, length, set, refl, sym, ap, subst, ◌∙◌, arith, Option, Some, None}
 use Rattle.std.specs.Prelude.{◌≢◌, option_map}
 use Rattle.model.specs.declared.frame.Frame.{Frame}
 use Rattle.model.specs.Frame.{frame_at}
@@ -15,12 +15,6 @@ use Rattle.object_cache.specs.Store.{FrozenFrames, Aside, stabilized}
 use Rattle.object_cache.specs.PlainStore.{StoreState, IsStore, PutsBy, present_frames, aside_in, frozen_in, view_of}
 use Rattle.object_cache.proofs.Putting.{room, frame_keepable, stands_put, aside_put, stands_torn, aside_torn}
 
--- whatever stands for nothing, within the list
-pub same_default : {X : Type 0} (xs : List X) (i : ℕ) (a b : X) → i < length xs → slice_index_or xs i a ≡ slice_index_or xs i b
-same_default [] i a b lt = absurd (omega (arith, lt))
-same_default (x ∷ xs) zero a b lt = refl
-same_default (x ∷ xs) (suc i) a b lt = same_default xs i a b (omega (arith, lt))
-
 -- a checkpoint is on its way, by its frozen frames
 pub running_in : (s : Stored) (fs : List Frame) (o : Option Frozen) (f : FrozenFrames) → option_map (frozen_in s fs) o ≡ Some f → (h : Frozen) × (o ≡ Some h) × (frozen_in s fs h ≡ f)
 running_in s fs None f is = absurd cc
@@ -30,15 +24,15 @@ running_in s fs (Some h) f is = (h, refl, some_same is) where
 
 module _ {D : Type 0} (disk : D → Disk) where
   -- some frame is left, so some is pending
-  pub some_pending : (s t : StoreState D) (next : ℕ) → s ≡ t → IsStore (stored_of disk s.durable) s.present s.snapshots next → ((f : FrozenFrames) × ((view_of disk t).aside.frozen ≡ Some f) × (0 < f.left)) → 0 < pending_count s.snapshots
-  some_pending s t next same is asked =
+  pub some_pending : (s t : StoreState D) → s ≡ t → IsStore (stored_of disk s.durable) s.present s.snapshots → ((f : FrozenFrames) × ((view_of disk t).aside.frozen ≡ Some f) × (0 < f.left)) → 0 < pending_count s.snapshots
+  some_pending s t same is asked =
       let own : (f : FrozenFrames) × ((view_of disk s).aside.frozen ≡ Some f) × (0 < f.left) = subst (λ (r : StoreState D). (f : FrozenFrames) × ((view_of disk r).aside.frozen ≡ Some f) × (0 < f.left)) (sym same) asked in
       let found = running_in (stored_of disk s.durable) (frozen_frames (stored_of disk s.durable) (present_frames s.present) s.snapshots) (stored_of disk s.durable).frozen own.0 own.1 in
       let are = is.running found.0 found.1 in
       let left : left_of found.0 ≡ own.0.left = ap (λ (h : FrozenFrames). h.left) found.2 in
       omega (arith, left, own.2, are.count)
 
-  module _ (s t : StoreState D) (next n : ℕ) (same : s ≡ t) (is : IsStore (stored_of disk s.durable) s.present s.snapshots next)
+  module _ (s t : StoreState D) (n : ℕ) (same : s ≡ t) (is : IsStore (stored_of disk s.durable) s.present s.snapshots)
       (asked : (f : FrozenFrames) × ((view_of disk t).aside.frozen ≡ Some f) × (0 < f.left)) (pending : snapshot_at s.snapshots n ≢ Below) (known : n < length s.snapshots) where
     abbrev pub st : Stored
     st = stored_of disk s.durable
@@ -50,13 +44,13 @@ module _ {D : Type 0} (disk : D → Disk) where
         (one.0, one.1)
 
     pub room_at : (f : Frozen) → (stored_of disk s.durable).frozen ≡ Some f → HasRoom f.size f.put n
-    room_at f some = room st s.present s.snapshots next n f is some pending known
+    room_at f some = room st s.present s.snapshots n f is some pending known
 
     pub keepable_at : (x : Snapshot) → x ≡ snapshot_at s.snapshots n → IsKeepable (stored_of disk s.durable).saved.geometry most n (frozen_frame x (frame_at (present_frames s.present) n) (below_at (stored_of disk s.durable) n))
     keepable_at x at = subst (λ (y : Snapshot). IsKeepable st.saved.geometry most n (frozen_frame y (frame_at (present_frames s.present) n) (below_at st n))) (sym at)
-        (frame_keepable st s.present s.snapshots next n found.0 is found.1 pending known)
+        (frame_keepable st s.present s.snapshots n found.0 is found.1 pending known)
 
-    module _ (d : DurableState D) (first : (i : ℕ) → i < n → snapshot_at s.snapshots i ≡ Below) (goes : GoesOn disk s.durable d) where
+    module _ (d : DurableState D) (goes : GoesOn disk s.durable d) where
       moved_to : (count : ℕ) (ss : List Snapshot) → ((g : FrozenFrames) → (view_of disk s).aside.frozen ≡ Some g → (view_of disk (record { durable = d; present = s.present; snapshots = ss })).aside ≡ stabilized count g (view_of disk s).aside)
           → PutsBy disk t (record { durable = d; present = s.present; snapshots = ss }) count
       moved_to count ss aside = subst (λ (r : StoreState D). PutsBy disk r (record { durable = d; present = s.present; snapshots = ss }) count) same (record {
@@ -67,24 +61,24 @@ module _ {D : Type 0} (disk : D → Disk) where
 
       -- the device failed
       module _ (torn : stored_of disk d ≡ with_frozen n Broken (stored_of disk s.durable)) where
-        pub torn_stands : IsStore (stored_of disk d) s.present s.snapshots n
-        torn_stands = subst (λ (x : Stored). IsStore x s.present s.snapshots n) (sym torn) (stands_torn st s.present s.snapshots next n found.0 is found.1 pending known first)
+        pub torn_stands : IsStore (stored_of disk d) s.present s.snapshots
+        torn_stands = subst (λ (x : Stored). IsStore x s.present s.snapshots) (sym torn) (stands_torn st s.present s.snapshots n found.0 is found.1 pending known)
 
         pub torn_puts : PutsBy disk t (record { durable = d; present = s.present; snapshots = s.snapshots }) 0
         torn_puts = moved_to 0 s.snapshots (λ g is_some.
             ap (λ (x : Stored). aside_in x (frozen_frames x (present_frames s.present) s.snapshots)) torn
-            ∙ aside_torn st s.present s.snapshots next n found.0 is found.1 pending known g is_some)
+            ∙ aside_torn st s.present s.snapshots n found.0 is found.1 pending known g is_some)
 
       -- it was put
       module _ (frame : Frame) (is_frame : frame ≡ frozen_frame (snapshot_at s.snapshots n) (frame_at (present_frames s.present) n) (below_at (stored_of disk s.durable) n))
           (put : stored_of disk d ≡ with_frozen n (Kept frame) (stored_of disk s.durable)) where
-        pub put_stands : IsStore (stored_of disk d) s.present (set s.snapshots n Below) n
-        put_stands = subst (λ (x : Stored). IsStore x s.present (set s.snapshots n Below) n) (sym put) (stands_put st s.present s.snapshots next n found.0 is found.1 pending known frame is_frame first)
+        pub put_stands : IsStore (stored_of disk d) s.present (set s.snapshots n Below)
+        put_stands = subst (λ (x : Stored). IsStore x s.present (set s.snapshots n Below)) (sym put) (stands_put st s.present s.snapshots n found.0 is found.1 pending known frame is_frame)
 
         pub put_puts : PutsBy disk t (record { durable = d; present = s.present; snapshots = set s.snapshots n Below }) 1
         put_puts = moved_to 1 (set s.snapshots n Below) (λ g is_some.
             ap (λ (x : Stored). aside_in x (frozen_frames x (present_frames s.present) (set s.snapshots n Below))) put
-            ∙ aside_put st s.present s.snapshots next n found.0 is found.1 pending known frame is_frame g is_some)
+            ∙ aside_put st s.present s.snapshots n found.0 is found.1 pending known frame is_frame g is_some)
 
   -- ---- several
 

@@ -25,6 +25,12 @@ below_at s n = put_or (frozen_put s.frozen n) (frame_at s.saved.frames n)
 unfoldable pub frozen_frames : Stored → List Frame → List Snapshot → List Frame
 frozen_frames s fs ss = map (λ n. frozen_frame (snapshot_at ss n) (frame_at fs n) (below_at s n)) (range_with_len 0 (length s.saved.frames))
 
+-- which of them are in memory
+abbrev pub is_in_memory : Snapshot → Bool
+is_in_memory Below = false
+is_in_memory Present = true
+is_in_memory (Copied f) = true
+
 -- how many of them are still to be written
 abbrev pub is_pending : Snapshot → ℕ
 is_pending Below = 0

@@ -1,5 +1,5 @@
 -- The object store that holds all present objects in memory.
-use Rattle.std.specs.Prelude.{◌≡◌, ◌≢◌, ℕ, ◌<◌, ◌≤◌, true, false, Some, None, option_map, List, length, replicate, slice_index_or}
+use Rattle.std.specs.Prelude.{◌≡◌, ◌≢◌, ℕ, ◌≤◌, true, false, Some, None, option_map, List, length, replicate, slice_index_or}
 use Rattle.model.specs.declared.capability.Cap.{Cap}
 use Rattle.model.specs.declared.frame.Frame.{Frame}
 use Rattle.model.specs.declared.object.Content.{Content}
@@ -33,7 +33,7 @@ abbrev pub aside_in : Stored → List Frame → Aside
 aside_in s fs = record { frozen = option_map (frozen_in s fs) s.frozen; saved = s.saved; to_move = s.to_move }
 
 -- what always holds: a number that wasn't written since a checkpoint began is as that has it, or else as it is saved
-pub record IsStore (s : Stored) (p : PlainState) (ss : List Snapshot) (next : ℕ) : Type 0 where
+pub record IsStore (s : Stored) (p : PlainState) (ss : List Snapshot) : Type 0 where
   pub geometry : p.geometry ≡ s.saved.geometry
   pub headers : length p.headers ≡ object_count s.saved.geometry
   pub contents : length p.contents ≡ object_count s.saved.geometry
@@ -46,7 +46,6 @@ pub record IsStore (s : Stored) (p : PlainState) (ss : List Snapshot) (next : �
   pub running : (f : Frozen) → s.frozen ≡ Some f → AreFrozen f ss
   pub keepable : (f : Frozen) → s.frozen ≡ Some f → AreKeepable s.saved.geometry most (frozen_frames s (present_frames p) ss)
   pub unwritten : (n : ℕ) → slice_index_or p.touched n false ≡ false → frame_at (present_frames p) n ≡ frame_at (frozen_frames s (present_frames p) ss) n
-  pub done : (n : ℕ) → n < next → snapshot_at ss n ≡ Below
 
 -- a number may be written where it has room, is marked, and its frozen frame is no longer the present one
 pub record IsAnnouncedIn {D : Type 0} (s : StoreState D) (n : ℕ) : Type 0 where

@@ -77,8 +77,8 @@ frozen_through s p q ss n change copied =
     frozen_same s (present_frames p) (present_frames q) ss (λ m is. change.frames m (λ same. copied (ap (snapshot_at ss) (sym same) ∙ is)))
 
 -- and the store stands, where the number is marked
-pub stands_through : (s : Stored) (p q : PlainState) (ss : List Snapshot) (next n : ℕ) → Changes p q n → slice_index_or p.touched n false ≡ true → snapshot_at ss n ≢ Present → IsStore s p ss next → IsStore s q ss next
-stands_through s p q ss next n change marked copied is =
+pub stands_through : (s : Stored) (p q : PlainState) (ss : List Snapshot) (n : ℕ) → Changes p q n → slice_index_or p.touched n false ≡ true → snapshot_at ss n ≢ Present → IsStore s p ss → IsStore s q ss
+stands_through s p q ss n change marked copied is =
     let frozen : frozen_frames s (present_frames q) ss ≡ frozen_frames s (present_frames p) ss = frozen_through s p q ss n change copied in
     record {
       geometry = change.geometry ∙ is.geometry;
@@ -96,7 +96,6 @@ stands_through s p q ss next n change marked copied is =
           let was : slice_index_or p.touched m false ≡ false = ap (λ (ts : List Bool). slice_index_or ts m false) (sym change.touched) ∙ blank in
           change.frames m (λ same. marked_differs (sym marked ∙ ap (λ (i : ℕ). slice_index_or p.touched i false) (sym same) ∙ was))
           ∙ is.unwritten m was ∙ ap (λ (fs : List Frame). frame_at fs m) (sym frozen);
-      done = is.done;
     } where
       marked_differs : true ≡ false → ⊥
       marked_differs e = cc
@@ -119,10 +118,10 @@ module _ {D : Type 0} (disk : D → Disk) where
   goes_on_with s t n c announced h = goes_on_twice s t (with_content_in t n c) h (goes_through t t (with_content_at t.present n c) n refl (changes_content t.present n c) announced)
 
   -- and what always holds of it does
-  pub stands_after : (s t : StoreState D) (q : PlainState) (next n : ℕ) → s ≡ t → Changes s.present q n → IsAnnouncedIn t n → IsStore (stored_of disk s.durable) s.present s.snapshots next → IsStore (stored_of disk s.durable) q s.snapshots next
-  stands_after s t q next n same change announced is =
+  pub stands_after : (s t : StoreState D) (q : PlainState) (n : ℕ) → s ≡ t → Changes s.present q n → IsAnnouncedIn t n → IsStore (stored_of disk s.durable) s.present s.snapshots → IsStore (stored_of disk s.durable) q s.snapshots
+  stands_after s t q n same change announced is =
       let there : IsAnnouncedIn s n = announced_at s t n same announced in
-      stands_through (stored_of disk s.durable) s.present q s.snapshots next n change there.marked there.copied is
+      stands_through (stored_of disk s.durable) s.present q s.snapshots n change there.marked there.copied is
 
   -- the device goes on as it was
   pub leads_by : ((d : D) (c : Image) → (disk d).left_since (disk d).moment c → (disk d).may_leave c) → (s t : StoreState D) → GoesOnIn disk s t → Leads disk (view_of disk s) (view_of disk t)

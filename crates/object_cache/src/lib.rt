@@ -4,6 +4,7 @@
 
 mod plain_store;
 mod snapshot;
+mod snapshots;
 mod store;
 
 pub use migrator::{Checkpoint, OpenFault, OpenRefused};

@@ -7,7 +7,8 @@ ghost use Rattle.model.specs.Machine.{touching, touched_count};
 ghost use Rattle.capability.specs.Parts.{frames_of};
 ghost use Rattle.object_cache.specs.Frozen.{snapshot_at};
 
-use crate::snapshot::{Snapshot, copy_frozen};
+use crate::snapshot::Snapshot;
+use crate::snapshots::{Snapshots, copy_frozen};
 use capability::{Fresh, MAX_FETCHED, ObjectTable, Plain, PrepareFault, PresentFrames};
 use device::Device;
 use migrator::Durable;
@@ -24,10 +25,7 @@ mod stages;
 pub struct PlainStore<D: Device> {
     durable: Durable<D>,
     present: Plain,
-    /// Where the frozen frames are, by number.
-    snapshots: Vec<Snapshot>,
-    /// All before this number are `Below`.
-    next: u64,
+    snapshots: Snapshots,
 }
 
 impl<D: Device> Model for PlainStore<D> {
@@ -40,10 +38,10 @@ impl<D: Device> Model for PlainStore<D> {
     ghost view = { λ s. record {
       durable = s.durable;
       present = s.present;
-      snapshots = s.snapshots.items;
+      snapshots = s.snapshots;
     } };
 
-    ghost invariant = { λ s. IsStore (stored_of D.disk s.durable) s.present s.snapshots.items s.next };
+    ghost invariant = { λ s. IsStore (stored_of D.disk s.durable) s.present s.snapshots };
 }
 
 impl<D: Device> PlainStore<D> {

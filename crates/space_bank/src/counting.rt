@@ -13,10 +13,10 @@ ghost use Rattle.space_bank.specs.Counting.{AreMarked};
 
 use crate::banks::Banks;
 use crate::chains::raise;
-use number_set::NumberSet;
 use crate::walking::{is_free, owner};
 use capability::{PrepareFault, PresentFrames, objects};
 use model::{Content, Role};
+use number_set::NumberSet;
 use std::alloc::{AllocError, Global};
 
 // Whether a number is that of a bank.

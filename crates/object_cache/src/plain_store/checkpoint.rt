@@ -13,25 +13,22 @@ ghost use Rattle.object_cache.specs.PlainStore.{present_frames, view_of, PutsBy}
 
 use crate::plain_store::PlainStore;
 use crate::snapshot::Snapshot;
+use crate::snapshots::Snapshots;
 use capability::{Plain, PresentFrames};
 use device::{Device, Failed};
 use migrator::{Durable, Refusal};
 use model::{Cap, Content, ObjectHeader};
 
-// The first frozen frame in memory, of which none lies before a number.
-fn next_pending(snapshots: &[Snapshot], from: u64) -> usize
-    requires some { 0 < pending_count snapshots.now }
-    requires none { (n : ℕ) → n < from → snapshot_at snapshots.now n ≡ Below }
+// The first object whose frozen frame is in memory.
+fn next_pending(snapshots: &Snapshots) -> u64
+    requires { 0 < pending_count snapshots.now }
     ensures known { result < length snapshots.now }
     ensures pending { snapshot_at snapshots.now result ≢ Below }
-    ensures first { (n : ℕ) → n < result → snapshot_at snapshots.now n ≡ Below }
 {
-    for number in from as usize..snapshots.len() {
-        if !matches!(snapshots[number], Snapshot::Below) {
-            return number;
-        }
+    match snapshots.first() {
+        Some(number) => number,
+        None => unreachable!(),
     }
-    unreachable!()
 }
 
 // Puts a frame for the checkpoint on its way.
@@ -108,15 +105,10 @@ impl<D: Device> PlainStore<D> {
         ensures unput { OnErr result (PutsBy D.disk self.old self.new 0) }
         ensures cause { Counts (D.disk self.old.durable.beneath) (D.disk self.new.durable.beneath) result }
     {
-        let number = next_pending(&self.snapshots, self.next);
-        self.next = number as u64;
-        put_snapshot(
-            &mut self.durable,
-            &self.present,
-            &self.snapshots[number],
-            number as u64,
-        )?;
-        self.snapshots[number] = Snapshot::Below;
+        let number = next_pending(&self.snapshots);
+        let snapshot = self.snapshots.get(number);
+        put_snapshot(&mut self.durable, &self.present, snapshot, number)?;
+        self.snapshots.set(number, Snapshot::Below);
         Ok(())
     }
 

@@ -12,7 +12,7 @@ ghost use Rattle.object_cache.specs.Store.{Opens};
 ghost use Rattle.object_cache.specs.PlainStore.{parts_of, view_of};
 
 use crate::plain_store::PlainStore;
-use crate::snapshot::Snapshot;
+use crate::snapshots::Snapshots;
 use capability::Plain;
 use device::Device;
 use layout::{Body, Room};
@@ -24,18 +24,7 @@ use std::alloc::{AllocError, Global};
 #[derive(Drop)]
 struct Objects {
     present: Plain,
-    snapshots: Vec<Snapshot>,
-}
-
-// So many frozen frames, none of which is in memory.
-fn blank_snapshots(alloc: Global, count: usize) -> Result<Vec<Snapshot>, AllocError>
-    ensures { IfOk result (λ snapshots. snapshots.items ≡ replicate count Below) }
-{
-    let mut snapshots = Vec::with_capacity(alloc, count)?;
-    for _ in 0..count {
-        snapshots.push(Snapshot::Below)?;
-    }
-    Ok(snapshots)
+    snapshots: Snapshots,
 }
 
 // What an object holds, of which the body was read, in memory of its own.
@@ -134,19 +123,19 @@ fn read_contents<D: Device>(
 struct Reserve {
     room: Room,
     contents: Vec<Content<Cap>>,
-    snapshots: Vec<Snapshot>,
+    snapshots: Snapshots,
 }
 
 impl Reserve {
     fn new(alloc: Global, count: usize) -> Result<Reserve, AllocError>
         ensures contents { IfOk result (λ reserve. reserve.contents.items ≡ []) }
         ensures snapshots { IfOk result (λ reserve.
-            reserve.snapshots.items ≡ replicate count Below) }
+            reserve.snapshots ≡ replicate count Below) }
     {
         Ok(Reserve {
             room: Room::new(alloc)?,
             contents: Vec::with_capacity(alloc, count)?,
-            snapshots: blank_snapshots(alloc, count)?,
+            snapshots: Snapshots::new(alloc, count)?,
         })
     }
 }
@@ -167,7 +156,7 @@ fn read_objects<D: Device>(
       rooms = replicate (object_count durable.old.books.plan.geometry) Content.Free;
       age = 0;
     }) }
-    ensures snapshots { IfOk result (λ objects. objects.snapshots.items
+    ensures snapshots { IfOk result (λ objects. objects.snapshots
         ≡ replicate (object_count durable.old.books.plan.geometry) Below) }
     ensures reads { ReadsStore D.disk durable.old durable.new }
     ensures failures { OnOk result ((D.disk durable.new.beneath).failures
@@ -214,7 +203,6 @@ pub(crate) fn open_plain<D: Device>(
                         durable,
                         present,
                         snapshots,
-                        next: 0,
                     })
                 }
                 Err(fault) => Err(OpenRefused {

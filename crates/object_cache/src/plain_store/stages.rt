@@ -10,7 +10,7 @@ ghost use Rattle.object_cache.specs.PlainStore.{IsStore, view_of, parts_of};
 
 use crate::plain_store::PlainStore;
 use crate::plain_store::open::open_plain;
-use crate::snapshot::freeze_written;
+use crate::snapshots::freeze_written;
 use crate::store::ObjectStore;
 use capability::PresentFrames;
 use device::{Device, Failed};
@@ -100,7 +100,6 @@ impl<D: Device> ObjectStore<D> for PlainStore<D> {
         freeze_durable(&mut self.durable, size);
         freeze_written(&self.present, &mut self.snapshots);
         self.present.forget_touched();
-        self.next = 0;
         size
     }
 

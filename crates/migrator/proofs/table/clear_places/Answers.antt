@@ -1,8 +1,23 @@
-use Rattle.std.proofs.Common.{rules, ◌≤◌, length}
-use Rattle.migrator.proofs.Tables.{all_blank}
+use Rattle.std.proofs.Common.{ℕ, arith, ap, sym, ◌∙◌, replicate}
+use Rattle.std.proofs.lemmas.List.{map-set}
+use Rattle.migrator.specs.declared.table.Place.TheVariants.{Nowhere}
+use Rattle.migrator.specs.Table.{is_held}
+use Rattle.migrator.proofs.Tables.{none_taken, one_less, all_nowhere}
 use Rattle.migrator.proofs.table.clear_places.Goals as goal
 
-pub returns : goal.returns
-returns c =
-    let done : length c.args.places.now ≤ c.loop-index.index = search rules in
-    all_blank c.loop-index.places c.loop-index.index (length c.args.places.now) done c.loop-index.invariant.0 c.loop-index.invariant.1
+pub unreachable-requires : goal.unreachable-requires
+unreachable-requires c =
+    let none = none_taken c.loop.places (rw c.loop.invariant.held at (c.next.ensures.none c.in-None.is)) in
+    omega (arith, none)
+
+pub loop-preserved : goal.loop-preserved
+loop-preserved c =
+    let less = one_less c.loop.places c.in-Some.number (rw c.loop.invariant.held at c.in-Some.ensures.some) in
+    record {
+      held = rw (c.set.ensures, c.loop.invariant.held) (sym (map-set is_held c.loop.places c.in-Some.number Nowhere));
+      count = omega (arith, less);
+    }
+
+pub returns-clause-places : goal.returns-clause-places
+returns-clause-places c =
+    all_nowhere c.loop.places (omega arith) ∙ ap (λ (n : ℕ). replicate n Nowhere) c.loop.auto.places

@@ -1,7 +1,9 @@
-use Rattle.std.proofs.Common.{◌≡◌, ◌<◌, ℕ, length}
-use Rattle.migrator.specs.declared.table.Place.TheVariants.{Nowhere}
-use Rattle.migrator.specs.Table.{place_at}
+use Rattle.std.proofs.Common.{◌≡◌, ◌+◌, map}
+use Rattle.migrator.specs.Table.{is_held, taken_count}
 use Rattle.migrator.proofs.table.clear_places.Given as goal
 
-abbrev pub invariant-loop-index : goal.invariant-loop-index
-invariant-loop-index l = (length l.places ≡ length l.initial.places) × ((k : ℕ) → k < l.index → place_at l.places k ≡ Nowhere)
+abbrev pub invariant-loop : goal.invariant-loop
+invariant-loop l = record {
+  held : l.held ≡ map is_held l.places;
+  count : l.counter + taken_count l.places ≡ l.taken;
+}

@@ -1,6 +1,6 @@
-use Rattle.std.proofs.Common.{◌≡◌, length, take}
-use Rattle.migrator.specs.Table.{taken_count, entries_of}
+use Rattle.std.proofs.Common.{◌≡◌, ◌++◌, take, drop}
+use Rattle.migrator.specs.Table.{entries_from, entries_of}
 use Rattle.migrator.proofs.table.fill_entries.Given as goal
 
-abbrev pub invariant-loop-number : goal.invariant-loop-number
-invariant-loop-number l = (length l.into ≡ length l.fn.into) × (l.count ≡ taken_count (take l.number l.places)) × (take l.count l.into ≡ entries_of (take l.number l.places))
+abbrev pub invariant-loop-index : goal.invariant-loop-index
+invariant-loop-index l = entries_of l.places ≡ take l.index l.into ++ entries_from l.from (drop l.from l.places)

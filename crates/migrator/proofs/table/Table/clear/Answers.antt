@@ -1,7 +1,11 @@
-use Rattle.std.proofs.Common.{ap, length}
-use Rattle.migrator.proofs.Tables.{blank_is, blank_whole}
+use Rattle.std.proofs.Common.{ap, sym, ◌∙◌, length, map}
+use Rattle.migrator.specs.Table.{is_held}
+use Rattle.migrator.proofs.Tables.{blank_is, rewritten}
 use Rattle.migrator.proofs.table.Table.clear.Goals as goal
 
 pub invariant_of-self : goal.invariant_of-self
-invariant_of-self c = blank_is _ _
-    (blank_whole c.self.inside.places.items c.clear_places.new.places (length c.deref_mut.result.now) c.self.inside.places.len c.clear_places.ensures (ap length c.deref_mut.ensures.value) c.self.inside.places.ok.0)
+invariant_of-self c =
+    let size = c.clear_places.auto.places ∙ ap length c.deref_mut.ensures.value in
+    let all = rewritten c.self.inside.places.items c.clear_places.new.places c.self.inside.places.len size c.self.inside.places.ok.0 in
+    blank_is _ c.clear_places.new.held (length c.deref_mut.result.now) (all ∙ c.clear_places.ensures.places)
+    (c.clear_places.ensures.held ∙ sym (ap (map is_held) all))

@@ -1,4 +1,4 @@
-use Rattle.number_set.proofs.Marks.{few_words, next_is_marked, none_is_marked}
+use Rattle.number_set.proofs.Marks.{few_marks, few_words, next_is_marked, none_is_marked}
 use Rattle.number_set.proofs.set.NumberSet.next.Goals as goal
 
 pub first_summed-requires-clause-few : goal.first_summed-requires-clause-few
@@ -9,3 +9,6 @@ returns-clause-some c = next_is_marked _ _ _ c.self.invariant _ c.self.view_is _
 
 pub returns-clause-none : goal.returns-clause-none
 returns-clause-none c is_none = none_is_marked _ _ _ c.self.invariant _ c.self.view_is _ c.deref.ensures.value _ (c.first_summed.ensures.none is_none)
+
+pub returns-clause-few : goal.returns-clause-few
+returns-clause-few c = few_marks _ _ _ c.self.invariant _ c.self.view_is

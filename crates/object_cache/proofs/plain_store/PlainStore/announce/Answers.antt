@@ -12,7 +12,7 @@ invariant_of-self g c =
     let p = c.self.inside.present in
     let q = c.prepare.new.self in
     let e = c.prepare.ensures in
-    stands_announced (stored_of g.D.Device.disk c.self.inside.durable) p q c.self.inside.snapshots.items c.self.inside.next e.headers e.contents e.geometry
+    stands_announced (stored_of g.D.Device.disk c.self.inside.durable) p q c.self.inside.snapshots e.headers e.contents e.geometry
     (grows c.prepare.result p.touched q.touched c.args.written.now e.touched e.untouched) e.within c.self.invariant
 
 pub returns-clause-announced : goal.returns-clause-announced
@@ -22,7 +22,7 @@ returns-clause-announced g c =
     let new : StoreState g.row.D.Denot = record {
       durable = c.self.inside.durable;
       present = c.prepare.new.self;
-      snapshots = c.self.inside.snapshots.items;
+      snapshots = c.self.inside.snapshots;
     } in
     announced_all new c.prepare.result p.touched c.args.written.now e.announced e.touched
     (c.self.invariant.marks ∙ sym c.self.invariant.headers ∙ ap length (sym e.headers))

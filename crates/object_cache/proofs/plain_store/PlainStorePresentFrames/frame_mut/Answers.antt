@@ -8,7 +8,7 @@ invariant_of-self-lent g c = λ w.
     let state : StoreState g.row.D.Denot = record {
       durable = c.self.inside.durable;
       present = c.self.inside.present;
-      snapshots = c.self.inside.snapshots.items;
+      snapshots = c.self.inside.snapshots;
     } in
-    stands_after g.D.Device.disk state c.args.self.now (with_content_at state.present c.args.number w) c.self.inside.next c.args.number c.self.view_is
+    stands_after g.D.Device.disk state c.args.self.now (with_content_at state.present c.args.number w) c.args.number c.self.view_is
     (changes_content state.present c.args.number w) c.requires.announced c.self.invariant

@@ -9,18 +9,18 @@ invariant_of-self g c =
     let state : StoreState g.row.D.Denot = record {
       durable = c.self.inside.durable;
       present = c.self.inside.present;
-      snapshots = c.self.inside.snapshots.items;
+      snapshots = c.self.inside.snapshots;
     } in
     let change : Changes state.present c.reset.new.self c.args.number = changes_both state.present c.reset.new.self c.args.number
     (given_up (header_at state.present.headers c.args.number)) content.Free c.reset.ensures.parts in
-    stands_after g.D.Device.disk state c.args.self.now c.reset.new.self c.self.inside.next c.args.number c.self.view_is change c.requires.announced c.self.invariant
+    stands_after g.D.Device.disk state c.args.self.now c.reset.new.self c.args.number c.self.view_is change c.requires.announced c.self.invariant
 
 pub returns-clause-leads : goal.returns-clause-leads
 returns-clause-leads g c =
     let state : StoreState g.row.D.Denot = record {
       durable = c.self.inside.durable;
       present = c.self.inside.present;
-      snapshots = c.self.inside.snapshots.items;
+      snapshots = c.self.inside.snapshots;
     } in
     let change : Changes state.present c.reset.new.self c.args.number = changes_both state.present c.reset.new.self c.args.number
     (given_up (header_at state.present.headers c.args.number)) content.Free c.reset.ensures.parts in

@@ -9,7 +9,7 @@ invariant_of-result g c =
     let d0 = c.in-Ok.opened.store in
     let b = d0.books in
     let found = c.in-Ok-read_objects.ensures in
-    open_stands g.D.Device.disk c.args.device d0 c.read_objects.new.durable c.in-Ok.opened.headers.items c.in-Ok-read_objects.objects.present c.in-Ok-read_objects.objects.snapshots.items
+    open_stands g.D.Device.disk c.args.device d0 c.read_objects.new.durable c.in-Ok.opened.headers.items c.in-Ok-read_objects.objects.present c.in-Ok-read_objects.objects.snapshots
     c.in-Ok.ensures.opened found.reads (length_read (g.D.Device.disk d0.beneath).seen b.plan b.header.generation b.directory) found.present found.snapshots
 
 pub returns-in-Ok-read_objects-clause-opened : goal.returns-in-Ok-read_objects-clause-opened
@@ -17,7 +17,7 @@ returns-in-Ok-read_objects-clause-opened g c =
     let d0 = c.in-Ok.opened.store in
     let b = d0.books in
     let found = c.in-Ok-read_objects.ensures in
-    open_opens g.D.Device.disk c.args.device d0 c.read_objects.new.durable c.in-Ok.opened.headers.items c.in-Ok-read_objects.objects.present c.in-Ok-read_objects.objects.snapshots.items
+    open_opens g.D.Device.disk c.args.device d0 c.read_objects.new.durable c.in-Ok.opened.headers.items c.in-Ok-read_objects.objects.present c.in-Ok-read_objects.objects.snapshots
     c.in-Ok.ensures.opened found.reads (length_read (g.D.Device.disk d0.beneath).seen b.plan b.header.generation b.directory) found.present found.snapshots found.failures
 
 pub returns-in-Err-read_objects-clause-refused : goal.returns-in-Err-read_objects-clause-refused

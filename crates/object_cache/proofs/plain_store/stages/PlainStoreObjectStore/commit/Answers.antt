@@ -7,19 +7,19 @@ commit_durable-requires-clause-keepable g c =
     let state : StoreState g.row.D.Denot = record {
       durable = c.self.inside.durable;
       present = c.self.inside.present;
-      snapshots = c.self.inside.snapshots.items;
+      snapshots = c.self.inside.snapshots;
     } in
-    keepable_here g.D.Device.disk state c.args.self.now c.self.inside.next c.self.view_is c.self.invariant c.args.age c.requires.ready
+    keepable_here g.D.Device.disk state c.args.self.now c.self.view_is c.self.invariant c.args.age c.requires.ready
 
 pub invariant_of-self : goal.invariant_of-self
 invariant_of-self g c =
     let state : StoreState g.row.D.Denot = record {
       durable = c.self.inside.durable;
       present = c.self.inside.present;
-      snapshots = c.self.inside.snapshots.items;
+      snapshots = c.self.inside.snapshots;
     } in
-    let f = found g.D.Device.disk state c.args.self.now c.self.inside.next c.self.view_is c.self.invariant c.args.age c.requires.ready in
-    commit_stands g.D.Device.disk state c.args.self.now c.self.inside.next c.self.view_is c.self.invariant c.args.age c.requires.ready c.commit_durable.new.durable c.commit_durable.result
+    let f = found g.D.Device.disk state c.args.self.now c.self.view_is c.self.invariant c.args.age c.requires.ready in
+    commit_stands g.D.Device.disk state c.args.self.now c.self.view_is c.self.invariant c.args.age c.requires.ready c.commit_durable.new.durable c.commit_durable.result
     (c.commit_durable.ensures.committed f.0 f.1) c.commit_durable.ensures.unchanged
 
 pub returns-clause-aside : goal.returns-clause-aside
@@ -27,10 +27,10 @@ returns-clause-aside g c =
     let state : StoreState g.row.D.Denot = record {
       durable = c.self.inside.durable;
       present = c.self.inside.present;
-      snapshots = c.self.inside.snapshots.items;
+      snapshots = c.self.inside.snapshots;
     } in
-    let f = found g.D.Device.disk state c.args.self.now c.self.inside.next c.self.view_is c.self.invariant c.args.age c.requires.ready in
-    commit_aside g.D.Device.disk state c.args.self.now c.self.inside.next c.self.view_is c.self.invariant c.args.age c.requires.ready c.commit_durable.new.durable c.commit_durable.result
+    let f = found g.D.Device.disk state c.args.self.now c.self.view_is c.self.invariant c.args.age c.requires.ready in
+    commit_aside g.D.Device.disk state c.args.self.now c.self.view_is c.self.invariant c.args.age c.requires.ready c.commit_durable.new.durable c.commit_durable.result
     (c.commit_durable.ensures.committed f.0 f.1)
 
 pub returns-clause-any_moment : goal.returns-clause-any_moment
@@ -38,7 +38,7 @@ returns-clause-any_moment g c =
     let state : StoreState g.row.D.Denot = record {
       durable = c.self.inside.durable;
       present = c.self.inside.present;
-      snapshots = c.self.inside.snapshots.items;
+      snapshots = c.self.inside.snapshots;
     } in
-    let f = found g.D.Device.disk state c.args.self.now c.self.inside.next c.self.view_is c.self.invariant c.args.age c.requires.ready in
-    commit_moments g.D.Device.disk state c.args.self.now c.self.inside.next c.self.view_is c.self.invariant c.args.age c.requires.ready c.commit_durable.new.durable (c.commit_durable.ensures.any_moment f.0 f.1)
+    let f = found g.D.Device.disk state c.args.self.now c.self.view_is c.self.invariant c.args.age c.requires.ready in
+    commit_moments g.D.Device.disk state c.args.self.now c.self.view_is c.self.invariant c.args.age c.requires.ready c.commit_durable.new.durable (c.commit_durable.ensures.any_moment f.0 f.1)

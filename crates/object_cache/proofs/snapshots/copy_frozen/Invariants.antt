@@ -2,7 +2,7 @@ use Rattle.std.proofs.Common.{◌≢◌, ℕ, ◌<◌, slice_index_or}
 use Rattle.object_cache.specs.declared.snapshot.Snapshot.TheVariants.{Present}
 use Rattle.object_cache.specs.Frozen.{snapshot_at, KeepsFrozen}
 use Rattle.object_cache.specs.PlainStore.{present_frames}
-use Rattle.object_cache.proofs.snapshot.copy_frozen.Given as goal
+use Rattle.object_cache.proofs.snapshots.copy_frozen.Given as goal
 
 abbrev pub invariant-loop-number : goal.invariant-loop-number
 invariant-loop-number l =
