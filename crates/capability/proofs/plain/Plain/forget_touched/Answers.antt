@@ -1,4 +1,4 @@
-use Rattle.std.proofs.Common.{rules, ◌≡◌, ℕ, Bool, false, List, length, replicate, refl, ap, sym, ◌∙◌, subst}
+use Rattle.std.proofs.Common.{rules, ◌≡◌, ℕ, Bool, false, List, length, replicate, ap, ◌∙◌, subst}
 use Rattle.model.specs.Machine.{untouched}
 use Rattle.model.specs.Sound.{object_count}
 use Rattle.capability.specs.Plain.{PlainState}

@@ -1,4 +1,4 @@
-use Rattle.std.proofs.Common.{rules, ◌≡◌, ℕ, List, ap, ◌∙◌, length, replicate}
+use Rattle.std.proofs.Common.{rules, ◌≡◌, ℕ, ap, ◌∙◌, length, replicate}
 use Rattle.std.specs.Vec.{vec_len}
 use Rattle.number_set.proofs.Marks.{cleared, cleared_sums}
 use Rattle.number_set.proofs.set.NumberSet.clear.Goals as goal

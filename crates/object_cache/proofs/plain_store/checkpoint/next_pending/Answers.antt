@@ -1,4 +1,4 @@
-use Rattle.std.proofs.Common.{refl, arith}
+use Rattle.std.proofs.Common.{arith}
 use Rattle.object_cache.proofs.Counts.{all_below}
 use Rattle.object_cache.proofs.plain_store.checkpoint.next_pending.Goals as goal
 

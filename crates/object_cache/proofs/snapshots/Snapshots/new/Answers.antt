@@ -1,4 +1,4 @@
-use Rattle.std.proofs.Common.{◌≡◌, sym, ap, ◌∙◌, map}
+use Rattle.std.proofs.Common.{sym, ap, ◌∙◌, map}
 use Rattle.object_cache.specs.Frozen.{is_in_memory}
 use Rattle.object_cache.proofs.Copies.{marks_none}
 use Rattle.object_cache.proofs.snapshots.Snapshots.new.Goals as goal

@@ -1,4 +1,4 @@
-use Rattle.std.proofs.Common.{◌≡◌, sym, ap, ◌∙◌, List, Bool, length, map, set, arith}
+use Rattle.std.proofs.Common.{sym, ap, ◌∙◌, List, Bool, length, map, set, arith}
 use Rattle.object_cache.specs.Frozen.{is_in_memory}
 use Rattle.std.proofs.lemmas.List.{length-map, map-set}
 use Rattle.object_cache.proofs.snapshots.Snapshots.set.Goals as goal

@@ -1,4 +1,3 @@
-use Rattle.migrator.specs.Durable.{stored_of}
 use Rattle.object_cache.specs.PlainStore.{StoreState}
 use Rattle.object_cache.proofs.StageStates.{enough, sound_here, freeze_stands, freeze_aside}
 use Rattle.object_cache.proofs.plain_store.stages.PlainStoreObjectStore.freeze.Goals as goal
