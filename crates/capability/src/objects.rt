@@ -1,9 +1,9 @@
 // Present frames, read and changed as the objects that they stand for.
-ghost use Rattle.std.specs.Prelude.{◌≡◌, ◌≢◌, ◌↔◌, ℕ, ◌+◌, ◌<◌, ◌≤◌, ◌^◌, false, length, slice_set, IsTrue, IsSome, IfSome, OnOk, IsErrOf};
+ghost use Rattle.std.specs.Prelude.{◌≡◌, ◌↔◌, ℕ, ◌+◌, ◌<◌, ◌≤◌, ◌^◌, false, length, slice_set, IsTrue, IsSome, IfSome, OnOk, IsErrOf};
 ghost use Rattle.std.specs.List.{All, Contains};
 ghost use Rattle.model.specs.Frame.{current_count, header_at, held_at, objects_of};
 ghost use Rattle.model.specs.Keepable.{AreCurrent, AreKeepable, AreKeptWords, IsKeptCap};
-ghost use Rattle.model.specs.Object.{is_annex, is_root, with_slot_in, with_word_in};
+ghost use Rattle.model.specs.Object.{is_annex, with_slot_in, with_word_in};
 ghost use Rattle.model.specs.Revoke.{consume as consumed, is_member, rescind as rescinded};
 ghost use Rattle.model.specs.World.{word_at, slot_at, root_at, annex_at, content_at, is_process, with_word, with_slot};
 ghost use Rattle.capability.specs.Objects.{with_message, with_message_in};

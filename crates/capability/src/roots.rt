@@ -1,5 +1,5 @@
 // The roots of processes, read and changed as the definitions see them.
-ghost use Rattle.std.specs.Prelude.{◌≡◌, ◌<◌, ◌≤◌, ◌^◌, ℕ, IsTrue, slice_index, slice_set};
+ghost use Rattle.std.specs.Prelude.{◌≡◌, ◌<◌, ℕ, IsTrue, slice_index, slice_set};
 ghost use Rattle.model.specs.Frame.{current_count, objects_of};
 ghost use Rattle.model.specs.Keepable.{AreCurrent, AreKeepable, IsKeptCap};
 ghost use Rattle.model.specs.Order.{with_root_word, with_space};

@@ -1,5 +1,5 @@
 // The table of all objects' headers.
-ghost use Rattle.std.specs.Prelude.{◌≡◌, ℕ, ◌<◌, length, not, nat_lt, slice_set};
+ghost use Rattle.std.specs.Prelude.{◌≡◌, ◌<◌, length, not, nat_lt, slice_set};
 ghost use Rattle.model.specs.Frame.{header_at, current_count, conveyed, given_up, owned_by, called, claimed};
 
 use model::{Cap, Capability, ObjectHeader, Role};

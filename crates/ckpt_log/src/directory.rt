@@ -1,5 +1,5 @@
 // The directories of the log.
-ghost use Rattle.std.specs.Prelude.{◌≡◌, ◌+◌, ◌*◌, ◌^◌, ◌<◌, ◌≤◌, List, length, take, IfErr, OnOk};
+ghost use Rattle.std.specs.Prelude.{◌≡◌, ◌+◌, ◌*◌, ◌<◌, ◌≤◌, List, length, take, IfErr, OnOk};
 ghost use Rattle.layout.specs.Directory.{directory_bytes, IsDirectory};
 ghost use Rattle.layout.specs.Image.{directory_sector, directory_length, directory_in};
 ghost use Rattle.device.specs.Calls.{Counts};

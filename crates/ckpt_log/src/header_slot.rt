@@ -1,5 +1,5 @@
 // The two places of a header.
-ghost use Rattle.std.specs.Prelude.{◌≡◌, ◌+◌, ◌*◌, ◌%◌, ◌<◌, ◌^◌};
+ghost use Rattle.std.specs.Prelude.{◌≡◌, ◌%◌, ◌<◌, ◌^◌};
 ghost use Rattle.ckpt_log.specs.HeaderSlot.{slot_number, header_at, gate_at};
 
 use layout::CheckpointHeader;

@@ -1,5 +1,5 @@
 // The commit of a header.
-ghost use Rattle.std.specs.Prelude.{◌≡◌, ◌⊎◌, ◌≤◌, ◌<◌, ◌^◌, false, OnOk};
+ghost use Rattle.std.specs.Prelude.{◌≡◌, ◌⊎◌, ◌≤◌, ◌<◌, false, OnOk};
 ghost use Rattle.layout.specs.Gate.{gate_bytes, is_open};
 ghost use Rattle.layout.specs.Header.{header_bytes, IsHeader};
 ghost use Rattle.layout.specs.declared.gate.Gate.TheVariants.{Open};

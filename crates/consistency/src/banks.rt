@@ -1,11 +1,9 @@
 // Whether the banks are a tree that owns all objects, within their limits.
-ghost use Rattle.std.specs.Prelude.{◌≡◌, ◌≢◌, ◌↔◌, ℕ, ◌<◌, ◌≤◌, ◌^◌, length, map, slice_index, IfOk, IsTrue};
-ghost use Rattle.std.specs.List.{Contains, range_with_len};
-ghost use Rattle.model.specs.Bank.{chain, usage};
+ghost use Rattle.std.specs.Prelude.{◌≡◌, ◌≢◌, ◌↔◌, ℕ, ◌<◌, ◌≤◌, length, slice_index, IfOk, IsTrue};
+ghost use Rattle.std.specs.List.{Contains};
+ghost use Rattle.model.specs.Bank.{chain};
 ghost use Rattle.model.specs.Frame.{objects_of};
 ghost use Rattle.model.specs.Keepable.{AreKeepable};
-ghost use Rattle.model.specs.Object.{limit_in};
-ghost use Rattle.model.specs.World.{content_at};
 ghost use Rattle.capability.specs.Parts.{Looks, frames_of};
 ghost use Rattle.consistency.specs.Consistency.{AreBanked, AreLimited, AreOwned, owner_of, role_at};
 

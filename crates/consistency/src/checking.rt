@@ -1,6 +1,5 @@
 // The check of all frames.
-ghost use Rattle.std.specs.Prelude.{◌≡◌, ◌↔◌, ◌<◌, ◌≤◌, ◌^◌, IfOk, OnOk, IsErrOf};
-ghost use Rattle.model.specs.Frame.{objects_of};
+ghost use Rattle.std.specs.Prelude.{◌↔◌, ◌<◌, ◌≤◌, ◌^◌, IfOk, OnOk, IsErrOf};
 ghost use Rattle.model.specs.Keepable.{AreKeepable, IsSoundFrames};
 ghost use Rattle.capability.specs.Parts.{Looks, LooksUp, frames_of};
 ghost use Rattle.consistency.specs.Consistency.{AreNamed, AreWholeProcesses, IsInconsistent, Tells};

@@ -1,11 +1,11 @@
 // Whether each process is a root and its annex.
-ghost use Rattle.std.specs.Prelude.{◌≡◌, ◌≢◌, ◌↔◌, ℕ, ◌<◌, ◌^◌, true, false, length, slice_set, IfOk, IsTrue};
+ghost use Rattle.std.specs.Prelude.{◌≡◌, ◌↔◌, ℕ, ◌<◌, true, false, length, IfOk, IsTrue};
 ghost use Rattle.model.specs.Frame.{frame_at};
 ghost use Rattle.model.specs.Keepable.{AreKeepable};
 ghost use Rattle.model.specs.Object.{is_waiting as state_waits};
-ghost use Rattle.capability.specs.Parts.{HaveTheirRoles, Looks, frames_of};
-ghost use Rattle.consistency.specs.Consistency.{AreWholeProcesses, IsAnnexFor, IsRootOf, role_at};
-ghost use Rattle.consistency.specs.Noted.{AreNoted, AreTaken, is_taken, note_at, noted_in, waits_at, IsTaking};
+ghost use Rattle.capability.specs.Parts.{Looks, frames_of};
+ghost use Rattle.consistency.specs.Consistency.{AreWholeProcesses, IsAnnexFor, role_at};
+ghost use Rattle.consistency.specs.Noted.{AreNoted, AreTaken, is_taken, noted_in, waits_at, IsTaking};
 
 use crate::table::{has_role, owner};
 use capability::{PrepareFault, PresentFrames, objects};

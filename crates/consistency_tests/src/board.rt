@@ -1,5 +1,5 @@
 // Frames in memory that can be kept, and are changed to what no machine would leave.
-ghost use Rattle.std.specs.Prelude.{◌≡◌, ◌<◌, ◌^◌, ℕ, IfOk, IsTrue, length};
+ghost use Rattle.std.specs.Prelude.{◌<◌, ℕ, IfOk, IsTrue};
 ghost use Rattle.model.specs.declared.geometry.Geometry.{Geometry};
 ghost use Rattle.model.specs.Keepable.{AreKeepable};
 ghost use Rattle.capability.specs.Parts.{FreshFits, IsFreshAt, frames_of};

@@ -1,5 +1,5 @@
 // The 32 slots of a node.
-ghost use Rattle.std.specs.Prelude.{◌≡◌, ℕ, ◌<◌, List, length, replicate, IfOk, slice_get, slice_set, Some};
+ghost use Rattle.std.specs.Prelude.{◌≡◌, ◌<◌, List, length, replicate, IfOk, slice_get, slice_set, Some};
 
 use std::alloc::{AllocError, Global};
 use std::marker::Model;

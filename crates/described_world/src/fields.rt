@@ -1,6 +1,6 @@
 // The fields of what a description names.
-ghost use Rattle.std.specs.Prelude.{◌≡◌, ◌<◌, ◌≤◌, ◌^◌, ◌↔◌, map, IsTrue};
-ghost use Rattle.std.specs.List.{All, Any};
+ghost use Rattle.std.specs.Prelude.{◌≡◌, ◌<◌, ◌↔◌, map, IsTrue};
+ghost use Rattle.std.specs.List.{Any};
 ghost use Rattle.model.specs.Capability.{IsAccess, IsWellFormed};
 ghost use Rattle.model.specs.Sound.{IsSpace};
 ghost use Rattle.described_world.specs.Described.{AreDistinct, AreSlots, AreWords, HasFields, IsSomeCapability, IsProcessEntry, IsSpaceEntry};

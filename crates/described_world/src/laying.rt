@@ -1,5 +1,5 @@
 // The world of a description.
-ghost use Rattle.std.specs.Prelude.{◌≡◌, ◌<◌, ◌^◌, length, replicate, vec_len, IfErr, IfOk, OnOk};
+ghost use Rattle.std.specs.Prelude.{◌≡◌, ◌<◌, replicate, vec_len, IfErr, IfOk, OnOk};
 ghost use Rattle.std.specs.List.{All};
 ghost use Rattle.layout.specs.Superblock.{IsGeometry};
 ghost use Rattle.model.specs.Frame.{blank_frame, frames_in};

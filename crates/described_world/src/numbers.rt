@@ -1,5 +1,5 @@
 // The numbers that a description names.
-ghost use Rattle.std.specs.Prelude.{◌≡◌, ◌+◌, ◌<◌, ◌≤◌, ◌^◌, ◌↔◌, ◌++◌, map, IfOk, IsTrue};
+ghost use Rattle.std.specs.Prelude.{◌≡◌, ◌+◌, ◌<◌, ◌≤◌, ◌^◌, ◌↔◌, map, IfOk, IsTrue};
 ghost use Rattle.std.specs.List.{All, Any};
 ghost use Rattle.model.specs.Sound.{object_count};
 ghost use Rattle.described_world.specs.Described.{AreDistinct, HasNumbers, node_numbers, page_numbers};

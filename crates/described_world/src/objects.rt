@@ -4,7 +4,7 @@ ghost use Rattle.std.specs.List.{All};
 ghost use Rattle.model.specs.Keepable.{AreKeptWords};
 ghost use Rattle.capability.specs.Plain.{fresh_cap};
 ghost use Rattle.described_world.specs.Laid.{slot_held, slots_of, words_of, root_of, IsLaid};
-ghost use Rattle.described_world.specs.Laid.{Entry, OfBank, OfRoot, OfAnnex, OfNode, OfPage};
+ghost use Rattle.described_world.specs.Laid.{OfBank, OfRoot, OfAnnex, OfNode, OfPage};
 
 use crate::world::World;
 use description::{BankEntry, NodeEntry, PageEntry, ProcessEntry, SlotEntry, WordEntry};

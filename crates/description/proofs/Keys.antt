@@ -1,5 +1,5 @@
 -- Keys that are known, and texts that are the same.
-use Rattle.std.proofs.Common.{◌≡◌, ℕ, Bool, ◌||◌, List, [], ◌∷◌, map, nat_eq, nat_cmp, is_eq, Bor, refl, sym, arith}
+use Rattle.std.proofs.Common.{◌≡◌, ℕ, List, [], ◌∷◌, map, nat_eq, nat_cmp, is_eq, Bor, refl, sym, arith}
 use Rattle.std.proofs.lemmas.Bool.Decides.{nat_tests}
 use Rattle.std.proofs.lemmas.Cmp.{same_from_slice_cmp}
 use Rattle.std.specs.Cmp.Lexicographic.{slice_cmp, pointwise}

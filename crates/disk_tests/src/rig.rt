@@ -1,5 +1,5 @@
 // A device with homes and a log, over which the tests run.
-ghost use Rattle.std.specs.Prelude.{◌≡◌, ◌≤◌, IfOk};
+ghost use Rattle.std.specs.Prelude.{◌≡◌, IfOk};
 
 use crate::next::{NO_ENTRY, publish_next};
 use ckpt_log::Log;

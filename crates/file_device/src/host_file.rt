@@ -1,8 +1,7 @@
 // A file of the operating system.
-ghost use Rattle.std.specs.Prelude.{◌≡◌, ◌<◌, ◌≤◌, ◌+◌, ◌*◌, ◌%◌, ◌++◌, [], length, nat_lt, IsTrue, IsOk, IsErr, ◌↔◌, OnOk, OnErr};
+ghost use Rattle.std.specs.Prelude.{◌≡◌, ◌<◌, ◌≤◌, ◌+◌, ◌*◌, [], nat_lt, IsTrue, IsOk, ◌↔◌, OnOk, OnErr};
 ghost use Rattle.std.specs.Io.Seek.{MovesTo};
 ghost use Rattle.std.specs.Io.KnownBytes.{Keeps};
-ghost use Rattle.device.specs.Calls.{sectors_of};
 
 use crate::history::{History, Step};
 use crate::sector_file::SectorFile;

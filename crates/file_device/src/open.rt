@@ -1,5 +1,5 @@
 // Opening and making a device in a file.
-ghost use Rattle.std.specs.Prelude.{◌≡◌, ◌<◌, ◌≤◌, ◌*◌, ◌/◌, ◌%◌, ◌++◌, List, ℕ, length, replicate, nat_lt, if◌then◌else◌, take, Some, IfOk, IfSome, IsErrOf, OnOk, Ok, Err};
+ghost use Rattle.std.specs.Prelude.{◌≡◌, ◌<◌, ◌≤◌, ◌*◌, ◌/◌, ◌%◌, ℕ, length, replicate, nat_lt, if◌then◌else◌, take, Some, IfOk, IfSome, IsErrOf, OnOk, Ok, Err};
 ghost use Rattle.device.specs.Calls.{Agrees, Only, sectors_of, image_of};
 ghost use Rattle.file_device.specs.FileDevice.{file_disk};
 ghost use Rattle.file_device.specs.Known.{IfKnown};

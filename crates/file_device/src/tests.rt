@@ -1,5 +1,5 @@
 // Devices in real files.
-ghost use Rattle.std.specs.Prelude.{◌≡◌, ◌≤◌, ◌+◌, ◌/◌, ◌%◌, length};
+ghost use Rattle.std.specs.Prelude.{◌≡◌, ◌≤◌, ◌+◌, ◌/◌};
 
 use crate::host_file::HostFile;
 use crate::{CopiedFile, FileDevice, FileFault};

@@ -1,10 +1,9 @@
 // Invocations of banks.
-ghost use Rattle.std.specs.Prelude.{◌≡◌, ◌↔◌, ◌+◌, ◌<◌, ◌≤◌, ◌^◌, ◌++◌, ℕ, drop, length, slice_index, true, if◌then◌else◌, IfOk, OnOk, OnErr, IsErrOf, IsTrue};
+ghost use Rattle.std.specs.Prelude.{◌≡◌, ◌↔◌, ◌+◌, ◌<◌, ◌≤◌, ◌^◌, ℕ, drop, length, slice_index, true, OnOk, OnErr, IsErrOf, IsTrue};
 ghost use Rattle.std.specs.List.{All, Contains};
 ghost use Rattle.model.specs.declared.command.Command.TheVariants as command;
 ghost use Rattle.model.specs.OrderOutcome.{OrderOutcome};
 ghost use Rattle.model.specs.Frame.{objects_of};
-ghost use Rattle.model.specs.Invoke.{deliver, reply_of};
 ghost use Rattle.model.specs.Keepable.{AreCurrent, AreKeepable};
 ghost use Rattle.model.specs.Machine.{touching, touched_count};
 ghost use Rattle.model.specs.Order.{bank_order};
@@ -14,7 +13,7 @@ ghost use Rattle.model.specs.World.{annex_at, is_process, is_running_process};
 ghost use Rattle.capability.specs.Parts.{AreSound, KeepsAside, HaveTheirRoles, IsUnchanged, Looks, frames_of};
 ghost use Rattle.space_bank.specs.Banks.{AreCounted, IsPlanned, KeepsObjects, MayAsk, is_new};
 ghost use Rattle.gate.specs.Banking.{answered, banked, ordered_at, outcome_at, writer_count, writers, AsksBank, GoesOnBeside};
-ghost use Rattle.gate.specs.Invoke.{Invokes, IsAsked, KeepsSoundFrames, Overfills};
+ghost use Rattle.gate.specs.Invoke.{Invokes, KeepsSoundFrames, Overfills};
 ghost use Rattle.gate.specs.Plan.{FitsCap};
 
 use crate::fault::InvokeFault;

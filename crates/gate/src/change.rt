@@ -1,8 +1,7 @@
 // The changes that orders make.
-ghost use Rattle.std.specs.Prelude.{◌≡◌, ◌+◌, ◌<◌, ◌^◌, ℕ, List, Some, IsTrue};
+ghost use Rattle.std.specs.Prelude.{◌≡◌, ◌+◌, ◌<◌, ◌^◌, ℕ, Some};
 ghost use Rattle.model.specs.Frame.{header_at, objects_of};
 ghost use Rattle.model.specs.Keepable.{AreCurrent, AreKeepable};
-ghost use Rattle.model.specs.World.{is_process};
 ghost use Rattle.capability.specs.Parts.{KeepsAside, frames_of};
 ghost use Rattle.gate.specs.Plan.{changed, target_of, IsWithinObject, IsOfProcess, MayHold};
 

@@ -1,5 +1,5 @@
 // Invocations.
-ghost use Rattle.std.specs.Prelude.{◌≡◌, ◌↔◌, ◌<◌, ◌≤◌, ℕ, None, OnOk, OnErr, IsErrOf, IsTrue};
+ghost use Rattle.std.specs.Prelude.{◌≡◌, ◌↔◌, ◌<◌, ◌≤◌, None, OnOk, OnErr, IsErrOf, IsTrue};
 ghost use Rattle.model.specs.Frame.{objects_of};
 ghost use Rattle.model.specs.Invoke.{invoke};
 ghost use Rattle.model.specs.World.{is_running_process};

@@ -1,16 +1,16 @@
 // Invocations of kernel objects.
-ghost use Rattle.std.specs.Prelude.{◌≡◌, ◌↔◌, ◌+◌, ◌<◌, ◌≤◌, ◌^◌, ℕ, [], ◌∷◌, length, slice_index, Some, IfOk, OnOk, OnErr, IsErrOf, IsTrue};
+ghost use Rattle.std.specs.Prelude.{◌≡◌, ◌↔◌, ◌+◌, ◌<◌, ◌≤◌, ◌^◌, ℕ, [], length, slice_index, Some, IfOk, OnOk, OnErr, IsErrOf, IsTrue};
 ghost use Rattle.model.specs.declared.command.Command.TheVariants as command;
 ghost use Rattle.model.specs.Frame.{header_at, objects_of};
-ghost use Rattle.model.specs.Invoke.{deliver, ordered, reply_of, sent_by};
+ghost use Rattle.model.specs.Invoke.{deliver};
 ghost use Rattle.model.specs.Keepable.{AreCurrent, AreKeepable};
 ghost use Rattle.model.specs.Machine.{touching, touched_count};
 ghost use Rattle.model.specs.Order.{IsNoBankOrder};
 ghost use Rattle.model.specs.Text.{Fits};
-ghost use Rattle.model.specs.World.{annex_at, is_process, is_running_process, register_at};
+ghost use Rattle.model.specs.World.{annex_at, is_process, is_running_process};
 ghost use Rattle.capability.specs.Parts.{AreSound, IsUnchanged, KeepsAside, Looks, frames_of};
 ghost use Rattle.gate.specs.Invoke.{finished, replied_to, written_by, AreAnnounced, Invokes, IsAsked, IsKernelObject, IsPlanned, KeepsSoundFrames, Overfills};
-ghost use Rattle.gate.specs.Plan.{changed, outcome_of, target_of, FitsCap, IsOfProcess, IsWithinObject, MayHold};
+ghost use Rattle.gate.specs.Plan.{target_of, FitsCap, IsOfProcess, IsWithinObject, MayHold};
 
 use crate::change::make;
 use crate::delivery::deliver;

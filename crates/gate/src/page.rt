@@ -1,5 +1,5 @@
 // Orders on pages.
-ghost use Rattle.std.specs.Prelude.{◌≡◌, ℕ, if◌then◌else◌, List};
+ghost use Rattle.std.specs.Prelude.{◌≡◌, if◌then◌else◌, List};
 ghost use Rattle.model.specs.declared.object.Object.{Object};
 ghost use Rattle.model.specs.Frame.{objects_of};
 ghost use Rattle.model.specs.Order.{on_page, page_order, reduces};

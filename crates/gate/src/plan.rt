@@ -1,5 +1,5 @@
 // What an order comes to, before anything changes.
-ghost use Rattle.std.specs.Prelude.{◌≡◌, ℕ, [], ◌∷◌};
+ghost use Rattle.std.specs.Prelude.{◌≡◌, [], ◌∷◌};
 ghost use Rattle.gate.specs.Plan.{target_of};
 
 use model::{Capability, ResultCode, State};

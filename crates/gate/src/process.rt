@@ -1,5 +1,5 @@
 // Orders on processes.
-ghost use Rattle.std.specs.Prelude.{◌≡◌, ℕ, ◌↔◌, List, IsTrue};
+ghost use Rattle.std.specs.Prelude.{◌≡◌, List, IsTrue};
 ghost use Rattle.model.specs.declared.object.Object.{Object};
 ghost use Rattle.model.specs.Frame.{objects_of};
 ghost use Rattle.model.specs.Order.{is_space, on_process, process_order};

@@ -1,9 +1,8 @@
 -- What is written is an image of a description.
-use Rattle.std.proofs.Common.{◌≡◌, ℕ, ◌≤◌, List, ap, subst, sym}
+use Rattle.std.proofs.Common.{◌≡◌, ◌≤◌, List, subst, sym}
 use Rattle.model.specs.declared.capability.Cap.{Cap}
 use Rattle.model.specs.declared.frame.Frame.{Frame}
 use Rattle.model.specs.declared.frame.ObjectHeader.{ObjectHeader}
-use Rattle.model.specs.declared.geometry.Geometry.{Geometry}
 use Rattle.model.specs.declared.object.Content.{Content}
 use Rattle.model.specs.Frame.{frames_in}
 use Rattle.model.specs.Keepable.{AreKeepable, IsSoundFrames}

@@ -1,5 +1,5 @@
 -- What is refused whatever the device, and with which fault.
-use Rattle.std.proofs.Common.{◌≡◌, ◌≢◌, ℕ, ◌<◌, ◌≤◌, List, ap, refl, subst, sym, arith, ◌∙◌}
+use Rattle.std.proofs.Common.{◌≡◌, ◌≢◌, ℕ, ◌<◌, List, ap, refl, subst, sym, arith}
 use Rattle.std.specs.Prelude.{IfErr, OnOk, Result, Ok, Err}
 use Rattle.toml.specs.Data.{Members}
 use Rattle.device.specs.Disk.{Disk}
@@ -22,7 +22,7 @@ use Rattle.image_builder.specs.declared.fault.BuildFault.TheVariants.{Shape, Lim
 use Rattle.image_builder.specs.Built.{Builds, BuildsFrom, IsAccepted, IsRefused, IsWithinLimits, Refuses, Rule, TellsNoSize, fault_number}
 use Rattle.image_builder.specs.Checked.{AreLaid, IsRefusedEarly, IsSoundDescription}
 use Rattle.image_builder.proofs.DescribedOnce.{described_once}
-use Rattle.image_builder.proofs.Rules.{all_kept, field_broken, limits_broken, number_broken, owner_broken, small_broken, target_broken}
+use Rattle.image_builder.proofs.Rules.{all_kept, field_broken, number_broken, owner_broken, small_broken, target_broken}
 
 -- a lesser fault isn't that of the device
 unfailed : (fault : BuildFault) → fault_number fault < 8 → fault ≢ Failed

@@ -1,7 +1,6 @@
 // Building images.
 ghost use Rattle.std.specs.Prelude.{◌≡◌, ◌≢◌, ◌<◌, ◌≤◌, ◌↔◌, IfOk, IfErr, IsErrOf, OnOk};
 ghost use Rattle.toml.specs.View.{table_view};
-ghost use Rattle.device.specs.Calls.{Elsewhere};
 ghost use Rattle.description.specs.Reading.{IsDescription};
 ghost use Rattle.image_builder.specs.Built.{Builds, BuildsFrom, IsRefused, IsWithinLimits, Refuses, TellsNoSize, plan_for};
 ghost use Rattle.image_builder.specs.Checked.{AreLaid, IsSoundDescription};

@@ -1,9 +1,5 @@
 // The worlds that descriptions name.
 ghost use Rattle.std.specs.Prelude.{◌≡◌, ◌≢◌, IfOk, IfErr, OnOk};
-ghost use Rattle.model.specs.Frame.{frames_in};
-ghost use Rattle.model.specs.Keepable.{IsSoundFrames};
-ghost use Rattle.capability.specs.Parts.{frames_of};
-ghost use Rattle.capability.specs.Plain.{parts_of};
 ghost use Rattle.image_builder.specs.Built.{IsWithinLimits};
 ghost use Rattle.image_builder.specs.Checked.{AreLaid, IsRefusedEarly, IsSoundDescription};
 

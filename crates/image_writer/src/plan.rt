@@ -1,5 +1,5 @@
 // Where the parts of a fresh image lie.
-ghost use Rattle.std.specs.Prelude.{◌≡◌, ℕ, ◌≤◌, length, IsTrue, IfOk, IfErr, ◌↔◌};
+ghost use Rattle.std.specs.Prelude.{◌≡◌, ◌≤◌, length, IsTrue, IfOk, IfErr, ◌↔◌};
 ghost use Rattle.std.specs.List.{All};
 ghost use Rattle.layout.specs.Superblock.{IsPlan};
 ghost use Rattle.image_writer.specs.Laid.{MayBeLaid, behind, half_length, laid, plan_from, sectors_of};

@@ -1,5 +1,5 @@
 -- What the command that builds comes to.
-use Rattle.std.proofs.Common.{◌≡◌, ◌≢◌, ◌<◌, ℕ, List, Option, Ok, Err, refl, sym, ap, ◌∙◌, subst, arith}
+use Rattle.std.proofs.Common.{◌≡◌, ◌<◌, ℕ, List, Option, Ok, Err, refl, ap, subst, arith}
 use Rattle.std.specs.Prelude.{◌↔◌, IsErrOf, Result}
 use Rattle.std.specs.Io.KnownBytes.{Appends}
 use Rattle.toml.specs.Data.{Members}

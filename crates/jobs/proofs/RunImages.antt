@@ -1,5 +1,5 @@
 -- What the commands that open an image come to.
-use Rattle.std.proofs.Common.{◌≡◌, ◌+◌, ℕ, List, Option, Ok, Err, refl, sym, ap, ◌∙◌, subst}
+use Rattle.std.proofs.Common.{◌≡◌, ℕ, List, Option, Ok, Err, sym, ap, ◌∙◌, subst}
 use Rattle.std.specs.Prelude.{None, Some}
 use Rattle.std.specs.Io.KnownBytes.{Appends}
 use Rattle.model.specs.Machine.{Running, Saved}

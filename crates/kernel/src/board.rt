@@ -1,5 +1,5 @@
 // The kernel.
-ghost use Rattle.std.specs.Prelude.{◌≡◌, IfOk, IfErr};
+ghost use Rattle.std.specs.Prelude.{IfOk, IfErr};
 ghost use Rattle.kernel.specs.Standing.{IsCaused, IsDeviceOf, IsTold, Serves, disk_of};
 ghost use Rattle.kernel.specs.Opening.{Opens, RefusesToOpen};
 

@@ -1,5 +1,5 @@
 // Numbers and zeros in bytes.
-ghost use Rattle.std.specs.Prelude.{◌≡◌, ℕ, ◌+◌, ◌-◌, ◌≤◌, ◌++◌, ◌↔◌, List, length, take, drop, IsTrue};
+ghost use Rattle.std.specs.Prelude.{◌≡◌, ◌+◌, ◌-◌, ◌≤◌, ◌++◌, ◌↔◌, length, take, drop, IsTrue};
 ghost use Rattle.layout.specs.Bytes.{number, zeros};
 
 use byteorder::{ByteOrder, LittleEndian};

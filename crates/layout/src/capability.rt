@@ -1,5 +1,5 @@
 // Capabilities as bytes.
-ghost use Rattle.std.specs.Prelude.{◌≡◌, ℕ, ◌+◌, ◌*◌, ◌^◌, ◌%◌, ◌<◌, ◌≤◌, ◌++◌, ◌↔◌, length, IsTrue, IfOk, IfErr};
+ghost use Rattle.std.specs.Prelude.{◌≡◌, ◌+◌, ◌*◌, ◌%◌, ◌<◌, ◌↔◌, length, IsTrue, IfOk, IfErr};
 ghost use Rattle.model.specs.declared.access.Access.{Access};
 ghost use Rattle.model.specs.declared.capability.Cap.{Cap};
 ghost use Rattle.model.specs.Capability.{IsAccess};

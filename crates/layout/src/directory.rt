@@ -1,5 +1,5 @@
 // The directory of a checkpoint.
-ghost use Rattle.std.specs.Prelude.{◌≡◌, ℕ, ◌+◌, ◌*◌, ◌<◌, ◌≤◌, ◌↔◌, List, length, IsTrue, OnOk, IfErr};
+ghost use Rattle.std.specs.Prelude.{◌≡◌, ◌+◌, ◌*◌, ◌<◌, ◌≤◌, ◌↔◌, List, length, IsTrue, OnOk, IfErr};
 ghost use Rattle.std.specs.List.{All};
 ghost use Rattle.layout.specs.declared.directory.Entry.{Entry};
 ghost use Rattle.layout.specs.Directory.{directory_bytes, IsEntry, AreRising, HaveOwnSlots, IsDirectory, AllFitting};

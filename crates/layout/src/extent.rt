@@ -1,5 +1,5 @@
 // Ranges of objects and of sectors.
-ghost use Rattle.std.specs.Prelude.{◌≡◌, ◌⊎◌, ℕ, ◌+◌, ◌<◌, ◌≤◌, ◌++◌, ◌∷◌, ◌↔◌, [], List, length, map, IsTrue};
+ghost use Rattle.std.specs.Prelude.{◌≡◌, ◌+◌, ◌<◌, ◌≤◌, ◌++◌, ◌∷◌, ◌↔◌, [], length, map, IsTrue};
 ghost use Rattle.std.specs.List.{All};
 ghost use Rattle.layout.specs.Superblock.{range_extent, half_extent, IsWithin, IsApart, AreApart};
 

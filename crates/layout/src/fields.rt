@@ -1,5 +1,5 @@
 // Numbers of sectors that may be damaged.
-ghost use Rattle.std.specs.Prelude.{◌≡◌, ℕ, ◌≤◌, length};
+ghost use Rattle.std.specs.Prelude.{◌≡◌, ◌≤◌, length};
 ghost use Rattle.layout.specs.Image.{total_in, sequence_in};
 
 use crate::bytes::number_at;

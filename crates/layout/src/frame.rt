@@ -1,5 +1,5 @@
 // The frame of an object, whose number tells its kind.
-ghost use Rattle.std.specs.Prelude.{◌≡◌, ℕ, ◌+◌, ◌*◌, ◌<◌, length, IfOk, IfErr};
+ghost use Rattle.std.specs.Prelude.{◌≡◌, ◌+◌, ◌*◌, ◌<◌, length, IfOk, IfErr};
 ghost use Rattle.model.specs.declared.frame.Frame.{Frame};
 ghost use Rattle.layout.specs.Frame.{frame_bytes, frame_length, frame_of, IsFrameOf};
 

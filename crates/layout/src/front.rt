@@ -1,5 +1,5 @@
 // The front of a frame: its role, its counts and its owner.
-ghost use Rattle.std.specs.Prelude.{◌≡◌, ℕ, ◌≤◌, ◌++◌, ◌↔◌, length, take, drop, IsTrue};
+ghost use Rattle.std.specs.Prelude.{◌≡◌, ◌≤◌, ◌++◌, ◌↔◌, length, take, drop, IsTrue};
 ghost use Rattle.model.specs.Keepable.{IsCount};
 ghost use Rattle.model.specs.Object.{role_number};
 ghost use Rattle.layout.specs.Frame.{front_numbers, role_in};

@@ -1,5 +1,5 @@
 // The gate of a header.
-ghost use Rattle.std.specs.Prelude.{◌≡◌, ℕ, ◌<◌, length};
+ghost use Rattle.std.specs.Prelude.{◌≡◌, ◌<◌, length};
 ghost use Rattle.layout.specs.Gate.{gate_bytes, gate_of};
 
 use crate::bytes::blank;

@@ -1,5 +1,5 @@
 // The header of a checkpoint.
-ghost use Rattle.std.specs.Prelude.{◌≡◌, ℕ, ◌<◌, ◌↔◌, length, IsTrue, IfOk, IfErr};
+ghost use Rattle.std.specs.Prelude.{◌≡◌, ◌<◌, ◌↔◌, length, IsTrue, IfOk, IfErr};
 ghost use Rattle.layout.specs.declared.header.CheckpointHeader.{CheckpointHeader};
 ghost use Rattle.layout.specs.Header.{header_bytes, IsHeader};
 

@@ -1,5 +1,5 @@
 // Frames with the number of a node.
-ghost use Rattle.std.specs.Prelude.{◌-◌, ◌≡◌, ℕ, ◌*◌, ◌<◌, ◌≤◌, ◌++◌, ◌↔◌, ◌^◌, [], length, take, IsTrue, IfOk, IfErr};
+ghost use Rattle.std.specs.Prelude.{◌-◌, ◌≡◌, ◌*◌, ◌<◌, ◌≤◌, ◌++◌, ◌↔◌, ◌^◌, [], length, take, IsTrue, IfOk, IfErr};
 ghost use Rattle.model.specs.declared.frame.Frame.{Frame};
 ghost use Rattle.model.specs.declared.object.Content.TheVariants as content;
 ghost use Rattle.model.specs.Sound.{IsSpace};

@@ -1,5 +1,5 @@
 // Capabilities one after the other.
-ghost use Rattle.std.specs.Prelude.{◌≡◌, ℕ, ◌*◌, ◌-◌, ◌++◌, ◌<◌, ◌≤◌, ◌↔◌, List, length, replicate, IsTrue, OnOk, IfErr};
+ghost use Rattle.std.specs.Prelude.{◌≡◌, ◌*◌, ◌-◌, ◌++◌, ◌<◌, ◌≤◌, ◌↔◌, List, length, replicate, IsTrue, OnOk, IfErr};
 ghost use Rattle.std.specs.List.{All};
 ghost use Rattle.model.specs.declared.capability.Cap.{Cap};
 ghost use Rattle.model.specs.Frame.{void_held};

@@ -1,5 +1,5 @@
 // The superblock: how much a device holds, and where.
-ghost use Rattle.std.specs.Prelude.{◌≡◌, ℕ, ◌+◌, ◌*◌, ◌-◌, ◌<◌, ◌≤◌, ◌++◌, ◌↔◌, ◌^◌, List, length, take, drop, map, replicate, IsTrue, IfOk, IfErr, IfSome, IfNone, slice_index};
+ghost use Rattle.std.specs.Prelude.{◌≡◌, ◌+◌, ◌*◌, ◌-◌, ◌<◌, ◌≤◌, ◌↔◌, length, take, IsTrue, IfOk, IfErr, IfSome, IfNone};
 ghost use Rattle.std.specs.List.{All};
 ghost use Rattle.layout.specs.Superblock.{Plan, superblock_bytes, ranges_bytes, unused, IsGeometry, IsNext, Cover, extents, IsPlan, IsRefused, RangeFits, plan_of, half_start};
 
@@ -96,7 +96,7 @@ pub struct Superblock {
 }
 
 impl Model for Superblock {
-    ghost use Rattle.std.specs.Prelude.{◌≡◌, ◌≤◌, ◌++◌, ◌-◌, take, replicate};
+    ghost use Rattle.std.specs.Prelude.{◌≡◌, ◌≤◌, ◌-◌, take};
     ghost use Rattle.layout.specs.Superblock.{Plan, plan_of, IsPlan, unused};
 
     ghost Value = { Plan };

@@ -1,5 +1,5 @@
 // Tests of what an image says as a whole.
-ghost use Rattle.std.specs.Prelude.{◌≡◌, ℕ, ◌<◌, length};
+ghost use Rattle.std.specs.Prelude.{◌≡◌, ◌<◌, length};
 
 use layout::{
     BadImage, Body, CheckpointHeader, Entry, Gate, Half, HomeRange, Room, Superblock,

@@ -51,7 +51,7 @@ pub struct Durable<D: Device> {
 }
 
 impl<D: Device> Model for Durable<D> {
-    ghost use Rattle.std.specs.Prelude.{◌≡◌, take, length};
+    ghost use Rattle.std.specs.Prelude.{◌≡◌, length};
     ghost use Rattle.migrator.specs.Durable.{DurableState, IsKept, books_of};
 
     ghost Value = { DurableState D };

@@ -1,9 +1,9 @@
 // Reading an image whole: every saved frame is looked at once.
-ghost use Rattle.std.specs.Prelude.{◌≡◌, ℕ, ◌+◌, ◌<◌, ◌≤◌, ◌∷◌, ◌++◌, [], length, take, IfOk, IfErr, OnOk};
+ghost use Rattle.std.specs.Prelude.{◌≡◌, ℕ, ◌+◌, ◌<◌, ◌≤◌, ◌∷◌, ◌++◌, [], length, IfOk, IfErr, OnOk};
 ghost use Rattle.model.specs.Frame.{headers};
 ghost use Rattle.device.specs.Calls.{Only};
 ghost use Rattle.layout.specs.Directory.{IsDirectory};
-ghost use Rattle.layout.specs.Image.{HasPlan, HasHeader, HasDirectory};
+ghost use Rattle.layout.specs.Image.{HasPlan};
 ghost use Rattle.layout.specs.Spelt.{count_of, IsSpelt, AreSpelt, frame_read, frames_read};
 ghost use Rattle.frame_io.specs.Calls.{ReadsOnly};
 ghost use Rattle.frame_io.specs.Frames.{IsObject};

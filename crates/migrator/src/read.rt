@@ -2,7 +2,7 @@
 ghost use Rattle.std.specs.Prelude.{◌≡◌, ◌<◌, ◌≤◌, IfOk, IfErr};
 ghost use Rattle.layout.specs.Directory.{IsDirectory};
 ghost use Rattle.layout.specs.Frame.{IsFrameOf, frame_of};
-ghost use Rattle.layout.specs.Image.{HasPlan, IsBadBy, frame_in};
+ghost use Rattle.layout.specs.Image.{HasPlan, frame_in};
 ghost use Rattle.frame_io.specs.Calls.{ReadsOnly};
 ghost use Rattle.frame_io.specs.Fault.{CountsFailed};
 ghost use Rattle.frame_io.specs.Frames.{IsObject, IsRefused};

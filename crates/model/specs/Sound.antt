@@ -7,7 +7,7 @@ use Rattle.model.specs.declared.object.Content.{Content}
 use Rattle.model.specs.declared.object.Content.TheVariants as content
 use Rattle.model.specs.declared.object.Object.{Object}
 use Rattle.model.specs.Capability.{IsWellFormed}
-use Rattle.model.specs.Object.{is_free, is_page, is_node, is_root, is_annex, is_bank, is_waiting, limit_in}
+use Rattle.model.specs.Object.{is_free, is_page, is_node, is_annex, is_bank, is_waiting, limit_in}
 use Rattle.model.specs.World.{World, content_at, owner_at, word_at, slot_at, root_at, annex_at, is_process}
 use Rattle.model.specs.Bank.{chain, usage}
 

@@ -1,4 +1,4 @@
-use Rattle.std.specs.Prelude.{◌≡◌, ◌⊎◌, ℕ, ◌+◌, ◌-◌, ◌*◌, ◌/◌, ◌%◌, ◌^◌, ◌==◌, nat_lt, nat_le, min, Bool, true, false, not, ◌&&◌, if◌then◌else◌, Option, None, Some, Result, Ok, Err, List, [], ◌∷◌, ◌++◌, IsTrue}
+use Rattle.std.specs.Prelude.{◌≡◌, ◌⊎◌, ℕ, ◌+◌, ◌-◌, ◌/◌, ◌%◌, ◌^◌, ◌==◌, nat_lt, Bool, true, false, not, ◌&&◌, if◌then◌else◌, Option, None, Some, Result, Ok, Err, List, [], ◌∷◌, ◌++◌, IsTrue}
 use Rattle.std.specs.List.{Contains}
 use Rattle.model.specs.declared.access.Access.{Access}
 use Rattle.model.specs.declared.answer.Answer.{Answer}
@@ -7,11 +7,9 @@ use Rattle.model.specs.declared.answer.MemoryFault.{MemoryFault}
 use Rattle.model.specs.declared.answer.MemoryFault.TheVariants.{ReadOnly}
 use Rattle.model.specs.declared.answer.Refusal.{Refusal}
 use Rattle.model.specs.declared.answer.Refusal.TheVariants as refusal
-use Rattle.model.specs.declared.capability.Capability.{Capability}
 use Rattle.model.specs.declared.command.Command.{Command}
 use Rattle.model.specs.declared.command.Command.TheVariants as command
 use Rattle.model.specs.declared.geometry.Geometry.{Geometry}
-use Rattle.model.specs.declared.object.Content.{Content}
 use Rattle.model.specs.declared.object.Content.TheVariants as content
 use Rattle.model.specs.declared.object.Object.{Object}
 use Rattle.model.specs.Object.{is_bank, is_root, slots_in}
@@ -19,7 +17,7 @@ use Rattle.model.specs.World.{World, object_at, content_at, annex_at, root_at, w
 use Rattle.model.specs.Bank.{usage}
 use Rattle.model.specs.Sound.{object_count}
 use Rattle.model.specs.Walk.{walk}
-use Rattle.model.specs.Invoke.{Effect, invoke}
+use Rattle.model.specs.Invoke.{invoke}
 use Rattle.model.specs.Machine.{Saved, Frozen, Running, Machine, Up, Down, candidates, untouched, touching, touched_count, opened}
 
 -- whether writing these too is more than half of the log holds

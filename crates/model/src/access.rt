@@ -1,5 +1,5 @@
 // What a capability lets its holder do.
-ghost use Rattle.std.specs.Prelude.{⊤, ◌≡◌, ℕ, [], ◌∷◌, codes};
+ghost use Rattle.std.specs.Prelude.{⊤, ◌≡◌, [], ◌∷◌, codes};
 ghost use Rattle.model.specs.Capability.{full, weak};
 
 use bitflags::{Flag, Flags, bitflag_items};

@@ -1,13 +1,13 @@
 // The trait of object stores.
-ghost use Rattle.std.specs.Prelude.{◌≡◌, ◌⊎◌, ℕ, ◌+◌, ◌-◌, ◌<◌, ◌≤◌, Option, None, Some, option_map, length, IfOk, IfErr, OnOk, OnErr, IsSome};
+ghost use Rattle.std.specs.Prelude.{◌≡◌, ℕ, ◌+◌, ◌-◌, ◌<◌, ◌≤◌, Option, None, Some, option_map, length, IfOk, IfErr, OnOk, OnErr, IsSome};
 ghost use Rattle.model.specs.Keepable.{AreKeepable};
 ghost use Rattle.model.specs.Machine.{untouched, touched_count};
 ghost use Rattle.device.specs.Disk.{Image};
 ghost use Rattle.device.specs.Calls.{Counts};
-ghost use Rattle.device.specs.Moments.{LeavesOnly, Peeks};
+ghost use Rattle.device.specs.Moments.{Peeks};
 ghost use Rattle.migrator.specs.Saved.{Holds, LeavesSaved, LeavesEither};
 ghost use Rattle.migrator.specs.Opened.{Refuses};
-ghost use Rattle.capability.specs.Parts.{Parts, frames_of};
+ghost use Rattle.capability.specs.Parts.{frames_of};
 ghost use Rattle.object_cache.specs.Store.{FrozenFrames, View, Leads, Opens, freezing, stabilized, next_saved, committed, MayCommit, moved, moved_saved};
 
 use capability::PresentFrames;

@@ -6,7 +6,7 @@ use Rattle.model.specs.declared.object.Object.{Object}
 use Rattle.model.specs.Frame.{objects_of}
 use Rattle.model.specs.World.{with_word}
 use Rattle.model_laws.proofs.InvocationFrame.{word_frame}
-use Rattle.capability.specs.Parts.{LooksUp, Parts, frames_of}
+use Rattle.capability.specs.Parts.{Parts, frames_of}
 use Rattle.space_bank.specs.Banks.{AreCounted, BanksState}
 use Rattle.address_space.specs.References.{IsStored}
 use Rattle.gate.proofs.BankStates.{counted_looked, counted_on}

@@ -1,6 +1,5 @@
 // What is counted of banks, beside the objects.
-ghost use Rattle.std.specs.Prelude.{◌≡◌, ℕ, slice_index};
-ghost use Rattle.space_bank.specs.Banks.{AreCounted};
+ghost use Rattle.std.specs.Prelude.{◌≡◌, slice_index};
 
 use number_set::NumberSet;
 use std::marker::Model;

@@ -1,5 +1,5 @@
 // The end of a bank's objects.
-ghost use Rattle.std.specs.Prelude.{◌≡◌, ◌≢◌, ℕ, ◌≤◌, ◌∷◌, [], drop, length};
+ghost use Rattle.std.specs.Prelude.{◌≡◌, ◌≢◌, ◌≤◌, ◌∷◌, [], drop, length};
 ghost use Rattle.std.specs.List.{All};
 ghost use Rattle.model.specs.Banking.{inherited, owned_by, under};
 ghost use Rattle.model.specs.Frame.{objects_of};

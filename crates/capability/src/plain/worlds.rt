@@ -1,5 +1,5 @@
 // The two worlds that are there from the start, as stores in memory.
-ghost use Rattle.std.specs.Prelude.{◌≡◌, [], ◌∷◌, ◌++◌, length, map, replicate, slice_set, IfOk, OnOk};
+ghost use Rattle.std.specs.Prelude.{◌≡◌, [], ◌∷◌, length, map, replicate, slice_set, IfOk};
 ghost use Rattle.model.specs.declared.capability.Capability.TheVariants.{Void, Node, Page, Process, Start, Bank};
 ghost use Rattle.model.specs.declared.object.Content.TheVariants as content;
 ghost use Rattle.model.specs.declared.object.State.TheVariants as states;

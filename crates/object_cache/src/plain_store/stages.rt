@@ -1,12 +1,12 @@
 // The stages of a checkpoint.
-ghost use Rattle.std.specs.Prelude.{◌≡◌, ◌≢◌, ◌⊎◌, ℕ, ◌+◌, ◌-◌, ◌<◌, ◌≤◌, ◌^◌, Some, None, length, option_map, IfOk, IfErr, IsSome, OnOk, OnErr};
+ghost use Rattle.std.specs.Prelude.{◌≡◌, ◌+◌, ◌-◌, ◌<◌, ◌≤◌, ◌^◌, Some, None, IfOk, OnOk, OnErr};
 ghost use Rattle.model.specs.Keepable.{AreKeepable};
-ghost use Rattle.model.specs.Machine.{untouched, touched_count};
+ghost use Rattle.model.specs.Machine.{touched_count};
 ghost use Rattle.device.specs.Calls.{Counts};
 ghost use Rattle.migrator.specs.Put.{held_slot, sum_of};
 ghost use Rattle.migrator.specs.Saved.{LeavesEither};
 ghost use Rattle.migrator.specs.Durable.{Frozen, freezing, committed, next_saved, left_of, stored_of, is_sound};
-ghost use Rattle.object_cache.specs.PlainStore.{IsStore, view_of, parts_of};
+ghost use Rattle.object_cache.specs.PlainStore.{view_of};
 
 use crate::plain_store::PlainStore;
 use crate::plain_store::open::open_plain;

@@ -1,4 +1,4 @@
-use Rattle.std.proofs.Common.{rules, arith, ◌/◌}
+use Rattle.std.proofs.Common.{rules, arith}
 use Rattle.file_device.proofs.Copies.{copy_fresh, fresh_only}
 use Rattle.file_device.proofs.file_device.CopiedFile.new.Goals as goal
 
