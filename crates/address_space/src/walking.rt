@@ -51,8 +51,8 @@ struct Tree {
 ///
 /// The fault is that of the first place where the way stops: `NoSpace` where the capability is
 /// void, `Malformed` where it is no address space, `Beyond` where the space has no page of that
-/// index, `Hole` at a void slot, and `Malformed` at a slot with anything else than the next level: a
-/// page at height 1, above it a tree that is one less high. A stale capability is void, so on the
+/// index, `Hole` at a void slot, and `Malformed` at a slot with anything else than the next level:
+/// a page at height 1, above it a tree that is one less high. A stale capability is void, so on the
 /// way it is a hole. A store to a page that is reached with any restriction is `ReadOnly`.
 ///
 /// At most four nodes are fetched, one after the other, and the page isn't. No object is another

@@ -27,8 +27,8 @@ pub(crate) const PAGE: u8 = 6;
 
 pub(crate) const GIVEN: u8 = 28;
 
-/// World F0, whose process 1 runs and holds node 5 and page 16, with process 1 in its register 1 too.
-/// At first the node is void, the words of the page are 0, and there is no address space.
+/// World F0, whose process 1 runs and holds node 5 and page 16, with process 1 in its register 1
+/// too. At first the node is void, the words of the page are 0, and there is no address space.
 #[derive(Drop)]
 pub(crate) struct Machine {
     frames: Plain,

@@ -1,5 +1,5 @@
 // The store in memory.
-ghost use Rattle.std.specs.Prelude.{◌≡◌, ◌≢◌, ℕ, ◌+◌, ◌<◌, ◌≤◌, ◌^◌, ◌↔◌, false, length, replicate, slice_index_or, None, IfSome, IfOk, OnOk, OnErr, IsErrOf};
+ghost use Rattle.std.specs.Prelude.{◌≡◌, ◌≢◌, ℕ, ◌+◌, ◌<◌, ◌≤◌, ◌^◌, ◌↔◌, length, replicate, None, IfSome, IfOk, OnOk, OnErr, IsErrOf};
 ghost use Rattle.std.specs.List.{All, Contains};
 ghost use Rattle.model.specs.Frame.{header_at};
 ghost use Rattle.model.specs.Keepable.{AreKeepable};
@@ -91,14 +91,6 @@ impl Plain {
             count: 0,
             age: 0,
         })
-    }
-
-    /// Whether a number was written since that was last forgotten.
-    pub fn is_touched(&self, number: u64) -> bool
-        requires { number < length self.now.headers }
-        ensures { result ≡ slice_index_or self.now.touched number false }
-    {
-        self.touched.contains(number as usize)
     }
 
     /// The least number from a number on that was written since that was last forgotten.

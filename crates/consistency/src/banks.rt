@@ -87,9 +87,9 @@ fn are_counted<F: PresentFrames>(alloc: Global, store: &mut F) -> Result<bool, P
     }
 }
 
-/// Whether each object is owned by a bank, the banks are a tree with number 0 at the top and at most
-/// 16 banks in a chain, and no bank accounts for more than its limit. Banks are fetched one at a
-/// time for their limits.
+/// Whether each object is owned by a bank, the banks are a tree with number 0 at the top and at
+/// most 16 banks in a chain, and no bank accounts for more than its limit. Banks are fetched one at
+/// a time for their limits.
 pub(crate) fn are_banked<F: PresentFrames>(
     alloc: Global,
     store: &mut F,

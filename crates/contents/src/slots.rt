@@ -37,6 +37,7 @@ impl<C: Copy> Slots<C> {
         Ok(Slots { items })
     }
 
+    /// What a slot holds.
     pub fn get(&self, index: usize) -> C
         requires { index < 32 }
         ensures value { slice_get self.now index ≡ Some result }
@@ -64,6 +65,7 @@ impl<C: Copy> Slots<C> {
         Ok(Slots { items })
     }
 
+    /// Puts this into a slot.
     pub fn set(&mut self, index: usize, held: C)
         requires { index < 32 }
         ensures set { self.new ≡ slice_set self.old index held }

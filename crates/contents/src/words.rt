@@ -31,6 +31,7 @@ impl Words {
         })
     }
 
+    /// The word at an index.
     pub fn get(&self, index: usize) -> u64
         requires { index < 512 }
         ensures value { result ≡ slice_index self.now index }
@@ -64,6 +65,7 @@ impl Words {
         Ok(copy)
     }
 
+    /// Puts this word at an index.
     pub fn set(&mut self, index: usize, word: u64)
         requires { index < 512 }
         ensures set { self.new ≡ slice_set self.old index word }

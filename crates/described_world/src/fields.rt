@@ -1,31 +1,23 @@
 // The fields of what a description names.
 ghost use Rattle.std.specs.Prelude.{◌≡◌, ◌<◌, ◌↔◌, map, IsTrue};
 ghost use Rattle.std.specs.List.{Any};
-ghost use Rattle.model.specs.Capability.{IsAccess, IsWellFormed};
-ghost use Rattle.model.specs.Sound.{IsSpace};
+ghost use Rattle.model.specs.Capability.{IsWellFormed};
 ghost use Rattle.described_world.specs.Described.{AreDistinct, AreSlots, AreWords, HasFields, IsSomeCapability, IsProcessEntry, IsSpaceEntry};
 
-use bitflags::Flags;
 use description::{Description, ProcessEntry, SlotEntry, WordEntry};
-use model::{Access, Capability, SLOTS, WORDS};
+use model::{Capability, SLOTS, WORDS};
 
 // The keys below this one have 16 bits.
 const KEYS: u64 = 1 << 16;
-
-fn is_access(access: Access) -> bool
-    ensures { IsTrue result ↔ IsAccess access }
-{
-    matches!(access.bits(), 0 | 1 | 3)
-}
 
 fn is_well_formed(capability: Capability) -> bool
     ensures { IsTrue result ↔ IsWellFormed capability }
 {
     match capability {
-        Capability::Page { access, .. } => is_access(access),
-        Capability::Node { access, .. } => is_access(access),
+        Capability::Page { access, .. } => access.is_valid(),
+        Capability::Node { access, .. } => access.is_valid(),
         Capability::Space { height, access, .. } => {
-            1 <= height && height <= 4 && is_access(access)
+            1 <= height && height <= 4 && access.is_valid()
         }
         Capability::Number(_) => true,
         Capability::Start { .. } => true,
@@ -35,16 +27,6 @@ fn is_well_formed(capability: Capability) -> bool
         | Capability::Bank(_)
         | Capability::Discrim => true,
     }
-}
-
-// Whether a capability may be an address space.
-fn may_be_space(capability: Capability) -> bool
-    ensures { IsTrue result ↔ IsSpace capability }
-{
-    matches!(
-        capability,
-        Capability::Void | Capability::Page { .. } | Capability::Space { .. }
-    )
 }
 
 fn is_capability(capability: Option<Capability>) -> bool
@@ -60,7 +42,7 @@ fn is_space(space: Option<Capability>) -> bool
     ensures { IsTrue result ↔ IsSpaceEntry space }
 {
     match space {
-        Some(space) => is_well_formed(space) && may_be_space(space),
+        Some(space) => is_well_formed(space) && space.may_be_space(),
         None => false,
     }
 }

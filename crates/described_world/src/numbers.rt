@@ -90,7 +90,8 @@ fn are_distinct(numbers: &[u64]) -> bool
     true
 }
 
-// Whether each number is one of its kind, and none is named twice. Fails only where memory runs out.
+// Whether each number is one of its kind, and none is named twice. Fails only where memory runs
+// out.
 pub(crate) fn has_numbers(alloc: Global, description: &Description) -> Result<bool, AllocError>
     requires { object_count description.now.geometry < 2 ^ 64 }
     ensures { IfOk result (λ has. IsTrue has ↔ HasNumbers description.now) }

@@ -19,11 +19,12 @@ pub struct Failed;
 
 /// A device of sectors of 512 bytes, numbered from 0.
 ///
-/// A `read`, a `write` or a `sync` may fail, and the count of failures then rises and never else. Between two syncs
-/// a crash may leave any bytes in each sector that was written, apart from the others. The clauses hold at `Err` as
-/// well as at `Ok`.
+/// A `read`, a `write` or a `sync` may fail, and the count of failures then rises and never else.
+/// Between two syncs a crash may leave any bytes in each sector that was written, apart from the
+/// others. The clauses hold at `Err` as well as at `Ok`.
 ///
-/// A call for several sectors takes whole sectors that lie on the device, which its caller can test by `sectors`.
+/// A call for several sectors takes whole sectors that lie on the device, which its caller can test
+/// by `sectors`.
 pub trait Device: Drop {
     ghost disk: { Self → Disk };
 
@@ -57,8 +58,8 @@ pub trait Device: Drop {
         ensures time { Elapses (disk self.old) (disk self.new) }
         ensures cause { Counts (disk self.old) (disk self.new) result };
 
-    /// Makes durable what was written: after `Ok` a crash leaves what a read gives. After `Failed` nothing more is
-    /// durable than before.
+    /// Makes durable what was written: after `Ok` a crash leaves what a read gives. After `Failed`
+    /// nothing more is durable than before.
     fn sync(&mut self) -> Result<(), Failed>
         ensures durable { OnOk result (Only (disk self.new).seen (disk self.new)) }
         ensures size { (disk self.new).sectors ≡ (disk self.old).sectors }
@@ -68,8 +69,8 @@ pub trait Device: Drop {
         ensures time { Elapses (disk self.old) (disk self.new) }
         ensures cause { Counts (disk self.old) (disk self.new) result };
 
-    /// The power goes and comes back. What a read gives is then one of the things that a crash might have left
-    /// just before, and it is durable.
+    /// The power goes and comes back. What a read gives is then one of the things that a crash
+    /// might have left just before, and it is durable.
     fn power_cut(&mut self)
         ensures left { (disk self.old).may_leave (disk self.new).seen }
         ensures durable { Only (disk self.new).seen (disk self.new) }

@@ -6,9 +6,11 @@ ghost use Rattle.device.specs.Moments.{Elapses};
 use crate::device::{Device, Failed};
 use crate::tally::Tally;
 
-/// Passes some reads, writes and syncs to the device beneath it, and then fails each of them, until a power cut.
+/// Passes some reads, writes and syncs to the device beneath it, and then fails each of them, until
+/// a power cut.
 ///
-/// A call that it fails itself doesn't reach the device beneath: a failed write of the fuse writes nothing.
+/// A call that it fails itself doesn't reach the device beneath: a failed write of the fuse writes
+/// nothing.
 #[derive(Drop)]
 pub struct Fuse<D: Device> {
     inner: D,

@@ -1,5 +1,6 @@
-//! A device of sectors, as everything above it sees one: what a read gives, what a crash may leave, and when a
-//! call fails. `Memory` is such a device in memory, and `Fuse` one that stops after some calls.
+//! A device of sectors, as everything above it sees one: what a read gives, what a crash may leave,
+//! and when a call fails. `Memory` is such a device in memory, and `Fuse` one that stops after some
+//! calls.
 #![tactic(auto)]
 
 mod device;
@@ -8,7 +9,7 @@ mod memory;
 mod mirror;
 mod ordered;
 mod record;
-mod sectors;
+pub mod sectors;
 mod tally;
 
 pub use device::{Device, Failed, MAX_SECTORS, SECTOR_SIZE};

@@ -26,8 +26,8 @@ pub struct Memory {
 impl Memory {
     ghost use Rattle.device.specs.Memory.{memory_disk, memory_past, room_left, outcome_of};
 
-    /// A device of so many sectors, all zeros, of which nothing is unsynced. Its record has room for `room` entries,
-    /// and its power cuts leave `outcome`. The only error is want of memory.
+    /// A device of so many sectors, all zeros, of which nothing is unsynced. Its record has room
+    /// for `room` entries, and its power cuts leave `outcome`. The only error is want of memory.
     pub fn new(
         alloc: Global,
         sectors: u64,
@@ -100,7 +100,8 @@ impl Device for Memory {
         Ok(())
     }
 
-    /// It fails exactly where the record takes fewer entries than there are sectors in `from`, and writes nothing then.
+    /// It fails exactly where the record takes fewer entries than there are sectors in `from`, and
+    /// writes nothing then.
     fn write(&mut self, at: u64, from: &[u8]) -> Result<(), Failed>
         requires whole { length from.now % 512 ≡ 0 }
         requires inside { at + sectors_of from.now ≤ (memory_disk self.old).sectors }
@@ -145,8 +146,8 @@ impl Device for Memory {
         Ok(())
     }
 
-    /// A read gives exactly what the outcome leaves: the written bytes, the synced ones, or these with each unsynced
-    /// sector filled. It takes no room.
+    /// A read gives exactly what the outcome leaves: the written bytes, the synced ones, or these
+    /// with each unsynced sector filled. It takes no room.
     fn power_cut(&mut self)
         ensures outcome_left { Agrees (memory_disk self.new).seen
             (left_by (outcome_of self.old) (memory_state self.old)) }

@@ -7,8 +7,8 @@ ghost use Rattle.device.specs.Ordered.{IsWrittenAt, IsInOrder};
 
 use crate::device::{Device, Failed};
 
-/// Writes `bytes` into the sectors from `at` on, and makes them durable. At `Failed` these sectors may hold any
-/// bytes, and no other is touched.
+/// Writes `bytes` into the sectors from `at` on, and makes them durable. At `Failed` these sectors
+/// may hold any bytes, and no other is touched.
 pub fn write_durably<D: Device>(device: &mut D, at: u64, bytes: &[u8]) -> Result<(), Failed>
     requires whole { length bytes.now % 512 ≡ 0 }
     requires inside { at + sectors_of bytes.now ≤ (D.disk device.old).sectors }
@@ -28,8 +28,8 @@ pub fn write_durably<D: Device>(device: &mut D, at: u64, bytes: &[u8]) -> Result
     device.sync()
 }
 
-/// Writes `first` into the sectors from `at` on and, once they are durable, `second` into those from `next` on,
-/// which lie behind them. After `Ok` the second run isn't durable yet.
+/// Writes `first` into the sectors from `at` on and, once they are durable, `second` into those
+/// from `next` on, which lie behind them. After `Ok` the second run isn't durable yet.
 pub fn write_in_order<D: Device>(
     device: &mut D,
     at: u64,
@@ -51,7 +51,8 @@ pub fn write_in_order<D: Device>(
     ensures first_durable { OnOk result
         ((c : Image) → (D.disk device.new).may_leave c → AreSectors c at first.now) }
 
-    // A crash at any moment leaves the first run old or torn and nothing else touched, or leaves it whole.
+    // A crash at any moment leaves the first run old or torn and nothing else touched, or leaves it
+    // whole.
     ensures any_moment { LeavesOnly (D.disk device.old) (D.disk device.new)
         (λ c. IsInOrder at first.now next second.now (D.disk device.old).seen c) }
     ensures cause { Counts (D.disk device.old) (D.disk device.new) result }

@@ -8,8 +8,8 @@ ghost use Rattle.device.specs.Sound.{state_with};
 use crate::device::SECTOR_SIZE;
 use crate::record::{Action, Outcome, RecordEntry};
 
-/// Puts these sectors in the place of those from `at` on.
-pub(crate) fn put(sectors: &mut [u8], at: usize, from: &[u8])
+/// Puts whole sectors in the place of those from `at` on.
+pub fn put(sectors: &mut [u8], at: usize, from: &[u8])
     requires whole { length from.now % 512 ≡ 0 }
     requires inside { 512 * (at + sectors_of from.now) ≤ length sectors.old }
     ensures written { AreSectors (image_of sectors.new) at from.now }
@@ -71,7 +71,8 @@ pub(crate) fn fill_written(into: &mut [u8], byte: u8, entries: &[RecordEntry])
     }
 }
 
-/// Makes both the present and the synced sectors those that a power cut leaves, where these entries are not synced.
+/// Makes both the present and the synced sectors those that a power cut leaves, where these entries
+/// are not synced.
 pub(crate) fn settle(
     present: &mut [u8],
     synced: &mut [u8],

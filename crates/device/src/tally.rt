@@ -4,7 +4,8 @@ ghost use Rattle.std.specs.Borrow.{ftrue};
 
 use std::marker::Model;
 
-/// How often something has happened. It takes no bytes and does nothing at run time, so it has no greatest value.
+/// How often something has happened. It takes no bytes and does nothing at run time, so it has no
+/// greatest value.
 #[derive(Drop)]
 pub struct Tally {
     pub ghost number: { ℕ },

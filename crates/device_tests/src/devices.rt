@@ -72,7 +72,8 @@ fn write_two<D: Device>(device: &mut D, at: u64, first: u8, second: u8) -> Resul
     device.write(at, &two(first, second))
 }
 
-// A device of four sectors after a write of 1 and 2 to the first two, a sync, and a write of 3 and 4 to the middle two.
+// A device of four sectors after a write of 1 and 2 to the first two, a sync, and a write of 3 and
+// 4 to the middle two.
 fn rewritten(alloc: Global, room: usize, outcome: Outcome) -> Result<Memory, Fail>
     ensures { IfOk result (λ m. (memory_disk m).sectors ≡ 4) }
 {
@@ -168,7 +169,8 @@ fn a_sync_without_room_makes_nothing_durable(rt: HostRuntime) -> Result<(), Fail
     refused_syncs(&rt, &mut memory)
 }
 
-// A device that stops after so many calls, after the calls of `rewritten`, a sync and a read; and which of them succeeded.
+// A device that stops after so many calls, after the calls of `rewritten`, a sync and a read; and
+// which of them succeeded.
 fn stopped(alloc: Global, calls: u64, outcome: Outcome) -> Result<(Fuse<Memory>, [bool; 5]), Fail>
     ensures { IfOk result (λ r. (fused memory_disk r.0).sectors ≡ 4) }
 {

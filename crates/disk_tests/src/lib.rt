@@ -1,4 +1,4 @@
-//! The tests of `home_ranges` and `ckpt_log`, through their public functions.
+//! The tests of `frame_io`, `home_ranges` and `ckpt_log`, through their public functions.
 #![tactic(auto)]
 
 #[cfg(test)]

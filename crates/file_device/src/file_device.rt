@@ -1,17 +1,19 @@
 // A device in a file, with a copy of its sectors in memory.
-ghost use Rattle.std.specs.Prelude.{◌≡◌, ◌<◌, ◌≤◌, ◌+◌, ◌*◌, ◌%◌, [], length, All, IsOk, OnOk};
-ghost use Rattle.device.specs.Calls.{Agrees, Elsewhere, sectors_of, image_of, AreSectors, Narrows, Only, Counts};
+ghost use Rattle.std.specs.Prelude.{◌≡◌, ◌<◌, ◌≤◌, ◌+◌, ◌*◌, ◌%◌, [], length, IsOk, OnOk};
+ghost use Rattle.device.specs.Calls.{Agrees, sectors_of, image_of, AreSectors, Narrows, Only, Counts};
 ghost use Rattle.device.specs.Moments.{Elapses};
 ghost use Rattle.file_device.specs.Sound.{IsCopy};
 
 use crate::host_file::HostFile;
 use crate::sector_file::SectorFile;
+use device::sectors::put;
 use device::{Device, Failed, SECTOR_SIZE};
 
 /// A device in a file, and a copy of its sectors.
 ///
-/// A read is answered from the copy and doesn't fail. A write goes to the file and to the copy. Where the file fails, the
-/// call is `Failed`, and so is each write and each sync after it: open the file again then.
+/// A read is answered from the copy and doesn't fail. A write goes to the file and to the copy.
+/// Where the file fails, the call is `Failed`, and so is each write and each sync after it: open
+/// the file again then.
 #[derive(Drop)]
 pub struct CopiedFile<F: SectorFile> {
     sectors: u64,
@@ -23,19 +25,6 @@ pub struct CopiedFile<F: SectorFile> {
 
 /// A device in a file of the operating system.
 pub type FileDevice = CopiedFile<HostFile>;
-
-// Puts these sectors in the place of those from `at` on.
-fn put(sectors: &mut [u8], at: usize, from: &[u8])
-    requires whole { length from.now % 512 ≡ 0 }
-    requires inside { 512 * (at + sectors_of from.now) ≤ length sectors.old }
-    ensures written { AreSectors (image_of sectors.new) at from.now }
-    ensures elsewhere { Elsewhere at (sectors_of from.now) (image_of sectors.old)
-        (image_of sectors.new) }
-    ensures fits { All (λ b. b < 256) sectors.new }
-{
-    let start = at * SECTOR_SIZE;
-    sectors[start..start + from.len()].copy_from_slice(from);
-}
 
 impl<F: SectorFile> CopiedFile<F> {
     ghost use Rattle.file_device.specs.FileDevice.{file_disk};

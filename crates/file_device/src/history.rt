@@ -7,8 +7,8 @@ ghost use Rattle.file_device.specs.Codes.{coded_event};
 
 use std::marker::Model;
 
-/// What a file held when it was opened, all that was done to it since, and how many calls have failed. It takes no
-/// bytes and does nothing at run time, so it doesn't grow.
+/// What a file held when it was opened, all that was done to it since, and how many calls have
+/// failed. It takes no bytes and does nothing at run time, so it doesn't grow.
 #[derive(Drop)]
 pub struct History {
     pub ghost first: { List ℕ },

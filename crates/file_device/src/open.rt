@@ -77,9 +77,9 @@ fn over(file: File, bytes: Vec<u8>) -> FileDevice
 }
 
 impl CopiedFile<HostFile> {
-    /// The device in the file at `path`, which has to be there. Its sectors are the whole ones of the file: what
-    /// comes after the last of them is left as it is. The file is synced before it is read, so what a read of the
-    /// device gives at first is durable.
+    /// The device in the file at `path`, which has to be there. Its sectors are the whole ones of
+    /// the file: what comes after the last of them is left as it is. The file is synced before it
+    /// is read, so what a read of the device gives at first is durable.
     ///
     /// `Long` where the file has more bytes than `MAX_SECTORS` sectors. `Io` where the system refuses to open, sync,
     /// seek or read it, as it does with a file that isn't there, a folder or a pipe. `NoMemory` where there is no room
@@ -94,8 +94,8 @@ impl CopiedFile<HostFile> {
         Ok(over(file, copy))
     }
 
-    /// A device of so many sectors, all zeros, in a new file at `path`. A file that is there is emptied first. The
-    /// zeros are synced, but not the folder that has the file.
+    /// A device of so many sectors, all zeros, in a new file at `path`. A file that is there is
+    /// emptied first. The zeros are synced, but not the folder that has the file.
     ///
     /// `Io` where the system refuses to make, lengthen or sync the file, which may then be there with any length.
     /// `NoMemory` where there is no room for a copy of it, and then no file was touched.

@@ -8,8 +8,8 @@ use device::Failed;
 
 /// A file of sectors, and what has been done to it since it was opened.
 ///
-/// The first failure is not the last: from then on each write and each sync fails. A write that failed may have left
-/// any bytes, and after a failed sync the system doesn't tell what is durable.
+/// The first failure is not the last: from then on each write and each sync fails. A write that
+/// failed may have left any bytes, and after a failed sync the system doesn't tell what is durable.
 pub trait SectorFile: Drop {
     /// What it held when it was opened.
     ghost first: { Self → List ℕ };
@@ -20,8 +20,8 @@ pub trait SectorFile: Drop {
     /// How many calls have failed.
     ghost failures: { Self → ℕ };
 
-    /// Writes these sectors from `at` on. After `Failed` they may hold any bytes, as if they were written and not
-    /// synced.
+    /// Writes these sectors from `at` on. After `Failed` they may hold any bytes, as if they were
+    /// written and not synced.
     fn write(&mut self, at: u64, from: &[u8]) -> Result<(), Failed>
         requires whole { length from.now % 512 ≡ 0 }
         requires few { at + sectors_of from.now ≤ 131072 }

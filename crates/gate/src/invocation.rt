@@ -20,10 +20,10 @@ use std::alloc::Global;
 /// Carries out the invocation of a capability by a running process (EROS, KeyKOS: call, return and
 /// send).
 ///
-/// What is invoked and sent is read first. Through a gate, a start or resume capability, it is delivered to
-/// another process; a resume capability works once, and is void from then on wherever it is held.
-/// Any other capability is a kernel object, whose order is carried out and, where it was called,
-/// answered. What is counted of banks beside the objects stays what there is.
+/// What is invoked and sent is read first. Through a gate, a start or resume capability, it is
+/// delivered to another process; a resume capability works once, and is void from then on wherever
+/// it is held. Any other capability is a kernel object, whose order is carried out and, where it
+/// was called, answered. What is counted of banks beside the objects stays what there is.
 ///
 /// An error changes nothing: `Stalled` exactly where the process that would be started isn't
 /// available, `LogFull` exactly where the numbers written since the last checkpoint with those that

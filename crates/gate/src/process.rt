@@ -2,8 +2,7 @@
 ghost use Rattle.std.specs.Prelude.{◌≡◌, List, IsTrue};
 ghost use Rattle.model.specs.declared.object.Object.{Object};
 ghost use Rattle.model.specs.Frame.{objects_of};
-ghost use Rattle.model.specs.Order.{is_space, on_process, process_order};
-ghost use Rattle.model.specs.Sound.{IsSpace};
+ghost use Rattle.model.specs.Order.{on_process, process_order};
 ghost use Rattle.model.specs.World.{annex_at, is_process};
 ghost use Rattle.capability.specs.Parts.{frames_of};
 ghost use Rattle.gate.specs.Plan.{outcome_of, ChangesAs, HaveAnnexesOf, IsFor};
@@ -36,17 +35,6 @@ pub fn process_order(word: u64) -> Option<ProcessOrder>
     }
 }
 
-// Whether a capability may be an address space.
-fn may_be_space(capability: Capability) -> bool
-    ensures value { result ≡ is_space capability }
-    ensures space { IsTrue result → IsSpace capability }
-{
-    matches!(
-        capability,
-        Capability::Void | Capability::Page { .. } | Capability::Space { .. }
-    )
-}
-
 // What setting the state of a process comes to: 0 makes it available, 1 running.
 #[tactic(auto, unfolding(model::specs::Order::on_process))]
 fn set_state(process: u64, arguments: Arguments) -> OrderPlan
@@ -76,7 +64,7 @@ fn set_space(process: u64, arguments: Arguments) -> OrderPlan
         → ChangesAs os result (on_process os process ProcessOrder.SetSpace arguments) }
 {
     let capability = arguments.capability;
-    if !may_be_space(capability) {
+    if !capability.may_be_space() {
         return OrderPlan::refused(ResultCode::BadCapability);
     }
     OrderPlan::changed(Change::Space {

@@ -1,5 +1,6 @@
-//! The tests of `image_builder`, through its public functions. They stand apart from it, so that it
-//! is proved once, and not a second time with its tests.
+//! The tests of `description`, `described_world` and `image_builder`, through their public
+//! functions. They stand apart, so that these are proved once, and not a second time with their
+//! tests.
 #![tactic(auto)]
 
 #[cfg(test)]

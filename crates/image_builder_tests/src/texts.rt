@@ -11,8 +11,8 @@ pub(crate) const SMALL: &str = "nodes = 16\npages = 8\nlog = 16\n";
 /// The prime bank.
 pub(crate) const PRIME: &str = "[[bank]]\nnumber = 0\nowner = 0\nlimit = 1000\n";
 
-/// Process 1, which runs and holds a number, the bank, a start capability and a process, and process
-/// 3, which is available.
+/// Process 1, which runs and holds a number, the bank, a start capability and a process, and
+/// process 3, which is available.
 pub(crate) const PROCESSES: &str = "[[process]]\nroot = 1\nannex = 2\nowner = 0\n\
 state = \"running\"\nregisters = [[1, \"process 1\"], [2, \"bank 0\"], [3, \"start 3 7\"], \
 [4, \"process 3\"]]\n[[process]]\nroot = 3\nannex = 4\nowner = 0\nstate = \"available\"\n";

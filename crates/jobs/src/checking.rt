@@ -40,10 +40,10 @@ fn open_and_tell<D: Device, W: Write>(alloc: Global, device: D, writer: &mut W) 
     }
 }
 
-/// Opens a device as a run does, and writes `ok generation G age A entries E` of the checkpoint that
-/// it holds; then the status is 0. After a fault one line is written to `errors`, and the status is
-/// 1: `bad image` with a number from 1 to 10, `device failed` or `no memory` where the device isn't
-/// opened, and `cannot write output` where the writer fails. The device isn't written.
+/// Opens a device as a run does, and writes `ok generation G age A entries E` of the checkpoint
+/// that it holds; then the status is 0. After a fault one line is written to `errors`, and the
+/// status is 1: `bad image` with a number from 1 to 10, `device failed` or `no memory` where the
+/// device isn't opened, and `cannot write output` where the writer fails.
 pub fn check_image<D: Device, W: Write, V: Write>(
     alloc: Global,
     device: D,

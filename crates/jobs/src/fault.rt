@@ -110,7 +110,8 @@ impl Fault {
     }
 }
 
-/// The status of a command that came to this: 0 for success, and 1 for a fault, which is told first.
+/// The status of a command that came to this: 0 for success, and 1 for a fault, which is told
+/// first.
 pub(crate) fn status<V: Write>(outcome: Result<(), Fault>, errors: &mut V) -> u8
     ensures status { result ≡ status_of outcome }
     ensures told { IsTold outcome (V.contents errors.old) (V.contents errors.new) }

@@ -11,7 +11,7 @@ use Rattle.migrator.specs.Saved.{SavedFrames, Holds, kept_of}
 use Rattle.consistency.proofs.Unsound.{inconsistent_is_unsound}
 use Rattle.layout.proofs.Denoted.{frames_not_bad}
 use Rattle.kernel.specs.Denotes.{saved_of, IsSoundSaved, Denotes, DenotesOne}
-use Rattle.kernel.specs.Laws.{DenoteOneSaved, DenotedIsNotBad, DenotedIsSound}
+use Rattle.kernel.specs.Laws.{DenoteOneSaved, DenotedIsNotBad, DenotedIsOneOf, DenotedIsSound}
 use Rattle.kernel.specs.Opening.{IsBad}
 
 -- sectors hold one saved state of frames
@@ -25,7 +25,9 @@ denotes_held g size c s fs denoted held =
     (ap saved_of (sym same) ∙ denoted.stands, subst (IsSoundSaved g) same denoted.sound)
 
 pub denotes_one : DenoteOneSaved
-denotes_one g h size c s t ds dt = sym (denotes_held g size c s dt.frames ds dt.holds).0 ∙ dt.stands
+denotes_one g h size c s t ds dt =
+    let held = denotes_held g size c s dt.frames ds dt.holds in
+    (sym held.1.geometry ∙ dt.sound.geometry, sym held.0 ∙ dt.stands)
 
 pub denoted_sound : DenotedIsSound
 denoted_sound g size c s denoted = subst (λ (x : Saved). IsSound g x.world) denoted.stands denoted.sound.sound.sound
@@ -43,6 +45,11 @@ one_denoted g size c (s ∷ ss) fs denoted held = ⊎_elim
     (λ here. let is = denotes_held g size c s fs here held in (subst (λ (x : Saved). Contains (x ∷ ss) (saved_of fs)) is.0 (contains_here (saved_of fs) ss), is.1))
     (λ there. let is = one_denoted g size c ss fs there held in (contains_more s (saved_of fs) ss is.0, is.1))
     denoted
+
+pub denoted_one_of : DenotedIsOneOf
+denoted_one_of g h size c ss t one denoted =
+    let is = one_denoted g size c ss denoted.frames one denoted.holds in
+    (sym is.1.geometry ∙ denoted.sound.geometry, subst (Contains ss) denoted.stands is.0)
 
 -- what denotes a saved part is refused for no reason
 pub denoted_not_bad : DenotedIsNotBad

@@ -1,16 +1,21 @@
 -- An image denotes at most one saved part, whose world is sound, and is then refused for no reason.
-use Rattle.std.specs.Prelude.{◌≡◌, ℕ}
+use Rattle.std.specs.Prelude.{◌≡◌, ℕ, List}
+use Rattle.std.specs.List.{Contains}
 use Rattle.model.specs.declared.geometry.Geometry.{Geometry}
 use Rattle.model.specs.Machine.{Saved}
 use Rattle.model.specs.Sound.{IsSound}
 use Rattle.device.specs.Disk.{Image}
 use Rattle.layout.specs.declared.bad_image.BadImage.{BadImage}
-use Rattle.kernel.specs.Denotes.{Denotes}
+use Rattle.kernel.specs.Denotes.{Denotes, DenotesOne}
 use Rattle.kernel.specs.Opening.{IsBad}
 
--- the same saved part, whatever the geometry
+-- the same saved part of the same geometry
 abbrev pub DenoteOneSaved : Type 0
-DenoteOneSaved = (g h : Geometry) (size : ℕ) (c : Image) (s t : Saved) → Denotes g size c s → Denotes h size c t → s ≡ t
+DenoteOneSaved = (g h : Geometry) (size : ℕ) (c : Image) (s t : Saved) → Denotes g size c s → Denotes h size c t → (g ≡ h) × (s ≡ t)
+
+-- one of those of which it denotes one
+abbrev pub DenotedIsOneOf : Type 0
+DenotedIsOneOf = (g h : Geometry) (size : ℕ) (c : Image) (ss : List Saved) (t : Saved) → DenotesOne g size ss c → Denotes h size c t → (g ≡ h) × Contains ss t
 
 -- a sound world
 abbrev pub DenotedIsSound : Type 0

@@ -1,13 +1,12 @@
 //! The kernel: a machine of objects over a device, and its commands.
 #![tactic(auto)]
 
-mod board;
-mod cache;
 mod checkpoints;
+mod kernel;
 pub mod laws;
 mod machine;
 mod power;
 mod serving;
 mod waking;
 
-pub use board::Kernel;
+pub use kernel::Kernel;

@@ -10,7 +10,7 @@ ghost use Rattle.kernel.specs.Opening.{IsNoReason, IsSomeDown, Opens, RefusesToO
 
 use crate::power::{Live, Power};
 use crate::waking::{device_of, wake};
-use crate::{cache, checkpoints, serving};
+use crate::{checkpoints, serving};
 use device::Device;
 use migrator::{Checkpoint, OpenFault, OpenRefused};
 use model::{Answer, Command, Refusal};
@@ -67,7 +67,7 @@ fn serve<D: Device, S: ObjectStore<D>>(
             value,
         } => serving::store::<D, S>(alloc, live, process, address, value),
         Command::Show { number } => serving::show::<D, S>(alloc, live, number),
-        Command::Evict { number } => cache::evict::<D, S>(live, number),
+        Command::Evict { number } => serving::evict::<D, S>(live, number),
         Command::Checkpoint => checkpoints::checkpoint::<D, S>(live),
         Command::Stabilize { count } => checkpoints::stabilize::<D, S>(live, count),
         Command::Commit => checkpoints::commit::<D, S>(live),

@@ -1,6 +1,6 @@
-//! The tests of `kernel` and `runs`, through their public functions, and what they are written with:
-//! scripts over worlds on a device in memory, and images that were changed. They stand apart, so that
-//! both are proved once, and not a second time with their tests.
+//! The tests of `kernel` and `runs`, through their public functions, and what they are written
+//! with: scripts over worlds on a device in memory, and images that were changed. They stand apart,
+//! so that both are proved once, and not a second time with their tests.
 #![tactic(auto)]
 
 #[cfg(test)]

@@ -153,9 +153,9 @@ fn a_frame_outside_its_rules_is_refused(rt: HostRuntime) -> Result<(), Fail> {
     each_is_refused(&rt, rt.alloc(), &changes, BadImage::BadFrame)
 }
 
-// Of the root of process 1: an annex that is no Number, state 3, key 65536, a Process as its address
-// space, and slot 8 that isn't Void. Of its annex: slot 0 that isn't Void. Of the prime bank: a
-// limit that is no Number, and slot 1 that isn't Void.
+// Of the root of process 1: an annex that is no Number, state 3, key 65536, a Process as its
+// address space, and slot 8 that isn't Void. Of its annex: slot 0 that isn't Void. Of the prime
+// bank: a limit that is no Number, and slot 1 that isn't Void.
 #[test]
 fn a_body_that_does_not_fit_its_role_is_refused(rt: HostRuntime) -> Result<(), Fail> {
     let changes = [
@@ -171,9 +171,9 @@ fn a_body_that_does_not_fit_its_role_is_refused(rt: HostRuntime) -> Result<(), F
     each_is_refused(&rt, rt.alloc(), &changes, BadImage::BadFrame)
 }
 
-// Register 1 of process 1 holds Process 1: tag 10; an access, a key, a height and a zero byte that a
-// Process doesn't have; the numbers 16 of a page and 24 of nothing; a count above the age. Register
-// 5 is Void: a Node with access 2, a Space of height 0, and a Discrim with a number.
+// Register 1 of process 1 holds Process 1: tag 10; an access, a key, a height and a zero byte that
+// a Process doesn't have; the numbers 16 of a page and 24 of nothing; a count above the age.
+// Register 5 is Void: a Node with access 2, a Space of height 0, and a Discrim with a number.
 #[test]
 fn a_capability_outside_its_rules_is_refused(rt: HostRuntime) -> Result<(), Fail> {
     let bad = BadImage::BadFrame;

@@ -130,8 +130,8 @@ fn count_stops(alloc: Global, outcome: Outcome, stop: Stop) -> Result<Stops, Fai
 }
 
 // Each of so many stops ends at what was saved where a power cut drops what isn't synced, or fills
-// it with zeros. One that keeps it, or fills it with ones, ends at what the command saves where only
-// the last sync fails: the gate of the new header is open.
+// it with zeros. One that keeps it, or fills it with ones, ends at what the command saves where
+// only the last sync fails: the gate of the new header is open.
 fn has_stops(rt: &impl Abort, alloc: Global, stop: Stop, count: u64) -> Result<(), Fail> {
     let closed = Stops {
         at_saved: count,
@@ -152,8 +152,8 @@ fn has_stops(rt: &impl Abort, alloc: Global, stop: Stop, count: u64) -> Result<(
     Ok(())
 }
 
-// The first commit writes the directory, syncs, reads the gate of the other header, which is closed,
-// writes that header, syncs, writes the gate and syncs.
+// The first commit writes the directory, syncs, reads the gate of the other header, which is
+// closed, writes that header, syncs, writes the gate and syncs.
 #[test]
 fn the_first_commit_is_stopped_at_each_call(rt: HostRuntime) -> Result<(), Fail> {
     has_stops(&rt, rt.alloc(), FIRST_COMMIT, 7)
@@ -173,8 +173,8 @@ fn the_way_home_is_stopped_at_each_call(rt: HostRuntime) -> Result<(), Fail> {
     has_stops(&rt, rt.alloc(), WAY_HOME, 14)
 }
 
-// With all objects in memory an invocation, a look, putting an object out and beginning a checkpoint
-// make no call of the device, which stops after its opening. Writing a frame makes one.
+// With all objects in memory an invocation, a look, putting an object out and beginning a
+// checkpoint make no call of the device, which stops after its opening. Writing a frame makes one.
 #[test]
 fn what_is_in_memory_needs_no_device(rt: HostRuntime) -> Result<(), Fail> {
     let alloc = rt.alloc();

@@ -2,7 +2,6 @@
 ghost use Rattle.std.specs.Prelude.{◌≡◌, ◌+◌, ◌*◌, ◌%◌, ◌<◌, ◌↔◌, length, IsTrue, IfOk, IfErr};
 ghost use Rattle.model.specs.declared.access.Access.{Access};
 ghost use Rattle.model.specs.declared.capability.Cap.{Cap};
-ghost use Rattle.model.specs.Capability.{IsAccess};
 ghost use Rattle.model.specs.Keepable.{Follows, IsKeptCap};
 ghost use Rattle.layout.specs.Capability.{capability_bytes, head_number, HeadFits, number_of, assembled};
 
@@ -56,12 +55,6 @@ fn numbers_of(cap: Cap) -> Numbers
     }
 }
 
-fn is_access(access: Access) -> bool
-    ensures { IsTrue result ↔ IsAccess access }
-{
-    matches!(access.bits(), 0 | 1 | 3)
-}
-
 fn is_capability(geometry: Geometry, age: u64, cap: Cap) -> bool
     ensures { IsTrue result ↔ IsKeptCap geometry age cap }
 {
@@ -69,10 +62,10 @@ fn is_capability(geometry: Geometry, age: u64, cap: Cap) -> bool
         Capability::Void | Capability::Number(_) | Capability::Discrim => cap.count == 0,
         Capability::Page { object, access } => {
             let is_page = object >= geometry.nodes && object - geometry.nodes < geometry.pages;
-            is_access(access) && is_page && cap.count <= age
+            access.is_valid() && is_page && cap.count <= age
         }
         Capability::Node { object, access } => {
-            is_access(access) && object < geometry.nodes && cap.count <= age
+            access.is_valid() && object < geometry.nodes && cap.count <= age
         }
         Capability::Space {
             object,
@@ -80,7 +73,7 @@ fn is_capability(geometry: Geometry, age: u64, cap: Cap) -> bool
             access,
         } => {
             let is_height = height >= 1 && height <= 4;
-            is_access(access) && is_height && object < geometry.nodes && cap.count <= age
+            access.is_valid() && is_height && object < geometry.nodes && cap.count <= age
         }
         Capability::Process(object)
         | Capability::Start {

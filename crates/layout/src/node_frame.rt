@@ -2,7 +2,6 @@
 ghost use Rattle.std.specs.Prelude.{◌-◌, ◌≡◌, ◌*◌, ◌<◌, ◌≤◌, ◌++◌, ◌↔◌, ◌^◌, [], length, take, IsTrue, IfOk, IfErr};
 ghost use Rattle.model.specs.declared.frame.Frame.{Frame};
 ghost use Rattle.model.specs.declared.object.Content.TheVariants as content;
-ghost use Rattle.model.specs.Sound.{IsSpace};
 ghost use Rattle.layout.specs.Bytes.{zeros};
 ghost use Rattle.layout.specs.Frame.{number_held, number_cap, state_in, root_from, body_in, root_slots, slots_of, slots_bytes, content_of, frame_of, node_frame_bytes, FollowsRole, IsBody, IsNodeFrame};
 
@@ -44,15 +43,6 @@ fn state_in(number: u64) -> State
         1 => State::Running,
         _ => State::Waiting,
     }
-}
-
-fn is_space(what: Capability) -> bool
-    ensures { IsTrue result ↔ IsSpace what }
-{
-    matches!(
-        what,
-        Capability::Void | Capability::Page { .. } | Capability::Space { .. }
-    )
 }
 
 // The root of a process that 32 slots would be.
@@ -114,7 +104,7 @@ fn is_root(root: &Root<Cap>, slots: &[Cap]) -> bool
         × FollowsRole (content.Root root.now)) }
 {
     let held = root_slots(root);
-    is_space(root.space.what) && are_held(&held, slots)
+    root.space.what.may_be_space() && are_held(&held, slots)
 }
 
 fn is_body(body: &Body, role: u64, owner: u64, slots: &[Cap]) -> bool

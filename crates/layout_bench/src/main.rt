@@ -1,4 +1,5 @@
-//! Encodes and decodes frames in memory, many times, or copies as many words. To be timed from outside.
+//! Encodes and decodes frames in memory, many times, or copies as many words. To be timed from
+//! outside.
 #![tactic(auto)]
 
 ghost use Rattle.std.specs.Prelude.{◌≡◌, ◌≤◌, ◌<◌, ◌*◌, length};

@@ -29,7 +29,8 @@ pub(crate) const OUTCOMES: [(Outcome, bool); 4] = [
 ];
 
 /// How many calls of the device it takes to open one without entries: a read of the superblock by
-/// the rig, and a sync, a read of the superblock, of two headers and of two gates, and of 24 frames.
+/// the rig, and a sync, a read of the superblock, of two headers and of two gates, and of 24
+/// frames.
 pub(crate) const OPENING: u64 = 31;
 
 /// A builder of an image whose objects have their numbers as values, without a header.

@@ -164,9 +164,9 @@ fn the_greater_of_two_open_headers_is_taken(rt: HostRuntime) -> Result<(), Fail>
     Ok(())
 }
 
-// Opening takes 31 calls here: a sync, and reads of the superblock, of two headers and two gates, of
-// the directory and of 24 frames.
-// Why a device isn't opened, and what it saves after a power cut.
+// Opening takes 31 calls here: a sync, and reads of the superblock, of two headers and two gates,
+// of the directory and of 24 frames. Why a device isn't opened, and what it saves after a power
+// cut.
 fn refused<D: Device>(alloc: Global, device: D) -> Result<(OpenFault, Checkpoint), Fail> {
     let refused = Durable::open(alloc, device).err().ok_or("it fails")?;
     let OpenRefused { fault, device } = refused;

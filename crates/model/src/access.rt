@@ -1,6 +1,6 @@
 // What a capability lets its holder do.
-ghost use Rattle.std.specs.Prelude.{⊤, ◌≡◌, [], ◌∷◌, codes};
-ghost use Rattle.model.specs.Capability.{full, weak};
+ghost use Rattle.std.specs.Prelude.{⊤, ◌≡◌, ◌↔◌, [], ◌∷◌, IsTrue, codes};
+ghost use Rattle.model.specs.Capability.{IsAccess, full, weak};
 
 use bitflags::{Flag, Flags, bitflag_items};
 
@@ -54,5 +54,13 @@ impl Access {
         ensures { result ≡ weak }
     {
         Access::READ_ONLY.union(Access::WEAK)
+    }
+
+    /// Whether a capability has such an access: one that restricts nothing, that is read-only, or
+    /// that is read-only and weak.
+    pub fn is_valid(self) -> bool
+        ensures { IsTrue result ↔ IsAccess self }
+    {
+        matches!(self.bits(), 0 | 1 | 3)
     }
 }

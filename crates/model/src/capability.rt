@@ -1,7 +1,9 @@
 // Capabilities, and capabilities as they are held.
-ghost use Rattle.std.specs.Prelude.{◌≡◌};
+ghost use Rattle.std.specs.Prelude.{◌≡◌, ◌↔◌, IsTrue};
 ghost use Rattle.model.specs.Capability.{named, diminished};
 ghost use Rattle.model.specs.Frame.{void_held};
+ghost use Rattle.model.specs.Order.{is_space};
+ghost use Rattle.model.specs.Sound.{IsSpace};
 
 use crate::access::Access;
 
@@ -98,6 +100,17 @@ impl Capability {
             | Capability::Bank(_)
             | Capability::Discrim => Capability::Void,
         }
+    }
+
+    /// Whether it may be the address space of a process: nothing, a page or a tree of nodes.
+    pub fn may_be_space(self) -> bool
+        ensures value { result ≡ is_space self }
+        ensures space { IsTrue result ↔ IsSpace self }
+    {
+        matches!(
+            self,
+            Capability::Void | Capability::Page { .. } | Capability::Space { .. }
+        )
     }
 }
 

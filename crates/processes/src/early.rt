@@ -32,7 +32,8 @@ pub fn early<F: PresentFrames>(
     match objects::fetch(store, alloc, &[process]) {
         Ok(()) => {}
         Err(PrepareFault::Failed) => return Some(Refusal::Fault),
-        Err(PrepareFault::NoMemory | PrepareFault::LogFull) => return Some(Refusal::NoMemory),
+        Err(PrepareFault::NoMemory) => return Some(Refusal::NoMemory),
+        Err(PrepareFault::LogFull) => unreachable!(),
     }
     match roots::state(store, process) {
         State::Running => None,

@@ -115,8 +115,8 @@ fn work(rt: &HostRuntime, job: &Job<'_>) -> Result<u8, Fault> {
     }
 }
 
-// Three files that can't be written. Where standard output or standard error was closed, one of them stands there, and so
-// no image that is opened later.
+// Three files that can't be written. Where standard output or standard error was closed, one of
+// them stands there, and so no image that is opened later.
 fn guards(rt: &HostRuntime) -> [Option<File>; 3] {
     [
         File::open(rt, "/dev/null").ok(),

@@ -9,7 +9,7 @@ use Rattle.std.specs.List.{All, flat_map}
 use Rattle.model.specs.Run.{lines_of}
 use Rattle.model.specs.Text.{line_of}
 use Rattle.script.specs.Lines.{IsOneLine}
-use Rattle.runs.specs.KernelRuns.{AreLines}
+use Rattle.runs.specs.KernelRuns.{AreLines, BeginsWith}
 
 -- a line that ends at its newline is the first, and what follows it the others
 first_line : (text rest : List ℕ) → IsOneLine text → lines_of (line_of text ++ rest) ≡ text ∷ lines_of rest
@@ -55,8 +55,12 @@ line_more text lines rest are = record {
   none = All-nil (λ b. b ≢ 10);
 }
 
+-- a text that they begin
+pub begins_with : (text : List ℕ) (lines : List (List ℕ)) (more : List ℕ) → AreLines text lines [] → BeginsWith (text ++ more) lines
+begins_with text lines more are = record { more = more; whole = ap (λ (l : List ℕ). l ++ more) (are.whole ∙ append-nil (flat_map line_of lines)); each = are.each }
+
 -- they are its first lines, whatever follows
-pub lines_first : (text : List ℕ) (lines : List (List ℕ)) (more : List ℕ) → AreLines text lines [] → lines_of (text ++ more) ≡ lines ++ lines_of more
+lines_first : (text : List ℕ) (lines : List (List ℕ)) (more : List ℕ) → AreLines text lines [] → lines_of (text ++ more) ≡ lines ++ lines_of more
 lines_first text lines more are =
     ap (λ (l : List ℕ). lines_of (l ++ more)) (are.whole ∙ append-nil (flat_map line_of lines)) ∙ lines_before lines more are.each
 

@@ -1,9 +1,9 @@
 -- Turns of a kernel, one after another.
 use Rattle.std.proofs.Common.{◌≡◌, ◌⊎◌, ℕ, ◌+◌, ◌<◌, ◌≤◌, suc, take, drop, length, Bool, true, false, List, [], ◌∷◌, ◌++◌, Option, None, Some, Ok, Err, refl, sym, ap, ◌∙◌, subst, ⊎_elim, inl, inr, append_assoc, append-nil, arith}
-use Rattle.std.specs.Prelude.{◌↔◌, slice_index_or, IsTrue, OnErr, OnOk, Result, if◌then◌else◌}
+use Rattle.std.specs.Prelude.{◌↔◌, slice_index_or, IfErr, IsTrue, OnErr, OnOk, Result, if◌then◌else◌}
 use Rattle.std.proofs.lemmas.Bool.{cases_lt}
 use Rattle.std.proofs.KnownBytes.{Consumes-trans}
-use Rattle.std.specs.Io.KnownBytes.{Appends, Consumes}
+use Rattle.std.specs.Io.KnownBytes.{Appends, Consumes, IsAtEnd}
 use Rattle.model.specs.declared.answer.Answer.{Answer}
 use Rattle.model.specs.declared.answer.Answer.TheVariants as answer
 use Rattle.model.specs.declared.answer.Refusal.TheVariants as refusal
@@ -29,9 +29,9 @@ use Rattle.script.specs.declared.fault.RunFault.TheVariants as fault
 use Rattle.script.specs.declared.lines.LineBuffer.{LineBuffer}
 use Rattle.script.specs.Lines.{Holds, IsOneLine}
 use Rattle.script.specs.Writing.{AppendsFront, Writes}
-use Rattle.runs.specs.KernelRuns.{AreLines, AreTold, Does, IsCutShort, IsLeftIn, IsRunOf, IsSecondOf, RunsOver, fault_count, lines_in, tells_fault}
+use Rattle.runs.specs.KernelRuns.{AreLines, AreTold, BeginsWith, Does, IsCutShort, IsLeftIn, IsRunOf, IsSecondOf, RunsOver, fault_count, lines_in, tells_fault}
 use Rattle.runs.specs.Taking.{Ended, SoFar, Stopped, TakesTurn}
-use Rattle.runs.proofs.ScriptLines.{bytes_more, line_more, line_taken, lines_first, lines_whole, lines_with_rest, no_lines}
+use Rattle.runs.proofs.ScriptLines.{begins_with, bytes_more, line_more, line_taken, lines_whole, lines_with_rest, no_lines}
 use Rattle.runs.proofs.TurnLists.{appends_more, appends_none, lines_more, output_more, run_more}
 
 -- ---- what a crash leaves
@@ -221,10 +221,8 @@ module _ {D S : Type 0} (disk : D → Disk) (view : S → View D) (parts : S →
     all_written : Appends written wrote (reply_text turn.reply) → Appends output wrote (output_of turns_on)
     all_written all = subst (Appends output wrote) (sym (output_more so_far.turns turn_of)) (appends_more output written wrote (output_of so_far.turns) (reply_text turn.reply) so_far.written all)
 
-    cut_short : (read : List ℕ) (others : List (List ℕ)) → lines_of read ≡ lines_in turns_on ++ others → AppendsFront written wrote (reply_text turn.reply) → IsCutShort read turns_on output wrote
-    cut_short read others is cut = record {
-      others = others;
-      lines = is;
+    cut_short : AppendsFront written wrote (reply_text turn.reply) → IsCutShort turns_on output wrote
+    cut_short cut = record {
       front = so_far.turns;
       last = turn_of;
       turns_are = refl;
@@ -241,11 +239,12 @@ module _ {D S : Type 0} (disk : D → Disk) (view : S → View D) (parts : S →
     pub goes_on : Appends written wrote (reply_text turn.reply) → SoFar disk view parts g m old new (text ++ 10 ∷ []) next output wrote
     goes_on all = record { turns = turns_on; rest = []; run = more_run; lines = whole_lines; held = empty; written = all_written all }
 
-    pub stopped : (more : List ℕ) → AppendsFront written wrote (reply_text turn.reply) → Stopped disk view parts g m old new ((text ++ 10 ∷ []) ++ more) output wrote
+    pub stopped : (more : List ℕ) → AppendsFront written wrote (reply_text turn.reply) → Stopped disk view parts (BeginsWith ((text ++ 10 ∷ []) ++ more)) g m old new output wrote
     stopped more cut = record {
       turns = turns_on;
       run = more_run;
-      cut = cut_short ((text ++ 10 ∷ []) ++ more) (lines_of more) (lines_first (text ++ 10 ∷ []) (lines_in turns_on) more whole_lines) cut;
+      lines = begins_with (text ++ 10 ∷ []) (lines_in turns_on) more whole_lines;
+      cut = cut_short cut;
     }
 
     -- by the end of the input
@@ -255,8 +254,8 @@ module _ {D S : Type 0} (disk : D → Disk) (view : S → View D) (parts : S →
     pub ended_by_rest : (so_far.rest ≡ [] → ⊥) → Appends written wrote (reply_text turn.reply) → Ended disk view parts g m old new text output wrote
     ended_by_rest some all = record { turns = turns_on; run = more_run; lines = last_lines some; written = all_written all }
 
-    pub stopped_at_rest : (so_far.rest ≡ [] → ⊥) → AppendsFront written wrote (reply_text turn.reply) → Stopped disk view parts g m old new text output wrote
-    stopped_at_rest some cut = record { turns = turns_on; run = more_run; cut = cut_short text [] (last_lines some ∙ sym (append-nil (lines_in turns_on))) cut }
+    pub stopped_at_rest : (so_far.rest ≡ [] → ⊥) → AppendsFront written wrote (reply_text turn.reply) → Stopped disk view parts (λ lines. lines_of text ≡ lines) g m old new output wrote
+    stopped_at_rest some cut = record { turns = turns_on; run = more_run; lines = last_lines some; cut = cut_short cut }
 
   -- nothing is left of the input
   pub ended : (g : Geometry) (m : Machine) (old new : Power D S) (text : List ℕ) (line : LineBuffer) (output written : Option (List ℕ))
@@ -301,11 +300,11 @@ module _ {D S : Type 0} (disk : D → Disk) (view : S → View D) (parts : S →
       pub stops_newline : (e : RunFault) (more whole : List ℕ) → whole ≡ (read ++ 10 ∷ []) ++ more →
           ((g : Geometry) (m : Machine) → Stands disk view parts g k m → TakesTurn disk view parts g m says k new written wrote (Err e)) →
           (g : Geometry) (m : Machine) (start : Power D S) (text : List ℕ) (output : Option (List ℕ)) →
-          SoFar disk view parts g m start first text begun_line output had → Stopped disk view parts g m start new (text ++ whole) output wrote
+          SoFar disk view parts g m start first text begun_line output had → Stopped disk view parts (BeginsWith (text ++ whole)) g m start new output wrote
       stops_newline e more whole is turn g m start text output so_far =
           let now = goes g m start text output so_far in
           let taken = turn g now.run.after now.run.stands in
-          subst (λ (t : List ℕ). Stopped disk view parts g m start new t output wrote)
+          subst (λ (t : List ℕ). Stopped disk view parts (BeginsWith t) g m start new output wrote)
           (append_assoc (text ++ read) (10 ∷ []) more ∙ append_assoc text read (10 ∷ more) ∙ ap (λ (t : List ℕ). text ++ t) (sym (append_assoc read (10 ∷ []) more) ∙ sym is))
           (stopped g m start k new (text ++ read) line next output written wrote now says said empty (Err e) taken more taken.writes.1)
 
@@ -328,7 +327,7 @@ module _ {D S : Type 0} (disk : D → Disk) (view : S → View D) (parts : S →
       pub stops_in_piece : (e : RunFault) →
           ((g : Geometry) (m : Machine) → Stands disk view parts g k m → TakesTurn disk view parts g m says k new written wrote (Err e)) →
           (g : Geometry) (m : Machine) (start : Power D S) (text : List ℕ) (output : Option (List ℕ)) →
-          SoFar disk view parts g m start first text begun_line output had → Stopped disk view parts g m start new (text ++ piece) output wrote
+          SoFar disk view parts g m start first text begun_line output had → Stopped disk view parts (BeginsWith (text ++ piece)) g m start new output wrote
       stops_in_piece e = stops_newline (goes.0 ++ take end rest) k new whole_line next written wrote with_line says said empty e (drop (suc end) rest) piece
           (line_taken piece goes.0 rest end goes.1 within newline)
 
@@ -371,11 +370,29 @@ module _ {D S : Type 0} (disk : D → Disk) (view : S → View D) (parts : S →
       )
 
       pub piece_stops : ((g : Geometry) (m : Machine) (start : Power D S) (text : List ℕ) (out : Option (List ℕ)) →
-          SoFar disk view parts g m start mid text line out written → Stopped disk view parts g m start new (text ++ bytes) out wrote) → (e : RunFault) → e ≡ fault.Write →
+          SoFar disk view parts g m start mid text line out written → Stopped disk view parts (BeginsWith (text ++ bytes)) g m start new out wrote) → (e : RunFault) → e ≡ fault.Write →
           RunsOver disk view parts old new input left output wrote (Err e)
       piece_stops stops e write g m stands =
           let s = stops g m old so_far.0 output (so_far.2 g m stands) in
-          (s.turns, s.run, subst (λ (d : RunFault). Does s.turns input left output wrote (Err d)) (sym write) (so_far.0 ++ bytes, Consumes-trans input read left so_far.0 bytes so_far.1 more, s.cut))
+          (s.turns, s.run, subst (λ (d : RunFault). Does s.turns input left output wrote (Err d)) (sym write) (so_far.0 ++ bytes, Consumes-trans input read left so_far.0 bytes so_far.1 more, inl s.lines, s.cut))
+
+    -- the input is at its end
+    module _ (new : Power D S) (wrote : Option (List ℕ)) (none : Consumes read left []) (end : IsAtEnd left) where
+      all_read : Consumes input left so_far.0
+      all_read = subst (Consumes input left) (append-nil so_far.0) (Consumes-trans input read left so_far.0 [] so_far.1 none)
+
+      pub rest_taken : (result : Result (Unit {0}) RunFault) →
+          OnOk result ((g : Geometry) (m : Machine) (start : Power D S) (text : List ℕ) (out : Option (List ℕ)) →
+          SoFar disk view parts g m start mid text line out written → Ended disk view parts g m start new text out wrote) →
+          OnErr result ((g : Geometry) (m : Machine) (start : Power D S) (text : List ℕ) (out : Option (List ℕ)) →
+          SoFar disk view parts g m start mid text line out written → Stopped disk view parts (λ lines. lines_of text ≡ lines) g m start new out wrote) →
+          IfErr result (λ e. e ≡ fault.Write) → RunsOver disk view parts old new input left output wrote result
+      rest_taken (Ok a) ends stops write g m stands =
+          let e = ends g m old so_far.0 output (so_far.2 g m stands) in
+          (e.turns, e.run, (so_far.0, all_read, end, e.lines, e.written))
+      rest_taken (Err e) ends stops write g m stands =
+          let s = stops g m old so_far.0 output (so_far.2 g m stands) in
+          (s.turns, s.run, subst (λ (d : RunFault). Does s.turns input left output wrote (Err d)) (sym write) (so_far.0, all_read, inr (end, s.lines), s.cut))
 
   -- ---- the rest at the end
 
@@ -396,7 +413,7 @@ module _ {D S : Type 0} (disk : D → Disk) (view : S → View D) (parts : S →
     pub rest_stops : (result : Result (Unit {0}) RunFault) →
         ((g : Geometry) (m : Machine) → Stands disk view parts g k m → TakesTurn disk view parts g m says k new written wrote result) →
         OnErr result ((g : Geometry) (m : Machine) (start : Power D S) (text : List ℕ) (output : Option (List ℕ)) →
-        SoFar disk view parts g m start k text line output written → Stopped disk view parts g m start new text output wrote)
+        SoFar disk view parts g m start k text line output written → Stopped disk view parts (λ lines. lines_of text ≡ lines) g m start new output wrote)
     rest_stops (Ok a) turn = tt
     rest_stops (Err e) turn = λ g m start text output so_far.
         let taken = turn g so_far.run.after so_far.run.stands in

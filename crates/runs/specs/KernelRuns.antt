@@ -52,10 +52,14 @@ pub record AreLines (text : List ℕ) (lines : List (List ℕ)) (rest : List ℕ
   pub each : All IsOneLine lines
   pub none : IsOneLine rest
 
--- the turns are the first lines of a text, and only the answer to the last of them may be cut short
-pub record IsCutShort (text : List ℕ) (turns : List Turn) (output output_left : Option (List ℕ)) : Type 0 where
-  pub others : List (List ℕ)
-  pub lines : lines_of text ≡ lines_in turns ++ others
+-- a text begins with these lines, each with its newline
+pub record BeginsWith (text : List ℕ) (lines : List (List ℕ)) : Type 0 where
+  pub more : List ℕ
+  pub whole : text ≡ flat_map line_of lines ++ more
+  pub each : All IsOneLine lines
+
+-- only the answer to the last of the turns may be cut short
+pub record IsCutShort (turns : List Turn) (output output_left : Option (List ℕ)) : Type 0 where
   pub front : List Turn
   pub last : Turn
   pub turns_are : turns ≡ front ++ last ∷ []
@@ -66,14 +70,16 @@ pub record IsCutShort (text : List ℕ) (turns : List Turn) (output output_left 
 
 -- What a run with these turns read and wrote. At Ok all of the input was read, and each line of it is a turn whose
 -- answer was written. Where the reader failed the same holds of the lines read whole. Where the writer failed the
--- turns are the first of the lines read, and only the answer to the last may be cut short.
+-- turns are the first of the lines read whole, or all lines of an input at its end, and only the answer to the last
+-- may be cut short.
 abbrev pub Does : List Turn → Option (List ℕ) → Option (List ℕ) → Option (List ℕ) → Option (List ℕ) → Result (Unit {0}) RunFault → Type 0
 Does turns input input_left output output_left (Ok a) =
     (text : List ℕ) × Consumes input input_left text × IsAtEnd input_left × (lines_of text ≡ lines_in turns) × Appends output output_left (output_of turns)
 Does turns input input_left output output_left (Err fault.Read) =
     (text : List ℕ) × (rest : List ℕ) × Consumes input input_left text × AreLines text (lines_in turns) rest × Appends output output_left (output_of turns)
 Does turns input input_left output output_left (Err fault.Write) =
-    (text : List ℕ) × Consumes input input_left text × IsCutShort text turns output output_left
+    (text : List ℕ) × Consumes input input_left text × (BeginsWith text (lines_in turns) ⊎ (IsAtEnd input_left × (lines_of text ≡ lines_in turns)))
+    × IsCutShort turns output output_left
 
 -- the device failed at least as often as lines were answered so, and one was where it failed
 pub record AreTold (old new : Disk) (count : ℕ) : Type 0 where

@@ -61,8 +61,9 @@ module _ {D S : Type 0} (disk : D → Disk) (view : S → View D) (parts : S →
     pub lines : lines_of text ≡ lines_in turns
     pub written : Appends output output_left (output_of turns)
 
-  -- a run whose last answer wasn't written whole
-  pub record Stopped (g : Geometry) (m : Machine) (old new : Power D S) (text : List ℕ) (output output_left : Option (List ℕ)) : Type 0 where
+  -- a run of such lines whose last answer wasn't written whole
+  pub record Stopped (AreTaken : List (List ℕ) → Type 0) (g : Geometry) (m : Machine) (old new : Power D S) (output output_left : Option (List ℕ)) : Type 0 where
     pub turns : List Turn
     pub run : IsRunOf disk view parts g m old new turns
-    pub cut : IsCutShort text turns output output_left
+    pub lines : AreTaken (lines_in turns)
+    pub cut : IsCutShort turns output output_left

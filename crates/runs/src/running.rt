@@ -2,10 +2,11 @@
 ghost use Rattle.std.specs.Prelude.{◌≡◌, ◌<◌, ◌++◌, ℕ, List, Option, length, slice_index_or, take, OnOk, OnErr, IfErr, IfNone, IfSome};
 ghost use Rattle.model.specs.declared.geometry.Geometry.{Geometry};
 ghost use Rattle.model.specs.Machine.{Machine};
+ghost use Rattle.model.specs.Run.{lines_of};
 ghost use Rattle.kernel.specs.declared.power.Power.{Power};
 ghost use Rattle.kernel.specs.Standing.{Stands};
 ghost use Rattle.script.specs.Lines.{IsOneLine};
-ghost use Rattle.runs.specs.KernelRuns.{RunsOver};
+ghost use Rattle.runs.specs.KernelRuns.{BeginsWith, RunsOver};
 ghost use Rattle.runs.specs.Taking.{Ended, ReadsPiece, SoFar, Stopped, TakesTurn};
 
 use device::Device;
@@ -92,7 +93,7 @@ fn take_piece<D: Device, S: ObjectStore<D>, W: Write>(
         → SoFar D.disk S.view S.parts g m start kernel.new (text ++ piece.now) line.new output (W.contents writer.new)) }
     ensures stops { OnErr result ((g : Geometry) (m : Machine) (start : Power D S) (text : List ℕ) (output : Option (List ℕ))
         → SoFar D.disk S.view S.parts g m start kernel.old text line.old output (W.contents writer.old)
-        → Stopped D.disk S.view S.parts g m start kernel.new (text ++ piece.now) output (W.contents writer.new)) }
+        → Stopped D.disk S.view S.parts (BeginsWith (text ++ piece.now)) g m start kernel.new output (W.contents writer.new)) }
     ensures fault { IfErr result (λ e. e ≡ RunFault.Write) }
 {
     let mut rest = piece;
@@ -117,7 +118,7 @@ fn take_rest<D: Device, S: ObjectStore<D>, W: Write>(
         → Ended D.disk S.view S.parts g m start kernel.new text output (W.contents writer.new)) }
     ensures stops { OnErr result ((g : Geometry) (m : Machine) (start : Power D S) (text : List ℕ) (output : Option (List ℕ))
         → SoFar D.disk S.view S.parts g m start kernel.old text line.old output (W.contents writer.old)
-        → Stopped D.disk S.view S.parts g m start kernel.new text output (W.contents writer.new)) }
+        → Stopped D.disk S.view S.parts (λ lines. lines_of text ≡ lines) g m start kernel.new output (W.contents writer.new)) }
     ensures fault { IfErr result (λ e. e ≡ RunFault.Write) }
 {
     if line.is_empty() {
@@ -126,9 +127,10 @@ fn take_rest<D: Device, S: ObjectStore<D>, W: Write>(
     take(alloc, kernel, &line.end(), writer)
 }
 
-/// Runs a script over a kernel: reads it in pieces of 4096 bytes, which may end anywhere, serves the
-/// lines that end in a piece before it reads the next, and writes the answer to each line that isn't
-/// skipped before it takes the next line. A line that isn't of the grammar is answered `bad line`.
+/// Runs a script over a kernel: reads it in pieces of 4096 bytes, which may end anywhere, serves
+/// the lines that end in a piece before it reads the next, and writes the answer to each line that
+/// isn't skipped before it takes the next line. A line that isn't of the grammar is answered `bad
+/// line`.
 ///
 /// What is written is the printed answers of a run of the machine on the commands that the lines
 /// name, from whichever machine the kernel stands for; power cuts and failures of the device are

@@ -5,7 +5,7 @@ use Rattle.model.specs.Capability.{full, weak}
 use Rattle.model.specs.declared.access.Access.{Access}
 use Rattle.model.specs.declared.capability.Capability.{Capability}
 use Rattle.model.specs.declared.capability.Capability.TheVariants as capability
-use Rattle.script.specs.Reading.{Words, number_at}
+use Rattle.script.specs.Reading.{◌>>=◌, Words, number_at}
 use Rattle.script.specs.declared.named.Kind.{Kind}
 use Rattle.script.specs.declared.named.Kind.TheVariants.{Void, Number, Page, Node, Space, Process, Start, Resume, Bank, Discrim}
 

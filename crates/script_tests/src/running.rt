@@ -71,9 +71,9 @@ fn a_long_line_is_bad(rt: HostRuntime) -> Result<(), Fail> {
 /// The bytes that every read asks for.
 const ASKED: usize = 4096;
 
-/// Gives a piece of some bytes, and then pieces of so many at a time. Where it interrupts it does so
-/// before each, and at the end it fails where it is to. It keeps whether another number of bytes was
-/// asked for.
+/// Gives a piece of some bytes, and then pieces of so many at a time. Where it interrupts it does
+/// so before each, and at the end it fails where it is to. It keeps whether another number of bytes
+/// was asked for.
 #[derive(Drop)]
 struct Pieces<'a> {
     rest: &'a [u8],

@@ -66,8 +66,8 @@ fn read_limit<F: PresentFrames>(
     }
 }
 
-/// The limits of all banks below a count by number, 0 for what is no bank. Each bank is fetched, one
-/// at a time; nothing else is.
+/// The limits of all banks below a count by number, 0 for what is no bank. Each bank is fetched,
+/// one at a time; nothing else is.
 ///
 /// `NoMemory` where memory ran out, `Failed` exactly where the device failed, and never `LogFull`,
 /// since nothing is announced. No object is another than before.

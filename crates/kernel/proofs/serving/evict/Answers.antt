@@ -2,7 +2,7 @@ use Rattle.std.proofs.Common.{length, ap, arith}
 use Rattle.processes.proofs.Serving.{AreSame}
 use Rattle.kernel.proofs.Acts.{bad_number, evict_failed, evicted}
 use Rattle.kernel.proofs.Stages.{keepable_most}
-use Rattle.kernel.proofs.cache.evict.Goals as goal
+use Rattle.kernel.proofs.serving.evict.Goals as goal
 
 pub returns-then-number-count-clause-serves : goal.returns-then-number-count-clause-serves
 returns-then-number-count-clause-serves g c =
