@@ -1,7 +1,6 @@
 -- Turns of a kernel, one after another.
-use Rattle.std.proofs.Common.{◌≡◌, ◌⊎◌, ℕ, ◌+◌, ◌<◌, ◌≤◌, suc, take, drop, length, Bool, true, false, List, [], ◌∷◌, ◌++◌, Option, None, Some, Ok, Err, refl, sym, ap, ◌∙◌, subst, ⊎_elim, inl, inr, append_assoc, append-nil, arith}
-use Rattle.std.specs.Prelude.{◌↔◌, slice_index_or, IfErr, IsTrue, OnErr, OnOk, Result, if◌then◌else◌}
-use Rattle.std.proofs.lemmas.Bool.{cases_lt}
+use Rattle.std.proofs.Common.{◌≡◌, ◌⊎◌, ℕ, ◌<◌, suc, take, drop, length, Bool, true, false, List, [], ◌∷◌, ◌++◌, Option, None, Some, Ok, Err, refl, sym, ap, ◌∙◌, subst, ⊎_elim, inl, inr, append_assoc, append-nil, arith}
+use Rattle.std.specs.Prelude.{◌↔◌, slice_index_or, IfErr, IsTrue, OnErr, OnOk, Result}
 use Rattle.std.proofs.KnownBytes.{Consumes-trans}
 use Rattle.std.specs.Io.KnownBytes.{Appends, Consumes, IsAtEnd}
 use Rattle.model.specs.declared.answer.Answer.{Answer}
@@ -12,12 +11,12 @@ use Rattle.model.specs.declared.geometry.Geometry.{Geometry}
 use Rattle.model.specs.declared.line.Line.{Line}
 use Rattle.model.specs.declared.line.Line.TheVariants as line
 use Rattle.model.specs.Machine.{Machine, Running, Saved, Up, Down, candidates}
-use Rattle.model.specs.Run.{Reply, Nothing, BadLine, Told, Turn, IsRun, Replies, lines_of, reply_text, output_of}
+use Rattle.model.specs.Run.{Reply, Nothing, BadLine, Told, Turn, Replies, lines_of, reply_text, output_of}
 use Rattle.model.specs.Step.{second}
 use Rattle.model.specs.Text.{Says, bad_line}
 use Rattle.device.specs.Disk.{Image, Disk}
 use Rattle.device.specs.Moments.{LeavesOnly}
-use Rattle.device.proofs.Moments.{leaves_on, leaves_weaker, started}
+use Rattle.device.proofs.Moments.{leaves_weaker, started}
 use Rattle.capability.specs.Parts.{Parts}
 use Rattle.object_cache.specs.Store.{View}
 use Rattle.kernel.specs.declared.power.Power.{Power}
@@ -29,7 +28,7 @@ use Rattle.script.specs.declared.fault.RunFault.TheVariants as fault
 use Rattle.script.specs.declared.lines.LineBuffer.{LineBuffer}
 use Rattle.script.specs.Lines.{Holds, IsOneLine}
 use Rattle.script.specs.Writing.{AppendsFront, Writes}
-use Rattle.runs.specs.KernelRuns.{AreLines, AreTold, BeginsWith, Does, IsCutShort, IsLeftIn, IsRunOf, IsSecondOf, RunsOver, fault_count, lines_in, tells_fault}
+use Rattle.runs.specs.KernelRuns.{AreLines, AreTurnsOf, BeginsWith, Does, IsCutShort, IsLeftIn, IsRunOf, IsToldBy, IsTurnOf, RunsOver, lines_in, tells_fault}
 use Rattle.runs.specs.Taking.{Ended, SoFar, Stopped, TakesTurn}
 use Rattle.runs.proofs.ScriptLines.{begins_with, bytes_more, line_more, line_taken, lines_whole, lines_with_rest, no_lines}
 use Rattle.runs.proofs.TurnLists.{appends_more, appends_none, lines_more, output_more, run_more}
@@ -41,53 +40,25 @@ split_one : (g : Geometry) (size : ℕ) (c : Image) (ss ts : List Saved) → Den
 split_one g size c [] ts one = inr one
 split_one g size c (s ∷ ss) ts one = ⊎_elim (λ here. inl (inl here)) (λ there. ⊎_elim (λ first. inl (inr first)) (λ last. inr last) (split_one g size c ss ts there)) one
 
-module _ (g : Geometry) (size : ℕ) (c : Image) where
-  -- what a run allows one with a turn more allows
-  more_left : (m : Machine) (ts : List Turn) (t : Turn) → IsLeftIn g size m ts c → IsLeftIn g size m (ts ++ t ∷ []) c
-  more_left m [] t left = inl left
-  more_left m (u ∷ us) t (inl here) = inl here
-  more_left m (u ∷ us) t (inr (inl besides)) = inr (inl besides)
-  more_left m (u ∷ us) t (inr (inr there)) = inr (inr (more_left u.after us t there))
-
-  -- and so is what its last turn allows
-  last_left : (m mid : Machine) (ts : List Turn) (t : Turn) → IsRun g m ts mid → t.before ≡ mid → DenotesOne g size (candidates mid) c ⊎ IsSecondOf g size t.line t.before c →
-      IsLeftIn g size m (ts ++ t ∷ []) c
-  last_left m mid [] t run begins (inl here) = inl (subst (λ (x : Machine). DenotesOne g size (candidates x) c) run here)
-  last_left m mid [] t run begins (inr besides) = inr (inl besides)
-  last_left m mid (u ∷ us) t run begins left = inr (inr (last_left u.after mid us t run.2 begins left))
-
 -- ---- failures
 
-told_more : (ts : List Turn) (t : Turn) → fault_count (ts ++ t ∷ []) ≡ fault_count ts + (if tells_fault t.reply then 1 else 0)
-told_more [] t = omega arith
-told_more (u ∷ us) t = let rest = told_more us t in omega (arith, rest)
-
-none_told : (disk : Disk) → AreTold disk disk 0
-none_told disk = record { most = omega arith; some = λ rose. absurd (omega (arith, rose)) }
-
-told_on : (old mid new : Disk) (m n k : ℕ) → k ≡ m + n → AreTold old mid m → AreTold mid new n → AreTold old new k
-told_on old mid new m n k sum first next = record {
-  most = omega (arith, sum, first.most, next.most);
-  some = λ rose. ⊎_elim
-      (λ (early : old.failures < mid.failures). let some = first.some early in omega (arith, some, sum))
-      (λ (late : mid.failures ≤ old.failures). let some = next.some (omega (arith, rose, late)) in omega (arith, some, sum))
-      (cases_lt old.failures mid.failures);
-}
-
 -- an answer tells of a failure exactly where there was one
-answer_told : (old new : Disk) (a : Answer) → IsCaused old new a → AreTold old new (if tells_fault (Told a) then 1 else 0)
-answer_told old new a caused = by (tells_fault (Told a)) refl
+answer_told : (old new : Disk) (a : Answer) → IsCaused old new a → IsToldBy old new (Told a)
+answer_told old new a caused = record {
+  later = caused.later;
+  exact = (λ told. caused.exact.0 (is_fault a told), λ rose. subst (λ (b : Answer). tells_fault (Told b) ≡ true) (sym (caused.exact.1 rose)) refl);
+}
   where
     is_fault : (b : Answer) → tells_fault (Told b) ≡ true → b ≡ answer.Refused refusal.Fault
     is_fault (answer.Refused refusal.Fault) told = refl
     is_fault _ told = cc
 
-    by : (b : Bool) → tells_fault (Told a) ≡ b → AreTold old new (if b then 1 else 0)
-    by true is = let rose = caused.exact.0 (is_fault a is) in record { most = omega (arith, rose); some = λ more. omega arith }
-    by false is = record {
-      most = omega (arith, caused.later);
-      some = λ rose. let never : tells_fault (Told (answer.Refused refusal.Fault)) ≡ false = subst (λ (b : Answer). tells_fault (Told b) ≡ false) (caused.exact.1 rose) is in cc;
-    }
+-- where no call is made none fails
+none_told : (disk : Disk) (reply : Reply) → tells_fault reply ≡ false → IsToldBy disk disk reply
+none_told disk reply fine = record {
+  later = omega arith;
+  exact = (λ told. let never : true ≡ false = sym told ∙ fine in cc, λ rose. absurd (omega (arith, rose)));
+}
 
 module _ {D S : Type 0} (disk : D → Disk) (view : S → View D) (parts : S → Parts)
     (only_now : (d : D) (c : Image) → (disk d).left_since (disk d).moment c → (disk d).may_leave c) where
@@ -119,7 +90,7 @@ module _ {D S : Type 0} (disk : D → Disk) (view : S → View D) (parts : S →
         size = refl;
         any_moment = leaves_weaker {old = d} {new = d} {P = DenotesOne g size (candidates m)}
             (λ c. DenotesOne g size (candidates m) c ⊎ ((command : Command) × (says ≡ line.Command command) × DenotesOne g size (second m command) c)) (λ c one. inl one) (here g m p stands);
-        faults = subst (λ (b : Bool). AreTold d d (if b then 1 else 0)) (sym fine) (none_told d);
+        faults = none_told d reply fine;
         writes = writes;
       }
 
@@ -162,11 +133,17 @@ module _ {D S : Type 0} (disk : D → Disk) (view : S → View D) (parts : S →
   begun g m p line output empty stands = record {
     turns = [];
     rest = [];
-    run = record { after = m; run = refl; stands = stands; size = refl; any_moment = here g m p stands; faults = none_told (disk_of disk view parts p) };
+    run = record { after = m; run = refl; stands = stands; each = refl };
     lines = no_lines;
     held = empty;
     written = appends_none output;
   }
+
+  -- a turn more
+  turns_more : (g : Geometry) (old mid new : Power D S) (ts : List Turn) (t : Turn) → AreTurnsOf disk view parts g old mid ts → IsTurnOf disk view parts g mid new t →
+      AreTurnsOf disk view parts g old new (ts ++ t ∷ [])
+  turns_more g old mid new [] t same turn = (new, subst (λ (p : Power D S). IsTurnOf disk view parts g p new t) same turn, refl)
+  turns_more g old mid new (u ∷ us) t goes turn = (goes.0, goes.1, turns_more g goes.0 mid new us t goes.2 turn)
 
   -- more bytes of a line
   pub longer : (g : Geometry) (m : Machine) (old new : Power D S) (text : List ℕ) (line longer : LineBuffer) (output output_left : Option (List ℕ)) (bytes : List ℕ) →
@@ -191,31 +168,25 @@ module _ {D S : Type 0} (disk : D → Disk) (view : S → View D) (parts : S →
     abbrev turns_on : List Turn
     turns_on = so_far.turns ++ turn_of ∷ []
 
-    abbrev size : ℕ
-    size = (disk_of disk view parts old).sectors
-
-    first_moments : LeavesOnly (disk_of disk view parts old) (disk_of disk view parts mid) (IsLeftIn g size m turns_on)
-    first_moments = leaves_weaker {old = disk_of disk view parts old} {new = disk_of disk view parts mid} {P = IsLeftIn g size m so_far.turns} (IsLeftIn g size m turns_on)
-        (λ c has. more_left g size c m so_far.turns turn_of has) so_far.run.any_moment
-
-    abbrev InTurn : ℕ → Image → Type 0
-    InTurn n c = DenotesOne g n (candidates so_far.run.after) c ⊎ ((command : Command) × (says ≡ line.Command command) × DenotesOne g n (second so_far.run.after command) c)
-
-    last_moments : LeavesOnly (disk_of disk view parts mid) (disk_of disk view parts new) (IsLeftIn g size m turns_on)
-    last_moments = leaves_weaker {old = disk_of disk view parts mid} {new = disk_of disk view parts new} {P = InTurn size} (IsLeftIn g size m turns_on)
-        (λ c has. last_left g size c m so_far.run.after so_far.turns turn_of so_far.run.run refl
-        (⊎_elim (λ first. inl first) (λ besides. inr (besides.0, subst (Says so_far.rest) besides.1 (said so_far.rest so_far.held), besides.2)) has))
-        (subst (λ (n : ℕ). LeavesOnly (disk_of disk view parts mid) (disk_of disk view parts new) (InTurn n)) so_far.run.size turn.any_moment)
+    turn_taken : IsTurnOf disk view parts g mid new turn_of
+    turn_taken =
+        let size = (disk_of disk view parts mid).sectors in
+        record {
+          stands = turn.stands;
+          size = turn.size;
+          any_moment = leaves_weaker {old = disk_of disk view parts mid} {new = disk_of disk view parts new}
+              {P = λ c. DenotesOne g size (candidates so_far.run.after) c ⊎ ((command : Command) × (says ≡ line.Command command) × DenotesOne g size (second so_far.run.after command) c)}
+              (IsLeftIn g size turn_of)
+              (λ c has. ⊎_elim (λ first. inl first) (λ besides. inr (besides.0, subst (Says so_far.rest) besides.1 (said so_far.rest so_far.held), besides.2)) has) turn.any_moment;
+          faults = turn.faults;
+        }
 
     more_run : IsRunOf disk view parts g m old new turns_on
     more_run = record {
       after = turn.after;
       run = run_more g m so_far.turns so_far.run.after turn_of so_far.run.run refl (says, said so_far.rest so_far.held, turn.replies);
       stands = turn.stands;
-      size = turn.size ∙ so_far.run.size;
-      any_moment = leaves_on {old = disk_of disk view parts old} {mid = disk_of disk view parts mid} {new = disk_of disk view parts new} {P = IsLeftIn g size m turns_on} first_moments last_moments;
-      faults = told_on (disk_of disk view parts old) (disk_of disk view parts mid) (disk_of disk view parts new) (fault_count so_far.turns) (if tells_fault turn.reply then 1 else 0)
-          (fault_count turns_on) (told_more so_far.turns turn_of) so_far.run.faults turn.faults;
+      each = turns_more g old mid new so_far.turns turn_of so_far.run.each turn_taken;
     }
 
     all_written : Appends written wrote (reply_text turn.reply) → Appends output wrote (output_of turns_on)

@@ -1,5 +1,5 @@
 -- Runs of a script over a kernel.
-use Rattle.std.specs.Prelude.{◌≡◌, ◌⊎◌, ℕ, ◌+◌, ◌<◌, ◌≤◌, Bool, true, false, List, [], ◌∷◌, ◌++◌, map, Option, Result, Ok, Err, if◌then◌else◌}
+use Rattle.std.specs.Prelude.{◌≡◌, ◌⊎◌, ◌↔◌, ℕ, ◌<◌, ◌≤◌, Bool, true, false, List, [], ◌∷◌, ◌++◌, map, Option, Result, Ok, Err}
 use Rattle.std.specs.List.{All, flat_map}
 use Rattle.std.specs.Io.KnownBytes.{Appends, Consumes, IsAtEnd}
 use Rattle.model.specs.declared.answer.Answer.TheVariants as answer
@@ -27,20 +27,13 @@ abbrev pub tells_fault : Reply → Bool
 tells_fault (Told (answer.Refused refusal.Fault)) = true
 tells_fault _ = false
 
--- how many lines of a run were
-abbrev pub fault_count : List Turn → ℕ
-fault_count [] = 0
-fault_count (t ∷ ts) = (if tells_fault t.reply then 1 else 0) + fault_count ts
-
 -- an image denotes what a command may save besides
 abbrev pub IsSecondOf : Geometry → ℕ → List ℕ → Machine → Image → Type 0
 IsSecondOf g size text m c = (command : Command) × Says text (line.Command command) × DenotesOne g size (second m command) c
 
--- what a crash leaves in the course of a run: a candidate of one of its machines, or what one of its commands may save
--- besides
-abbrev pub IsLeftIn : Geometry → ℕ → Machine → List Turn → Image → Type 0
-IsLeftIn g size m [] c = DenotesOne g size (candidates m) c
-IsLeftIn g size m (t ∷ ts) c = DenotesOne g size (candidates m) c ⊎ IsSecondOf g size t.line t.before c ⊎ IsLeftIn g size t.after ts c
+-- what a crash leaves in the course of a turn: a candidate of the machine before it, or what its command is to save besides
+abbrev pub IsLeftIn : Geometry → ℕ → Turn → Image → Type 0
+IsLeftIn g size t c = DenotesOne g size (candidates t.before) c ⊎ IsSecondOf g size t.line t.before c
 
 -- the lines of the turns
 abbrev pub lines_in : List Turn → List (List ℕ)
@@ -81,22 +74,32 @@ Does turns input input_left output output_left (Err fault.Write) =
     (text : List ℕ) × Consumes input input_left text × (BeginsWith text (lines_in turns) ⊎ (IsAtEnd input_left × (lines_of text ≡ lines_in turns)))
     × IsCutShort turns output output_left
 
--- the device failed at least as often as lines were answered so, and one was where it failed
-pub record AreTold (old new : Disk) (count : ℕ) : Type 0 where
-  pub most : old.failures + count ≤ new.failures
-  pub some : old.failures < new.failures → 0 < count
+-- the device failed exactly where that was answered
+pub record IsToldBy (old new : Disk) (reply : Reply) : Type 0 where
+  pub later : old.failures ≤ new.failures
+  pub exact : (tells_fault reply ≡ true) ↔ (old.failures < new.failures)
 
 -- The parameters are ghost members of a device and of an object store.
 module _ {D S : Type 0} (disk : D → Disk) (view : S → View D) (parts : S → Parts) where
-  -- from one kernel to another these turns are a run of the machine, with power cuts and failures in it; a crash at any
-  -- moment in its course leaves what the run allows
+  -- from one kernel to another a turn was taken: it stands for the machine after it, and a crash at any moment in its
+  -- course leaves what the turn allows
+  pub record IsTurnOf (g : Geometry) (old new : Power D S) (t : Turn) : Type 0 where
+    pub stands : Stands disk view parts g new t.after
+    pub size : (disk_of disk view parts new).sectors ≡ (disk_of disk view parts old).sectors
+    pub any_moment : LeavesOnly (disk_of disk view parts old) (disk_of disk view parts new) (IsLeftIn g (disk_of disk view parts old).sectors t)
+    pub faults : IsToldBy (disk_of disk view parts old) (disk_of disk view parts new) t.reply
+
+  -- one turn after another, and nothing besides
+  abbrev pub AreTurnsOf : Geometry → Power D S → Power D S → List Turn → Type 0
+  AreTurnsOf g old new [] = new ≡ old
+  AreTurnsOf g old new (t ∷ ts) = (next : Power D S) × IsTurnOf g old next t × AreTurnsOf g next new ts
+
+  -- they are a run of the machine, with power cuts and failures in it
   pub record IsRunOf (g : Geometry) (m : Machine) (old new : Power D S) (turns : List Turn) : Type 0 where
     pub after : Machine
     pub run : IsRun g m turns after
     pub stands : Stands disk view parts g new after
-    pub size : (disk_of disk view parts new).sectors ≡ (disk_of disk view parts old).sectors
-    pub any_moment : LeavesOnly (disk_of disk view parts old) (disk_of disk view parts new) (IsLeftIn g (disk_of disk view parts old).sectors m turns)
-    pub faults : AreTold (disk_of disk view parts old) (disk_of disk view parts new) (fault_count turns)
+    pub each : AreTurnsOf g old new turns
 
   -- whichever machine the kernel stands for, what was read and written is that of such a run
   abbrev pub RunsOver : Power D S → Power D S → Option (List ℕ) → Option (List ℕ) → Option (List ℕ) → Option (List ℕ) → Result (Unit {0}) RunFault → Type 0

@@ -1,5 +1,5 @@
 -- A run of a script in its course.
-use Rattle.std.specs.Prelude.{◌≡◌, ◌⊎◌, ℕ, ◌≤◌, List, [], length, take, Option, Result, Ok, Err, if◌then◌else◌}
+use Rattle.std.specs.Prelude.{◌≡◌, ◌⊎◌, ℕ, ◌≤◌, List, [], length, take, Option, Result, Ok, Err}
 use Rattle.std.specs.Io.KnownBytes.{Appends, Consumes, IsAtEnd}
 use Rattle.model.specs.declared.command.Command.{Command}
 use Rattle.model.specs.declared.geometry.Geometry.{Geometry}
@@ -22,7 +22,7 @@ use Rattle.script.specs.Lines.{Holds}
 use Rattle.script.specs.Writing.{Writes}
 use Rattle.runs.specs.declared.running.Piece.{Piece}
 use Rattle.runs.specs.declared.running.Piece.TheVariants as piece
-use Rattle.runs.specs.KernelRuns.{AreLines, AreTold, IsCutShort, IsRunOf, lines_in, tells_fault}
+use Rattle.runs.specs.KernelRuns.{AreLines, IsCutShort, IsRunOf, IsToldBy, lines_in}
 
 -- bytes were read, or none
 abbrev pub ReadsPiece : Option (List ℕ) → Option (List ℕ) → List ℕ → Result Piece RunFault → Type 0
@@ -42,7 +42,7 @@ module _ {D S : Type 0} (disk : D → Disk) (view : S → View D) (parts : S →
     pub size : (disk_of disk view parts new).sectors ≡ (disk_of disk view parts old).sectors
     pub any_moment : LeavesOnly (disk_of disk view parts old) (disk_of disk view parts new) (λ c. DenotesOne g (disk_of disk view parts old).sectors (candidates m) c
         ⊎ ((command : Command) × (says ≡ line.Command command) × DenotesOne g (disk_of disk view parts old).sectors (second m command) c))
-    pub faults : AreTold (disk_of disk view parts old) (disk_of disk view parts new) (if tells_fault reply then 1 else 0)
+    pub faults : IsToldBy (disk_of disk view parts old) (disk_of disk view parts new) reply
     pub writes : Writes written wrote result (reply_text reply)
 
   -- a run so far: its turns, what was read of a line that isn't whole, and the answers written

@@ -134,14 +134,15 @@ fn take_rest<D: Device, S: ObjectStore<D>, W: Write>(
 ///
 /// What is written is the printed answers of a run of the machine on the commands that the lines
 /// name, from whichever machine the kernel stands for; power cuts and failures of the device are
-/// part of such a run, and a crash at any moment in its course leaves a candidate of one of its
-/// machines, or what one of its commands was to save. `fault` is answered at most as often as the
-/// device failed, and at least once where it did.
+/// part of such a run. A crash at any moment while a line is served leaves a candidate of the
+/// machine before it, or what its command is to save besides; `fault` is answered exactly where the
+/// device failed.
 ///
 /// `RunFault::Read` where the reader fails: then each line whose newline was read was answered.
-/// `RunFault::Write` where the writer fails or takes nothing: then only the answer to the last line
-/// that was taken may be cut short. The kernel then stands where the lines taken left it. A read
-/// that was interrupted is tried again. The lines and answers take no memory.
+/// `RunFault::Write` where the writer fails or takes nothing: then the lines taken are the first of
+/// those read whole, or all of an input at its end, and only the answer to the last may be cut
+/// short. The kernel then stands where the lines taken left it. A read that was interrupted is
+/// tried again. The lines and answers take no memory.
 pub fn run<D: Device, S: ObjectStore<D>, R: Read, W: Write>(
     alloc: Global,
     kernel: &mut Kernel<D, S>,
