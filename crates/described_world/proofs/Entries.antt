@@ -8,7 +8,7 @@ use Rattle.model.specs.declared.object.Content.TheVariants as content
 use Rattle.model.specs.Frame.{blank_frame, frame_at}
 use Rattle.model.specs.Sound.{object_count}
 use Rattle.description.specs.declared.entry.Description.{Description}
-use Rattle.described_world.specs.Described.{AreDistinct, HasNumbers, IsAnnexFrame, IsDescribed, IsNodeFrame, IsPageFrame, IsRootFrame, first_frame, node_numbers, page_numbers}
+use Rattle.described_world.specs.Described.{AreDistinct, HasNumbers, IsDescribedAnnex, IsDescribed, IsDescribedNode, IsDescribedPage, IsDescribedRoot, first_frame, node_numbers, page_numbers}
 use Rattle.described_world.specs.Laid.{Entry, OfBank, OfRoot, OfAnnex, OfNode, OfPage, entries, number_of}
 use Rattle.described_world.proofs.Lists.{contains_either, contains_map, map_again, map_both, map_contains}
 
@@ -136,17 +136,17 @@ in_range d (OfPage p) has h = All-contains (λ n. (d.geometry.nodes ≤ n) × (n
 -- a frame is that of an object
 abbrev pub IsFrameOf : Entry → Frame → Type 0
 IsFrameOf (OfBank b) f = f ≡ first_frame b.owner (content.Bank b.limit)
-IsFrameOf (OfRoot p) f = IsRootFrame p f
-IsFrameOf (OfAnnex p) f = IsAnnexFrame p f
-IsFrameOf (OfNode n) f = IsNodeFrame n f
-IsFrameOf (OfPage p) f = IsPageFrame p f
+IsFrameOf (OfRoot p) f = IsDescribedRoot p f
+IsFrameOf (OfAnnex p) f = IsDescribedAnnex p f
+IsFrameOf (OfNode n) f = IsDescribedNode n f
+IsFrameOf (OfPage p) f = IsDescribedPage p f
 
 pub described_of : (d : Description) (fs : List Frame) (e : Entry) → IsDescribed d fs → IsOf d e → IsFrameOf e (frame_at fs (number_of e))
 described_of d fs (OfBank b) is h = All-contains (λ b. frame_at fs b.number ≡ first_frame b.owner (content.Bank b.limit)) d.banks.items b is.banks h
-described_of d fs (OfRoot p) is h = All-contains (λ p. IsRootFrame p (frame_at fs p.root)) d.processes.items p is.roots h
-described_of d fs (OfAnnex p) is h = All-contains (λ p. IsAnnexFrame p (frame_at fs p.annex)) d.processes.items p is.annexes h
-described_of d fs (OfNode n) is h = All-contains (λ n. IsNodeFrame n (frame_at fs n.number)) d.nodes.items n is.nodes h
-described_of d fs (OfPage p) is h = All-contains (λ p. IsPageFrame p (frame_at fs p.number)) d.pages.items p is.pages h
+described_of d fs (OfRoot p) is h = All-contains (λ p. IsDescribedRoot p (frame_at fs p.root)) d.processes.items p is.roots h
+described_of d fs (OfAnnex p) is h = All-contains (λ p. IsDescribedAnnex p (frame_at fs p.annex)) d.processes.items p is.annexes h
+described_of d fs (OfNode n) is h = All-contains (λ n. IsDescribedNode n (frame_at fs n.number)) d.nodes.items n is.nodes h
+described_of d fs (OfPage p) is h = All-contains (λ p. IsDescribedPage p (frame_at fs p.number)) d.pages.items p is.pages h
 
 -- each number is that of an object that is named, or free
 pub described_cases : (d : Description) (fs : List Frame) (n : ℕ) → IsDescribed d fs

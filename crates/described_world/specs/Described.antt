@@ -110,28 +110,28 @@ first_frame owner held =
     record { header = record { role = role_of held; allocations = 0; calls = 0; owner = owner }; content = held }
 
 -- a frame is that of the root of a process
-abbrev pub IsRootFrame : ProcessEntry → Frame → Type 0
-IsRootFrame p f = (state : State) × (space : Capability) × (p.state ≡ Some state) × (p.space ≡ Some space)
+abbrev pub IsDescribedRoot : ProcessEntry → Frame → Type 0
+IsDescribedRoot p f = (state : State) × (space : Capability) × (p.state ≡ Some state) × (p.space ≡ Some space)
     × (f ≡ first_frame p.owner (content.Root
     (record { state = state; words = p.words; key = p.key; annex = p.annex; space = fresh_cap space })))
 
-abbrev pub IsAnnexFrame : ProcessEntry → Frame → Type 0
-IsAnnexFrame p f = (slots : List Cap) × HoldsNamed p.registers.items slots × (f ≡ first_frame p.owner (content.Annex slots))
+abbrev pub IsDescribedAnnex : ProcessEntry → Frame → Type 0
+IsDescribedAnnex p f = (slots : List Cap) × HoldsNamed p.registers.items slots × (f ≡ first_frame p.owner (content.Annex slots))
 
-abbrev pub IsNodeFrame : NodeEntry → Frame → Type 0
-IsNodeFrame n f = (slots : List Cap) × HoldsNamed n.slots.items slots × (f ≡ first_frame n.owner (content.Node slots))
+abbrev pub IsDescribedNode : NodeEntry → Frame → Type 0
+IsDescribedNode n f = (slots : List Cap) × HoldsNamed n.slots.items slots × (f ≡ first_frame n.owner (content.Node slots))
 
-abbrev pub IsPageFrame : PageEntry → Frame → Type 0
-IsPageFrame p f = (words : List ℕ) × HasNamedWords p.words.items words × (f ≡ first_frame p.owner (content.Page words))
+abbrev pub IsDescribedPage : PageEntry → Frame → Type 0
+IsDescribedPage p f = (words : List ℕ) × HasNamedWords p.words.items words × (f ≡ first_frame p.owner (content.Page words))
 
 -- the frames of a description: each object as it is named, and all else free
 pub record IsDescribed (d : Description) (frames : List Frame) : Type 0 where
   pub count : length frames ≡ object_count d.geometry
   pub banks : All (λ b. frame_at frames b.number ≡ first_frame b.owner (content.Bank b.limit)) d.banks.items
-  pub roots : All (λ p. IsRootFrame p (frame_at frames p.root)) d.processes.items
-  pub annexes : All (λ p. IsAnnexFrame p (frame_at frames p.annex)) d.processes.items
-  pub nodes : All (λ n. IsNodeFrame n (frame_at frames n.number)) d.nodes.items
-  pub pages : All (λ p. IsPageFrame p (frame_at frames p.number)) d.pages.items
+  pub roots : All (λ p. IsDescribedRoot p (frame_at frames p.root)) d.processes.items
+  pub annexes : All (λ p. IsDescribedAnnex p (frame_at frames p.annex)) d.processes.items
+  pub nodes : All (λ n. IsDescribedNode n (frame_at frames n.number)) d.nodes.items
+  pub pages : All (λ p. IsDescribedPage p (frame_at frames p.number)) d.pages.items
   pub others : (n : ℕ) → (Contains (node_numbers d ++ page_numbers d) n → ⊥) → frame_at frames n ≡ blank_frame
 
 -- The faults.

@@ -44,9 +44,9 @@ pub no_number : (d : Data) → None ≡ as_integer d → (n : ℕ) → d ≡ int
 no_number d none n e = none-some (pos n) (none ∙ ap as_integer e)
 
 -- what is found to a text
-pub capability_told : (d : Data) (text : List ℕ) (r : Option Capability) → Some text ≡ as_str d → IfSome r (λ c. IsWellFormed c × (capability_text c ≡ text)) → IfNone r ((c : Capability) → IsWellFormed c → IfSome (named c) (λ n. n < 2 ^ 64) → capability_text c ≢ text) → IsCapability d r
+pub capability_told : (d : Data) (text : List ℕ) (r : Option Capability) → Some text ≡ as_str d → IfSome r (λ c. IsWellFormed c × IfSome (named c) (λ n. n < 2 ^ 64) × (capability_text c ≡ text)) → IfNone r ((c : Capability) → IsWellFormed c → IfSome (named c) (λ n. n < 2 ^ 64) → capability_text c ≢ text) → IsCapability d r
 capability_told d text None is some none = (text, string_is d text is, none)
-capability_told d text (Some c) is some none = (some.0, string_is d text is ∙ ap string (sym some.1))
+capability_told d text (Some c) is some none = (some.0, some.1, string_is d text is ∙ ap string (sym some.2))
 
 pub state_told : (d : Data) (text : List ℕ) (r : Option State) → Some text ≡ as_str d → IfSome r (λ s. state_text s ≡ text) → IfNone r ((s : State) → state_text s ≢ text) → IsState d r
 state_told d text None is some none = (text, string_is d text is, none)
@@ -55,7 +55,7 @@ state_told d text (Some s) is some none = string_is d text is ∙ ap string (sym
 -- what is no text tells neither
 pub no_capability : (d : Data) → None ≡ as_str d → (r : Option Capability) → IsCapability d r → ⊥
 no_capability d none None told = none-some told.0 (none ∙ ap as_str told.1)
-no_capability d none (Some c) told = none-some (capability_text c) (none ∙ ap as_str told.1)
+no_capability d none (Some c) told = none-some (capability_text c) (none ∙ ap as_str told.2)
 
 pub no_state : (d : Data) → None ≡ as_str d → (r : Option State) → IsState d r → ⊥
 no_state d none None told = none-some told.0 (none ∙ ap as_str told.1)

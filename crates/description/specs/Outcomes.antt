@@ -1,20 +1,20 @@
 -- What a function that reads answers.
 use Rattle.std.specs.Prelude.{Result, Ok, Err, List, Vec}
 use Rattle.std.specs.declared.alloc.Global.{Global}
-use Rattle.description.specs.declared.fault.ReadFault.{ReadFault}
-use Rattle.description.specs.declared.fault.ReadFault.TheVariants.{Shape, NoMemory}
+use Rattle.description.specs.declared.fault.DescriptionFault.{DescriptionFault}
+use Rattle.description.specs.declared.fault.DescriptionFault.TheVariants.{Shape, NoMemory}
 
 -- nothing is said, or memory ran out
-abbrev pub Fails : {A : Type 0} → (A → Type 0) → ReadFault → Type 0
+abbrev pub Fails : {A : Type 0} → (A → Type 0) → DescriptionFault → Type 0
 Fails {A = A} P Shape = (x : A) → P x → ⊥
 Fails P NoMemory = Unit {0}
 
 -- it answers what is said, or fails
-abbrev pub Reads : {A : Type 0} → (A → Type 0) → Result A ReadFault → Type 0
+abbrev pub Reads : {A : Type 0} → (A → Type 0) → Result A DescriptionFault → Type 0
 Reads P (Ok x) = P x
 Reads P (Err e) = Fails P e
 
 -- the same of a list
-abbrev pub ReadsList : {A : Type 0} → (List A → Type 0) → Result (Vec A Global) ReadFault → Type 0
+abbrev pub ReadsList : {A : Type 0} → (List A → Type 0) → Result (Vec A Global) DescriptionFault → Type 0
 ReadsList P (Ok v) = P v.items
 ReadsList P (Err e) = Fails P e

@@ -22,9 +22,9 @@ use Rattle.description.specs.declared.entry.WordEntry.{WordEntry}
 abbrev pub IsNumber : Data → ℕ → Type 0
 IsNumber d n = d ≡ integer (pos n)
 
--- a text, and the capability that has it, or none where none has it (numbers of objects have 64 bits)
+-- a text, and the capability that has it, or none where none has it; numbers of objects have 64 bits
 abbrev pub IsCapability : Data → Option Capability → Type 0
-IsCapability d (Some c) = IsWellFormed c × (d ≡ string (capability_text c))
+IsCapability d (Some c) = IsWellFormed c × IfSome (named c) (λ n. n < 2 ^ 64) × (d ≡ string (capability_text c))
 IsCapability d None = (text : List ℕ) × (d ≡ string text) × ((c : Capability) → IsWellFormed c → IfSome (named c) (λ n. n < 2 ^ 64) → capability_text c ≢ text)
 
 -- a text, and the state that has it, or none where no state has it

@@ -10,4 +10,4 @@ mod read;
 mod value;
 
 pub use entry::{BankEntry, Description, NodeEntry, PageEntry, ProcessEntry, SlotEntry, WordEntry};
-pub use fault::ReadFault;
+pub use fault::DescriptionFault;

@@ -6,7 +6,7 @@ ghost use Rattle.description.specs.Outcomes.{Reads, ReadsList};
 ghost use Rattle.description.specs.Reading.{AreFour, AtOr, IsList, IsNumber, IsRange, IsSlot, IsWord};
 
 use crate::entry::{SlotEntry, WordEntry};
-use crate::fault::ReadFault;
+use crate::fault::DescriptionFault;
 use crate::member::member;
 use crate::value::{array_of, capability_at, number_of, pair_of};
 use image_writer::NumberRange;
@@ -17,12 +17,15 @@ use toml::{Table, Value};
 pub(crate) trait FromValue: Drop {
     ghost IsSaid: { Data → Self → Type 0 };
 
-    fn from_value(alloc: Global, value: &Value) -> Result<Self, ReadFault>
+    fn from_value(alloc: Global, value: &Value) -> Result<Self, DescriptionFault>
         ensures { Reads (IsSaid (view value.now)) result };
 }
 
 // The values of a list.
-pub(crate) fn list_of<T: FromValue>(alloc: Global, value: &Value) -> Result<Vec<T>, ReadFault>
+pub(crate) fn list_of<T: FromValue>(
+    alloc: Global,
+    value: &Value,
+) -> Result<Vec<T>, DescriptionFault>
     ensures { ReadsList (IsList T.IsSaid (view value.now)) result }
 {
     let items = array_of(value)?;
@@ -30,7 +33,7 @@ pub(crate) fn list_of<T: FromValue>(alloc: Global, value: &Value) -> Result<Vec<
     for i in 0..items.len() {
         let entry = T::from_value(alloc, &items[i])?;
         if list.push(entry).is_err() {
-            return Err(ReadFault::NoMemory);
+            return Err(DescriptionFault::NoMemory);
         }
     }
     Ok(list)
@@ -41,7 +44,7 @@ pub(crate) fn list_or_empty<T: FromValue>(
     alloc: Global,
     table: &Table,
     key: &str,
-) -> Result<Vec<T>, ReadFault>
+) -> Result<Vec<T>, DescriptionFault>
     ensures { ReadsList (AtOr [] key.now (IsList T.IsSaid) (table_view table.now)) result }
 {
     match member(table, key) {
@@ -53,24 +56,28 @@ pub(crate) fn list_or_empty<T: FromValue>(
 impl FromValue for u64 {
     ghost IsSaid = { IsNumber };
 
-    fn from_value(_alloc: Global, value: &Value) -> Result<u64, ReadFault> {
+    fn from_value(_alloc: Global, value: &Value) -> Result<u64, DescriptionFault> {
         number_of(value)
     }
 }
 
 // The four numbers of a list of four.
-fn four_of(alloc: Global, value: &Value) -> Result<[u64; 4], ReadFault>
+fn four_of(alloc: Global, value: &Value) -> Result<[u64; 4], DescriptionFault>
     ensures { Reads (AreFour (view value.now)) result }
 {
     let numbers: Vec<u64> = list_of(alloc, value)?;
     if numbers.len() != 4 {
-        return Err(ReadFault::Shape);
+        return Err(DescriptionFault::Shape);
     }
     Ok([numbers[0], numbers[1], numbers[2], numbers[3]])
 }
 
 // The four numbers at a key, or else zeros.
-pub(crate) fn four_or_zeros(alloc: Global, table: &Table, key: &str) -> Result<[u64; 4], ReadFault>
+pub(crate) fn four_or_zeros(
+    alloc: Global,
+    table: &Table,
+    key: &str,
+) -> Result<[u64; 4], DescriptionFault>
     ensures { Reads (AtOr (0 ∷ 0 ∷ 0 ∷ 0 ∷ []) key.now AreFour (table_view table.now)) result }
 {
     match member(table, key) {
@@ -82,7 +89,7 @@ pub(crate) fn four_or_zeros(alloc: Global, table: &Table, key: &str) -> Result<[
 impl FromValue for SlotEntry {
     ghost IsSaid = { IsSlot };
 
-    fn from_value(_alloc: Global, value: &Value) -> Result<SlotEntry, ReadFault> {
+    fn from_value(_alloc: Global, value: &Value) -> Result<SlotEntry, DescriptionFault> {
         let (index, text) = pair_of(value)?;
         let index = number_of(index)?;
         let capability = capability_at(text)?;
@@ -93,7 +100,7 @@ impl FromValue for SlotEntry {
 impl FromValue for WordEntry {
     ghost IsSaid = { IsWord };
 
-    fn from_value(_alloc: Global, value: &Value) -> Result<WordEntry, ReadFault> {
+    fn from_value(_alloc: Global, value: &Value) -> Result<WordEntry, DescriptionFault> {
         let (index, word) = pair_of(value)?;
         let index = number_of(index)?;
         let word = number_of(word)?;
@@ -104,7 +111,7 @@ impl FromValue for WordEntry {
 impl FromValue for NumberRange {
     ghost IsSaid = { IsRange };
 
-    fn from_value(_alloc: Global, value: &Value) -> Result<NumberRange, ReadFault> {
+    fn from_value(_alloc: Global, value: &Value) -> Result<NumberRange, DescriptionFault> {
         let (first, count) = pair_of(value)?;
         let first = number_of(first)?;
         let count = number_of(count)?;

@@ -7,7 +7,7 @@ ghost use Rattle.toml.specs.View.{table_view, view};
 ghost use Rattle.description.specs.Outcomes.{Reads};
 ghost use Rattle.description.specs.Reading.{At, AtOr, IsCapability, IsNumber, IsState, has_only};
 
-use crate::fault::ReadFault;
+use crate::fault::DescriptionFault;
 use crate::value::{capability_at, number_of, state_at};
 use model::{Capability, State};
 use toml::{Table, Value};
@@ -32,14 +32,14 @@ fn has_only(table: &Table, known: &[&str]) -> bool
 }
 
 // A table has no other keys than these.
-pub(crate) fn check_keys(table: &Table, known: &[&str]) -> Result<(), ReadFault>
+pub(crate) fn check_keys(table: &Table, known: &[&str]) -> Result<(), DescriptionFault>
     ensures { Reads (λ _. IsTrue (has_only (map (λ k. k.now) known.now) (table_view table.now)))
         result }
 {
     if has_only(table, known) {
         Ok(())
     } else {
-        Err(ReadFault::Shape)
+        Err(DescriptionFault::Shape)
     }
 }
 
@@ -51,17 +51,17 @@ pub(crate) fn member<'a>(table: &'a Table, key: &str) -> Option<&'a Value>
 }
 
 // The number at a key.
-pub(crate) fn number(table: &Table, key: &str) -> Result<u64, ReadFault>
+pub(crate) fn number(table: &Table, key: &str) -> Result<u64, DescriptionFault>
     ensures { Reads (At key.now IsNumber (table_view table.now)) result }
 {
     match member(table, key) {
         Some(value) => number_of(value),
-        None => Err(ReadFault::Shape),
+        None => Err(DescriptionFault::Shape),
     }
 }
 
 // The number at a key, or else 0.
-pub(crate) fn number_or_zero(table: &Table, key: &str) -> Result<u64, ReadFault>
+pub(crate) fn number_or_zero(table: &Table, key: &str) -> Result<u64, DescriptionFault>
     ensures { Reads (AtOr 0 key.now IsNumber (table_view table.now)) result }
 {
     match member(table, key) {
@@ -71,17 +71,20 @@ pub(crate) fn number_or_zero(table: &Table, key: &str) -> Result<u64, ReadFault>
 }
 
 // The state at a key.
-pub(crate) fn state(table: &Table, key: &str) -> Result<Option<State>, ReadFault>
+pub(crate) fn state(table: &Table, key: &str) -> Result<Option<State>, DescriptionFault>
     ensures { Reads (At key.now IsState (table_view table.now)) result }
 {
     match member(table, key) {
         Some(value) => state_at(value),
-        None => Err(ReadFault::Shape),
+        None => Err(DescriptionFault::Shape),
     }
 }
 
 // The capability at a key, or else void.
-pub(crate) fn capability_or_void(table: &Table, key: &str) -> Result<Option<Capability>, ReadFault>
+pub(crate) fn capability_or_void(
+    table: &Table,
+    key: &str,
+) -> Result<Option<Capability>, DescriptionFault>
     ensures { Reads (AtOr (Some Void) key.now IsCapability (table_view table.now)) result }
 {
     match member(table, key) {

@@ -4,10 +4,10 @@ ghost use Rattle.toml.specs.View.{table_view};
 ghost use Rattle.description.specs.Outcomes.{Reads, ReadsList};
 ghost use Rattle.description.specs.Reading.{AtOr, IsDescription, IsGeometry, IsList, IsRange, whole_ranges};
 ghost use Rattle.description.specs.declared.entry.Description.{Description};
-ghost use Rattle.description.specs.declared.fault.ReadFault.TheVariants.{NoMemory, Shape};
+ghost use Rattle.description.specs.declared.fault.DescriptionFault.TheVariants.{NoMemory, Shape};
 
 use crate::entry::Description;
-use crate::fault::ReadFault;
+use crate::fault::DescriptionFault;
 use crate::list::{list_of, list_or_empty};
 use crate::member::{check_keys, member, number, number_or_zero};
 use image_writer::NumberRange;
@@ -16,7 +16,7 @@ use std::alloc::Global;
 use toml::Table;
 
 // How much the image holds.
-fn read_geometry(table: &Table) -> Result<Geometry, ReadFault>
+fn read_geometry(table: &Table) -> Result<Geometry, DescriptionFault>
     ensures { Reads (IsGeometry (table_view table.now)) result }
 {
     let nodes = number(table, "nodes")?;
@@ -26,7 +26,7 @@ fn read_geometry(table: &Table) -> Result<Geometry, ReadFault>
 }
 
 // All nodes, and then all pages.
-fn whole_ranges(alloc: Global, geometry: Geometry) -> Result<Vec<NumberRange>, ReadFault>
+fn whole_ranges(alloc: Global, geometry: Geometry) -> Result<Vec<NumberRange>, DescriptionFault>
     ensures whole { IfOk result (λ v. v.items ≡ whole_ranges geometry) }
     ensures fault { IfErr result (λ e. e ≡ NoMemory) }
 {
@@ -40,7 +40,7 @@ fn whole_ranges(alloc: Global, geometry: Geometry) -> Result<Vec<NumberRange>, R
     };
     match Vec::from_array(alloc, [nodes, pages]) {
         Ok(ranges) => Ok(ranges),
-        Err(_) => Err(ReadFault::NoMemory),
+        Err(_) => Err(DescriptionFault::NoMemory),
     }
 }
 
@@ -49,7 +49,7 @@ fn read_ranges(
     alloc: Global,
     table: &Table,
     geometry: Geometry,
-) -> Result<Vec<NumberRange>, ReadFault>
+) -> Result<Vec<NumberRange>, DescriptionFault>
     ensures { ReadsList
         (AtOr (whole_ranges geometry) (codes "ranges") (IsList IsRange) (table_view table.now))
         result }
@@ -60,7 +60,7 @@ fn read_ranges(
     }
 }
 
-fn read_description(alloc: Global, table: &Table) -> Result<Description, ReadFault>
+fn read_description(alloc: Global, table: &Table) -> Result<Description, DescriptionFault>
     ensures { Reads (IsDescription (table_view table.now)) result }
 {
     check_keys(
@@ -92,7 +92,7 @@ impl Description {
     ///
     /// It is `Shape` exactly where the table is of none: a key that is needed is missing, or a key
     /// unknown, or a value isn't of its type; it is `NoMemory` where memory ran out.
-    pub fn read(alloc: Global, table: &Table) -> Result<Description, ReadFault>
+    pub fn read(alloc: Global, table: &Table) -> Result<Description, DescriptionFault>
         ensures read { IfOk result (λ d. IsDescription (table_view table.now) d) }
         ensures shape { IsErrOf result Shape
             → (d : Description) → IsDescription (table_view table.now) d → ⊥ }

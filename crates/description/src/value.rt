@@ -4,75 +4,75 @@ ghost use Rattle.toml.specs.Data.{Data, Items, Members, array, table, item, no_i
 ghost use Rattle.toml.specs.View.{array_view, table_view, view};
 ghost use Rattle.description.specs.Outcomes.{Reads};
 ghost use Rattle.description.specs.Reading.{IsCapability, IsNumber, IsState};
-ghost use Rattle.description.specs.declared.fault.ReadFault.TheVariants.{Shape};
+ghost use Rattle.description.specs.declared.fault.DescriptionFault.TheVariants.{Shape};
 
-use crate::fault::ReadFault;
+use crate::fault::DescriptionFault;
 use model::{Capability, State};
 use script::{capability_of, state_of};
 use toml::value::Array;
 use toml::{Table, Value};
 
 // A number that isn't negative.
-pub(crate) fn number_of(value: &Value) -> Result<u64, ReadFault>
+pub(crate) fn number_of(value: &Value) -> Result<u64, DescriptionFault>
     ensures { Reads (IsNumber (view value.now)) result }
 {
     match value.as_integer() {
         Some(number) => {
             if number.is_negative() {
-                return Err(ReadFault::Shape);
+                return Err(DescriptionFault::Shape);
             }
             Ok(number.unsigned_abs())
         }
-        None => Err(ReadFault::Shape),
+        None => Err(DescriptionFault::Shape),
     }
 }
 
 // The capability that a text is of.
-pub(crate) fn capability_at(value: &Value) -> Result<Option<Capability>, ReadFault>
+pub(crate) fn capability_at(value: &Value) -> Result<Option<Capability>, DescriptionFault>
     ensures { Reads (IsCapability (view value.now)) result }
 {
     match value.as_str() {
         Some(text) => Ok(capability_of(text.as_bytes())),
-        None => Err(ReadFault::Shape),
+        None => Err(DescriptionFault::Shape),
     }
 }
 
 // The state that a text is of.
-pub(crate) fn state_at(value: &Value) -> Result<Option<State>, ReadFault>
+pub(crate) fn state_at(value: &Value) -> Result<Option<State>, DescriptionFault>
     ensures { Reads (IsState (view value.now)) result }
 {
     match value.as_str() {
         Some(text) => Ok(state_of(text.as_bytes())),
-        None => Err(ReadFault::Shape),
+        None => Err(DescriptionFault::Shape),
     }
 }
 
 // The values of a list.
-pub(crate) fn array_of(value: &Value) -> Result<&Array, ReadFault>
+pub(crate) fn array_of(value: &Value) -> Result<&Array, DescriptionFault>
     ensures { MatchResult result
         (λ items. view value.now ≡ array (array_view items.now))
         (λ e. (e ≡ Shape) × ((ds : Items) → view value.now ≡ array ds → ⊥)) }
 {
     match value.as_array() {
         Some(items) => Ok(items),
-        None => Err(ReadFault::Shape),
+        None => Err(DescriptionFault::Shape),
     }
 }
 
 // The members of a table.
-pub(crate) fn table_of(value: &Value) -> Result<&Table, ReadFault>
+pub(crate) fn table_of(value: &Value) -> Result<&Table, DescriptionFault>
     ensures { MatchResult result
         (λ members. view value.now ≡ table (table_view members.now))
         (λ e. (e ≡ Shape) × ((ms : Members) → view value.now ≡ table ms → ⊥)) }
 {
     match value.as_table() {
         Some(members) => Ok(members),
-        None => Err(ReadFault::Shape),
+        None => Err(DescriptionFault::Shape),
     }
 }
 
 // The two values of a list of two.
-pub(crate) fn pair_of(value: &Value) -> Result<(&Value, &Value), ReadFault>
+pub(crate) fn pair_of(value: &Value) -> Result<(&Value, &Value), DescriptionFault>
     ensures { MatchResult result
         (λ p. view value.now ≡ array (item (view p.0.now) (item (view p.1.now) no_items)))
         (λ e. (e ≡ Shape)
@@ -81,6 +81,6 @@ pub(crate) fn pair_of(value: &Value) -> Result<(&Value, &Value), ReadFault>
     let items = array_of(value)?;
     match items.as_slice() {
         [first, second] => Ok((first, second)),
-        _ => Err(ReadFault::Shape),
+        _ => Err(DescriptionFault::Shape),
     }
 }

@@ -20,7 +20,7 @@ use Rattle.description.specs.declared.entry.PageEntry.{PageEntry}
 use Rattle.description.specs.declared.entry.ProcessEntry.{ProcessEntry}
 use Rattle.description.specs.declared.entry.SlotEntry.{SlotEntry}
 use Rattle.description.specs.declared.entry.WordEntry.{WordEntry}
-use Rattle.described_world.specs.Described.{HasNamedWords, HoldsNamed, IsAnnexFrame, IsDescribed, IsNodeFrame, IsPageFrame, IsRootFrame, first_frame, named_at, node_numbers, page_numbers, word_named_at}
+use Rattle.described_world.specs.Described.{HasNamedWords, HoldsNamed, IsDescribedAnnex, IsDescribed, IsDescribedNode, IsDescribedPage, IsDescribedRoot, first_frame, named_at, node_numbers, page_numbers, word_named_at}
 
 -- a number is in a list or it isn't
 in_or_out : (ns : List ℕ) (n : ℕ) → Contains ns n ⊎ (Contains ns n → ⊥)
@@ -47,7 +47,7 @@ words_once entries xs ys one other = ext_get_or 0 xs ys (one.count ∙ sym other
     get_or_from_slice_get xs i (word_named_at entries i) 0 (one.each i known)
     ∙ sym (get_or_from_slice_get ys i (word_named_at entries i) 0 (other.each i known)))
 
-root_once : (p : ProcessEntry) (f g : Frame) → IsRootFrame p f → IsRootFrame p g → f ≡ g
+root_once : (p : ProcessEntry) (f g : Frame) → IsDescribedRoot p f → IsDescribedRoot p g → f ≡ g
 root_once p f g one other =
     let state : one.0 ≡ other.0 = ap (λ (o : Option State). unwrap_or o one.0) (sym one.2 ∙ other.2) in
     let space : one.1 ≡ other.1 = ap (λ (o : Option Capability). unwrap_or o one.1) (sym one.3 ∙ other.3) in
@@ -56,15 +56,15 @@ root_once p f g one other =
     ∙ ap (λ (c : Capability). first_frame p.owner (content.Root (record { state = other.0; words = p.words; key = p.key; annex = p.annex; space = fresh_cap c }))) space
     ∙ sym other.4
 
-annex_once : (p : ProcessEntry) (f g : Frame) → IsAnnexFrame p f → IsAnnexFrame p g → f ≡ g
+annex_once : (p : ProcessEntry) (f g : Frame) → IsDescribedAnnex p f → IsDescribedAnnex p g → f ≡ g
 annex_once p f g one other =
     one.2 ∙ ap (λ (slots : List Cap). first_frame p.owner (content.Annex slots)) (slots_once p.registers.items one.0 other.0 one.1 other.1) ∙ sym other.2
 
-node_once : (n : NodeEntry) (f g : Frame) → IsNodeFrame n f → IsNodeFrame n g → f ≡ g
+node_once : (n : NodeEntry) (f g : Frame) → IsDescribedNode n f → IsDescribedNode n g → f ≡ g
 node_once n f g one other =
     one.2 ∙ ap (λ (slots : List Cap). first_frame n.owner (content.Node slots)) (slots_once n.slots.items one.0 other.0 one.1 other.1) ∙ sym other.2
 
-page_once : (p : PageEntry) (f g : Frame) → IsPageFrame p f → IsPageFrame p g → f ≡ g
+page_once : (p : PageEntry) (f g : Frame) → IsDescribedPage p f → IsDescribedPage p g → f ≡ g
 page_once p f g one other =
     one.2 ∙ ap (λ (words : List ℕ). first_frame p.owner (content.Page words)) (words_once p.words.items one.0 other.0 one.1 other.1) ∙ sym other.2
 

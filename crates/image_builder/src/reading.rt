@@ -5,7 +5,7 @@ ghost use Rattle.description.specs.Reading.{IsDescription};
 ghost use Rattle.image_builder.specs.Built.{IsWithinLimits, TellsNoSize, plan_for};
 
 use crate::fault::BuildFault;
-use description::{Description, ReadFault};
+use description::{Description, DescriptionFault};
 use image_writer::lay_out;
 use layout::Superblock;
 use model::MAX_AGE;
@@ -20,8 +20,8 @@ pub(crate) fn read(alloc: Global, table: &Table) -> Result<Description, BuildFau
 {
     match Description::read(alloc, table) {
         Ok(description) => Ok(description),
-        Err(ReadFault::Shape) => Err(BuildFault::Shape),
-        Err(ReadFault::NoMemory) => Err(BuildFault::NoMemory),
+        Err(DescriptionFault::Shape) => Err(BuildFault::Shape),
+        Err(DescriptionFault::NoMemory) => Err(BuildFault::NoMemory),
     }
 }
 

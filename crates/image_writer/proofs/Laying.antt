@@ -5,11 +5,7 @@ use Rattle.std.proofs.lemmas.List.{append-nil, drop_all, drop_more, length-set, 
 use Rattle.model.specs.declared.geometry.Geometry.{Geometry}
 use Rattle.layout.specs.declared.extent.HomeRange.{HomeRange}
 use Rattle.image_writer.specs.declared.number_range.NumberRange.{NumberRange}
-use Rattle.image_writer.specs.Laid.{behind, laid, sectors_of}
-
--- a range with its frames from a sector on
-abbrev pub placed : ℕ → NumberRange → HomeRange
-placed at r = record { first = r.first; count = r.count; sector = at }
+use Rattle.image_writer.specs.Laid.{behind, laid, placed, sectors_of}
 
 pub cons_laid : (g : Geometry) (at : ℕ) (r : NumberRange) (rs : List NumberRange) → laid g at (r ∷ rs) ≡ placed at r ∷ laid g (at + sectors_of g r) rs
 unfolding laid

@@ -1,21 +1,25 @@
 -- Where the parts of an image lie whose ranges follow one another.
-use Rattle.std.specs.Prelude.{ℕ, ◌+◌, ◌*◌, ◌/◌, ◌≤◌, nat_lt, if◌then◌else◌, List, [], ◌∷◌, length}
+use Rattle.std.specs.Prelude.{ℕ, ◌+◌, ◌≤◌, List, [], ◌∷◌, length}
 use Rattle.model.specs.declared.geometry.Geometry.{Geometry}
 use Rattle.layout.specs.declared.extent.HomeRange.{HomeRange}
-use Rattle.layout.specs.Superblock.{Plan, plan_of, IsGeometry, Cover}
+use Rattle.layout.specs.Superblock.{Plan, plan_of, IsGeometry, Cover, half_extent, range_extent}
 use Rattle.image_writer.specs.declared.number_range.NumberRange.{NumberRange}
 
--- how many sectors the frames of a range take, and a half of the log
+-- a range with its frames from a sector on
+abbrev pub placed : ℕ → NumberRange → HomeRange
+placed at r = record { first = r.first; count = r.count; sector = at }
+
+-- how many sectors its frames take, wherever they lie, and how many a half of the log
 abbrev pub sectors_of : Geometry → NumberRange → ℕ
-sectors_of g r = if nat_lt r.first g.nodes then 2 * r.count else 9 * r.count
+sectors_of g r = (range_extent g (placed 0 r)).length
 
 abbrev pub half_length : Geometry → ℕ
-half_length g = 9 * g.log + (g.log + 31) / 32
+half_length g = (half_extent g 0).length
 
 -- ranges whose frames lie one behind the other from a sector on
 unfoldable pub laid : Geometry → ℕ → List NumberRange → List HomeRange
 laid g at [] = []
-laid g at (r ∷ rs) = record { first = r.first; count = r.count; sector = at } ∷ laid g (at + sectors_of g r) rs
+laid g at (r ∷ rs) = placed at r ∷ laid g (at + sectors_of g r) rs
 
 -- the sector behind them
 unfoldable pub behind : Geometry → ℕ → List NumberRange → ℕ

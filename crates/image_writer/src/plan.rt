@@ -2,10 +2,10 @@
 ghost use Rattle.std.specs.Prelude.{◌≡◌, ◌≤◌, length, IsTrue, IfOk, IfErr, ◌↔◌};
 ghost use Rattle.std.specs.List.{All};
 ghost use Rattle.layout.specs.Superblock.{IsPlan};
-ghost use Rattle.image_writer.specs.Laid.{MayBeLaid, behind, half_length, laid, plan_from, sectors_of};
+ghost use Rattle.image_writer.specs.Laid.{MayBeLaid, behind, laid, plan_from};
 
 use crate::number_range::NumberRange;
-use layout::{HomeRange, MAX_LOG, MAX_RANGES, Superblock};
+use layout::{HomeRange, MAX_LOG, MAX_RANGES, Superblock, half_extent, range_extent};
 use model::Geometry;
 use thiserror::Error;
 
@@ -26,26 +26,6 @@ const UNUSED: HomeRange = HomeRange {
     sector: 0,
 };
 
-// How many sectors the frames of a range take: 2 for a node and 9 for a page.
-fn sectors_of(geometry: Geometry, range: NumberRange) -> u64
-    requires { range.count ≤ 8192 }
-    ensures { result ≡ sectors_of geometry range }
-{
-    if range.first < geometry.nodes {
-        2 * range.count
-    } else {
-        9 * range.count
-    }
-}
-
-// How many sectors a half of the log takes: 9 for a slot, and those of its directory.
-fn half_length(geometry: Geometry) -> u64
-    requires { geometry.log ≤ 4096 }
-    ensures { result ≡ half_length geometry }
-{
-    9 * geometry.log + (geometry.log + 31) / 32
-}
-
 // Lays ranges one behind the other, and answers the sector behind them.
 fn lay_ranges(geometry: Geometry, ranges: &[NumberRange], into: &mut [HomeRange]) -> u64
     requires size { length into.old ≡ length ranges.now }
@@ -57,12 +37,14 @@ fn lay_ranges(geometry: Geometry, ranges: &[NumberRange], into: &mut [HomeRange]
 {
     let mut next = FIRST_SECTOR;
     for (i, range) in ranges.iter().enumerate() {
-        into[i] = HomeRange {
+        let home = HomeRange {
             first: range.first,
             count: range.count,
             sector: next,
         };
-        next += sectors_of(geometry, *range);
+        let extent = range_extent(geometry, home);
+        into[i] = home;
+        next += extent.length;
     }
     next
 }
@@ -93,9 +75,9 @@ pub fn lay_out(geometry: Geometry, ranges: &[NumberRange]) -> Result<Superblock,
     let mut homes = [UNUSED; MAX_RANGES];
     let used = &mut homes[..ranges.len()];
     let first = lay_ranges(geometry, ranges, used);
-    let half = half_length(geometry);
-    let second = first + half;
-    match Superblock::new(geometry, used, first, second, second + half) {
+    let half = half_extent(geometry, first);
+    let second = first + half.length;
+    match Superblock::new(geometry, used, first, second, second + half.length) {
         Some(superblock) => Ok(superblock),
         None => Err(LayOutFault),
     }

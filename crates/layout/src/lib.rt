@@ -23,7 +23,7 @@ pub use bad_image::BadImage;
 pub use body::{Body, Room};
 pub use capability::{CAPABILITY_BYTES, decode_capability, encode_capability};
 pub use directory::{ENTRY_BYTES, Entry, MAX_LOG, decode_directory, encode_directory};
-pub use extent::HomeRange;
+pub use extent::{Extent, HomeRange, half_extent, range_extent};
 pub use fields::{sequence_in, total_in};
 pub use frame::{decode_frame, encode_frame};
 pub use gate::{Gate, decode_gate, encode_gate};

@@ -12,7 +12,7 @@ ghost use Rattle.migrator.specs.Durable.{Frozen, frozen_of, left_of, stored_of, 
 ghost use Rattle.migrator.specs.Saved.{LeavesEither, LeavesOneOf};
 ghost use Rattle.migrator.specs.Refused.{IsPutAnswer, IsFreezeAnswer, IsCommitAnswer};
 
-use crate::refusal::Refusal;
+use crate::checkpoint_fault::CheckpointFault;
 use crate::save::save;
 use crate::table::{Place, Table};
 use ckpt_log::Log;
@@ -189,7 +189,7 @@ impl<D: Device> Durable<D> {
         number: u64,
         header: ObjectHeader,
         content: &Content<Cap>,
-    ) -> Result<(), Refusal>
+    ) -> Result<(), CheckpointFault>
         requires object { IsObject self.old.books.plan.geometry number }
         requires keepable { IsKeepable self.old.books.plan.geometry most number
             (record { header = header; content = content.now }) }
@@ -205,10 +205,10 @@ impl<D: Device> Durable<D> {
         ensures goes_on { GoesOn D.disk self.old self.new }
     {
         match self.size {
-            None => Err(Refusal::NoCheckpoint),
+            None => Err(CheckpointFault::NoCheckpoint),
             Some(size) => match self.put_running(size, number, header, content) {
                 Ok(()) => Ok(()),
-                Err(Failed) => Err(Refusal::Failed),
+                Err(Failed) => Err(CheckpointFault::Failed),
             },
         }
     }
@@ -217,7 +217,7 @@ impl<D: Device> Durable<D> {
     /// so many objects, of which those are some. It makes no call of the device. It is refused by
     /// `CheckpointRunning` exactly where one is on its way, and else by `MigrationPending` exactly
     /// where something saved isn't home.
-    pub fn freeze(&mut self, size: u64) -> Result<(), Refusal>
+    pub fn freeze(&mut self, size: u64) -> Result<(), CheckpointFault>
         requires enough { sum_of held_slot (stored_of D.disk self.old).working ≤ size }
         requires few { size ≤ self.old.books.plan.geometry.log }
         ensures frozen { OnOk result
@@ -229,10 +229,10 @@ impl<D: Device> Durable<D> {
         ensures sound { is_sound D.disk self.old → is_sound D.disk self.new }
     {
         if self.size.is_some() {
-            return Err(Refusal::CheckpointRunning);
+            return Err(CheckpointFault::CheckpointRunning);
         }
         if self.header.entries != 0 {
-            return Err(Refusal::MigrationPending);
+            return Err(CheckpointFault::MigrationPending);
         }
         mem::swap(&mut self.frozen, &mut self.working);
         self.size = Some(size);
@@ -292,7 +292,7 @@ impl<D: Device> Durable<D> {
     /// `NotStable(left)` exactly where so many of its frames are still to be put. At `Failed`,
     /// which is told exactly where the device failed, a crash leaves what was saved before, or what
     /// the frozen frames make of it.
-    pub fn commit(&mut self, age: u64) -> Result<u64, Refusal>
+    pub fn commit(&mut self, age: u64) -> Result<u64, CheckpointFault>
         requires sound { is_sound D.disk self.old }
         requires later { (stored_of D.disk self.old).saved.age < age }
         requires most { age ≤ 2 ^ 62 }
@@ -308,7 +308,7 @@ impl<D: Device> Durable<D> {
         ensures plan { self.new.books.plan ≡ self.old.books.plan }
         ensures answer { IsCommitAnswer (D.disk self.old.beneath) (D.disk self.new.beneath)
             (stored_of D.disk self.old) result }
-        ensures sound { IsErrOf result Refusal.Failed ⊎ is_sound D.disk self.new }
+        ensures sound { IsErrOf result CheckpointFault.Failed ⊎ is_sound D.disk self.new }
         ensures size { (D.disk self.new.beneath).sectors ≡ (D.disk self.old.beneath).sectors }
         ensures any_moment { LeavesOneOf (D.disk self.old.beneath) (D.disk self.new.beneath)
             (stored_of D.disk self.old).saved
@@ -316,15 +316,15 @@ impl<D: Device> Durable<D> {
             (stored_of D.disk self.old).frozen) }
     {
         let Some(size) = self.size else {
-            return Err(Refusal::NoCheckpoint);
+            return Err(CheckpointFault::NoCheckpoint);
         };
         let left = size - self.frozen.whole();
         if left != 0 {
-            return Err(Refusal::NotStable(left));
+            return Err(CheckpointFault::NotStable(left));
         }
         match self.commit_running(size, age) {
             Ok(()) => Ok(self.header.generation),
-            Err(Failed) => Err(Refusal::Failed),
+            Err(Failed) => Err(CheckpointFault::Failed),
         }
     }
 }

@@ -2,7 +2,7 @@
 use crate::images::{image, opened};
 use crate::rig::Rig;
 use device::{Device, Failed, Outcome};
-use migrator::{Checkpoint, Refusal};
+use migrator::{Checkpoint, CheckpointFault};
 use std::alloc::Global;
 use std::test::Fail;
 
@@ -36,9 +36,9 @@ fn commit_first<D: Device>(
     alloc: Global,
     rig: &mut Rig<D>,
     count: u64,
-) -> Result<Checkpoint, Refusal> {
+) -> Result<Checkpoint, CheckpointFault> {
     if put_first(alloc, rig, count).is_err() {
-        return Err(Refusal::Failed);
+        return Err(CheckpointFault::Failed);
     }
     rig.freeze(count)?;
     rig.commit(3)?;

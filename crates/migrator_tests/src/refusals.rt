@@ -2,7 +2,7 @@
 use crate::images::{OPENING, image, image_with_entries, opened};
 use crate::rig::Rig;
 use device::{Device, Failed, Fuse, Outcome};
-use migrator::Refusal;
+use migrator::CheckpointFault;
 use std::alloc::Global;
 use std::test::Fail;
 
@@ -10,7 +10,14 @@ use std::test::Fail;
 fn freeze_twice<D: Device>(
     alloc: Global,
     rig: &mut Rig<D>,
-) -> Result<(Result<(), Refusal>, Result<(), Refusal>, u64), Failed> {
+) -> Result<
+    (
+        Result<(), CheckpointFault>,
+        Result<(), CheckpointFault>,
+        u64,
+    ),
+    Failed,
+> {
     rig.put(alloc, 3, 100)?;
     let first = rig.freeze(1);
     rig.put(alloc, 3, 101)?;
@@ -21,7 +28,14 @@ fn freeze_twice<D: Device>(
 fn frozen_twice<D: Device>(
     alloc: Global,
     device: D,
-) -> Result<(Result<(), Refusal>, Result<(), Refusal>, u64), Fail> {
+) -> Result<
+    (
+        Result<(), CheckpointFault>,
+        Result<(), CheckpointFault>,
+        u64,
+    ),
+    Fail,
+> {
     let mut rig = opened(alloc, device)?;
     Ok(freeze_twice(alloc, &mut rig)?)
 }
@@ -30,7 +44,10 @@ fn frozen_twice<D: Device>(
 fn nothing_is_frozen_while_a_checkpoint_is_on_its_way(rt: HostRuntime) -> Result<(), Fail> {
     let device = image(rt.alloc(), Outcome::Drop)?;
     let twice = frozen_twice(rt.alloc(), device)?;
-    assert_eq!(rt; twice, (Ok(()), Err(Refusal::CheckpointRunning), 101));
+    assert_eq!(rt;
+        twice,
+        (Ok(()), Err(CheckpointFault::CheckpointRunning), 101)
+    );
     Ok(())
 }
 
@@ -39,7 +56,7 @@ fn frozen_around<D: Device>(
     alloc: Global,
     device: D,
     count: u64,
-) -> Result<[Result<(), Refusal>; 2], Fail> {
+) -> Result<[Result<(), CheckpointFault>; 2], Fail> {
     let mut rig = opened(alloc, device)?;
     let first = rig.freeze(0);
     rig.migrate(count)?;
@@ -48,7 +65,7 @@ fn frozen_around<D: Device>(
 
 #[test]
 fn nothing_is_frozen_while_something_is_in_the_log(rt: HostRuntime) -> Result<(), Fail> {
-    let pending = Err(Refusal::MigrationPending);
+    let pending = Err(CheckpointFault::MigrationPending);
     for (count, after) in [(0, pending), (2, pending), (3, Ok(()))] {
         let device = image_with_entries(rt.alloc(), Outcome::Drop)?;
         assert_eq!(rt; frozen_around(rt.alloc(), device, count)?, [pending, after]);
@@ -61,7 +78,7 @@ fn nothing_is_frozen_while_something_is_in_the_log(rt: HostRuntime) -> Result<()
 fn commit_early<D: Device>(
     alloc: Global,
     rig: &mut Rig<D>,
-) -> Result<[Result<u64, Refusal>; 3], Refusal> {
+) -> Result<[Result<u64, CheckpointFault>; 3], CheckpointFault> {
     rig.put_frozen(alloc, 3, 100)?;
     let first = rig.commit(1);
     rig.put_frozen(alloc, 17, 101)?;
@@ -70,7 +87,10 @@ fn commit_early<D: Device>(
     Ok([first, second, rig.commit(1)])
 }
 
-fn committed_early<D: Device>(alloc: Global, device: D) -> Result<[Result<u64, Refusal>; 3], Fail> {
+fn committed_early<D: Device>(
+    alloc: Global,
+    device: D,
+) -> Result<[Result<u64, CheckpointFault>; 3], Fail> {
     let mut rig = opened(alloc, device)?;
     rig.freeze(3)?;
     Ok(commit_early(alloc, &mut rig)?)
@@ -83,8 +103,8 @@ fn nothing_is_committed_before_all_of_it_was_put(rt: HostRuntime) -> Result<(), 
     assert_eq!(rt;
         early,
         [
-            Err(Refusal::NotStable(2)),
-            Err(Refusal::NotStable(1)),
+            Err(CheckpointFault::NotStable(2)),
+            Err(CheckpointFault::NotStable(1)),
             Ok(1)
         ]
     );
@@ -95,7 +115,14 @@ fn nothing_is_committed_before_all_of_it_was_put(rt: HostRuntime) -> Result<(), 
 fn without_one<D: Device>(
     alloc: Global,
     device: D,
-) -> Result<(Result<u64, Refusal>, Result<(), Refusal>, u64), Fail> {
+) -> Result<
+    (
+        Result<u64, CheckpointFault>,
+        Result<(), CheckpointFault>,
+        u64,
+    ),
+    Fail,
+> {
     let mut rig = opened(alloc, device)?;
     rig.put(alloc, 3, 100)?;
     let commit = rig.commit(1);
@@ -106,7 +133,7 @@ fn without_one<D: Device>(
 #[test]
 fn nothing_is_committed_without_a_checkpoint(rt: HostRuntime) -> Result<(), Fail> {
     let device = image(rt.alloc(), Outcome::Drop)?;
-    let none = Refusal::NoCheckpoint;
+    let none = CheckpointFault::NoCheckpoint;
     assert_eq!(rt;
         without_one(rt.alloc(), device)?,
         (Err(none), Err(none), 100)
@@ -118,7 +145,7 @@ fn nothing_is_committed_without_a_checkpoint(rt: HostRuntime) -> Result<(), Fail
 fn failing<D: Device>(
     alloc: Global,
     device: D,
-) -> Result<([Result<(), Refusal>; 2], [bool; 2]), Fail> {
+) -> Result<([Result<(), CheckpointFault>; 2], [bool; 2]), Fail> {
     let mut rig = opened(alloc, device)?;
     let freeze = rig.freeze(1);
     let frozen = rig.put_frozen(alloc, 3, 100);
@@ -130,6 +157,9 @@ fn failing<D: Device>(
 fn a_device_that_fails_refuses_all(rt: HostRuntime) -> Result<(), Fail> {
     let device = Fuse::new(image(rt.alloc(), Outcome::Drop)?, OPENING);
     let answers = failing(rt.alloc(), device)?;
-    assert_eq!(rt; answers, ([Ok(()), Err(Refusal::Failed)], [true, true]));
+    assert_eq!(rt;
+        answers,
+        ([Ok(()), Err(CheckpointFault::Failed)], [true, true])
+    );
     Ok(())
 }

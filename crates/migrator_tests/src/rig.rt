@@ -7,7 +7,7 @@ use crate::frames::{frame, value_of};
 use device::{Device, Failed, SECTOR_SIZE};
 use frame_io::read_sectors;
 use layout::{BadImage, Room, Superblock, decode_superblock, spell_one_value};
-use migrator::{Checkpoint, Durable, OpenFault, OpenRefused, Opened, Refusal};
+use migrator::{Checkpoint, CheckpointFault, Durable, OpenFault, OpenRefused, Opened};
 use model::{Geometry, MAX_AGE};
 use std::alloc::Global;
 use std::marker::Model;
@@ -125,22 +125,22 @@ impl<D: Device> Rig<D> {
         alloc: Global,
         number: u64,
         value: u64,
-    ) -> Result<(), Refusal> {
+    ) -> Result<(), CheckpointFault> {
         let objects = self.geometry.nodes + self.geometry.pages;
         if number >= objects || self.frozen >= self.size {
-            return Err(Refusal::Failed);
+            return Err(CheckpointFault::Failed);
         }
         let Ok((header, content)) = frame(alloc, self.geometry, number, value) else {
-            return Err(Refusal::Failed);
+            return Err(CheckpointFault::Failed);
         };
         self.frozen += 1;
         self.store.put_frozen(number, header, &content)
     }
 
     /// Freezes what was put, for a checkpoint that writes so many objects.
-    pub(crate) fn freeze(&mut self, size: u64) -> Result<(), Refusal> {
+    pub(crate) fn freeze(&mut self, size: u64) -> Result<(), CheckpointFault> {
         if size < self.working || size > self.geometry.log {
-            return Err(Refusal::Failed);
+            return Err(CheckpointFault::Failed);
         }
         match self.store.freeze(size) {
             Ok(()) => {
@@ -154,10 +154,10 @@ impl<D: Device> Rig<D> {
     }
 
     /// Commits the checkpoint on its way at an age, and answers its generation.
-    pub(crate) fn commit(&mut self, age: u64) -> Result<u64, Refusal> {
+    pub(crate) fn commit(&mut self, age: u64) -> Result<u64, CheckpointFault> {
         let is_later = age > self.store.saved().age && age <= MAX_AGE;
         if !self.sound || !is_later {
-            return Err(Refusal::Failed);
+            return Err(CheckpointFault::Failed);
         }
         match self.store.commit(age) {
             Ok(generation) => {
@@ -166,7 +166,7 @@ impl<D: Device> Rig<D> {
                 Ok(generation)
             }
             Err(refusal) => {
-                self.sound = refusal != Refusal::Failed;
+                self.sound = refusal != CheckpointFault::Failed;
                 Err(refusal)
             }
         }

@@ -107,7 +107,7 @@ key_takes words p e =
 
 -- the capability that was read, and the words of it
 abbrev IsReadFrom : Kind → Words → Capability × Words → Type 0
-IsReadFrom k words p = IsWellFormed p.0 × (kind_name k ∷ words ≡ capability_words p.0 ++ p.1)
+IsReadFrom k words p = HasText p.0 × (kind_name k ∷ words ≡ capability_words p.0 ++ p.1)
 
 one_takes : (make : ℕ → Capability) (words : Words) (p : Capability × Words) → one_of make words ≡ Some p
     → (n : ℕ) × (n < 2 ^ 64) × (p.0 ≡ make n) × (words ≡ decimal n ∷ p.1)
@@ -118,7 +118,7 @@ one_takes make words p e =
     (b.0.0, t.0, sym (ap (λ (q : Capability × Words). q.0) is), t.1 ∙ ap (λ (q : Capability × Words). decimal b.0.0 ∷ q.1) is)
 
 object_takes : (make : ℕ → Access → Capability) (words : Words) (p : Capability × Words) → object_of make words ≡ Some p
-    → (o : ℕ) × (a : Access) × IsAccess a × (p.0 ≡ make o a) × (words ≡ decimal o ∷ (access_words a ++ p.1))
+    → (o : ℕ) × (a : Access) × (o < 2 ^ 64) × IsAccess a × (p.0 ≡ make o a) × (words ≡ decimal o ∷ (access_words a ++ p.1))
 object_takes make words p e =
     let one = bind_some (number_at words) _ p e in
     let two = bind_some (access_at one.0.1) _ p one.2 in
@@ -127,13 +127,14 @@ object_takes make words p e =
     let is = some_is _ _ two.2 in (
       one.0.0,
       two.0.0,
+      t.0,
       u.0,
       sym (ap (λ (q : Capability × Words). q.0) is),
       t.1 ∙ ap (λ (w : Words). decimal one.0.0 ∷ w) (u.1 ∙ ap (λ (q : Capability × Words). access_words two.0.0 ++ q.1) is),
     )
 
-one_read : (k : Kind) (words : Words) (p : Capability × Words) (c : Capability) → p.0 ≡ c → IsWellFormed c → kind_name k ∷ words ≡ capability_words c ++ p.1 → IsReadFrom k words p
-one_read k words p c is well whole = rw is (well, whole)
+one_read : (k : Kind) (words : Words) (p : Capability × Words) (c : Capability) → p.0 ≡ c → HasText c → kind_name k ∷ words ≡ capability_words c ++ p.1 → IsReadFrom k words p
+one_read k words p c is has whole = rw is (has, whole)
 
 space_takes : (words : Words) (p : Capability × Words) → capability_at kind.Space words ≡ Some p → IsReadFrom kind.Space words p
 unfolding capability_at capability_words
@@ -145,7 +146,7 @@ space_takes words p e =
     let u = height_takes one.0.1 two.0 two.1 in
     let v = access_takes two.0.1 three.0 three.1 in
     subst (IsReadFrom kind.Space words) (some_is _ _ three.2) (
-      (u.0, u.1, v.0),
+      ((u.0, u.1, v.0), t.0),
       ap (λ (w : Words). codes "space" ∷ w) (t.1 ∙ ap (λ (w : Words). decimal one.0.0 ∷ w) (u.2 ∙ ap (λ (w : Words). decimal two.0.0 ∷ w) v.1)),
     )
 
@@ -156,26 +157,26 @@ start_takes words p e =
     let two = bind_some (key_at one.0.1) _ p one.2 in
     let t = number_takes words one.0 one.1 in
     let u = key_takes one.0.1 two.0 two.1 in
-    subst (IsReadFrom kind.Start words) (some_is _ _ two.2) (u.0, ap (λ (w : Words). codes "start" ∷ w) (t.1 ∙ ap (λ (w : Words). decimal one.0.0 ∷ w) u.1))
+    subst (IsReadFrom kind.Start words) (some_is _ _ two.2) ((u.0, t.0), ap (λ (w : Words). codes "start" ∷ w) (t.1 ∙ ap (λ (w : Words). decimal one.0.0 ∷ w) u.1))
 
 capability_takes : (k : Kind) (words : Words) (p : Capability × Words) → capability_at k words ≡ Some p → IsReadFrom k words p
 unfolding capability_at capability_words
-capability_takes kind.Void words p e = subst (IsReadFrom kind.Void words) (some_is _ _ e) (tt, refl)
+capability_takes kind.Void words p e = subst (IsReadFrom kind.Void words) (some_is _ _ e) ((tt, tt), refl)
 capability_takes kind.Number words p e =
-    let t = one_takes (λ n. capability.Number n) words p e in one_read kind.Number words p (capability.Number t.0) t.2 t.1 (ap (λ (w : Words). codes "number" ∷ w) t.3)
+    let t = one_takes (λ n. capability.Number n) words p e in one_read kind.Number words p (capability.Number t.0) t.2 (t.1, tt) (ap (λ (w : Words). codes "number" ∷ w) t.3)
 capability_takes kind.Page words p e =
-    let t = object_takes (λ o a. capability.Page o a) words p e in one_read kind.Page words p (capability.Page t.0 t.1) t.3 t.2 (ap (λ (w : Words). codes "page" ∷ w) t.4)
+    let t = object_takes (λ o a. capability.Page o a) words p e in one_read kind.Page words p (capability.Page t.0 t.1) t.4 (t.3, t.2) (ap (λ (w : Words). codes "page" ∷ w) t.5)
 capability_takes kind.Node words p e =
-    let t = object_takes (λ o a. capability.Node o a) words p e in one_read kind.Node words p (capability.Node t.0 t.1) t.3 t.2 (ap (λ (w : Words). codes "node" ∷ w) t.4)
+    let t = object_takes (λ o a. capability.Node o a) words p e in one_read kind.Node words p (capability.Node t.0 t.1) t.4 (t.3, t.2) (ap (λ (w : Words). codes "node" ∷ w) t.5)
 capability_takes kind.Space words p e = space_takes words p e
 capability_takes kind.Process words p e =
-    let t = one_takes (λ n. capability.Process n) words p e in one_read kind.Process words p (capability.Process t.0) t.2 tt (ap (λ (w : Words). codes "process" ∷ w) t.3)
+    let t = one_takes (λ n. capability.Process n) words p e in one_read kind.Process words p (capability.Process t.0) t.2 (tt, t.1) (ap (λ (w : Words). codes "process" ∷ w) t.3)
 capability_takes kind.Start words p e = start_takes words p e
 capability_takes kind.Resume words p e =
-    let t = one_takes (λ n. capability.Resume n) words p e in one_read kind.Resume words p (capability.Resume t.0) t.2 tt (ap (λ (w : Words). codes "resume" ∷ w) t.3)
+    let t = one_takes (λ n. capability.Resume n) words p e in one_read kind.Resume words p (capability.Resume t.0) t.2 (tt, t.1) (ap (λ (w : Words). codes "resume" ∷ w) t.3)
 capability_takes kind.Bank words p e =
-    let t = one_takes (λ n. capability.Bank n) words p e in one_read kind.Bank words p (capability.Bank t.0) t.2 tt (ap (λ (w : Words). codes "bank" ∷ w) t.3)
-capability_takes kind.Discrim words p e = subst (IsReadFrom kind.Discrim words) (some_is _ _ e) (tt, refl)
+    let t = one_takes (λ n. capability.Bank n) words p e in one_read kind.Bank words p (capability.Bank t.0) t.2 (tt, t.1) (ap (λ (w : Words). codes "bank" ∷ w) t.3)
+capability_takes kind.Discrim words p e = subst (IsReadFrom kind.Discrim words) (some_is _ _ e) ((tt, tt), refl)
 
 -- ---- the kind of a word
 
@@ -222,7 +223,7 @@ arguments_are words rest word k c split is has whole =
     rw (key, left) again.2
 
 pub capability_found : (words rest left : Words) (word : List ℕ) (k : Kind) (c : Capability) → words ≡ word ∷ rest → word ≡ kind_name k
-    → capability_at k rest ≡ Some (c, left) → left ≡ [] → IsWellFormed c × (words ≡ capability_words c)
+    → capability_at k rest ≡ Some (c, left) → left ≡ [] → HasText c × (words ≡ capability_words c)
 capability_found words rest left word k c split is read none =
     let taken = capability_takes k rest (c, left) read in
     (taken.0, split ∙ ap (λ (w : List ℕ). w ∷ rest) is ∙ taken.1 ∙ ap (λ (w : Words). capability_words c ++ w) none ∙ append-nil (capability_words c))

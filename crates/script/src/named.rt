@@ -162,7 +162,8 @@ fn arguments(kind: Kind, words: &mut Words<'_>) -> Option<Capability>
 /// numbers are decimal without leading zeros and below 2^64, heights 1 to 4, keys below 65536.
 /// Any other text names none. It takes no memory.
 pub fn capability_of(text: &[u8]) -> Option<Capability>
-    ensures some { IfSome result (λ c. IsWellFormed c × (capability_text c ≡ text.now)) }
+    ensures some { IfSome result (λ c. IsWellFormed c
+        × IfSome (named c) (λ o. o < 2 ^ 64) × (capability_text c ≡ text.now)) }
     ensures none { IfNone result ((c : Capability) → IsWellFormed c
         → IfSome (named c) (λ o. o < 2 ^ 64) → capability_text c ≢ text.now) }
 {

@@ -16,7 +16,7 @@ use crate::snapshot::Snapshot;
 use crate::snapshots::Snapshots;
 use capability::{Plain, PresentFrames};
 use device::{Device, Failed};
-use migrator::{Durable, Refusal};
+use migrator::{CheckpointFault, Durable};
 use model::{Cap, Content, ObjectHeader};
 
 // The first object whose frozen frame is in memory.
@@ -53,11 +53,11 @@ fn put_frame<D: Device>(
 {
     match durable.put_frozen(number, header, content) {
         Ok(()) => Ok(()),
-        Err(Refusal::Failed) => Err(Failed),
-        Err(Refusal::CheckpointRunning) => unreachable!(),
-        Err(Refusal::MigrationPending) => unreachable!(),
-        Err(Refusal::NotStable(_)) => unreachable!(),
-        Err(Refusal::NoCheckpoint) => unreachable!(),
+        Err(CheckpointFault::Failed) => Err(Failed),
+        Err(CheckpointFault::CheckpointRunning) => unreachable!(),
+        Err(CheckpointFault::MigrationPending) => unreachable!(),
+        Err(CheckpointFault::NotStable(_)) => unreachable!(),
+        Err(CheckpointFault::NoCheckpoint) => unreachable!(),
     }
 }
 

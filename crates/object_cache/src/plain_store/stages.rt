@@ -14,7 +14,7 @@ use crate::snapshots::freeze_written;
 use crate::store::ObjectStore;
 use capability::PresentFrames;
 use device::{Device, Failed};
-use migrator::{Checkpoint, Durable, OpenRefused, Refusal};
+use migrator::{Checkpoint, CheckpointFault, Durable, OpenRefused};
 use std::alloc::Global;
 
 // Begins a checkpoint that writes so many objects.
@@ -29,11 +29,11 @@ fn freeze_durable<D: Device>(durable: &mut Durable<D>, size: u64)
 {
     match durable.freeze(size) {
         Ok(()) => {}
-        Err(Refusal::CheckpointRunning) => unreachable!(),
-        Err(Refusal::MigrationPending) => unreachable!(),
-        Err(Refusal::NotStable(_)) => unreachable!(),
-        Err(Refusal::NoCheckpoint) => unreachable!(),
-        Err(Refusal::Failed) => unreachable!(),
+        Err(CheckpointFault::CheckpointRunning) => unreachable!(),
+        Err(CheckpointFault::MigrationPending) => unreachable!(),
+        Err(CheckpointFault::NotStable(_)) => unreachable!(),
+        Err(CheckpointFault::NoCheckpoint) => unreachable!(),
+        Err(CheckpointFault::Failed) => unreachable!(),
     }
 }
 
@@ -60,11 +60,11 @@ fn commit_durable<D: Device>(durable: &mut Durable<D>, age: u64) -> Result<u64, 
 {
     match durable.commit(age) {
         Ok(generation) => Ok(generation),
-        Err(Refusal::Failed) => Err(Failed),
-        Err(Refusal::CheckpointRunning) => unreachable!(),
-        Err(Refusal::MigrationPending) => unreachable!(),
-        Err(Refusal::NotStable(_)) => unreachable!(),
-        Err(Refusal::NoCheckpoint) => unreachable!(),
+        Err(CheckpointFault::Failed) => Err(Failed),
+        Err(CheckpointFault::CheckpointRunning) => unreachable!(),
+        Err(CheckpointFault::MigrationPending) => unreachable!(),
+        Err(CheckpointFault::NotStable(_)) => unreachable!(),
+        Err(CheckpointFault::NoCheckpoint) => unreachable!(),
     }
 }
 

@@ -13,4 +13,4 @@ returns-then-geometry-clause-refused c may = elim c.then-geometry.branch [
 
 pub returns-in-None-clause-refused : goal.returns-in-None-clause-refused
 returns-in-None-clause-refused c may =
-    c.in-None.ensures.none (rw (c.half_length-half.ensures, c.lay_ranges-first.ensures.end, c.lay_ranges-first.ensures.laid) (is_plan c.args.geometry c.args.ranges.now may))
+    c.in-None.ensures.none (rw (c.half_extent-half.ensures, c.lay_ranges-first.ensures.end, c.lay_ranges-first.ensures.laid) (is_plan c.args.geometry c.args.ranges.now may))

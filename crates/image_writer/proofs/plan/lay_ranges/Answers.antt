@@ -3,7 +3,7 @@ use Rattle.image_writer.proofs.plan.lay_ranges.Goals as goal
 
 pub loop-i-preserved : goal.loop-i-preserved
 loop-i-preserved c =
-    rw c.sectors_of-next.ensures
+    rw c.range_extent-extent.ensures
     (laid_more c.args.geometry c.args.ranges.now c.loop-i.into c.loop-i.i c.loop-i.next c.loop-i-test.true (c.requires.counts c.loop-i.i (record { first = 0; count = 0 }) c.loop-i-test.true) c.loop-i.invariant)
 
 pub returns-clause-laid : goal.returns-clause-laid

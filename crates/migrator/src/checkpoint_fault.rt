@@ -5,7 +5,7 @@ use thiserror::Error;
 /// Why a store doesn't do what it is called for. After `Failed` the device is to be opened again;
 /// all else leaves everything as it was.
 #[derive(Clone, Copy, PartialEq, Eq, Debug, Error)]
-pub enum Refusal {
+pub enum CheckpointFault {
     /// A checkpoint is on its way.
     #[error("a checkpoint is running")]
     CheckpointRunning,
