@@ -1,2 +1,3 @@
 pub mod Faults
 pub mod Images
+pub mod Laws

@@ -4,6 +4,7 @@
 mod building;
 mod checking;
 mod fault;
+pub mod laws;
 mod running;
 
 pub use building::build_image;

@@ -173,17 +173,38 @@ fn the_way_home_is_stopped_at_each_call(rt: HostRuntime) -> Result<(), Fail> {
     has_stops(&rt, rt.alloc(), WAY_HOME, 14)
 }
 
+// What is answered to a script over the second world where the device stops after its opening.
+fn answered_alone(alloc: Global, script: &[u8]) -> Result<Vec<u8>, Fail> {
+    let mut kernel = opened_at_last(alloc, second_image(alloc, Outcome::Drop, 0)?)?;
+    answers(alloc, &mut kernel, script)
+}
+
 // With all objects in memory an invocation, a look, putting an object out and beginning a
 // checkpoint make no call of the device, which stops after its opening. Writing a frame makes one.
 #[test]
 fn what_is_in_memory_needs_no_device(rt: HostRuntime) -> Result<(), Fail> {
-    let alloc = rt.alloc();
     let script = b"call 1 2 1 0 0 0 0 0 0 0\nevict 16\nshow 16\ncheckpoint\nevict 16\n\
 send 1 28 2 0 42 0 0 0 0 0\nshow 16\nstabilize 1\nshow 16\ncheckpoint\ncut\nshow 16\n";
     let expected = b"done\ndone\npage 16 owner 0\nend\nfrozen 3\ndone\n\
 done\npage 16 owner 0\nword 0 42\nend\nfault\ndown\ndown\nat 0 0\nfree 16\nend\n";
-    let mut kernel = opened_at_last(alloc, second_image(alloc, Outcome::Drop, 0)?)?;
-    let said = answers(alloc, &mut kernel, script)?;
-    assert_eq!(rt; said.as_slice(), expected.as_slice());
+    assert_eq!(rt;
+        answered_alone(rt.alloc(), script)?.as_slice(),
+        expected.as_slice()
+    );
+    Ok(())
+}
+
+// A number that no object has, and bringing nothing home, make no call of the device. A restart
+// makes some: where one fails the machine is down until the power is cut.
+#[test]
+fn what_has_nothing_to_do_needs_no_device(rt: HostRuntime) -> Result<(), Fail> {
+    let script =
+        b"show 24\nevict 24\nmigrate 0\nmigrate 5\nrestart\nshow 24\nrestart\ncut\nshow 24\n";
+    let expected =
+        b"bad number\nbad number\nleft 0\nleft 0\nfault\ndown\nfault\nat 0 0\nbad number\n";
+    assert_eq!(rt;
+        answered_alone(rt.alloc(), script)?.as_slice(),
+        expected.as_slice()
+    );
     Ok(())
 }

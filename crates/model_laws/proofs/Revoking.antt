@@ -52,6 +52,7 @@ module _ (goes : Capability → Bool) (void_stays : goes Void ≡ false) where
 -- what stands at a number after a consume
 pub consumes_all : ConsumesAll
 consumes_all p os = (
+  λ n. object_consume p os n,
   λ n i. subst (λ o. resumes p (slice_index_or (slots_in o.content) i Void) ≡ false) (sym (object_consume p os n)) (gone_from_slot (resumes p) refl (object_at os n) i),
   λ q. subst (λ o. resumes p (root_in o.content).space ≡ false) (sym (object_consume p os q)) (gone_from_space (resumes p) refl (object_at os q)),
 )
@@ -83,12 +84,15 @@ unfolding rescind
 at_rescind set os n = at_rescind_from set os 0 n ∙ ap (λ j. after_rescind set (j, object_at os n)) (zero-add n)
 
 pub rescinds_all : RescindsAll
-rescinds_all set os = (frees, λ n i. clears_slot n i, λ p. clears_space p)
+rescinds_all set os = (frees, λ n. stays n, λ n i. clears_slot n i, λ p. clears_space p)
   where
     frees : (n : ℕ) → is_member set n ≡ true → is_free (object_at (rescind set os) n).content ≡ true
     frees n member =
         subst (λ o. is_free o.content ≡ true)
         (sym (at_rescind set os n ∙ ap (λ b. if b then free else without (names_member set) (object_at os n)) member)) refl
+
+    stays : (n : ℕ) → is_member set n ≡ false → object_at (rescind set os) n ≡ without (names_member set) (object_at os n)
+    stays n other = at_rescind set os n ∙ ap (λ b. if b then free else without (names_member set) (object_at os n)) other
 
     clears_slot : (n i : ℕ) → names_member set (slice_index_or (slots_in (object_at (rescind set os) n).content) i Void) ≡ false
     clears_slot n i = subst (λ o. names_member set (slice_index_or (slots_in o.content) i Void) ≡ false) (sym (at_rescind set os n)) (cases (is_member set n))

@@ -11,9 +11,9 @@ use Rattle.model.specs.declared.line.Line.{Line}
 use Rattle.model.specs.declared.object.Object.{Object}
 use Rattle.model.specs.Capability.{IsWeak, diminished}
 use Rattle.model.specs.Object.{is_free}
-use Rattle.model.specs.World.{World, content_at, slot_at, root_at, is_running_process}
+use Rattle.model.specs.World.{World, content_at, object_at, slot_at, root_at, is_running_process}
 use Rattle.model.specs.Sound.{IsSound}
-use Rattle.model.specs.Revoke.{rescind, consume, is_member, names_member, resumes}
+use Rattle.model.specs.Revoke.{rescind, consume, is_member, names_member, resumes, without}
 use Rattle.model.specs.Order.{fetched}
 use Rattle.model.specs.Invoke.{Effect, invoke}
 use Rattle.model.specs.Machine.{Running, touching, touched_count}
@@ -35,17 +35,20 @@ DiminishesOnce = (c : Capability) → diminished (diminished c) ≡ diminished c
 abbrev pub FetchesWeak : Type 0
 FetchesWeak = (a : Access) (c : Capability) → a.0 ≡ 3 → IsWeak (fetched a c)
 
--- after a rescind the members are free, and no slot or address space names one
+-- after a rescind the members are free, all else is as it was but for capabilities that are void, and no slot or address
+-- space names a member
 abbrev pub RescindsAll : Type 0
 RescindsAll = (set : List ℕ) (os : List Object) →
     ((n : ℕ) → is_member set n ≡ true → is_free (content_at (rescind set os) n) ≡ true)
+    × ((n : ℕ) → is_member set n ≡ false → object_at (rescind set os) n ≡ without (names_member set) (object_at os n))
     × ((n i : ℕ) → names_member set (slot_at (rescind set os) n i) ≡ false)
     × ((p : ℕ) → names_member set (root_at (rescind set os) p).space ≡ false)
 
--- after a consume no slot or address space resumes the process
+-- after a consume all is as it was but for capabilities that are void, and no slot or address space resumes the process
 abbrev pub ConsumesAll : Type 0
 ConsumesAll = (p : ℕ) (os : List Object) →
-    ((n i : ℕ) → resumes p (slot_at (consume p os) n i) ≡ false)
+    ((n : ℕ) → object_at (consume p os) n ≡ without (resumes p) (object_at os n))
+    × ((n i : ℕ) → resumes p (slot_at (consume p os) n i) ≡ false)
     × ((q : ℕ) → resumes p (root_at (consume p os) q).space ≡ false)
 
 -- the numbers touched are those touched before and those written

@@ -12,12 +12,14 @@ pub fn fetches_weak()
     ensures { FetchesWeak }
 {}
 
-/// After a rescind the members are free, and nothing names one.
+/// After a rescind the members are free, all else is as it was but for capabilities that are void,
+/// and nothing names a member.
 pub fn rescinds_all()
     ensures { RescindsAll }
 {}
 
-/// After a consume nothing resumes the process.
+/// After a consume all is as it was but for capabilities that are void, and nothing resumes the
+/// process.
 pub fn consumes_all()
     ensures { ConsumesAll }
 {}

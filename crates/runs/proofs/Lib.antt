@@ -1,4 +1,5 @@
 mod Agreeing
+mod Confining
 mod ScriptLines
 mod TurnLists
 mod Turning

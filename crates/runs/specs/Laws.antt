@@ -1,11 +1,19 @@
--- What a run writes is settled by the machine and the script, where nothing is wanting.
-use Rattle.std.specs.Prelude.{◌≡◌, Bool, true, false, List, [], ◌∷◌}
+-- What holds of every run: what it writes is settled where nothing is wanting, and what it can change is bounded.
+use Rattle.std.specs.Prelude.{◌≡◌, ℕ, Bool, true, false, List, [], ◌∷◌}
 use Rattle.model.specs.declared.answer.Answer.TheVariants as answer
 use Rattle.model.specs.declared.answer.Refusal.TheVariants as refusal
 use Rattle.model.specs.declared.geometry.Geometry.{Geometry}
+use Rattle.model.specs.Closed.{IsClosed}
 use Rattle.model.specs.Machine.{Machine, Running, Up}
 use Rattle.model.specs.Run.{Reply, Told, Turn, IsRun, output_of}
-use Rattle.runs.specs.KernelRuns.{lines_in}
+use Rattle.model.specs.World.{object_at}
+use Rattle.device.specs.Disk.{Disk}
+use Rattle.confinement.specs.Confinement.{AreBy, IsKept, with_free}
+use Rattle.capability.specs.Parts.{Parts}
+use Rattle.object_cache.specs.Store.{View}
+use Rattle.kernel.specs.declared.power.Power.{Power}
+use Rattle.kernel.specs.Standing.{Stands}
+use Rattle.runs.specs.KernelRuns.{IsRunOf, lines_in}
 
 -- neither memory ran out nor the device failed
 abbrev pub is_steady : Reply → Bool
@@ -21,3 +29,13 @@ AreSteady (t ∷ ts) = (is_steady t.reply ≡ true) × AreSteady ts
 abbrev pub SteadyRunsAgree : Type 0
 SteadyRunsAgree = (g : Geometry) (s : Running) (ts us : List Turn) (a b : Machine) → IsRun g (Up s) ts a → IsRun g (Up s) us b → lines_in ts ≡ lines_in us →
     AreSteady ts → AreSteady us → (output_of ts ≡ output_of us) × (a ≡ b)
+
+-- The parameters are ghost members of a device and of an object store.
+module _ {D S : Type 0} (disk : D → Disk) (view : S → View D) (parts : S → Parts) where
+  -- the authority bound: over a run of invocations and memory references by processes of a closed set, and of those that
+  -- they make of what was free, each object outside the set that wasn't free is kept
+  abbrev pub RunsAreConfined : Type 0
+  RunsAreConfined = (g : Geometry) (s t : Running) (old new : Power D S) (turns : List Turn) (inside : ℕ → Bool) →
+      Stands disk view parts g old (Up s) → Stands disk view parts g new (Up t) → IsRunOf disk view parts g (Up s) old new turns →
+      IsClosed s.now.objects inside → AreBy (with_free s.now.objects inside) turns →
+      (n : ℕ) → with_free s.now.objects inside n ≡ false → IsKept inside (object_at s.now.objects n) (object_at t.now.objects n)

@@ -1,0 +1,5 @@
+mod Banks
+mod Gates
+mod Kept
+mod Orders
+pub mod Runs

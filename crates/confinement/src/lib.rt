@@ -1,0 +1,4 @@
+//! Confinement: what processes can change that have authority over a set of numbers alone.
+#![tactic(auto)]
+
+pub mod laws;
