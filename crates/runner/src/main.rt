@@ -1,9 +1,7 @@
 //! `eros`: the core of a persistent capability system, over images in files.
 #![tactic(auto)]
 
-mod words;
-
-use crate::words::Job;
+use command_line::{Job, command, read_job};
 use device::{Device, MAX_SECTORS};
 use file_device::{FileDevice, FileFault};
 use image_builder::sectors_needed;
@@ -129,14 +127,14 @@ fn main(rt: HostRuntime) -> anyhow::Result<ExitCode> {
     let alloc = rt.alloc();
     let _guards = guards(&rt);
     let words: Vec<String> = std::env::args(&rt)?.collect(alloc)?;
-    let matches = match words::command(alloc)?.try_get_matches_from(words.as_slice()) {
-        Ok(matches) => matches,
+    let job = match read_job(command(alloc)?, words.as_slice()) {
+        Ok(job) => job,
         Err(error) => {
             error.print(&rt)?;
             return Ok(ExitCode::from(error.exit_code() as u8));
         }
     };
-    let status = match work(&rt, &words::asked(&matches)) {
+    let status = match work(&rt, &job) {
         Ok(status) => status,
         Err(fault) => {
             let _told = fault.tell(&mut rt.stderr());

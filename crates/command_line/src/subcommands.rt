@@ -1,38 +1,28 @@
-// The command line.
-use clap::{Arg, ArgMatches, Command};
+// The command that clap takes the words by.
+ghost use Rattle.std.specs.Prelude.{◌≡◌, IfOk, false};
+ghost use Rattle.clap.specs.Words.{app_of, rule_of};
+ghost use Rattle.command_line.specs.Commands.{IsCommand, bare_app, build_app, check_app, eros_app, file_rule, run_app};
+
+use clap::{Arg, Command};
 use std::alloc::{AllocError, Global};
 
-const DESCRIPTION: &str = "DESCRIPTION";
+pub(crate) const DESCRIPTION: &str = "DESCRIPTION";
 
-const IMAGE: &str = "IMAGE";
+pub(crate) const IMAGE: &str = "IMAGE";
 
-const SCRIPT: &str = "SCRIPT";
-
-/// What is asked of `eros`, with the names of the files.
-#[derive(Drop)]
-pub(crate) enum Job<'a> {
-    /// An image is to be built.
-    Build {
-        description: &'a str,
-        image: &'a str,
-    },
-    /// A script is to be run over an image.
-    Run {
-        image: &'a str,
-        script: &'a str,
-    },
-    /// An image is to be checked.
-    Check {
-        image: &'a str,
-    },
-}
+pub(crate) const SCRIPT: &str = "SCRIPT";
 
 // A file that has to be named.
-fn file<'a>(alloc: Global, name: &'a str, help: &'a str) -> Arg<'a> {
+fn file<'a>(alloc: Global, name: &'a str, help: &'a str) -> Arg<'a>
+    ensures rule { rule_of result ≡ file_rule name.entry.now }
+    ensures local { result.global ≡ false }
+{
     Arg::new(alloc, name).help(help).required(true)
 }
 
-fn build<'a>(alloc: Global) -> Result<Command<'a>, AllocError> {
+fn build<'a>(alloc: Global) -> Result<Command<'a>, AllocError>
+    ensures { IfOk result (IsCommand build_app) }
+{
     Command::new(alloc, "build")
         .about("Builds an image from its description")
         .arg(file(alloc, DESCRIPTION, "What the image is to hold, in TOML"))?
@@ -43,7 +33,9 @@ fn build<'a>(alloc: Global) -> Result<Command<'a>, AllocError> {
         ))
 }
 
-fn run<'a>(alloc: Global) -> Result<Command<'a>, AllocError> {
+fn run<'a>(alloc: Global) -> Result<Command<'a>, AllocError>
+    ensures { IfOk result (IsCommand run_app) }
+{
     Command::new(alloc, "run")
         .about("Runs a script over an image, and prints an answer to each command")
         .arg(file(
@@ -54,15 +46,19 @@ fn run<'a>(alloc: Global) -> Result<Command<'a>, AllocError> {
         .arg(file(alloc, SCRIPT, "The script, a command a line"))
 }
 
-fn check<'a>(alloc: Global) -> Result<Command<'a>, AllocError> {
+fn check<'a>(alloc: Global) -> Result<Command<'a>, AllocError>
+    ensures { IfOk result (IsCommand check_app) }
+{
     Command::new(alloc, "check")
         .about("Checks an image, and prints the generation, age and entries of its checkpoint")
         .arg(file(alloc, IMAGE, "The image, which isn't changed"))
 }
 
-/// What can be asked of `eros`.
-pub(crate) fn command<'a>(alloc: Global) -> Result<Command<'a>, AllocError> {
-    Command::new(alloc, "eros")
+// The program, with no subcommand yet.
+fn bare<'a>(alloc: Global) -> Result<Command<'a>, AllocError>
+    ensures { IfOk result (IsCommand bare_app) }
+{
+    let command = Command::new(alloc, "eros")
         .bin_name("eros")?
         .about("The core of a persistent capability system")
         .after_help(
@@ -72,25 +68,17 @@ pub(crate) fn command<'a>(alloc: Global) -> Result<Command<'a>, AllocError> {
              The status is 0, whatever the answers are; 1 after a fault, of which one line is told on standard\n\
              error; and 2 where the command line isn't understood.",
         )
-        .subcommand_required(true)
+        .subcommand_required(true);
+    Ok(command)
+}
+
+/// The command line of `eros`. Fails where memory runs out.
+#[tactic(auto, using(crate::proofs::Building::added))]
+pub fn command<'a>(alloc: Global) -> Result<Command<'a>, AllocError>
+    ensures { IfOk result (IsCommand eros_app) }
+{
+    bare(alloc)?
         .subcommand(build(alloc)?)?
         .subcommand(run(alloc)?)?
         .subcommand(check(alloc)?)
-}
-
-/// What the words ask. The command takes no others.
-pub(crate) fn asked<'a>(matches: &ArgMatches<'a>) -> Job<'a> {
-    let (name, inner) = matches.subcommand().unwrap_or(("", matches));
-    let image = inner.get_str(IMAGE).unwrap_or("");
-    match name {
-        "build" => Job::Build {
-            description: inner.get_str(DESCRIPTION).unwrap_or(""),
-            image,
-        },
-        "run" => Job::Run {
-            image,
-            script: inner.get_str(SCRIPT).unwrap_or(""),
-        },
-        _ => Job::Check { image },
-    }
 }

@@ -1,0 +1,95 @@
+-- Words that the command takes name a job.
+use Rattle.std.proofs.Common.{◌≡◌, ◌∙◌, ◌&&◌, ◌||◌, ℕ, is_some, option_map, refl, sym, subst, ap, List, [], Bool, drop, true, false, Option, Some, None, true≢false, codes}
+use Rattle.std.specs.Prelude.{cond}
+use Rattle.std.specs.Option.{option_map_or}
+use Rattle.std.specs.List.{slice_index_or}
+use Rattle.std.specs.Borrow.{Bor}
+use Rattle.std.specs.Str.{bytes_eq}
+use Rattle.std.proofs.lemmas.Slice.Eq.{bytes_eq-Decides}
+use Rattle.clap.specs.Walk.{Row, Text, answers_to, first_of, nothing_held, stop_after}
+use Rattle.clap.specs.declared.builder.command.Command.{Command}
+use Rattle.clap.specs.declared.parser.matches.ArgMatches.{ArgMatches}
+use Rattle.clap.specs.Simple.{App, HasMatchesOf, app_of, subcommand_rows_of, Shape, built, entered, help_shape, is_simple, label_of, names_of, rows_at, subcommand_of}
+use Rattle.clap.specs.Takes.{entered_passes, level_passes, takes}
+use Rattle.clap.proofs.WalkLemmas.{both}
+use Rattle.command_line.specs.Commands.{eros_app}
+use Rattle.command_line.specs.Jobs.{NamesNone}
+use Rattle.command_line.specs.declared.asked.Job.TheVariants as job
+use Rattle.command_line.proofs.Taken.{StopsWell, is_no_help, level_keeps}
+
+-- the command as a parse builds it
+abbrev whole : App
+whole = built eros_app
+
+abbrev sub : ℕ → Shape
+sub k = slice_index_or whole.subs k help_shape
+
+text_in : (o : Option Text) → is_some o ≡ true → (text : Bor Text) × (o ≡ Some text.now)
+text_in None has = absurd (true≢false (sym has))
+text_in (Some text) has = (record { ref_ptr = (0, 0); now = text }, refl)
+
+build_named : (rows : List Row) → (is_some (first_of (codes "DESCRIPTION") rows) && (is_some (first_of (codes "IMAGE") rows) && true)) ≡ true
+    → NamesNone (Some (codes "build", rows)) → ⊥
+build_named rows has none =
+    let parts = both _ _ has in
+    let description = text_in _ parts.0 in
+    let image = text_in _ (both _ _ parts.1).0 in
+    none (job.Build description.0 image.0) (refl, description.1, image.1)
+
+run_named : (rows : List Row) → (is_some (first_of (codes "IMAGE") rows) && (is_some (first_of (codes "SCRIPT") rows) && true)) ≡ true
+    → NamesNone (Some (codes "run", rows)) → ⊥
+run_named rows has none =
+    let parts = both _ _ has in
+    let image = text_in _ parts.0 in
+    let script = text_in _ (both _ _ parts.1).0 in
+    none (job.Run image.0 script.0) (refl, image.1, script.1)
+
+check_named : (rows : List Row) → (is_some (first_of (codes "IMAGE") rows) && true) ≡ true → NamesNone (Some (codes "check", rows)) → ⊥
+check_named rows has none =
+    let image = text_in _ (both _ _ has).0 in
+    none (job.Check image.0) (refl, image.1)
+
+no_help : (name : Text) → is_no_help whole.top name ≡ true → answers_to name (label_of (sub 3)) ≡ true → ⊥
+no_help name other help = go (bytes_eq (codes "help") name) refl help
+  where
+    go : (b : Bool) → bytes_eq (codes "help") name ≡ b → (b || false) ≡ true → ⊥
+    go false e is = true≢false (sym is)
+    go true e is =
+        let same : codes "help" ≡ name = (bytes_eq-Decides _ _).0 e in
+        let bad : is_no_help whole.top (codes "help") ≡ true = subst (λ n. is_no_help whole.top n ≡ true) (sym same) other in
+        true≢false (sym bad)
+
+entered_named : (stop : Option (Text × List Text)) → is_some (entered whole stop) ≡ true → StopsWell whole.top stop → entered_passes whole stop ≡ true
+    → NamesNone (entered whole stop) → ⊥
+entered_named None some well passes none = true≢false (sym some)
+entered_named (Some p) some well passes none =
+    go (answers_to p.0 (label_of (sub 0))) (answers_to p.0 (label_of (sub 1))) (answers_to p.0 (label_of (sub 2))) (answers_to p.0 (label_of (sub 3))) refl some passes none
+  where
+    chosen : Bool → Bool → Bool → Bool → Option Shape
+    chosen a b c d = cond a (Some (sub 0)) (cond b (Some (sub 1)) (cond c (Some (sub 2)) (cond d (Some (sub 3)) None)))
+
+    go : (a b c d : Bool) → answers_to p.0 (label_of (sub 3)) ≡ d → is_some (option_map (λ s. rows_at s p.1) (chosen a b c d)) ≡ true
+        → option_map_or (λ s. level_passes s [] nothing_held p.1 false) (chosen a b c d) true ≡ true
+        → NamesNone (option_map (λ s. rows_at s p.1) (chosen a b c d)) → ⊥
+    go true b c d help has level empty = build_named (rows_at (sub 0) p.1).1 (level_keeps (sub 0) [] p.1 false refl refl level).0 empty
+    go false true c d help has level empty = run_named (rows_at (sub 1) p.1).1 (level_keeps (sub 1) [] p.1 false refl refl level).0 empty
+    go false false true d help has level empty = check_named (rows_at (sub 2) p.1).1 (level_keeps (sub 2) [] p.1 false refl refl level).0 empty
+    go false false false true help has level empty = no_help p.0 well help
+    go false false false false help has level empty = true≢false (sym has)
+
+-- words that the command takes name a job
+pub takes_named : (words : List Text) → takes eros_app words ≡ true → NamesNone (subcommand_of eros_app words) → ⊥
+takes_named words taken none =
+    let parts = both (is_simple eros_app) _ taken in
+    let given = drop 1 words in
+    let stop = stop_after whole.top.rules (names_of whole) given in
+    let passes = both (entered_passes whole stop) _ parts.1 in
+    let kept = level_keeps whole.top (names_of whole) given (is_some (entered whole stop)) refl refl passes.1 in
+    entered_named stop kept.2 kept.1 passes.0 none
+
+-- a parse that gives matches of such words names a job
+pub unnamed : (words : List Text) (command : Command) (m : ArgMatches) → app_of command ≡ eros_app → HasMatchesOf (app_of command) words m
+    → NamesNone (subcommand_rows_of m) → takes eros_app words ≡ true → ⊥
+unnamed words command m is has none taken =
+    let same = (has (ap is_simple is)).1 ∙ ap (λ a. subcommand_of a words) is in
+    takes_named words taken (subst NamesNone same none)

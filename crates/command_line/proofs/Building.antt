@@ -1,0 +1,11 @@
+-- What a command is once a subcommand is added.
+use Rattle.std.proofs.Common.{◌∙◌, ◌||◌, ap, ap₂}
+use Rattle.clap.specs.Words.{AddsSubcommand, App, with_subcommand}
+use Rattle.clap.specs.declared.builder.command.Command.{Command}
+use Rattle.command_line.specs.Commands.{IsCommand}
+
+pub added : (a b : App) (old sub new : Command) → AddsSubcommand old sub new → IsCommand a old → IsCommand b sub → IsCommand (with_subcommand a b.top) new
+added a b old sub new adds is_old is_sub = (
+  adds.shape is_sub.1 ∙ ap₂ with_subcommand is_old.0 (ap (λ (x : App). x.top) is_sub.0),
+  adds.globals ∙ ap₂ (λ x y. x || y) is_old.1 is_sub.1,
+)

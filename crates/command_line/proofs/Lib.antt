@@ -1,0 +1,4 @@
+mod Answered
+mod Building
+mod Naming
+mod Taken

@@ -1,0 +1,71 @@
+-- Which job the getters of the matches give.
+use Rattle.std.proofs.Common.{◌≡◌, ◌∙◌, ap, arith, slice_index, sym, Option, Some, None, List, codes, option_map, true}
+use Rattle.std.specs.Borrow.{Bor}
+use Rattle.std.specs.Prelude.{Box}
+use Rattle.std.specs.Box.{box_value}
+use Rattle.clap.specs.Words.{app_of, kind_of, takes, Row, Text, first_of, first_value, rows_of, subcommand_name_of, subcommand_rows, subcommand_rows_of}
+use Rattle.clap.specs.declared.parser.matches.ArgMatches.{ArgMatches}
+use Rattle.clap.specs.declared.parser.matches.SubCommand.{SubCommand}
+use Rattle.clap.specs.declared.parser.matches.ArgMatches.TheViews.{out-ArgMatches, out-SubCommand}
+use Rattle.clap.specs.declared.parser.matches.Found.{Found}
+use Rattle.clap.proofs.WalkLemmas.{first_value-rows}
+use Rattle.clap.specs.declared.builder.command.Command.{Command}
+use Rattle.clap.specs.declared.error.Error.{Error}
+use Rattle.clap.specs.declared.error.kind.ErrorKind.TheVariants.{OutOfMemory}
+use Rattle.command_line.specs.Commands.{eros_app}
+use Rattle.command_line.specs.Jobs.{IsGiven, IsJob}
+use Rattle.command_line.specs.declared.asked.Job.{Job}
+use Rattle.command_line.specs.declared.asked.Job.TheVariants as job
+
+-- the subcommand that was met is that of its name and its rows
+module _ {Z : Type 0} where
+  met_by_parts : (o : Option (Box SubCommand Z)) (name : Text) (rows : List Row)
+      → Some name ≡ option_map (λ b. (out-SubCommand (box_value b)).name.now) o
+      → Some rows ≡ option_map (λ p. p.1) (subcommand_rows o) → subcommand_rows o ≡ Some (name, rows)
+  met_by_parts None name rows named rowed = absurd cc
+  met_by_parts (Some b) name rows named rowed = cc
+
+pub met : (m : ArgMatches) (name : Text) (rows : List Row) → Some name ≡ subcommand_name_of m
+    → Some rows ≡ option_map (λ p. p.1) (subcommand_rows (out-ArgMatches m).subcommand) → subcommand_rows_of m ≡ Some (name, rows)
+met m name rows named rowed = met_by_parts (out-ArgMatches m).subcommand name rows named rowed
+
+-- what a getter answers is what the rows give
+pub given : (f : Found) (id : Text) (o : Option (Bor Text)) (text : Bor Text) → option_map (λ s. s.now) o ≡ first_value f id → o ≡ Some text
+    → IsGiven (rows_of f) id text.now
+given f id o text got is = sym (first_value-rows f id) ∙ (sym got ∙ ap (option_map (λ s. s.now)) is)
+
+pub missing : (f : Found) (id : Text) (o : Option (Bor Text)) → option_map (λ s. s.now) o ≡ first_value f id → o ≡ None → first_of id (rows_of f) ≡ None
+missing f id o got is = sym (first_value-rows f id) ∙ (sym got ∙ ap (option_map (λ s. s.now)) is)
+
+-- two texts whose first characters differ
+apart : {a b : Text} → a ≡ b → (slice_index a 0 ≡ slice_index b 0 → ⊥) → ⊥
+apart same differ = differ (ap (λ t. slice_index t 0) same)
+
+-- without an image no job is named
+pub no_image : (name : Text) (rows : List Row) → first_of (codes "IMAGE") rows ≡ None → (x : Job) → IsJob name rows x → ⊥
+no_image name rows none (job.Build description image) is = let bad : None ≡ Some image.now = sym none ∙ is.2 in cc
+no_image name rows none (job.Run image script) is = let bad : None ≡ Some image.now = sym none ∙ is.1 in cc
+no_image name rows none (job.Check image) is = let bad : None ≡ Some image.now = sym none ∙ is.1 in cc
+
+-- nor is a build without a description
+pub no_description : (name : Text) (rows : List Row) → name ≡ codes "build" → first_of (codes "DESCRIPTION") rows ≡ None → (x : Job) → IsJob name rows x → ⊥
+no_description name rows build none (job.Build description image) is = let bad : None ≡ Some description.now = sym none ∙ is.1 in cc
+no_description name rows build none (job.Run image script) is = apart (sym build ∙ is.0) (λ e. absurd (omega arith))
+no_description name rows build none (job.Check image) is = apart (sym build ∙ is.0) (λ e. absurd (omega arith))
+
+-- nor a run without a script
+pub no_script : (name : Text) (rows : List Row) → name ≡ codes "run" → first_of (codes "SCRIPT") rows ≡ None → (x : Job) → IsJob name rows x → ⊥
+no_script name rows run none (job.Build description image) is = apart (sym run ∙ is.0) (λ e. absurd (omega arith))
+no_script name rows run none (job.Run image script) is = let bad : None ≡ Some script.now = sym none ∙ is.2 in cc
+no_script name rows run none (job.Check image) is = apart (sym run ∙ is.0) (λ e. absurd (omega arith))
+
+-- nor is a job of another name
+pub no_name : (name : Text) (rows : List Row) → (name ≡ codes "build" → ⊥) → (name ≡ codes "run" → ⊥) → (name ≡ codes "check" → ⊥) → (x : Job) → IsJob name rows x → ⊥
+no_name name rows build run check (job.Build description image) is = build is.0
+no_name name rows build run check (job.Run image script) is = run is.0
+no_name name rows build run check (job.Check image) is = check is.0
+
+-- what the parse says of its error holds of the error that is passed on
+pub passed_on : (words : List Text) (command : Command) (why : Error) → app_of command ≡ eros_app
+    → (takes (app_of command) words ≡ true → kind_of why ≡ OutOfMemory) → takes eros_app words ≡ true → kind_of why ≡ OutOfMemory
+passed_on words command why is passes taken = passes (ap (λ a. takes a words) is ∙ taken)

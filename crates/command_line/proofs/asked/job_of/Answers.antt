@@ -1,0 +1,41 @@
+use Rattle.std.proofs.Common.{rules, ◌≡◌, None, codes}
+use Rattle.clap.specs.Words.{found_of, rows_of}
+use Rattle.command_line.proofs.Naming.{given, missing, no_description, no_image, no_script}
+use Rattle.command_line.proofs.asked.job_of.Goals as goal
+
+pub returns-in_err-image-clause-none : goal.returns-in_err-image-clause-none
+returns-in_err-image-clause-none c =
+    let none : c.get_str.result ≡ None = search rules in
+    λ _. no_image _ (rows_of (found_of c.args.inner.now)) (missing (found_of c.args.inner.now) (codes "IMAGE") _ c.get_str.ensures none)
+
+pub returns-in_err-description-clause-none : goal.returns-in_err-description-clause-none
+returns-in_err-description-clause-none c =
+    let build : c.args.name.now ≡ codes "build" = search rules in
+    let none : c.get_str-then-eq.result ≡ None = search rules in
+    λ _. no_description _ (rows_of (found_of c.args.inner.now)) build (missing (found_of c.args.inner.now) (codes "DESCRIPTION") _ c.get_str-then-eq.ensures none)
+
+pub returns-then-eq-clause-named : goal.returns-then-eq-clause-named
+returns-then-eq-clause-named c = (
+  search rules,
+  given (found_of c.args.inner.now) (codes "DESCRIPTION") c.get_str-then-eq.result c.in_ok-description.description c.get_str-then-eq.ensures (search rules),
+  given (found_of c.args.inner.now) (codes "IMAGE") c.get_str.result c.in_ok-image.image c.get_str.ensures (search rules),
+)
+
+pub returns-in_err-script-clause-none : goal.returns-in_err-script-clause-none
+returns-in_err-script-clause-none c =
+    let run : c.args.name.now ≡ codes "run" = search rules in
+    let none : c.get_str-then-eq-2.result ≡ None = search rules in
+    λ _. no_script _ (rows_of (found_of c.args.inner.now)) run (missing (found_of c.args.inner.now) (codes "SCRIPT") _ c.get_str-then-eq-2.ensures none)
+
+pub returns-then-eq-2-clause-named : goal.returns-then-eq-2-clause-named
+returns-then-eq-2-clause-named c = (
+  search rules,
+  given (found_of c.args.inner.now) (codes "IMAGE") c.get_str.result c.in_ok-image.image c.get_str.ensures (search rules),
+  given (found_of c.args.inner.now) (codes "SCRIPT") c.get_str-then-eq-2.result c.in_ok-script.script c.get_str-then-eq-2.ensures (search rules),
+)
+
+pub returns-then-eq-3-clause-named : goal.returns-then-eq-3-clause-named
+returns-then-eq-3-clause-named c = (
+  search rules,
+  given (found_of c.args.inner.now) (codes "IMAGE") c.get_str.result c.in_ok-image.image c.get_str.ensures (search rules),
+)

@@ -1,0 +1,33 @@
+-- The command of `eros`, as a parse reads it.
+use Rattle.std.specs.Prelude.{◌≡◌, [], true, false, codes}
+use Rattle.clap.specs.Words.{App, Rule, Text, app_of, new_app, new_rule, with_rule, with_subcommand}
+use Rattle.clap.specs.declared.builder.command.Command.{Command}
+use Rattle.clap.specs.declared.builder.command.Command.TheViews.{out-Command}
+
+-- a file that has to be named
+abbrev pub file_rule : Text → Rule
+file_rule name = record (new_rule name) { required = true }
+
+-- eros build DESCRIPTION IMAGE
+abbrev pub build_app : App
+build_app = with_rule (with_rule (new_app (codes "build")) (file_rule (codes "DESCRIPTION"))) (file_rule (codes "IMAGE"))
+
+-- eros run IMAGE SCRIPT
+abbrev pub run_app : App
+run_app = with_rule (with_rule (new_app (codes "run")) (file_rule (codes "IMAGE"))) (file_rule (codes "SCRIPT"))
+
+-- eros check IMAGE
+abbrev pub check_app : App
+check_app = with_rule (new_app (codes "check")) (file_rule (codes "IMAGE"))
+
+-- the name alone, which wants a subcommand
+abbrev pub bare_app : App
+bare_app = record { top = record ((new_app (codes "eros")).top) { subcommand_required = true }; subs = [] }
+
+-- the three subcommands, one of which has to be named
+abbrev pub eros_app : App
+eros_app = with_subcommand (with_subcommand (with_subcommand bare_app build_app.top) run_app.top) check_app.top
+
+-- a parse reads the command as this one, with no argument that holds for subcommands too
+abbrev pub IsCommand : App → Command → Type 0
+IsCommand app c = (app_of c ≡ app) × ((out-Command c).has_globals ≡ false)

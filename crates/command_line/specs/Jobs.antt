@@ -1,0 +1,30 @@
+-- The job that a subcommand and its arguments name.
+use Rattle.std.specs.Prelude.{◌≡◌, List, Option, Some, None, codes}
+use Rattle.clap.specs.Words.{Row, Text, first_of}
+use Rattle.command_line.specs.declared.asked.Job.{Job}
+use Rattle.command_line.specs.declared.asked.Job.TheVariants as job
+
+-- the argument of this name was given as this text
+abbrev pub IsGiven : List Row → Text → Text → Type 0
+IsGiven rows name text = first_of name rows ≡ Some text
+
+-- the subcommand of this name, with these arguments, is the job
+abbrev pub IsJob : Text → List Row → Job → Type 0
+IsJob name rows (job.Build description image) = (name ≡ codes "build")
+    × IsGiven rows (codes "DESCRIPTION") description.now × IsGiven rows (codes "IMAGE") image.now
+IsJob name rows (job.Run image script) = (name ≡ codes "run")
+    × IsGiven rows (codes "IMAGE") image.now × IsGiven rows (codes "SCRIPT") script.now
+IsJob name rows (job.Check image) = (name ≡ codes "check") × IsGiven rows (codes "IMAGE") image.now
+
+-- no job is the subcommand of this name with these arguments
+abbrev pub IsNoJob : Text → List Row → Type 0
+IsNoJob name rows = (job : Job) → IsJob name rows job → ⊥
+
+-- the subcommand that was met, if any, is the job
+abbrev pub NamesJob : Option (Text × List Row) → Job → Type 0
+NamesJob None job = ⊥
+NamesJob (Some met) job = IsJob met.0 met.1 job
+
+-- no job is named
+abbrev pub NamesNone : Option (Text × List Row) → Type 0
+NamesNone met = (job : Job) → NamesJob met job → ⊥

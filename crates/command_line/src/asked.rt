@@ -1,0 +1,75 @@
+// Which job the words name.
+ghost use Rattle.std.specs.Prelude.{◌≡◌, IfErr, IfOk, IfSome, IsNone, map, true};
+ghost use Rattle.clap.specs.Words.{found_of, kind_of, rows_of, subcommand_of, subcommand_rows_of, takes};
+ghost use Rattle.clap.specs.declared.error.kind.ErrorKind.TheVariants.{OutOfMemory};
+ghost use Rattle.command_line.specs.Commands.{IsCommand, eros_app};
+ghost use Rattle.command_line.specs.Jobs.{IsJob, IsNoJob, NamesJob, NamesNone};
+
+use crate::subcommands::{DESCRIPTION, IMAGE, SCRIPT};
+use clap::error::ErrorKind;
+use clap::{ArgMatches, Command, Error};
+use std::convert::AsStr;
+
+/// What is asked of `eros`, with the names of the files.
+#[derive(Drop)]
+pub enum Job<'a> {
+    /// An image is to be built.
+    Build {
+        description: &'a str,
+        image: &'a str,
+    },
+    /// A script is to be run over an image.
+    Run {
+        image: &'a str,
+        script: &'a str,
+    },
+    /// An image is to be checked.
+    Check {
+        image: &'a str,
+    },
+}
+
+// The job of a subcommand with its matches, or none.
+fn job_of<'a>(name: &str, inner: &ArgMatches<'a>) -> Option<Job<'a>>
+    ensures named { IfSome result (IsJob name.now (rows_of (found_of inner.now))) }
+    ensures none { IsNone result → IsNoJob name.now (rows_of (found_of inner.now)) }
+{
+    let image = inner.get_str(IMAGE)?;
+    if name == "build" {
+        let description = inner.get_str(DESCRIPTION)?;
+        return Some(Job::Build { description, image });
+    }
+    if name == "run" {
+        let script = inner.get_str(SCRIPT)?;
+        return Some(Job::Run { image, script });
+    }
+    if name == "check" {
+        return Some(Job::Check { image });
+    }
+    None
+}
+
+// The job that the matches name, or none.
+fn asked<'a>(matches: &ArgMatches<'a>) -> Option<Job<'a>>
+    ensures named { IfSome result (NamesJob (subcommand_rows_of matches.now)) }
+    ensures none { IsNone result → NamesNone (subcommand_rows_of matches.now) }
+{
+    let (name, inner) = matches.subcommand()?;
+    job_of(name, inner)
+}
+
+/// The job that the words name, of which the first is the program's name. Fails with what clap says
+/// of words that the command doesn't take, also where they ask for help, and where memory runs out.
+pub fn read_job<'a, S: AsStr>(mut command: Command<'a>, words: &'a [S]) -> Result<Job<'a>, Error>
+    requires { IsCommand eros_app command }
+    ensures named { IfOk result (NamesJob (subcommand_of eros_app (map S.text words.entry.now))) }
+    ensures refused { IfErr result (λ e.
+        takes eros_app (map S.text words.entry.now) ≡ true → kind_of e ≡ OutOfMemory) }
+{
+    let matches = command.try_get_matches_from_mut(words)?;
+    match asked(&matches) {
+        Some(job) => Ok(job),
+        // No words that the command takes come here.
+        None => Err(command.error(ErrorKind::MissingSubcommand, "the words name no job")?),
+    }
+}
