@@ -33,6 +33,7 @@ use Rattle.model.specs.Step.{Answers, Outcome, Step, carried_out, outcome, reach
 use Rattle.model.specs.Text.{Fits, Says}
 use Rattle.model.specs.Walk.{below, path, restricted, walk, walk_along}
 use Rattle.model.specs.World.{content_at, is_running_process, object_at, owner_at, root_at, slot_at, with_word, word_at}
+use Rattle.model_laws.proofs.BankRescind.{used_where}
 use Rattle.model_laws.proofs.SoundEdits.{edited_word}
 use Rattle.model_laws.proofs.SoundGates.{invocation_keeps}
 use Rattle.model_laws.proofs.SoundParts.{Waits, nearly_from, nearly_to, nearly_weaken}
@@ -42,19 +43,14 @@ use Rattle.confinement.proofs.Kept.{stays_refl, stays_trans, stays_word}
 
 -- a closed set with what is free
 
--- what passes a test that nothing free passes isn't free
-not_free : (test : Content Capability → Bool) (c : Content Capability) → test content.Free ≡ false → test c ≡ true → is_free c ≡ false
-not_free test content.Free e f = absurd (let both : false ≡ true = sym e ∙ f in cc)
-not_free test c e f = refl
-
--- so it is a member of the set itself
+-- a member with the free numbers that passes a test which nothing free passes is a member of the set itself
 lives : (inside : ℕ → Bool) (os : List Object) (n : ℕ) (test : Content Capability → Bool) → test content.Free ≡ false
     → test (content_at os n) ≡ true → IsTrue (with_free os inside n) → IsTrue (inside n)
 lives inside os n test e f in_n = cases (or_cases (inside n) (is_free (content_at os n)) in_n)
   where
     cases : (inside n ≡ true) ⊎ (is_free (content_at os n) ≡ true) → IsTrue (inside n)
     cases (inl g) = g
-    cases (inr g) = absurd (let both : false ≡ true = sym (not_free test (content_at os n) e f) ∙ g in cc)
+    cases (inr g) = absurd (let both : false ≡ true = sym (used_where test e (content_at os n) f) ∙ g in cc)
 
 -- a number, if there is one, that is a member
 abbrev IsNoneOr : (ℕ → Bool) → Option ℕ → Type 0
