@@ -135,8 +135,8 @@ kept_inside g os age inside n new sound k = (
   goes,
   λ c e. names_from inside c (and_parts (k.0 c) (names_inside inside c) e).1,
   k.2 ∙ ap (λ (c : Content Capability). record { owner = owner_at os n; content = c })
-  (content_alike (void_where k.0) (void_where goes) (content_at os n) (λ i. alike (slot_at os n i) (sound.slots n i).1)
-    (alike (root_at os n).space (sound.spaces n).0.1)),
+      (content_alike (void_where k.0) (void_where goes) (content_at os n) (λ i. alike (slot_at os n i) (sound.slots n i).1)
+      (alike (root_at os n).space (sound.spaces n).0.1)),
 )
   where
     goes : Capability → Bool
