@@ -1,7 +1,8 @@
--- The numbers touched, and when an invocation is refused since the log is full.
-use Rattle.std.proofs.Common.{◌≡◌, ◌⊎◌, ◌↔◌, ℕ, zero, suc, ◌<◌, ◌^◌, Bool, true, false, not, ◌&&◌, List, [], ◌∷◌, length, slice_get, slice_set, slice_index_or, Some, None, Option, IsTrue, inl, inr, refl, sym, ap, ◌∙◌, subst, arith, length-set, ltb-true, lt-ltb, zero-lt-suc}
+-- The numbers touched, and when an invocation or a store is refused since the log is full.
+use Rattle.std.proofs.Common.{◌≡◌, ◌⊎◌, ◌↔◌, ℕ, zero, suc, ◌<◌, ◌^◌, Bool, true, false, not, ◌&&◌, List, [], ◌∷◌, length, slice_get, slice_set, slice_index_or, Some, None, Ok, Err, Option, Result, IsTrue, inl, inr, refl, sym, ap, ◌∙◌, subst, arith, length-set, ltb-true, lt-ltb, zero-lt-suc}
 use Rattle.std.specs.List.{Contains}
 use Rattle.std.proofs.lemmas.List.Elements.{Contains-append_right}
+use Rattle.model.specs.declared.answer.MemoryFault.{MemoryFault}
 use Rattle.model.specs.declared.answer.Refusal.{Refusal}
 use Rattle.model.specs.declared.answer.Refusal.TheVariants as refusal
 use Rattle.model.specs.declared.command.Command.TheVariants as command
@@ -10,8 +11,8 @@ use Rattle.model.specs.declared.geometry.Geometry.{Geometry}
 use Rattle.model.specs.World.{is_running_process}
 use Rattle.model.specs.Invoke.{Effect, invoke}
 use Rattle.model.specs.Machine.{Running, touching}
-use Rattle.model.specs.Step.{refusal_of, unless, overfills}
-use Rattle.model_laws.specs.Laws.{TouchesWritten, LogFullIsExact}
+use Rattle.model.specs.Step.{overfills, reached, refusal_of, unless, writable}
+use Rattle.model_laws.specs.Laws.{TouchesWritten, LogFullIsExact, StoreLogFullIsExact}
 
 -- a mark is read where it was made, and what was marked stays so
 marked : (xs : List Bool) (m n : ℕ) → slice_get (slice_set xs m true) n ≡ Some true → (slice_get xs n ≡ Some true) ⊎ (m ≡ n)
@@ -85,3 +86,28 @@ log_full_is_exact g s i e p young effect =
     let is = refusal_is g s i e p young effect in
     let decides = refuses (overfills g s.touched e.written) in
     (λ full. ltb-true _ _ (decides.0 (sym is ∙ full)), λ full. is ∙ decides.1 (lt-ltb _ _ full))
+
+-- the same of a store: what is left to check once its page is known
+acts : (process running : Bool) (next : Option Refusal) → (process && running) ≡ true
+    → unless process refusal.NoProcess (unless (process && running) refusal.NotRunning next) ≡ next
+acts true true next p = refl
+acts true false next p = cc
+acts false running next p = cc
+
+abbrev store_checks : Geometry → Running → Result ℕ MemoryFault → Option Refusal
+store_checks g s (Ok page) = unless (not (overfills g s.touched (page ∷ []))) refusal.LogFull None
+store_checks g s (Err why) = None
+
+store_refusal_is : (g : Geometry) (s : Running) (p address value : ℕ) (found : Result ℕ MemoryFault) → IsTrue (is_running_process s.now.objects p)
+    → writable (reached s.now.objects p address) ≡ found → refusal_of g s (command.Store p address value) ≡ store_checks g s found
+unfolding refusal_of
+store_refusal_is g s p address value found runs is = acts _ _ _ runs ∙ ap (store_checks g s) is
+
+pub store_log_full_is_exact : StoreLogFullIsExact
+store_log_full_is_exact g s p address value runs = (
+  λ page is.
+      let refused = store_refusal_is g s p address value (Ok page) runs is in
+      let decides = refuses (overfills g s.touched (page ∷ [])) in
+      (λ full. ltb-true _ _ (decides.0 (sym refused ∙ full)), λ full. refused ∙ decides.1 (lt-ltb _ _ full)),
+  λ why is. store_refusal_is g s p address value (Err why) runs is,
+)

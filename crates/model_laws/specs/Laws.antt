@@ -1,6 +1,7 @@
-use Rattle.std.specs.Prelude.{◌≡◌, ◌⊎◌, ◌↔◌, ℕ, ◌+◌, ◌^◌, ◌<◌, Bool, true, false, Some, List, length, slice_get, IsTrue}
+use Rattle.std.specs.Prelude.{◌≡◌, ◌⊎◌, ◌↔◌, ℕ, ◌+◌, ◌^◌, ◌<◌, Bool, true, false, None, Some, Ok, Err, List, [], ◌∷◌, length, slice_get, IsTrue}
 use Rattle.std.specs.List.{Contains}
 use Rattle.model.specs.declared.access.Access.{Access}
+use Rattle.model.specs.declared.answer.MemoryFault.{MemoryFault}
 use Rattle.model.specs.declared.answer.Refusal.TheVariants as refusal
 use Rattle.model.specs.declared.capability.Capability.{Capability}
 use Rattle.model.specs.declared.command.Command.{Command}
@@ -17,7 +18,7 @@ use Rattle.model.specs.Revoke.{rescind, consume, is_member, names_member, resume
 use Rattle.model.specs.Order.{fetched}
 use Rattle.model.specs.Invoke.{Effect, invoke}
 use Rattle.model.specs.Machine.{Running, touching, touched_count}
-use Rattle.model.specs.Step.{refusal_of}
+use Rattle.model.specs.Step.{reached, refusal_of, writable}
 use Rattle.model.specs.Text.{Fits, spelling, Says}
 use Rattle.model.specs.Worlds.{small, f0, i0}
 
@@ -62,6 +63,14 @@ abbrev pub LogFullIsExact : Type 0
 LogFullIsExact = (g : Geometry) (s : Running) (i : Invocation) (e : Effect) →
     IsTrue (is_running_process s.now.objects i.process) → s.now.age < 2 ^ 62 → invoke g s.now.objects i ≡ Some e →
     (refusal_of g s (command.Invoke i) ≡ Some refusal.LogFull) ↔ (g.log < touched_count (touching s.touched e.written))
+
+-- a store that reaches a page which it may write is refused as log full exactly where the numbers touched with that page
+-- are too many, and one that comes to a memory fault isn't refused
+abbrev pub StoreLogFullIsExact : Type 0
+StoreLogFullIsExact = (g : Geometry) (s : Running) (p address value : ℕ) → IsTrue (is_running_process s.now.objects p) →
+    ((page : ℕ) → writable (reached s.now.objects p address) ≡ Ok page →
+    (refusal_of g s (command.Store p address value) ≡ Some refusal.LogFull) ↔ (g.log < touched_count (touching s.touched (page ∷ []))))
+    × ((why : MemoryFault) → writable (reached s.now.objects p address) ≡ Err why → refusal_of g s (command.Store p address value) ≡ None)
 
 -- no two commands share a spelling
 abbrev pub SpellsOne : Type 0

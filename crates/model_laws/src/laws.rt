@@ -1,6 +1,6 @@
 //! Laws of the definitions, each the contract of a function that does nothing.
 
-ghost use Rattle.model_laws.specs.Laws.{DiminishesOnce, FetchesWeak, RescindsAll, ConsumesAll, TouchesWritten, LogFullIsExact, SpellsOne, SaysOne, BeginsSound};
+ghost use Rattle.model_laws.specs.Laws.{DiminishesOnce, FetchesWeak, RescindsAll, ConsumesAll, TouchesWritten, LogFullIsExact, StoreLogFullIsExact, SpellsOne, SaysOne, BeginsSound};
 
 /// To diminish a capability twice is to diminish it once.
 pub fn diminishes_once()
@@ -33,6 +33,12 @@ pub fn touches_written()
 /// writes would be too many.
 pub fn log_full_is_exact()
     ensures { LogFullIsExact }
+{}
+
+/// A store that reaches a page which it may write is refused as log full exactly where that page
+/// would be one too many, and a memory fault comes before a full log.
+pub fn store_log_full_is_exact()
+    ensures { StoreLogFullIsExact }
 {}
 
 /// No two commands share a spelling.
