@@ -1,5 +1,3 @@
-mod Agreeing
-mod Confining
 mod ScriptLines
 mod TurnLists
 mod Turning

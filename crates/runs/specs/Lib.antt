@@ -1,4 +1,3 @@
 pub use Rattle.kernel.specs.Standing
 pub mod KernelRuns
-pub mod Laws
 pub mod Taking

@@ -1,6 +1,6 @@
 //! Laws of runs, each the contract of a function that does nothing.
 
-ghost use Rattle.runs.specs.Laws.{RunsAreConfined, SteadyRunsAgree};
+ghost use Rattle.runs_laws.specs.Laws.{RunsAreConfined, SteadyRunsAgree};
 
 use device::Device;
 use object_cache::ObjectStore;

@@ -11,7 +11,7 @@ use Rattle.object_cache.specs.Store.{View}
 use Rattle.kernel.specs.declared.power.Power.{Power}
 use Rattle.kernel.specs.declared.power.Power.TheVariants as power
 use Rattle.kernel.specs.Standing.{Stands}
-use Rattle.runs.specs.Laws.{RunsAreConfined}
+use Rattle.runs_laws.specs.Laws.{RunsAreConfined}
 
 module _ {D S : Type 0} (disk : D → Disk) (view : S → View D) (parts : S → Parts) where
   -- a kernel that is up stands for one machine

@@ -15,7 +15,7 @@ use Rattle.model.specs.Step.{Answers, Outcome, Step, carried_out, refusal_of}
 use Rattle.model.specs.Text.{Says}
 use Rattle.model_laws.proofs.Spelling.{says_one}
 use Rattle.runs.specs.KernelRuns.{lines_in}
-use Rattle.runs.specs.Laws.{SteadyRunsAgree, is_steady}
+use Rattle.runs_laws.specs.Laws.{SteadyRunsAgree, is_steady}
 
 -- two answers of a machine that is up, which stays up
 record Agree (x y : Answer) (a b : Machine) : Type 0 where

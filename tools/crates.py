@@ -1,0 +1,46 @@
+"""The repository's crates, and copies of some of them in a folder of their own, where `rt ci` proves them from nothing:
+that is the quickest way, since it takes as many at a time as there are processors and memory, and loads of a library its
+statements alone."""
+import shutil
+from pathlib import Path
+
+ROOT = Path(__file__).resolve().parent.parent
+
+
+def libraries():
+    """The repository's crates, each with those of them that it names."""
+    lines = [it.partition("#")[0].partition(":") for it in (ROOT / "crates.txt").read_text().splitlines()]
+    named = {name.strip(): below.split() for name, colon, below in lines if colon}
+    return {name: [it for it in below if it in named] for name, below in named.items()}
+
+
+def closure(names):
+    """These crates and those that they stand on, lowest first, each with those that it names."""
+    all_crates, found = libraries(), {}
+
+    def add(name):
+        for it in all_crates[name]:
+            if it not in found:
+                add(it)
+        found[name] = all_crates[name]
+
+    for name in names:
+        if name not in found:
+            add(name)
+    return found
+
+
+def copy_to(folder, names, parts):
+    """Copies these crates to a folder, of each the parts named and what its program is run on."""
+    folder = Path(folder)
+    for name in names:
+        own = ROOT / "crates" / name
+        for part in own.iterdir():
+            if part.is_dir() and part.name in parts:
+                shutil.copytree(part, folder / "crates" / name / part.name)
+            elif part.is_file():
+                (folder / "crates" / name).mkdir(parents=True, exist_ok=True)
+                shutil.copy(part, folder / "crates" / name)
+    lines = (ROOT / "crates.txt").read_text().splitlines(keepends=True)
+    (folder / "crates.txt").write_text("".join(it for it in lines if it.partition(":")[0].strip() in names))
+    shutil.copy(ROOT / "HANDLES", folder)
