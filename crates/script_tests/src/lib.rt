@@ -1,28 +1,12 @@
-//! The tests of the machine's orders and of scripts, through the public functions of the crates
-//! `capability`, `gate`, `processes`, `script` and `runs`.
+//! What no script over an image shows of the crates `capability`, `gate`, `script` and `runs`:
+//! readers and writers that give and take little, stop or fail, and values that no image has.
 #![tactic(auto)]
 
 #[cfg(test)]
-mod answers;
+mod readers;
 #[cfg(test)]
-mod banks;
-#[cfg(test)]
-mod frames;
-#[cfg(test)]
-mod gates;
-#[cfg(test)]
-mod kinds;
-#[cfg(test)]
-mod lines;
-#[cfg(test)]
-mod memory;
-#[cfg(test)]
-mod names;
-#[cfg(test)]
-mod orders;
-#[cfg(test)]
-mod running;
-#[cfg(test)]
-mod steps;
+mod values;
 #[cfg(test)]
 mod worlds;
+#[cfg(test)]
+mod writers;

@@ -1,2 +1,0 @@
-pub mod CountedStores
-pub mod KeptStores

@@ -1,0 +1,144 @@
+// Answers to writers that take little, are interrupted, or fail.
+ghost use Rattle.model.specs.Keepable.{AreKeepable};
+ghost use Rattle.capability.specs.Parts.{frames_of};
+ghost use Rattle.capability.specs.Plain.{parts_of};
+
+use crate::worlds::{device_of, run_over};
+use capability::Plain;
+use kernel_tests::first_world;
+use model::{Answer, Content, Object, Words};
+use script::{RunFault, print_answer};
+use std::alloc::Global;
+use std::io;
+use std::io::{ErrorKind, Write};
+use std::process::Abort;
+use std::test::Fail;
+
+// Takes so many bytes at a time, as long as it has room, and then fails or takes nothing. It is
+// interrupted before each time.
+#[derive(Drop)]
+struct Narrow {
+    taken: Vec<u8>,
+    width: usize,
+    room: usize,
+    fails: bool,
+    interrupted: bool,
+}
+
+impl Narrow {
+    fn new(alloc: Global, width: usize, room: usize, fails: bool) -> Narrow {
+        Narrow {
+            taken: Vec::new(alloc),
+            width,
+            room,
+            fails,
+            interrupted: false,
+        }
+    }
+}
+
+impl Write for Narrow {
+    fn write(&mut self, buf: &[u8]) -> io::Result<usize> {
+        self.interrupted = !self.interrupted;
+        if self.interrupted {
+            return Err(io::Error::from(ErrorKind::Interrupted));
+        }
+        let count = buf.len().min(self.width).min(self.room);
+        if count == 0 && self.fails {
+            return Err(io::Error::from(ErrorKind::StorageFull));
+        }
+        self.taken.extend_from_slice(&buf[..count])?;
+        self.room -= count;
+        Ok(count)
+    }
+
+    fn flush(&mut self) -> io::Result<()> {
+        Ok(())
+    }
+}
+
+// A writer that had so much room took all of a text, or there was a fault and it took what fits.
+fn has_taken(
+    rt: &impl Abort,
+    writer: &Narrow,
+    room: usize,
+    text: &[u8],
+    outcome: Result<(), RunFault>,
+) {
+    let expected = if room < text.len() {
+        Err(RunFault::Write)
+    } else {
+        Ok(())
+    };
+    assert_eq!(rt; outcome, expected, "room for {room}");
+    assert_eq!(rt; writer.taken.as_slice(), &text[..room.min(text.len())]);
+}
+
+// An answer is written to writers with more and more room, which take so many bytes at a time.
+fn is_written(rt: &impl Abort, alloc: Global, answer: &Answer, text: &[u8], width: usize) {
+    for fails in [false, true] {
+        for room in 0..text.len() + 2 {
+            let mut writer = Narrow::new(alloc, width, room, fails);
+            let outcome = print_answer(answer, &mut writer);
+            has_taken(rt, &writer, room, text, outcome);
+        }
+    }
+}
+
+#[test]
+fn narrow_writers_take_an_answer(rt: HostRuntime) -> Result<(), Fail> {
+    let at = Answer::At {
+        generation: 12,
+        age: 345,
+    };
+    is_written(&rt, rt.alloc(), &at, b"at 12 345\n", 1);
+    let mut words = Words::new(rt.alloc())?;
+    words.set(0, 42);
+    let shown = Answer::Shown {
+        number: 16,
+        object: Object {
+            owner: 0,
+            content: Content::Page(words),
+        },
+        registers: None,
+        used: 0,
+    };
+    is_written(
+        &rt,
+        rt.alloc(),
+        &shown,
+        b"page 16 owner 0\nword 0 42\nend\n",
+        7,
+    );
+    Ok(())
+}
+
+// A script over a world is written so to a writer with so much room.
+fn is_answered(
+    rt: &impl Abort,
+    alloc: Global,
+    plain: &Plain,
+    script: &[u8],
+    expected: &[u8],
+    room: usize,
+) -> Result<(), Fail>
+    requires { AreKeepable plain.now.geometry 0 (frames_of (parts_of plain.now)) }
+{
+    let mut reader = script;
+    let mut writer = Narrow::new(alloc, 4096, room, true);
+    let outcome = run_over(alloc, device_of(alloc, plain)?, &mut reader, &mut writer)?;
+    has_taken(rt, &writer, room, expected, outcome);
+    Ok(())
+}
+
+// Whatever byte of the answers a writer fails at, it has taken those before it.
+#[test]
+fn a_failing_writer_ends_the_run(rt: HostRuntime) -> Result<(), Fail> {
+    let plain = first_world(rt.alloc())?;
+    let script = b"show 5\nshow 01\nshow 16\n";
+    let expected = b"node 5 owner 0\nend\nbad line\npage 16 owner 0\nend\n";
+    for room in 0..=expected.len() {
+        is_answered(&rt, rt.alloc(), &plain, script, expected, room)?;
+    }
+    Ok(())
+}
