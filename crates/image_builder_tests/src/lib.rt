@@ -1,11 +1,5 @@
-//! The tests of `description`, `described_world` and `image_builder`, through their public
-//! functions. They stand apart, so that these are proved once, and not a second time with their
-//! tests.
+//! The tests of `image_builder` on devices that no file is. The rows of checks/rows try the rest.
 #![tactic(auto)]
 
 #[cfg(test)]
-mod faults;
-#[cfg(test)]
-mod images;
-#[cfg(test)]
-mod texts;
+mod devices;

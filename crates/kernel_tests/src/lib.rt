@@ -1,22 +1,12 @@
-//! The tests of `kernel` and `runs`, through their public functions, and what they are written
-//! with: scripts over worlds on a device in memory, and images that were changed. They stand apart,
-//! so that both are proved once, and not a second time with their tests.
+//! The tests of `kernel` and `runs` that need a device which stops or loses power, and what tests
+//! of scripts are written with: scripts over worlds on a device in memory. The rows of checks/rows
+//! try what no such device is needed for.
 #![tactic(auto)]
 
-#[cfg(test)]
-mod changes;
 mod images;
 mod kernels;
 #[cfg(test)]
-mod refusals;
-#[cfg(test)]
-mod rows;
-#[cfg(test)]
-mod saved;
-#[cfg(test)]
-mod scripts;
-#[cfg(test)]
-mod second;
+mod layouts;
 #[cfg(test)]
 mod stops;
 

@@ -1,0 +1,50 @@
+// Devices that are too small, and that stop.
+use device::{Device, Fuse, Memory, Outcome};
+use image_builder::build;
+use std::alloc::Global;
+use std::test::Fail;
+
+const PRIME: &str = "bank = [{ number = 0, owner = 0, limit = 1 }]";
+
+// The number of the fault of a description of 16 nodes, or 0 where its image is built.
+fn fault<D: Device>(alloc: Global, rest: &str, device: &mut D) -> Result<u64, Fail> {
+    let mut text = String::new(alloc);
+    text.push_str("nodes = 16\npages = 8\nlog = 16\n")?;
+    text.push_str(rest)?;
+    let table = toml::table_from_str(alloc, text.as_str())
+        .ok()
+        .ok_or("no table")?;
+    match build(alloc, &table, device) {
+        Ok(()) => Ok(0),
+        Err(fault) => Ok(fault.number()),
+    }
+}
+
+#[test]
+fn a_small_device_is_told_last(rt: HostRuntime) -> Result<(), Fail> {
+    for (rest, told) in [
+        (PRIME, 7),
+        ("colour = 1", 1),
+        ("age = 4611686018427387905", 2),
+        ("bank = [{ number = 16, owner = 0, limit = 1 }]", 3),
+        ("node = [{number=5, owner=0, slots=[[32, 'void']]}]", 4),
+        ("node = [{number=5, owner=0, slots=[[0, 'node 6']]}]", 5),
+        ("", 6),
+    ] {
+        let mut device = Memory::new(rt.alloc(), 398, 2000, Outcome::Keep)?;
+        assert_eq!(rt; fault(rt.alloc(), rest, &mut device)?, told, "of {rest}");
+    }
+    Ok(())
+}
+
+// The front of an image is 5 writes, its frames are 24, and there are 2 syncs.
+#[test]
+fn a_device_that_stops_is_told(rt: HostRuntime) -> Result<(), Fail> {
+    for calls in 0..40 {
+        let device = Memory::new(rt.alloc(), 399, 2000, Outcome::Keep)?;
+        let told = if calls < 31 { 8 } else { 0 };
+        let found = fault(rt.alloc(), PRIME, &mut Fuse::new(device, calls))?;
+        assert_eq!(rt; found, told, "after {calls} calls");
+    }
+    Ok(())
+}
