@@ -7,7 +7,6 @@ use Rattle.model.specs.declared.object.Content.{Content}
 use Rattle.model.specs.declared.object.Content.TheVariants as content
 use Rattle.model.specs.Keepable.{IsKeepable, AreKeepable, AreKeptWords}
 use Rattle.device.specs.Disk.{Disk}
-use Rattle.layout.specs.Superblock.{IsGeometry}
 use Rattle.migrator.specs.Put.{Put, Kept, put_at, sum_of, held_slot}
 use Rattle.migrator.specs.Durable.{DurableState, Frozen, Stored, stored_of, is_sound}
 
@@ -36,8 +35,6 @@ pub record IsLoad (g : Geometry) (slots frozen_slots size : ℕ) (s : Stored) : 
   pub frozen : (f : Frozen) → s.frozen ≡ Some f → IsLightFor g frozen_slots size f
 
 -- what is kept beside a store tells of it
-pub record IsRig {D : Type 0} (disk : D → Disk) (g : Geometry) (goes_on : Bool) (slots frozen_slots size : ℕ) (s : DurableState D) : Type 0 where
-  pub geometry : s.books.plan.geometry ≡ g
-  pub limits : IsGeometry g
+pub record IsRig {D : Type 0} (disk : D → Disk) (goes_on : Bool) (slots frozen_slots size : ℕ) (s : DurableState D) : Type 0 where
   pub sound : goes_on ≡ true → is_sound disk s
-  pub load : IsLoad g slots frozen_slots size (stored_of disk s)
+  pub load : IsLoad s.books.plan.geometry slots frozen_slots size (stored_of disk s)

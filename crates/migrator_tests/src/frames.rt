@@ -1,5 +1,6 @@
 // The frames that are written: each stands for one value.
-ghost use Rattle.std.specs.Prelude.{◌≡◌, ◌+◌, ◌<◌, IfOk};
+ghost use Rattle.std.specs.Prelude.{◌≡◌, ◌≤◌, ◌+◌, IfOk};
+ghost use Rattle.frame_io.specs.Frames.{IsObject};
 ghost use Rattle.model.specs.Keepable.{IsKeepable};
 ghost use Rattle.migrator_tests.specs.Rig.{IsPage};
 
@@ -8,8 +9,8 @@ use layout::{Body, Room};
 use model::{Cap, Content, Geometry, ObjectHeader, Role, Words};
 use std::alloc::{AllocError, Global};
 
-/// The header of each frame that is written.
-pub(crate) fn front(role: Role) -> ObjectHeader
+// The header of each frame that is written.
+fn front(role: Role) -> ObjectHeader
     ensures { result ≡ record { role = role; allocations = 0; calls = 0; owner = 7 } }
 {
     ObjectHeader {
@@ -30,17 +31,21 @@ fn page(alloc: Global, value: u64) -> Result<Content<Cap>, AllocError>
 }
 
 /// The frame of an object with a value: a bank with this limit where it is a node, else a page with
-/// this first word. Fails only where memory runs out.
+/// this first word. Fails where it isn't there, or memory runs out.
 pub(crate) fn frame(
     alloc: Global,
     geometry: Geometry,
     number: u64,
     value: u64,
 ) -> Result<(ObjectHeader, Content<Cap>), Failed>
-    requires { number < geometry.nodes + geometry.pages }
-    ensures { IfOk result (λ frame. IsKeepable geometry 0 number
+    requires { geometry.nodes + geometry.pages ≤ 8192 }
+    ensures object { IfOk result (λ _. IsObject geometry number) }
+    ensures keepable { IfOk result (λ frame. IsKeepable geometry 0 number
         (record { header = frame.0; content = frame.1 })) }
 {
+    if number >= geometry.nodes + geometry.pages {
+        return Err(Failed);
+    }
     if number < geometry.nodes {
         return Ok((front(Role::Bank), Content::Bank { limit: value }));
     }

@@ -1,9 +1,8 @@
-// An image of the greatest size.
-use crate::builder::Builder;
-use crate::images::opened;
+// An image of the greatest size, of which every second object is put.
+use crate::images::{build, opened};
 use crate::rig::Rig;
 use device::{Device, Failed, Memory, Outcome};
-use layout::{CheckpointHeader, Gate};
+use migrator::CheckpointFault;
 use model::Geometry;
 use std::alloc::Global;
 use std::test::Fail;
@@ -14,26 +13,15 @@ const GREATEST: Geometry = Geometry {
     log: 4096,
 };
 
-fn image<D: Device>(alloc: Global, device: D) -> Result<D, Fail> {
-    let mut builder = Builder::new(device, GREATEST).ok_or("within the limits")?;
-    let header = CheckpointHeader {
-        sequence: 0,
-        generation: 0,
-        entries: 0,
-        age: 0,
-    };
-    builder.put_superblock()?;
-    builder.put_homes(alloc)?;
-    builder.put_header(header, Gate::Open)?;
-    Ok(builder.finish()?)
-}
-
-// Puts every second object.
-fn put_half<D: Device>(alloc: Global, rig: &mut Rig<D>) -> Result<(), Failed> {
+// Commits every second object.
+fn commit_half<D: Device>(alloc: Global, rig: &mut Rig<D>) -> Result<u64, CheckpointFault> {
     for index in 0..4096 {
-        rig.put(alloc, 2 * index, 9000)?;
+        if rig.put(alloc, 2 * index, 9000).is_err() {
+            return Err(CheckpointFault::Failed);
+        }
     }
-    Ok(())
+    rig.freeze(4096)?;
+    rig.commit(1)
 }
 
 // Whether every second object was put, and no other.
@@ -47,32 +35,33 @@ fn is_half_put<D: Device>(rig: &mut Rig<D>) -> Result<bool, Failed> {
     Ok(true)
 }
 
-// Commits every second object, and tells whether all are right, at once and opened again.
-fn commit_half<D: Device>(alloc: Global, device: D) -> Result<(D, [bool; 2]), Fail> {
+// Opens a device, and tells how many entries it has and whether all objects are right.
+fn again<D: Device>(alloc: Global, device: D) -> Result<(Rig<D>, u64, bool), Fail> {
     let mut rig = opened(alloc, device)?;
-    put_half(alloc, &mut rig)?;
-    rig.freeze(4096)?;
-    rig.commit(1)?;
-    let at_once = is_half_put(&mut rig)?;
-    let mut rig = opened(alloc, rig.into_device())?;
-    let again = is_half_put(&mut rig)? && rig.saved().entries == 4096;
-    Ok((rig.into_device(), [at_once, again]))
+    let is_half_put = is_half_put(&mut rig)?;
+    let entries = rig.saved().entries;
+    Ok((rig, entries, is_half_put))
 }
 
-// Brings them home in two steps, and tells what is left and whether all are right, opened again.
-fn bring_home<D: Device>(alloc: Global, device: D) -> Result<([u64; 2], bool), Fail> {
+// Commits every second object, and brings all home in two steps.
+fn commit_and_migrate<D: Device>(alloc: Global, device: D) -> Result<[bool; 3], Fail> {
     let mut rig = opened(alloc, device)?;
-    let left = [rig.migrate(4000)?, rig.migrate(4000)?];
-    let mut rig = opened(alloc, rig.into_device())?;
-    Ok((left, is_half_put(&mut rig)? && rig.saved().entries == 0))
+    commit_half(alloc, &mut rig)?;
+    let at_once = is_half_put(&mut rig)?;
+    let (mut rig, entries, is_put) = again(alloc, rig.into_device())?;
+    let is_left = rig.migrate(4000)? == 96 && rig.migrate(4000)? == 0;
+    let (_, rest, is_home) = again(alloc, rig.into_device())?;
+    Ok([
+        at_once && is_left,
+        is_put && entries == 4096,
+        is_home && rest == 0,
+    ])
 }
 
 #[test]
 fn an_image_of_the_greatest_size(rt: HostRuntime) -> Result<(), Fail> {
     let memory = Memory::new(rt.alloc(), 131072, 150000, Outcome::Drop)?;
-    let device = image(rt.alloc(), memory)?;
-    let (device, are_right) = commit_half(rt.alloc(), device)?;
-    assert_eq!(rt; are_right, [true, true]);
-    assert_eq!(rt; bring_home(rt.alloc(), device)?, ([96, 0], true));
+    let device = build(rt.alloc(), memory, GREATEST)?;
+    assert_eq!(rt; commit_and_migrate(rt.alloc(), device)?, [true, true, true]);
     Ok(())
 }

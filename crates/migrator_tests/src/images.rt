@@ -1,23 +1,89 @@
 // Images that the tests begin with.
-use crate::builder::Builder;
+use crate::frames::frame;
 use crate::rig::Rig;
-use device::{Device, Memory, Outcome};
-use layout::{CheckpointHeader, Entry, Gate};
-use migrator::Checkpoint;
+use crate::steps::{Step, Values, take_from};
+use device::{Device, Failed, Memory, Outcome, SECTOR_SIZE};
+use home_ranges::Home;
+use layout::{
+    CheckpointHeader, Gate, HomeRange, Superblock, encode_gate, encode_header, encode_superblock,
+};
 use model::Geometry;
 use std::alloc::Global;
+use std::process::Abort;
 use std::test::Fail;
 
-/// 16 nodes, 8 pages, and 16 slots in each half of the log. The nodes lie at home from sector 5 on,
-/// the pages from sector 37 on, and the halves of the log begin at sectors 109 and 254.
-pub(crate) const SMALL: Geometry = Geometry {
-    nodes: 16,
-    pages: 8,
-    log: 16,
-};
+// A superblock of so many objects: the nodes lie at home from sector 5 on, behind them the pages,
+// and behind those the two halves of the log.
+fn superblock(geometry: Geometry) -> Option<Superblock> {
+    let Geometry { nodes, pages, log } = geometry;
+    if nodes > 4096 || pages > 4096 || log > 4096 {
+        return None;
+    }
+    let half = 9 * log + (log + 31) / 32;
+    let behind_nodes = 5 + 2 * nodes;
+    let behind_pages = behind_nodes + 9 * pages;
+    let homes = [
+        HomeRange {
+            first: 0,
+            count: nodes,
+            sector: 5,
+        },
+        HomeRange {
+            first: nodes,
+            count: pages,
+            sector: behind_nodes,
+        },
+    ];
+    let total = behind_pages + 2 * half;
+    Superblock::new(geometry, &homes, behind_pages, behind_pages + half, total)
+}
 
-/// How many sectors that takes.
-pub(crate) const SECTORS: u64 = 399;
+// Writes a superblock and a first header.
+fn put_heads<D: Device>(device: &mut D, superblock: &Superblock) -> Result<(), Failed> {
+    let header = CheckpointHeader {
+        sequence: 0,
+        generation: 0,
+        entries: 0,
+        age: 0,
+    };
+    let mut sector = [0; SECTOR_SIZE];
+    if device.sectors() < 3 {
+        return Err(Failed);
+    }
+    encode_superblock(superblock, &mut sector);
+    device.write(0, &sector)?;
+    encode_header(header, &mut sector);
+    device.write(1, &sector)?;
+    encode_gate(Gate::Open, &mut sector);
+    device.write(2, &sector)
+}
+
+// Writes the home frame of an object, with its number as its value.
+fn put_home<D: Device>(
+    alloc: Global,
+    device: &mut D,
+    superblock: &Superblock,
+    number: u64,
+) -> Result<(), Failed> {
+    let (header, content) = frame(alloc, superblock.geometry(), number, number)?;
+    if device.sectors() < superblock.total() {
+        return Err(Failed);
+    }
+    Home::new(superblock).write_frame(device, number, header, &content)
+}
+
+/// Writes an image of so many objects, of generation 0 and with nothing in the log. The values are
+/// the numbers.
+pub(crate) fn build<D: Device>(alloc: Global, device: D, geometry: Geometry) -> Result<D, Failed> {
+    let mut device = device;
+    let superblock = superblock(geometry).ok_or(Failed)?;
+    put_heads(&mut device, &superblock)?;
+    for number in 0..geometry.nodes.wrapping_add(geometry.pages) {
+        put_home(alloc, &mut device, &superblock, number)?;
+    }
+    device.sync()?;
+    Ok(device)
+}
 
 /// What a device keeps of a sector that wasn't synced, and whether a gate that was written open is
 /// open then.
@@ -28,74 +94,37 @@ pub(crate) const OUTCOMES: [(Outcome, bool); 4] = [
     (Outcome::Fill(1), true),
 ];
 
-/// How many calls of the device it takes to open one without entries: a read of the superblock by
-/// the rig, and a sync, a read of the superblock, of two headers and of two gates, and of 24
-/// frames.
-pub(crate) const OPENING: u64 = 31;
+/// How many calls of the device it takes to open an image with nothing in the log: a sync, and
+/// reads of the superblock, of two headers and two gates, and of 24 frames.
+pub(crate) const OPENING: u64 = 30;
 
-/// A builder of an image whose objects have their numbers as values, without a header.
-pub(crate) fn homes(alloc: Global, outcome: Outcome) -> Result<Builder<Memory>, Fail> {
-    let device = Memory::new(alloc, SECTORS, 2000, outcome)?;
-    let mut builder = Builder::new(device, SMALL).ok_or("within the limits")?;
-    builder.put_superblock()?;
-    builder.put_homes(alloc)?;
-    Ok(builder)
-}
+/// What an image of generation 0 went through.
+pub(crate) const AT_HOME: &[Step] = &[];
 
-/// What generation 0 tells.
-pub(crate) const FIRST: Checkpoint = Checkpoint {
-    generation: 0,
-    age: 0,
-    entries: 0,
-};
+/// Objects that lie in the log, in the order in which they are put there.
+pub(crate) const LOGGED: &[Values] = &[(&[17], 517), (&[3], 503), (&[9], 509)];
 
-/// An image of generation 0 without entries.
-pub(crate) fn image(alloc: Global, outcome: Outcome) -> Result<Memory, Fail> {
-    let mut builder = homes(alloc, outcome)?;
-    let header = CheckpointHeader {
-        sequence: 0,
-        generation: 0,
-        entries: 0,
-        age: 0,
-    };
-    builder.put_header(header, Gate::Open)?;
-    Ok(builder.finish()?)
-}
-
-/// The directory of `image_with_entries`.
-pub(crate) const ENTRIES: [Entry; 3] = [
-    Entry { object: 3, slot: 1 },
-    Entry { object: 9, slot: 2 },
-    Entry {
-        object: 17,
-        slot: 0,
-    },
+/// What an image of generation 1 went through of which they lie in the log.
+pub(crate) const IN_LOG: &[Step] = &[
+    Step::Put(LOGGED),
+    Step::Freeze(3, Ok(())),
+    Step::Commit(3, Ok(1)),
 ];
 
-/// What it tells.
-pub(crate) const WITH_ENTRIES: Checkpoint = Checkpoint {
-    generation: 1,
-    age: 3,
-    entries: 3,
-};
-
-/// An image of generation 1 of which nodes 3 and 9 and page 17 lie in the log, with values 503, 509
-/// and 517. The home of node 3 holds no frame.
-pub(crate) fn image_with_entries(alloc: Global, outcome: Outcome) -> Result<Memory, Fail> {
-    let mut builder = homes(alloc, outcome)?;
-    let header = CheckpointHeader {
-        sequence: 1,
-        generation: 1,
-        entries: 3,
-        age: 3,
+/// An image of 16 nodes, 8 pages and 16 slots in each half of the log that went through steps.
+pub(crate) fn image(
+    rt: &impl Abort,
+    alloc: Global,
+    outcome: Outcome,
+    steps: &[Step],
+) -> Result<Memory, Fail> {
+    let geometry = Geometry {
+        nodes: 16,
+        pages: 8,
+        log: 16,
     };
-    builder.put_sector(11, &[9; 512])?;
-    for entry in ENTRIES {
-        builder.put_slot(alloc, 1, entry, entry.object.wrapping_add(500))?;
-    }
-    builder.put_directory(1, &ENTRIES)?;
-    builder.put_header(header, Gate::Open)?;
-    Ok(builder.finish()?)
+    let device = Memory::new(alloc, 399, 2000, outcome)?;
+    take_from(rt, alloc, build(alloc, device, geometry)?, steps, 0)
 }
 
 /// The store that a device holds.

@@ -2,9 +2,7 @@
 #![tactic(auto)]
 
 #[cfg(test)]
-mod builder;
-#[cfg(test)]
-mod commits;
+mod cases;
 #[cfg(test)]
 mod frames;
 #[cfg(test)]
@@ -12,14 +10,8 @@ mod greatest;
 #[cfg(test)]
 mod images;
 #[cfg(test)]
-mod migrations;
-#[cfg(test)]
-mod opens;
-#[cfg(test)]
-mod puts;
-#[cfg(test)]
-mod refusals;
-#[cfg(test)]
 mod rig;
+#[cfg(test)]
+mod steps;
 #[cfg(test)]
 mod stops;

@@ -1,14 +1,9 @@
 // A store that is called only as its contracts ask.
-ghost use Rattle.std.specs.Prelude.{◌≡◌, IfOk};
-ghost use Rattle.layout.specs.Image.{sectors_from};
-ghost use Rattle.layout.specs.Superblock.{IsPlan, superblock_bytes};
-
 use crate::frames::{frame, value_of};
-use device::{Device, Failed, SECTOR_SIZE};
-use frame_io::read_sectors;
-use layout::{BadImage, Room, Superblock, decode_superblock, spell_one_value};
+use device::{Device, Failed};
+use layout::Room;
 use migrator::{Checkpoint, CheckpointFault, Durable, OpenFault, OpenRefused, Opened};
-use model::{Geometry, MAX_AGE};
+use model::MAX_AGE;
 use std::alloc::Global;
 use std::marker::Model;
 
@@ -20,7 +15,6 @@ use std::marker::Model;
 pub(crate) struct Rig<D: Device> {
     store: Durable<D>,
     room: Room,
-    geometry: Geometry,
     /// Whether no commit and no migration failed.
     sound: bool,
     /// How many slots are used at most by what was put since the last checkpoint began, and by
@@ -31,45 +25,19 @@ pub(crate) struct Rig<D: Device> {
 }
 
 impl<D: Device> Model for Rig<D> {
-    ghost use Rattle.model.specs.declared.geometry.Geometry.{Geometry};
+    ghost use Rattle.migrator.specs.Durable.{DurableState};
     ghost use Rattle.migrator_tests.specs.Rig.{IsRig};
 
-    ghost Value = { Geometry };
+    ghost Value = { DurableState D };
 
-    ghost view = { λ rig. rig.geometry };
+    ghost view = { λ rig. rig.store };
 
-    ghost invariant = { λ rig. IsRig D.disk rig.geometry rig.sound rig.working rig.frozen rig.size
-        rig.store };
-}
-
-// Reads the superblock of a device.
-fn read_superblock<D: Device>(device: &mut D) -> Result<Superblock, OpenFault>
-    ensures found { IfOk result (λ s. IsPlan s
-        × (sectors_from (D.disk device.new).seen 0 1 ≡ superblock_bytes s)) }
-{
-    let mut sector = [0; SECTOR_SIZE];
-    if device.sectors() < 5 {
-        return Err(OpenFault::Bad(BadImage::Small));
-    }
-    match read_sectors(device, 0, 1, &mut sector) {
-        Ok(()) => match decode_superblock(&sector) {
-            Ok(superblock) => Ok(superblock),
-            Err(reason) => Err(OpenFault::Bad(reason)),
-        },
-        Err(_) => Err(OpenFault::Failed),
-    }
+    ghost invariant = { λ rig. IsRig D.disk rig.sound rig.working rig.frozen rig.size rig.store };
 }
 
 impl<D: Device> Rig<D> {
-    /// Opens a device, whose superblock is read once more for that.
+    /// Opens a device.
     pub(crate) fn open(alloc: Global, device: D) -> Result<Self, OpenRefused<D>> {
-        let mut device = device;
-        spell_one_value();
-        let superblock = match read_superblock(&mut device) {
-            Ok(superblock) => superblock,
-            Err(fault) => return Err(OpenRefused { fault, device }),
-        };
-        let geometry = superblock.geometry();
         let Ok(room) = Room::new(alloc) else {
             return Err(OpenRefused {
                 fault: OpenFault::NoMemory,
@@ -80,11 +48,10 @@ impl<D: Device> Rig<D> {
         Ok(Rig {
             store,
             room,
-            geometry,
             sound: true,
             working: 0,
             frozen: 0,
-            size: geometry.log,
+            size: 1,
         })
     }
 
@@ -101,7 +68,8 @@ impl<D: Device> Rig<D> {
 
     /// The value of the newest frame of an object.
     pub(crate) fn fetch(&mut self, number: u64) -> Result<u64, Failed> {
-        if number >= self.geometry.nodes + self.geometry.pages {
+        let geometry = self.store.geometry();
+        if number >= geometry.nodes + geometry.pages {
             return Err(Failed);
         }
         let (_, body) = self.store.fetch(number, &mut self.room)?;
@@ -110,11 +78,11 @@ impl<D: Device> Rig<D> {
 
     /// Puts a frame of an object, with a value.
     pub(crate) fn put(&mut self, alloc: Global, number: u64, value: u64) -> Result<(), Failed> {
-        let objects = self.geometry.nodes + self.geometry.pages;
-        if number >= objects || self.working >= self.geometry.log {
+        let geometry = self.store.geometry();
+        let (header, content) = frame(alloc, geometry, number, value)?;
+        if self.working >= geometry.log {
             return Err(Failed);
         }
-        let (header, content) = frame(alloc, self.geometry, number, value)?;
         self.working += 1;
         self.store.put_working(number, header, &content)
     }
@@ -126,31 +94,26 @@ impl<D: Device> Rig<D> {
         number: u64,
         value: u64,
     ) -> Result<(), CheckpointFault> {
-        let objects = self.geometry.nodes + self.geometry.pages;
-        if number >= objects || self.frozen >= self.size {
-            return Err(CheckpointFault::Failed);
-        }
-        let Ok((header, content)) = frame(alloc, self.geometry, number, value) else {
+        let Ok((header, content)) = frame(alloc, self.store.geometry(), number, value) else {
             return Err(CheckpointFault::Failed);
         };
+        if self.frozen >= self.size {
+            return Err(CheckpointFault::Failed);
+        }
         self.frozen += 1;
         self.store.put_frozen(number, header, &content)
     }
 
     /// Freezes what was put, for a checkpoint that writes so many objects.
     pub(crate) fn freeze(&mut self, size: u64) -> Result<(), CheckpointFault> {
-        if size < self.working || size > self.geometry.log {
+        if size < self.working || size > self.store.geometry().log {
             return Err(CheckpointFault::Failed);
         }
-        match self.store.freeze(size) {
-            Ok(()) => {
-                self.frozen = self.working;
-                self.size = size;
-                self.working = 0;
-                Ok(())
-            }
-            Err(refusal) => Err(refusal),
-        }
+        self.store.freeze(size)?;
+        self.frozen = self.working;
+        self.size = size;
+        self.working = 0;
+        Ok(())
     }
 
     /// Commits the checkpoint on its way at an age, and answers its generation.
@@ -161,7 +124,6 @@ impl<D: Device> Rig<D> {
         }
         match self.store.commit(age) {
             Ok(generation) => {
-                self.size = self.geometry.log;
                 self.frozen = 0;
                 Ok(generation)
             }
@@ -177,12 +139,8 @@ impl<D: Device> Rig<D> {
         if !self.sound {
             return Err(Failed);
         }
-        match self.store.migrate(count) {
-            Ok(left) => Ok(left),
-            Err(Failed) => {
-                self.sound = false;
-                Err(Failed)
-            }
-        }
+        let left = self.store.migrate(count);
+        self.sound = left.is_ok();
+        left
     }
 }

@@ -1,98 +1,87 @@
 // A device that stops at each of its calls, a power cut, and what is saved then.
-use crate::images::{FIRST, OPENING, OUTCOMES, image, opened};
+use crate::images::{AT_HOME, IN_LOG, OPENING, OUTCOMES, image};
 use crate::rig::Rig;
-use device::{Device, Failed, Fuse, Memory, Outcome};
-use migrator::{Checkpoint, OpenRefused};
+use crate::steps::{Step, Values, answered, take_from};
+use device::{Device, Fuse, Memory, Outcome};
+use migrator::{OpenFault, OpenRefused};
 use std::alloc::Global;
+use std::process::Abort;
 use std::test::Fail;
 
-// A checkpoint: which objects it writes, and at which age. Its values are greater by the age times
-// 100 than the numbers.
-#[derive(Clone, Copy)]
-struct Writing<'a> {
-    objects: &'a [u64],
-    age: u64,
-}
-
-fn value(number: u64, age: u64) -> u64 {
-    number.wrapping_add(age.wrapping_mul(100))
-}
-
-fn put_all<D: Device>(alloc: Global, rig: &mut Rig<D>, writing: Writing) -> Result<(), Failed> {
-    for number in writing.objects {
-        rig.put(alloc, *number, value(*number, writing.age))?;
-    }
-    Ok(())
-}
-
-// How far a run of opening, putting, committing and migrating came.
-#[derive(Clone, Copy, PartialEq, Eq, Debug)]
-enum Stage {
-    Opening,
-    Putting,
-    Committing,
-    Migrating,
-    Done,
-}
-
-// Opens a device, writes a checkpoint and brings it home, and tells where that stopped.
-fn run<D: Device>(alloc: Global, device: D, writing: Writing) -> (Stage, D) {
+// Opens a device and takes steps, and tells how many of all that were done. `None` where the device
+// is refused for another reason than that it failed.
+fn run<D: Device>(alloc: Global, device: D, steps: &[Step]) -> (Option<usize>, D) {
     match Rig::open(alloc, device) {
-        Err(OpenRefused { device, .. }) => (Stage::Opening, device),
         Ok(rig) => {
             let mut rig = rig;
-            let stage = checkpoint(alloc, &mut rig, writing);
-            (stage, rig.into_device())
+            let done = answered(alloc, &mut rig, steps);
+            (done.checked_add(1), rig.into_device())
         }
+        Err(OpenRefused { fault, device }) => match fault {
+            OpenFault::Failed => (Some(0), device),
+            _ => (None, device),
+        },
     }
 }
 
-fn checkpoint<D: Device>(alloc: Global, rig: &mut Rig<D>, writing: Writing) -> Stage {
-    if put_all(alloc, rig, writing).is_err() {
-        return Stage::Putting;
-    }
-    let size = writing.objects.len() as u64;
-    if rig.freeze(size).is_err() || rig.commit(writing.age).is_err() {
-        return Stage::Committing;
-    }
-    if rig.migrate(size).is_err() {
-        return Stage::Migrating;
-    }
-    Stage::Done
-}
-
-// The same on a device that stops after so many calls: where that is, and the device after a cut.
-fn stopped(alloc: Global, device: Memory, writing: Writing, calls: u64) -> (Stage, Memory) {
-    let (stage, device) = run(alloc, Fuse::new(device, calls), writing);
+// The same on a device that stops after so many calls, with a power cut behind.
+fn stopped(alloc: Global, device: Memory, steps: &[Step], calls: u64) -> (Option<usize>, Memory) {
+    let (done, device) = run(alloc, Fuse::new(device, calls), steps);
     let mut device = device;
     device.power_cut();
-    (stage, device.into_inner())
+    (done, device.into_inner())
 }
 
-// How many calls are made up to the end of the putting, of the commit, and of the migration, where
-// the commit publishes by so many. The finishing publish makes 8: its other gate is open.
-fn ends(writing: Writing, publishing: u64) -> [u64; 3] {
-    let count = writing.objects.len() as u64 % 64;
-    let directory = if count == 0 { 0 } else { 1 };
-    let finishing = if count == 0 { 0 } else { 2 * count + 8 };
-    let put = OPENING + count;
-    let committed = put.wrapping_add(directory + publishing % 64);
-    [put, committed, committed.wrapping_add(finishing)]
+// No objects, three, and as many as a half of the log has slots.
+const NONE: Values = (&[], 0);
+
+const FEW: [Values; 3] = [(&[20], 320), (&[3], 303), (&[17], 317)];
+
+const MOST: [Values; 3] = [
+    (&[0, 1, 2, 3], 300),
+    (&[16, 17, 18, 19, 20, 21, 22, 23], 316),
+    (&[4, 5, 6, 7], 304),
+];
+
+const BEFORE: Values = (&[12, 13], 212);
+
+// What an image of generation 1 went through that has nothing in the log.
+const SECOND: &[Step] = &[
+    Step::Put(&[BEFORE]),
+    Step::Freeze(2, Ok(())),
+    Step::Commit(2, Ok(1)),
+    Step::Migrate(2, Ok(0)),
+];
+
+// What an image went through before a generation.
+fn before(generation: u64) -> &'static [Step<'static>] {
+    if generation == 1 { AT_HOME } else { SECOND }
 }
 
-// Where a device stops after so many calls.
-fn stage_of(ends: [u64; 3], calls: u64) -> Stage {
-    if calls < OPENING {
-        Stage::Opening
-    } else if calls < ends[0] {
-        Stage::Putting
-    } else if calls < ends[1] {
-        Stage::Committing
-    } else if calls < ends[2] {
-        Stage::Migrating
-    } else {
-        Stage::Done
+// A checkpoint of a generation at age 3, of so many objects with values, and how many calls are
+// made up to the end of opening, putting, freezing, committing and migrating.
+type Writing = (u64, u64, [Values; 3], [u64; 5]);
+
+// A commit writes a directory where there are entries, and publishes by 6 calls where the other
+// gate is closed, and by 8 where it is open. A migration reads and writes each frame, and
+// publishes by 8 calls.
+const WRITINGS: [Writing; 5] = [
+    (1, 0, [NONE, NONE, NONE], [30, 30, 30, 36, 36]),
+    (1, 1, [(&[17], 317), NONE, NONE], [30, 31, 31, 38, 48]),
+    (1, 3, FEW, [30, 33, 33, 40, 54]),
+    (1, 16, MOST, [30, 46, 46, 53, 93]),
+    (2, 3, FEW, [30, 33, 33, 42, 56]),
+];
+
+// How many of these parts are done where the device stops after so many calls.
+fn done_at(ends: [u64; 5], calls: u64) -> usize {
+    let mut done = 0;
+    for end in ends {
+        if calls >= end {
+            done = usize::wrapping_add(done, 1);
+        }
     }
+    done
 }
 
 // Whether a header is committed whose publish ends so: it is from its end on, and where the last
@@ -101,155 +90,51 @@ fn is_committed(end: u64, calls: u64, opened: bool) -> bool {
     calls >= end || opened && calls.wrapping_add(1) == end
 }
 
-// What is saved after a stop, where this was saved before.
-fn saved_after(
-    before: Checkpoint,
-    writing: Writing,
-    ends: [u64; 3],
-    calls: u64,
-    opened: bool,
-) -> Checkpoint {
-    if !is_committed(ends[1], calls, opened) {
-        return before;
+// What has to be saved after a stop, and the values then: those of the checkpoint, or none of them.
+fn left(writing: Writing, calls: u64, opened: bool) -> (Step<'static>, [Values; 4]) {
+    let (generation, size, [first, second, third], ends) = writing;
+    let old = if generation == 1 { NONE } else { BEFORE };
+    let before = generation.wrapping_sub(1);
+    if !is_committed(ends[3], calls, opened) {
+        let saved = Step::Saved(before, before.wrapping_mul(2), 0);
+        return (saved, [NONE, NONE, NONE, old]);
     }
-    let is_home = is_committed(ends[2], calls, opened);
-    Checkpoint {
-        generation: before.generation.wrapping_add(1),
-        age: writing.age,
-        entries: if is_home {
-            0
-        } else {
-            writing.objects.len() as u64
-        },
-    }
+    let is_home = is_committed(ends[4], calls, opened);
+    let saved = Step::Saved(generation, 3, if is_home { 0 } else { size });
+    (saved, [first, second, third, old])
 }
 
-// The value that an object has where this is saved: that of the checkpoint, else that of the one
-// before it, else its number.
-fn value_in(saved: Checkpoint, writing: Writing, number: u64) -> u64 {
-    let is_second = saved.age == SECOND.age || saved.generation > SECOND.generation;
-    if saved.age == writing.age && writing.objects.contains(&number) {
-        value(number, writing.age)
-    } else if is_second && BEFORE.contains(&number) {
-        value(number, SECOND.age)
-    } else {
-        number
-    }
-}
-
-// Whether all objects have the values that they should have.
-fn are_saved<D: Device>(rig: &mut Rig<D>, writing: Writing) -> Result<bool, Failed> {
-    let saved = rig.saved();
-    for number in 0..24 {
-        if rig.fetch(number)? != value_in(saved, writing, number) {
-            return Ok(false);
-        }
-    }
-    Ok(true)
-}
-
-// What a device saves, and whether all objects have the values that they should have.
-fn saved_on<D: Device>(
+// Stops at each call.
+fn stop_at_each(
+    rt: &impl Abort,
     alloc: Global,
-    device: D,
-    writing: Writing,
-) -> Result<(Checkpoint, bool), Fail> {
-    let mut rig = opened(alloc, device)?;
-    let are_saved = are_saved(&mut rig, writing)?;
-    Ok((rig.saved(), are_saved))
-}
-
-const NONE: [u64; 0] = [];
-
-const ONE: [u64; 1] = [17];
-
-const FEW: [u64; 3] = [20, 3, 17];
-
-const MOST: [u64; 16] = [0, 16, 1, 17, 2, 18, 3, 19, 4, 20, 5, 21, 6, 22, 7, 23];
-
-const BEFORE: [u64; 2] = [12, 13];
-
-const SECOND: Checkpoint = Checkpoint {
-    generation: 1,
-    age: 2,
-    entries: 0,
-};
-
-// A device on which nodes 12 and 13 were written by a first checkpoint, which is home.
-fn after_one(alloc: Global, outcome: Outcome) -> Result<Memory, Fail> {
-    let writing = Writing {
-        objects: &BEFORE,
-        age: 2,
-    };
-    let (stage, device) = run(alloc, image(alloc, outcome)?, writing);
-    if stage == Stage::Done {
-        Ok(device)
-    } else {
-        Err(Fail::new("the first checkpoint stopped"))
-    }
-}
-
-// A device on which this is saved, and all of it is home.
-fn device_at(alloc: Global, before: Checkpoint, outcome: Outcome) -> Result<Memory, Fail> {
-    if before == FIRST {
-        image(alloc, outcome)
-    } else {
-        after_one(alloc, outcome)
-    }
-}
-
-// Stops at each call of a checkpoint after one that is saved, and tells the first stop that comes
-// to something else than it should. A publish makes 6 calls where the other gate is closed, and 8
-// where it is open.
-fn first_wrong_stop(
-    alloc: Global,
-    before: Checkpoint,
     writing: Writing,
     outcome: Outcome,
-    opened_gate: bool,
-) -> Result<Option<u64>, Fail> {
-    let ends = ends(writing, if before == FIRST { 6 } else { 8 });
-    for calls in 0..ends[2].wrapping_add(2) {
-        let device = device_at(alloc, before, outcome)?;
-        let (stage, device) = stopped(alloc, device, writing, calls);
-        let saved = saved_after(before, writing, ends, calls, opened_gate);
-        let found = saved_on(alloc, device, writing)?;
-        if stage != stage_of(ends, calls) || found != (saved, true) {
-            return Ok(Some(calls));
-        }
-    }
-    Ok(None)
-}
-
-#[test]
-fn a_stop_leaves_the_old_or_the_new(rt: HostRuntime) -> Result<(), Fail> {
-    let alloc = rt.alloc();
-    for (outcome, opens) in OUTCOMES {
-        for objects in [
-            NONE.as_slice(),
-            ONE.as_slice(),
-            FEW.as_slice(),
-            MOST.as_slice(),
-        ] {
-            let writing = Writing { objects, age: 3 };
-            let wrong = first_wrong_stop(alloc, FIRST, writing, outcome, opens)?;
-            assert_eq!(rt; wrong, None, "of {} objects", objects.len());
-        }
+    opened: bool,
+) -> Result<(), Fail> {
+    let (generation, size, values, ends) = writing;
+    let steps = [
+        Step::Put(&values),
+        Step::Freeze(size, Ok(())),
+        Step::Commit(3, Ok(generation)),
+        Step::Migrate(size, Ok(0)),
+    ];
+    for calls in 0..ends[4].wrapping_add(2) {
+        let device = image(rt, alloc, outcome, before(generation))?;
+        let (done, device) = stopped(alloc, device, &steps, calls);
+        assert!(rt; done == Some(done_at(ends, calls)), "at {calls}");
+        let (saved, values) = left(writing, calls, opened);
+        take_from(rt, alloc, device, &[saved, Step::Hold(&values)], 0)?;
     }
     Ok(())
 }
 
 #[test]
-fn a_stop_in_a_second_checkpoint_leaves_the_first_or_the_second(
-    rt: HostRuntime,
-) -> Result<(), Fail> {
-    let writing = Writing {
-        objects: &FEW,
-        age: 3,
-    };
-    for (outcome, opens) in OUTCOMES {
-        let wrong = first_wrong_stop(rt.alloc(), SECOND, writing, outcome, opens)?;
-        assert_eq!(rt; wrong, None);
+fn a_stop_leaves_the_old_or_the_new(rt: HostRuntime) -> Result<(), Fail> {
+    for (outcome, opened) in OUTCOMES {
+        for writing in WRITINGS {
+            stop_at_each(&rt, rt.alloc(), writing, outcome, opened)?;
+        }
     }
     Ok(())
 }
@@ -258,13 +143,23 @@ fn a_stop_in_a_second_checkpoint_leaves_the_first_or_the_second(
 // at the sync behind that: the cut leaves the gate open over the first header, which is less.
 #[test]
 fn a_gate_that_is_torn_open_again_commits_nothing(rt: HostRuntime) -> Result<(), Fail> {
-    let writing = Writing {
-        objects: &NONE,
-        age: 4,
-    };
-    let device = after_one(rt.alloc(), Outcome::Fill(1))?;
-    let (stage, device) = stopped(rt.alloc(), device, writing, OPENING + 3);
-    assert_eq!(rt; stage, Stage::Committing);
-    assert_eq!(rt; saved_on(rt.alloc(), device, writing)?, (SECOND, true));
+    let device = image(&rt, rt.alloc(), Outcome::Fill(1), SECOND)?;
+    let steps = [Step::Freeze(0, Ok(())), Step::Commit(4, Ok(2))];
+    let (done, device) = stopped(rt.alloc(), device, &steps, OPENING + 3);
+    assert_eq!(rt; done, Some(2));
+    let left = [Step::Saved(1, 2, 0), Step::Hold(&[BEFORE])];
+    take_from(&rt, rt.alloc(), device, &left, 0)?;
+    Ok(())
+}
+
+// Where there are entries, one call more reads the directory.
+#[test]
+fn a_device_that_fails_is_handed_back(rt: HostRuntime) -> Result<(), Fail> {
+    for calls in 0..OPENING + 2 {
+        let device = image(&rt, rt.alloc(), Outcome::Fill(1), IN_LOG)?;
+        let (done, device) = stopped(rt.alloc(), device, &[], calls);
+        assert_eq!(rt; done, Some(if calls > OPENING { 1 } else { 0 }));
+        take_from(&rt, rt.alloc(), device, &[Step::Saved(1, 3, 3)], 0)?;
+    }
     Ok(())
 }
