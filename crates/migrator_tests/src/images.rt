@@ -1,11 +1,7 @@
 // Images that the tests begin with.
 use crate::frames::frame;
 use crate::rig::Rig;
-<<<<<<< HEAD
-use crate::steps::{Step, Values, take_each};
-=======
 use crate::steps::{Step, Values, take_from};
->>>>>>> 9074aae23a7f2e138d0a1e238dc831ebf92482af
 use device::{Device, Failed, Memory, Outcome, SECTOR_SIZE};
 use home_ranges::Home;
 use layout::{
@@ -128,11 +124,7 @@ pub(crate) fn image(
         log: 16,
     };
     let device = Memory::new(alloc, 399, 2000, outcome)?;
-<<<<<<< HEAD
-    take_each(rt, alloc, build(alloc, device, geometry)?, steps)
-=======
     take_from(rt, alloc, build(alloc, device, geometry)?, steps, 0)
->>>>>>> 9074aae23a7f2e138d0a1e238dc831ebf92482af
 }
 
 /// The store that a device holds.

@@ -138,29 +138,17 @@ fn taken<D: Device>(alloc: Global, rig: Rig<D>, step: Step) -> Result<Rig<D>, Fa
     }
 }
 
-<<<<<<< HEAD
-/// Opens a device and takes steps up to the next image, each of which has to be answered as it
-/// says. Gives the device back.
-pub(crate) fn take_each<D: Device>(
-=======
 /// Opens a device and takes steps from one up to the next image, each of which has to be answered as
 /// it says. Gives the device back.
 pub(crate) fn take_from<D: Device>(
->>>>>>> 9074aae23a7f2e138d0a1e238dc831ebf92482af
     rt: &impl Abort,
     alloc: Global,
     device: D,
     steps: &[Step],
-<<<<<<< HEAD
-) -> Result<D, Fail> {
-    let mut rig = opened(alloc, device)?;
-    for i in 0..steps.len() {
-=======
     from: usize,
 ) -> Result<D, Fail> {
     let mut rig = opened(alloc, device)?;
     for i in from..steps.len() {
->>>>>>> 9074aae23a7f2e138d0a1e238dc831ebf92482af
         if let Step::Image(..) = steps[i] {
             break;
         }
@@ -177,11 +165,7 @@ pub(crate) fn try_each(rt: &impl Abort, alloc: Global, steps: &[Step]) -> Result
     for i in 0..steps.len() {
         if let Step::Image(before, calls) = steps[i] {
             let device = image(rt, alloc, Outcome::Drop, before)?;
-<<<<<<< HEAD
-            take_each(rt, alloc, Fuse::new(device, calls), &steps[i + 1..])?;
-=======
             take_from(rt, alloc, Fuse::new(device, calls), steps, i + 1)?;
->>>>>>> 9074aae23a7f2e138d0a1e238dc831ebf92482af
         }
     }
     Ok(())

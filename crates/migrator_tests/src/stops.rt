@@ -1,11 +1,7 @@
 // A device that stops at each of its calls, a power cut, and what is saved then.
 use crate::images::{AT_HOME, IN_LOG, OPENING, OUTCOMES, image};
 use crate::rig::Rig;
-<<<<<<< HEAD
-use crate::steps::{Step, Values, answered, take_each};
-=======
 use crate::steps::{Step, Values, answered, take_from};
->>>>>>> 9074aae23a7f2e138d0a1e238dc831ebf92482af
 use device::{Device, Fuse, Memory, Outcome};
 use migrator::{OpenFault, OpenRefused};
 use std::alloc::Global;
@@ -128,11 +124,7 @@ fn stop_at_each(
         let (done, device) = stopped(alloc, device, &steps, calls);
         assert!(rt; done == Some(done_at(ends, calls)), "at {calls}");
         let (saved, values) = left(writing, calls, opened);
-<<<<<<< HEAD
-        take_each(rt, alloc, device, &[saved, Step::Hold(&values)])?;
-=======
         take_from(rt, alloc, device, &[saved, Step::Hold(&values)], 0)?;
->>>>>>> 9074aae23a7f2e138d0a1e238dc831ebf92482af
     }
     Ok(())
 }
@@ -155,17 +147,8 @@ fn a_gate_that_is_torn_open_again_commits_nothing(rt: HostRuntime) -> Result<(),
     let steps = [Step::Freeze(0, Ok(())), Step::Commit(4, Ok(2))];
     let (done, device) = stopped(rt.alloc(), device, &steps, OPENING + 3);
     assert_eq!(rt; done, Some(2));
-<<<<<<< HEAD
-    take_each(
-        &rt,
-        rt.alloc(),
-        device,
-        &[Step::Saved(1, 2, 0), Step::Hold(&[BEFORE])],
-    )?;
-=======
     let left = [Step::Saved(1, 2, 0), Step::Hold(&[BEFORE])];
     take_from(&rt, rt.alloc(), device, &left, 0)?;
->>>>>>> 9074aae23a7f2e138d0a1e238dc831ebf92482af
     Ok(())
 }
 
@@ -176,11 +159,7 @@ fn a_device_that_fails_is_handed_back(rt: HostRuntime) -> Result<(), Fail> {
         let device = image(&rt, rt.alloc(), Outcome::Fill(1), IN_LOG)?;
         let (done, device) = stopped(rt.alloc(), device, &[], calls);
         assert_eq!(rt; done, Some(if calls > OPENING { 1 } else { 0 }));
-<<<<<<< HEAD
-        take_each(&rt, rt.alloc(), device, &[Step::Saved(1, 3, 3)])?;
-=======
         take_from(&rt, rt.alloc(), device, &[Step::Saved(1, 3, 3)], 0)?;
->>>>>>> 9074aae23a7f2e138d0a1e238dc831ebf92482af
     }
     Ok(())
 }
