@@ -13,8 +13,10 @@ use Rattle.clap.specs.Simple.{App, HasMatchesOf, app_of, subcommand_rows_of, Sha
 use Rattle.clap.specs.Takes.{entered_passes, level_passes, takes}
 use Rattle.clap.proofs.WalkLemmas.{both}
 use Rattle.command_line.specs.Commands.{eros_app}
-use Rattle.command_line.specs.Jobs.{NamesNone}
+use Rattle.command_line.specs.Jobs.{IsScript, NamesNone}
 use Rattle.command_line.specs.declared.asked.Job.TheVariants as job
+use Rattle.command_line.specs.declared.asked.Script.{Script}
+use Rattle.command_line.specs.declared.asked.Script.TheVariants as script
 use Rattle.command_line.proofs.Taken.{StopsWell, is_no_help, level_keeps}
 
 -- the command as a parse builds it
@@ -36,13 +38,22 @@ build_named rows has none =
     let image = text_in _ (both _ _ parts.1).0 in
     none (job.Build description.0 image.0) (refl, description.1, image.1)
 
+-- each word names a script
+named_script : (word : Text) → (s : Script) × IsScript word s
+named_script word = go (bytes_eq word (codes "-")) refl
+  where
+    go : (b : Bool) → bytes_eq word (codes "-") ≡ b → (s : Script) × IsScript word s
+    go true e = (script.Input, (bytes_eq-Decides _ _).0 e)
+    go false e = (script.File (record { ref_ptr = (0, 0); now = word }), (refl, λ same. true≢false (sym ((bytes_eq-Decides _ _).1 same) ∙ e)))
+
 run_named : (rows : List Row) → (is_some (first_of (codes "IMAGE") rows) && (is_some (first_of (codes "SCRIPT") rows) && true)) ≡ true
     → NamesNone (Some (codes "run", rows)) → ⊥
 run_named rows has none =
     let parts = both _ _ has in
     let image = text_in _ parts.0 in
-    let script = text_in _ (both _ _ parts.1).0 in
-    none (job.Run image.0 script.0) (refl, image.1, script.1)
+    let word = text_in _ (both _ _ parts.1).0 in
+    let named = named_script word.0.now in
+    none (job.Run image.0 named.0) (refl, image.1, word.0.now, word.1, named.1)
 
 check_named : (rows : List Row) → (is_some (first_of (codes "IMAGE") rows) && true) ≡ true → NamesNone (Some (codes "check", rows)) → ⊥
 check_named rows has none =

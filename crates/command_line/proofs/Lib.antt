@@ -2,3 +2,4 @@ mod Answered
 mod Building
 mod Naming
 mod Taken
+mod Refused

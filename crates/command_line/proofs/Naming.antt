@@ -56,7 +56,7 @@ no_description name rows build none (job.Check image) is = apart (sym build ∙ 
 -- nor a run without a script
 pub no_script : (name : Text) (rows : List Row) → name ≡ codes "run" → first_of (codes "SCRIPT") rows ≡ None → (x : Job) → IsJob name rows x → ⊥
 no_script name rows run none (job.Build description image) is = apart (sym run ∙ is.0) (λ e. absurd (omega arith))
-no_script name rows run none (job.Run image script) is = let bad : None ≡ Some script.now = sym none ∙ is.2 in cc
+no_script name rows run none (job.Run image script) is = let bad : None ≡ Some is.2 = sym none ∙ is.3 in cc
 no_script name rows run none (job.Check image) is = apart (sym run ∙ is.0) (λ e. absurd (omega arith))
 
 -- nor is a job of another name

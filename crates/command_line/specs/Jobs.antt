@@ -1,19 +1,26 @@
 -- The job that a subcommand and its arguments name.
-use Rattle.std.specs.Prelude.{◌≡◌, List, Option, Some, None, codes}
+use Rattle.std.specs.Prelude.{◌≡◌, ◌≢◌, List, Option, Some, None, codes}
 use Rattle.clap.specs.Words.{Row, Text, first_of}
 use Rattle.command_line.specs.declared.asked.Job.{Job}
 use Rattle.command_line.specs.declared.asked.Job.TheVariants as job
+use Rattle.command_line.specs.declared.asked.Script.{Script}
+use Rattle.command_line.specs.declared.asked.Script.TheVariants as script
 
 -- the argument of this name was given as this text
 abbrev pub IsGiven : List Row → Text → Text → Type 0
 IsGiven rows name text = first_of name rows ≡ Some text
+
+-- standard input is named by a hyphen, and a file by any other word
+abbrev pub IsScript : Text → Script → Type 0
+IsScript word script.Input = word ≡ codes "-"
+IsScript word (script.File name) = (name.now ≡ word) × (word ≢ codes "-")
 
 -- the subcommand of this name, with these arguments, is the job
 abbrev pub IsJob : Text → List Row → Job → Type 0
 IsJob name rows (job.Build description image) = (name ≡ codes "build")
     × IsGiven rows (codes "DESCRIPTION") description.now × IsGiven rows (codes "IMAGE") image.now
 IsJob name rows (job.Run image script) = (name ≡ codes "run")
-    × IsGiven rows (codes "IMAGE") image.now × IsGiven rows (codes "SCRIPT") script.now
+    × IsGiven rows (codes "IMAGE") image.now × (word : Text) × IsGiven rows (codes "SCRIPT") word × IsScript word script
 IsJob name rows (job.Check image) = (name ≡ codes "check") × IsGiven rows (codes "IMAGE") image.now
 
 -- no job is the subcommand of this name with these arguments

@@ -1,2 +1,3 @@
 pub mod Commands
 pub mod Jobs
+pub mod Refusals

@@ -3,12 +3,21 @@ ghost use Rattle.std.specs.Prelude.{◌≡◌, IfErr, IfOk, IfSome, IsNone, map,
 ghost use Rattle.clap.specs.Words.{found_of, kind_of, rows_of, subcommand_of, subcommand_rows_of, takes};
 ghost use Rattle.clap.specs.declared.error.kind.ErrorKind.TheVariants.{OutOfMemory};
 ghost use Rattle.command_line.specs.Commands.{IsCommand, eros_app};
-ghost use Rattle.command_line.specs.Jobs.{IsJob, IsNoJob, NamesJob, NamesNone};
+ghost use Rattle.command_line.specs.Jobs.{IsJob, IsNoJob, IsScript, NamesJob, NamesNone};
 
 use crate::subcommands::{DESCRIPTION, IMAGE, SCRIPT};
 use clap::error::ErrorKind;
 use clap::{ArgMatches, Command, Error};
 use std::convert::AsStr;
+
+/// Where a script comes from.
+#[derive(Drop)]
+pub enum Script<'a> {
+    /// From standard input.
+    Input,
+    /// From the file of this name.
+    File(&'a str),
+}
 
 /// What is asked of `eros`, with the names of the files.
 #[derive(Drop)]
@@ -21,12 +30,23 @@ pub enum Job<'a> {
     /// A script is to be run over an image.
     Run {
         image: &'a str,
-        script: &'a str,
+        script: Script<'a>,
     },
     /// An image is to be checked.
     Check {
         image: &'a str,
     },
+}
+
+// The script that a word names: a hyphen alone is standard input.
+fn script_of<'a>(word: &'a str) -> Script<'a>
+    ensures { IsScript word.entry.now result }
+{
+    if word == "-" {
+        Script::Input
+    } else {
+        Script::File(word)
+    }
 }
 
 // The job of a subcommand with its matches, or none.
@@ -40,7 +60,8 @@ fn job_of<'a>(name: &str, inner: &ArgMatches<'a>) -> Option<Job<'a>>
         return Some(Job::Build { description, image });
     }
     if name == "run" {
-        let script = inner.get_str(SCRIPT)?;
+        let word = inner.get_str(SCRIPT)?;
+        let script = script_of(word);
         return Some(Job::Run { image, script });
     }
     if name == "check" {
@@ -58,9 +79,12 @@ fn asked<'a>(matches: &ArgMatches<'a>) -> Option<Job<'a>>
     job_of(name, inner)
 }
 
-/// The job that the words name, of which the first is the program's name. Fails with what clap says
-/// of words that the command doesn't take, also where they ask for help, and where memory runs out.
-pub fn read_job<'a, S: AsStr>(mut command: Command<'a>, words: &'a [S]) -> Result<Job<'a>, Error>
+// The job that the words name. Fails with what clap says of words that the command doesn't take, also where they ask for
+// help, and where memory runs out.
+pub(crate) fn read_job<'a, S: AsStr>(
+    mut command: Command<'a>,
+    words: &'a [S],
+) -> Result<Job<'a>, Error>
     requires { IsCommand eros_app command }
     ensures named { IfOk result (NamesJob (subcommand_of eros_app (map S.text words.entry.now))) }
     ensures refused { IfErr result (λ e.

@@ -2,7 +2,10 @@
 #![tactic(auto)]
 
 mod asked;
+mod fault;
 mod subcommands;
+mod words;
 
-pub use asked::{Job, read_job};
-pub use subcommands::command;
+pub use asked::{Job, Script};
+pub use fault::JobFault;
+pub use words::job;

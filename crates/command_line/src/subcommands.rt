@@ -43,7 +43,11 @@ fn run<'a>(alloc: Global) -> Result<Command<'a>, AllocError>
             IMAGE,
             "The image, which is changed by what the script commits",
         ))?
-        .arg(file(alloc, SCRIPT, "The script, a command a line"))
+        .arg(file(
+            alloc,
+            SCRIPT,
+            "The script, a command a line; - is standard input",
+        ))
 }
 
 fn check<'a>(alloc: Global) -> Result<Command<'a>, AllocError>
@@ -74,7 +78,7 @@ fn bare<'a>(alloc: Global) -> Result<Command<'a>, AllocError>
 
 /// The command line of `eros`. Fails where memory runs out.
 #[tactic(auto, using(crate::proofs::Building::added))]
-pub fn command<'a>(alloc: Global) -> Result<Command<'a>, AllocError>
+pub(crate) fn command<'a>(alloc: Global) -> Result<Command<'a>, AllocError>
     ensures { IfOk result (IsCommand eros_app) }
 {
     bare(alloc)?

@@ -15,6 +15,9 @@ pub enum FileFault {
     /// The file is longer than a device of `MAX_SECTORS`.
     #[error("the file is longer than 64 MiB")]
     Long,
+    /// Another device is open in the file.
+    #[error("another device is open in the file")]
+    Held,
     /// Memory ran out.
     #[error("memory ran out")]
     NoMemory,

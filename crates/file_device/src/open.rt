@@ -1,5 +1,5 @@
 // Opening and making a device in a file.
-ghost use Rattle.std.specs.Prelude.{◌≡◌, ◌<◌, ◌≤◌, ◌*◌, ◌/◌, ◌%◌, ℕ, length, replicate, nat_lt, if◌then◌else◌, take, Some, IfOk, IfSome, IsErrOf, OnOk, Ok, Err};
+ghost use Rattle.std.specs.Prelude.{◌≡◌, ◌<◌, ◌≤◌, ◌*◌, ◌/◌, ◌%◌, ℕ, length, replicate, nat_lt, if◌then◌else◌, take, Some, IfErr, IfOk, IfSome, IsErr, IsErrOf, OnOk, Ok, Err, ◌↔◌};
 ghost use Rattle.device.specs.Calls.{Agrees, Only, sectors_of, image_of};
 ghost use Rattle.file_device.specs.FileDevice.{file_disk};
 ghost use Rattle.file_device.specs.Known.{IfKnown};
@@ -9,8 +9,9 @@ use crate::file_device::{CopiedFile, FileDevice};
 use crate::host_file::HostFile;
 use device::{MAX_SECTORS, SECTOR_SIZE};
 use std::alloc::Global;
-use std::fs::{File, OpenOptions};
+use std::fs::{File, OpenOptions, TryLockError};
 use std::io::{Read, Seek, SeekFrom};
+use std::path::Path;
 
 // How many whole sectors there are in so many bytes.
 fn whole_sectors(bytes: u64) -> Result<u64, FileFault>
@@ -76,29 +77,75 @@ fn over(file: File, bytes: Vec<u8>) -> FileDevice
     CopiedFile::new(bytes, file)
 }
 
+// Whether a lock was taken. A file of a system without locks goes without one.
+fn taken(answer: Result<(), TryLockError>) -> Result<(), FileFault>
+    ensures held { IsErr result ↔ IsErrOf answer TryLockError.WouldBlock }
+    ensures fault { IfErr result (λ fault. fault ≡ FileFault.Held) }
+{
+    match answer {
+        Err(TryLockError::WouldBlock) => Err(FileFault::Held),
+        Ok(()) | Err(TryLockError::Error(_)) => Ok(()),
+    }
+}
+
+// The device in this file, which is synced before it is read.
+fn synced(alloc: Global, mut file: File) -> Result<FileDevice, FileFault>
+    ensures durable { IfOk result (λ d. Only (file_disk d).seen (file_disk d)) }
+    ensures failures { IfOk result (λ d. (file_disk d).failures ≡ 0) }
+{
+    file.sync_data()?;
+    let copy = load(alloc, &mut file)?;
+    Ok(over(file, copy))
+}
+
+// Makes durable that a new file is in its folder, where the system lets the folder be opened.
+fn sync_folder(rt: &HostRuntime, path: &str) -> Result<(), FileFault> {
+    let folder = match Path::new(path).parent() {
+        Some(folder) if !folder.as_os_str().is_empty() => folder,
+        _ => Path::new("."),
+    };
+    if let Ok(folder) = File::open(rt, folder) {
+        folder.sync_all()?;
+    }
+    Ok(())
+}
+
 impl CopiedFile<HostFile> {
     /// The device in the file at `path`, which has to be there. Its sectors are the whole ones of
     /// the file: what comes after the last of them is left as it is. The file is synced before it
-    /// is read, so what a read of the device gives at first is durable.
+    /// is read, so what a read of the device gives at first is durable. Until the device is dropped no other is open
+    /// in the file.
     ///
-    /// `Long` where the file has more bytes than `MAX_SECTORS` sectors. `Io` where the system refuses to open, sync,
-    /// seek or read it, as it does with a file that isn't there, a folder or a pipe. `NoMemory` where there is no room
-    /// for a copy of it.
+    /// `Held` where another device is open in it. `Long` where the file has more bytes than `MAX_SECTORS` sectors.
+    /// `Io` where the system refuses to open, sync, seek or read it, as it does with a file that isn't there, a
+    /// folder or a pipe. `NoMemory` where there is no room for a copy of it.
     pub fn open(rt: &HostRuntime, path: &str) -> Result<FileDevice, FileFault>
         ensures durable { IfOk result (λ d. Only (file_disk d).seen (file_disk d)) }
         ensures failures { IfOk result (λ d. (file_disk d).failures ≡ 0) }
     {
-        let mut file = OpenOptions::new().read(true).write(true).open(rt, path)?;
-        file.sync_data()?;
-        let copy = load(rt.alloc(), &mut file)?;
-        Ok(over(file, copy))
+        let file = OpenOptions::new().read(true).write(true).open(rt, path)?;
+        taken(file.try_lock())?;
+        synced(rt.alloc(), file)
     }
 
-    /// A device of so many sectors, all zeros, in a new file at `path`. A file that is there is
-    /// emptied first. The zeros are synced, but not the folder that has the file.
+    /// As `open`, of a file that needn't be writable: each write to the device fails. Others that were opened so may
+    /// be open in the file too.
+    pub fn open_to_read(rt: &HostRuntime, path: &str) -> Result<FileDevice, FileFault>
+        ensures durable { IfOk result (λ d. Only (file_disk d).seen (file_disk d)) }
+        ensures failures { IfOk result (λ d. (file_disk d).failures ≡ 0) }
+    {
+        let file = File::open(rt, path)?;
+        taken(file.try_lock_shared())?;
+        synced(rt.alloc(), file)
+    }
+
+    /// A device of so many sectors, all zeros, in a new file at `path`. A file that is there is emptied first. The
+    /// zeros are synced, and the folder that has the file, where the system lets it be opened. Until the device is
+    /// dropped no other is open in the file.
     ///
-    /// `Io` where the system refuses to make, lengthen or sync the file, which may then be there with any length.
-    /// `NoMemory` where there is no room for a copy of it, and then no file was touched.
+    /// `Held` where another device is open in the file, which is left as it is. `Io` where the system refuses to make,
+    /// lengthen or sync the file, which may then be there with any length. `NoMemory` where there is no room for a
+    /// copy of it, and then no file was touched.
     pub fn create(rt: &HostRuntime, path: &str, sectors: u64) -> Result<FileDevice, FileFault>
         requires { sectors ≤ MAX_SECTORS }
         ensures size { IfOk result (λ d. (file_disk d).sectors ≡ sectors) }
@@ -111,10 +158,13 @@ impl CopiedFile<HostFile> {
             .read(true)
             .write(true)
             .create(true)
-            .truncate(true)
+            .truncate(false)
             .open(rt, path)?;
+        taken(file.try_lock())?;
+        file.set_len(0)?;
         file.set_len(zeros.len() as u64)?;
         file.sync_all()?;
+        sync_folder(rt, path)?;
         Ok(over(file, zeros))
     }
 }

@@ -181,11 +181,65 @@ fn a_file_that_fails_fails_from_then_on(rt: HostRuntime) -> Result<(), Fail> {
     Ok(())
 }
 
+// Why this file can't be opened to be read.
+fn reading_fault_of(rt: &HostRuntime, path: &str) -> Option<FileFault> {
+    FileDevice::open_to_read(rt, path).err()
+}
+
+#[test]
+fn a_file_has_one_device(rt: HostRuntime) -> Result<(), Fail> {
+    empty_folder(&rt, "file_device_one")?;
+    let path = "file_device_one/disk";
+    fs::write(&rt, path, [3u8; 1024].as_slice())?;
+    let only = FileDevice::open(&rt, path)?;
+    assert_eq!(rt; fault_of(&rt, path), Some(FileFault::Held));
+    assert_eq!(rt; reading_fault_of(&rt, path), Some(FileFault::Held));
+    assert_eq!(rt;
+        FileDevice::create(&rt, path, 1).err(),
+        Some(FileFault::Held)
+    );
+    drop(only);
+    assert_eq!(rt; fs::read(&rt, path)?.as_slice(), [3u8; 1024].as_slice());
+    let made = FileDevice::create(&rt, path, 1)?;
+    assert_eq!(rt; fault_of(&rt, path), Some(FileFault::Held));
+    drop(made);
+    assert_eq!(rt; fault_of(&rt, path), None);
+    fs::remove_dir_all(&rt, "file_device_one")?;
+    Ok(())
+}
+
+// A device of two sectors that can only be read.
+fn only_reads<D: Device>(rt: &impl Abort, device: &mut D) -> Result<(), Fail>
+    requires { (D.disk device.old).sectors ≡ 2 }
+{
+    device.sync()?;
+    holds(rt, device, 1, 3)?;
+    assert!(rt; fill(device, 1, 8).is_err());
+    Ok(())
+}
+
+#[test]
+fn those_who_read_share_a_file(rt: HostRuntime) -> Result<(), Fail> {
+    empty_folder(&rt, "file_device_read")?;
+    let path = "file_device_read/disk";
+    fs::write(&rt, path, [3u8; 1024].as_slice())?;
+    let mut device = FileDevice::open_to_read(&rt, path)?;
+    assert_eq!(rt; device.sectors(), 2);
+    assert_eq!(rt; reading_fault_of(&rt, path), None);
+    assert_eq!(rt; fault_of(&rt, path), Some(FileFault::Held));
+    only_reads(&rt, &mut device)?;
+    drop(device);
+    assert_eq!(rt; fs::read(&rt, path)?.as_slice(), [3u8; 1024].as_slice());
+    fs::remove_dir_all(&rt, "file_device_read")?;
+    Ok(())
+}
+
 #[test]
 fn a_fault_is_told(rt: HostRuntime) -> Result<(), Fail> {
     let told = [
         (FileFault::Io, "the file can't be opened, read or written"),
         (FileFault::Long, "the file is longer than 64 MiB"),
+        (FileFault::Held, "another device is open in the file"),
         (FileFault::NoMemory, "memory ran out"),
     ];
     for (fault, text) in told {

@@ -5,9 +5,11 @@ mod building;
 mod checking;
 mod fault;
 pub mod laws;
+mod output;
 mod running;
 
 pub use building::build_image;
 pub use checking::check_image;
 pub use fault::Fault;
+pub use output::finish;
 pub use running::run_image;

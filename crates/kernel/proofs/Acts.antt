@@ -1,5 +1,6 @@
 -- How a command ends: refused, carried out, or in a failure of the device.
-use Rattle.std.proofs.Common.{◌≡◌, ◌↔◌, ℕ, ◌+◌, ◌-◌, ◌^◌, ◌<◌, ◌≤◌, Bool, None, Some, List, [], ◌∷◌, length, refl, sym, ap, ◌∙◌, subst}
+use Rattle.std.specs.Prelude.{IsErrAnd}
+use Rattle.std.proofs.Common.{◌≡◌, ◌↔◌, ◌⊎◌, inl, inr, ℕ, ◌+◌, ◌-◌, ◌^◌, ◌<◌, ◌≤◌, Bool, Option, None, Some, Result, Ok, Err, List, [], ◌∷◌, length, refl, sym, ap, ◌∙◌, subst, arith}
 use Rattle.model.specs.declared.answer.Answer.{Answer}
 use Rattle.model.specs.declared.answer.Answer.TheVariants as answer
 use Rattle.model.specs.declared.answer.Refusal.{Refusal}
@@ -12,26 +13,34 @@ use Rattle.model.specs.Frame.{objects_of}
 use Rattle.model.specs.Keepable.{AreKeepable, IsSoundFrames, world_at}
 use Rattle.model.specs.Machine.{Frozen, Running, Saved, Up, touched_count, untouched}
 use Rattle.model.specs.Step.{Step, refusal_of, second}
+use Rattle.device.specs.declared.device.Failed.{Failed}
 use Rattle.device.specs.Disk.{Image, Disk}
+use Rattle.migrator.specs.declared.checkpoint_fault.CheckpointFault.{CheckpointFault}
+use Rattle.migrator.specs.declared.checkpoint_fault.CheckpointFault.TheVariants as fault
+use Rattle.migrator.specs.Refused.{IsCommitAnswer, IsFreezeAnswer, IsRefused}
 use Rattle.migrator.specs.Saved.{Holds, LeavesSaved, LeavesEither}
 use Rattle.capability.specs.Parts.{Parts, frames_of}
 use Rattle.capability.proofs.Keeping.{keepable_count}
-use Rattle.object_cache.specs.Store.{Aside, FrozenFrames, Leads, MayCommit, View, freezing, moved_saved, next_saved, stabilized}
+use Rattle.object_cache.specs.Store.{Aside, FrozenFrames, IsStabilizeAnswer, Leads, MayCommit, View, freezing, left_in, moved_saved, next_saved, stabilized}
 use Rattle.object_cache.specs.Store as store
 use Rattle.space_bank.specs.Banks.{AreCounted, BanksState}
-use Rattle.processes.specs.Machine.{Serves, age_after}
+use Rattle.processes.specs.Machine.{Serves, answer_of}
 use Rattle.processes.proofs.Serving.{AreSame}
 use Rattle.processes.proofs.Steps.{refused_step}
 use Rattle.kernel.specs.declared.power.Live.{Live}
 use Rattle.kernel.specs.Denotes.{saved_of, LeavesOne}
-use Rattle.kernel.specs.Standing.{AreSound, IsCaused, IsUp, ServesUp, disk_at, frozen_of, running, running_of}
+use Rattle.kernel.specs.Standing.{AreSound, IsCaused, IsUp, ServesUp, disk_at, frozen_of, refusal_by, running, running_of}
 use Rattle.kernel.proofs.Crashes.{leaves_along, leaves_either, leaves_here, leaves_home, leaves_saved}
-use Rattle.kernel.proofs.Stages.{acts_sound, begun_sound, committed_sound, frames_again, frozen_none, frozen_some, moved_sound, next_sound, same_running, saved_moved, stabilized_sound, stays_sound}
-use Rattle.kernel.proofs.Steps.{checkpoint_step, commit_step, evict_refused, evict_step, migrate_step, not_stable, second_of_commit, stabilize_step}
+use Rattle.kernel.proofs.Stages.{acts_sound, begun_sound, committed_sound, frames_again, frozen_none, frozen_some, moved_sound, next_sound, none_there, same_running, saved_moved, some_left, some_there, stabilized_sound, stays_sound}
+use Rattle.kernel.proofs.Steps.{checkpoint_step, commit_step, evict_refused, evict_step, migrate_step, none_to_commit, none_to_stabilize, not_home, not_stable, running_already, second_of_commit, stabilize_step}
 
 -- the same but for the store
 abbrev pub with_store : {S : Type 0} → Live S → S → Live S
 with_store l s = record { store = s; banks = l.banks; age = l.age; frozen_age = l.frozen_age }
+
+-- and but for what is counted of banks, at another age
+abbrev pub with_act : {S : Type 0} → Live S → S → BanksState → ℕ → Live S
+with_act l s banks age = record { store = s; banks = banks; age = age; frozen_age = l.frozen_age }
 
 -- The parameters are ghost members and laws of a device and of an object store.
 module _ {D S : Type 0} (disk : D → Disk) (view : S → View D) (parts : S → Parts)
@@ -53,6 +62,11 @@ module _ {D S : Type 0} (disk : D → Disk) (view : S → View D) (parts : S →
     up = λ other. up;
     leaves = leaves_here g (disk_at disk view parts l) (saved_of (view l.store).aside.saved ∷ []) (second (Up (running disk view parts l)) c) (only_now (view l.store).beneath) up.leaves;
   }
+
+  -- one of a store that is as it was
+  refused_again : (l : Live S) (s : S) (c : Command) (why : Refusal) → s ≡ l.store → ((g : Geometry) → IsUp disk view parts g l → refusal_of g (running disk view parts l) c ≡ Some why) →
+      ServesUp disk view parts l c (answer.Refused why) (with_store l s)
+  refused_again l s c why same applies = subst (λ (x : S). ServesUp disk view parts l c (answer.Refused why) (with_store l x)) (sym same) (refused l c why applies)
 
   -- a failure of the device
   failed : (old new : Live S) (c : Command) →
@@ -229,30 +243,114 @@ module _ {D S : Type 0} (disk : D → Disk) (view : S → View D) (parts : S →
       pub migrate_failed : ServesUp disk view parts l (command.Migrate n) (answer.Refused refusal.Fault) (with_store l s)
       migrate_failed = failed l (with_store l s) (command.Migrate n) migrate_along
 
-  -- what is left of a checkpoint on its way holds it back
-  pub unstable : (l : Live S) (f : FrozenFrames) (left : ℕ) → (view l.store).aside.frozen ≡ Some f → f.left ≡ left → (left ≡ 0 → ⊥) →
-      ServesUp disk view parts l command.Commit (answer.Refused (refusal.NotStable left)) l
-  unstable l f left frozen is more =
-      subst (λ (n : ℕ). ServesUp disk view parts l command.Commit (answer.Refused (refusal.NotStable n)) l) is
-      (refused l command.Commit (refusal.NotStable f.left)
-      (λ g up. not_stable g (running disk view parts l) (record { world = world_at l.frozen_age f.frames; size = f.size; left = f.left })
-      (frozen_some (view l.store).aside.frozen f l.frozen_age frozen) (λ none. more (sym is ∙ none))))
+  -- ---- refusals of a store
+
+  module _ (l : Live S) (s : S) where
+    -- nothing is frozen
+    pub freeze_refused : (why : CheckpointFault) → s ≡ l.store → l.age < 2 ^ 62 → IsFreezeAnswer {T = ℕ} (left_in (view l.store).aside) (view l.store).aside.saved.entries (Err why) →
+        ServesUp disk view parts l command.Checkpoint (answer.Refused (refusal_by why)) (with_store l s)
+    freeze_refused fault.CheckpointRunning same young told =
+        let f = some_there (view l.store).aside.frozen told in
+        refused_again l s command.Checkpoint refusal.CheckpointRunning same
+        (λ g up. running_already g (running disk view parts l) young _ (frozen_some (view l.store).aside.frozen f.0 l.frozen_age f.1))
+    freeze_refused fault.MigrationPending same young told =
+        refused_again l s command.Checkpoint refusal.MigrationPending same
+        (λ g up. not_home g (running disk view parts l) young (frozen_none (view l.store).aside.frozen l.frozen_age (none_there (view l.store).aside.frozen told.0)) told.1)
+    freeze_refused (fault.NotStable left) same young told = absurd told
+    freeze_refused fault.NoCheckpoint same young told = absurd told
+    freeze_refused fault.Failed same young told = absurd told
+
+    module _ (same : AreSame (parts l.store) (parts s)) (size : (disk (view s).beneath).sectors ≡ (disk (view l.store).beneath).sectors) where
+      -- nothing is written to the log, or not all of it
+      pub stabilize_refused : (why : CheckpointFault) (n : ℕ) → IsStabilizeAnswer (disk (view l.store).beneath) (disk (view s).beneath) (left_in (view l.store).aside) n (Err why) →
+          (IsRefused {T = ℕ} (Err why) → s ≡ l.store) → ((view l.store).is_sound → LeavesSaved (disk (view l.store).beneath) (disk (view s).beneath) (view l.store).aside.saved) →
+          ServesUp disk view parts l (command.Stabilize n) (answer.Refused (refusal_by why)) (with_store l s)
+      stabilize_refused fault.NoCheckpoint n told again moments =
+          refused_again l s (command.Stabilize n) refusal.NoCheckpoint (again tt)
+          (λ g up. none_to_stabilize g (running disk view parts l) n (frozen_none (view l.store).aside.frozen l.frozen_age (none_there (view l.store).aside.frozen told.1)))
+      stabilize_refused fault.Failed n told again moments =
+          let f = some_there (view l.store).aside.frozen told.1 in
+          stabilize_failed l s same size f.0 f.1 moments n
+      stabilize_refused fault.CheckpointRunning n told again moments = absurd told
+      stabilize_refused fault.MigrationPending n told again moments = absurd told
+      stabilize_refused (fault.NotStable left) n told again moments = absurd told
+
+      -- nothing is saved, or it isn't told
+      pub commit_refused : (why : CheckpointFault) → IsCommitAnswer (disk (view l.store).beneath) (disk (view s).beneath) (left_in (view l.store).aside) (view l.store).aside.saved.generation (Err why) →
+          (IsRefused {T = ℕ} (Err why) → s ≡ l.store) → ((f : FrozenFrames) → (view l.store).aside.frozen ≡ Some f → f.left ≡ 0 →
+          LeavesEither (disk (view l.store).beneath) (disk (view s).beneath) (view l.store).aside.saved (next_saved l.frozen_age f (view l.store).aside.saved)) →
+          ServesUp disk view parts l command.Commit (answer.Refused (refusal_by why)) (with_store l s)
+      commit_refused fault.NoCheckpoint told again moments =
+          refused_again l s command.Commit refusal.NoCheckpoint (again tt)
+          (λ g up. none_to_commit g (running disk view parts l) (frozen_none (view l.store).aside.frozen l.frozen_age (none_there (view l.store).aside.frozen told.1)))
+      commit_refused (fault.NotStable left) told again moments =
+          let f = some_left (view l.store).aside.frozen left (sym told.1) in
+          subst (λ (n : ℕ). ServesUp disk view parts l command.Commit (answer.Refused (refusal.NotStable n)) (with_store l s)) f.2
+          (refused_again l s command.Commit (refusal.NotStable f.0.left) (again tt)
+          (λ g up. not_stable g (running disk view parts l) (record { world = world_at l.frozen_age f.0.frames; size = f.0.size; left = f.0.left })
+          (frozen_some (view l.store).aside.frozen f.0 l.frozen_age f.1) (λ none. above left told.2 (sym f.2 ∙ none))))
+        where
+          above : (n : ℕ) → 0 < n → n ≡ 0 → ⊥
+          above n some none = omega (arith, some, none)
+      commit_refused fault.Failed told again moments =
+          let f = some_left (view l.store).aside.frozen 0 (sym told.1) in
+          commit_failed l s same size f.0 f.1 f.2 (moments f.0 f.1 f.2)
+      commit_refused fault.CheckpointRunning told again moments = absurd told
+      commit_refused fault.MigrationPending told again moments = absurd told
+
+-- who failed is told where a store refuses
+pub refused_cause : (old new : Disk) (why : CheckpointFault) → ((why ≡ fault.Failed) × (old.failures < new.failures)) ⊎ ((why ≡ fault.Failed → ⊥) × (new.failures ≡ old.failures)) → IsCaused old new (answer.Refused (refusal_by why))
+refused_cause old new why (inl failed) = record {
+  later = let more = failed.1 in omega (arith, more);
+  exact = (λ e. failed.1, λ rose. ap (λ (x : CheckpointFault). answer.Refused (refusal_by x)) failed.0);
+}
+refused_cause old new why (inr other) = record {
+  later = let same = other.1 in omega (arith, same);
+  exact = (λ e. absurd (other.0 (only_failed why e)), λ rose. let same = other.1 in absurd (omega (arith, same, rose)));
+} where
+  only_failed : (why : CheckpointFault) → answer.Refused (refusal_by why) ≡ answer.Refused refusal.Fault → why ≡ fault.Failed
+  only_failed fault.Failed e = refl
+  only_failed fault.CheckpointRunning e = cc
+  only_failed fault.MigrationPending e = cc
+  only_failed (fault.NotStable left) e = cc
+  only_failed fault.NoCheckpoint e = cc
+
+pub freeze_cause : (old new : Disk) (left : Option ℕ) (entries : ℕ) (why : CheckpointFault) → IsFreezeAnswer {T = ℕ} left entries (Err why) → new.failures ≡ old.failures → IsCaused old new (answer.Refused (refusal_by why))
+freeze_cause old new left entries fault.CheckpointRunning told same = refused_cause old new fault.CheckpointRunning (inr (λ e. cc, same))
+freeze_cause old new left entries fault.MigrationPending told same = refused_cause old new fault.MigrationPending (inr (λ e. cc, same))
+freeze_cause old new left entries fault.Failed told same = absurd told
+freeze_cause old new left entries (fault.NotStable n) told same = absurd told
+freeze_cause old new left entries fault.NoCheckpoint told same = absurd told
+
+pub stabilize_cause : (old new : Disk) (left : Option ℕ) (count : ℕ) (why : CheckpointFault) → IsStabilizeAnswer old new left count (Err why) → IsCaused old new (answer.Refused (refusal_by why))
+stabilize_cause old new left count fault.NoCheckpoint told = refused_cause old new fault.NoCheckpoint (inr (λ e. cc, told.0))
+stabilize_cause old new left count fault.Failed told = refused_cause old new fault.Failed (inl (refl, told.0))
+stabilize_cause old new left count fault.CheckpointRunning told = absurd told
+stabilize_cause old new left count fault.MigrationPending told = absurd told
+stabilize_cause old new left count (fault.NotStable n) told = absurd told
+
+pub commit_cause : (old new : Disk) (left : Option ℕ) (saved : ℕ) (why : CheckpointFault) → IsCommitAnswer old new left saved (Err why) → IsCaused old new (answer.Refused (refusal_by why))
+commit_cause old new left saved fault.NoCheckpoint told = refused_cause old new fault.NoCheckpoint (inr (λ e. cc, told.0))
+commit_cause old new left saved (fault.NotStable n) told = refused_cause old new (fault.NotStable n) (inr (λ e. cc, told.0))
+commit_cause old new left saved fault.Failed told = refused_cause old new fault.Failed (inl (refl, told.0))
+commit_cause old new left saved fault.CheckpointRunning told = absurd told
+commit_cause old new left saved fault.MigrationPending told = absurd told
 
 -- what is frozen can be committed at its age
 pub may_commit : {D S : Type 0} (disk : D → Disk) (view : S → View D) (parts : S → Parts) (l : Live S) → ((g : Geometry) × IsUp disk view parts g l) → (f : FrozenFrames) → (view l.store).aside.frozen ≡ Some f →
-    f.left ≡ 0 → (e : FrozenFrames) × MayCommit l.frozen_age e (view l.store).aside
-may_commit disk view parts l up f frozen stable =
+    MayCommit l.frozen_age f (view l.store).aside.saved
+may_commit disk view parts l up f frozen =
     let sound = up.1.sound in
-    let held = sound.frozen f frozen in (
-      f,
-      record {
-        frozen = frozen;
-        stable = stable;
-        later = held.after;
-        most = held.sound.sound.age;
-        keepable = subst (λ (g : Geometry). AreKeepable g l.frozen_age f.frames) (sym sound.saved.geometry) held.sound.keepable;
-      },
-    )
+    let held = sound.frozen f frozen in record {
+      later = held.after;
+      most = held.sound.sound.age;
+      keepable = subst (λ (g : Geometry). AreKeepable g l.frozen_age f.frames) (sym sound.saved.geometry) held.sound.keepable;
+    }
+
+-- what passes a failure on is answered by `Fault`
+pub err_answer : (Q : Failed → Type 0) (r : Result Answer Failed) → IsErrAnd r Q → answer_of r ≡ answer.Refused refusal.Fault
+err_answer Q (Ok a) failed = absurd failed
+err_answer Q (Err e) failed = refl
 
 -- who failed is told by the device
 pub caused : (p q : Parts) (old new : Disk) (c : Command) (age later : ℕ) (a : Answer) → p.failures ≡ old.failures → q.failures ≡ new.failures → Serves age p c a later q → IsCaused old new a
@@ -273,8 +371,3 @@ pub up_counted : {D S : Type 0} (disk : D → Disk) (view : S → View D) (parts
     AreCounted (parts l.store).geometry (objects_of (frames_of (parts l.store))) l.banks
 up_counted disk view parts l up =
     subst (λ (g : Geometry). AreCounted g (objects_of (frames_of (parts l.store))) l.banks) (sym up.1.sound.geometry) up.1.sound.counted
-
--- only an invocation that was carried out raises the age
-pub age_stays : (age : ℕ) (a : Answer) → (a ≡ answer.Done → ⊥) → age_after age a ≡ age
-age_stays age answer.Done other = absurd (other refl)
-age_stays age _ other = refl

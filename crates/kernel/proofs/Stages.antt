@@ -1,7 +1,6 @@
 -- What is sound stays sound through each stage of a checkpoint.
 use Rattle.std.proofs.Common.{◌≡◌, ℕ, ◌+◌, ◌-◌, ◌^◌, ◌<◌, ◌≤◌, Bool, true, false, Option, None, Some, List, refl, sym, ap, ◌∙◌, subst, arith}
 use Rattle.std.specs.Prelude.{◌==◌, if◌then◌else◌, option_map}
-use Rattle.std.specs.Option.{is_some}
 use Rattle.model.specs.declared.frame.Frame.{Frame}
 use Rattle.model.specs.declared.geometry.Geometry.{Geometry}
 use Rattle.model.specs.Frame.{frames_in, objects_of}
@@ -187,18 +186,18 @@ pub frozen_none : (o : Option FrozenFrames) (age : ℕ) → o ≡ None → froze
 frozen_none o age is = ap (frozen_of age) is
 
 -- whether there is one is told by what is left of it
-pub none_left : (o : Option FrozenFrames) → None ≡ option_map (λ (f : FrozenFrames). f.left) o → o ≡ None
-none_left None told = refl
-none_left (Some f) told = cc
+pub none_there : (o : Option FrozenFrames) → option_map (λ (f : FrozenFrames). f.left) o ≡ None → o ≡ None
+none_there None told = refl
+none_there (Some f) told = cc
+
+pub some_there : (o : Option FrozenFrames) → (option_map (λ (f : FrozenFrames). f.left) o ≡ None → ⊥) → (f : FrozenFrames) × (o ≡ Some f)
+some_there None told = absurd (told refl)
+some_there (Some f) told = (f, refl)
 
 pub some_left : (o : Option FrozenFrames) (n : ℕ) → Some n ≡ option_map (λ (f : FrozenFrames). f.left) o → (f : FrozenFrames) × (o ≡ Some f) × (f.left ≡ n)
 some_left None n told = let never : None ≡ Some n = sym told in cc
 some_left (Some f) n told = (f, refl, let same : n ≡ f.left = cc in sym same)
 
-pub some_there : (o : Option FrozenFrames) → is_some (option_map (λ (f : FrozenFrames). f.left) o) ≡ true → (f : FrozenFrames) × (o ≡ Some f)
-some_there None told = cc
-some_there (Some f) told = (f, refl)
-
-pub none_there : (o : Option FrozenFrames) → is_some (option_map (λ (f : FrozenFrames). f.left) o) ≡ false → o ≡ None
-none_there None told = refl
-none_there (Some f) told = cc
+pub some_left_after : (o : Option FrozenFrames) (count n : ℕ) → option_map (λ (k : ℕ). k - count) (option_map (λ (f : FrozenFrames). f.left) o) ≡ Some n → (f : FrozenFrames) × (o ≡ Some f) × (n ≡ f.left - count)
+some_left_after None count n told = cc
+some_left_after (Some f) count n told = (f, refl, let same : f.left - count ≡ n = cc in sym same)

@@ -2,6 +2,7 @@
 use Rattle.std.specs.Prelude.{◌≡◌, ◌↔◌, ℕ, ◌<◌, ◌≤◌, Option, None, Some, [], ◌∷◌, ◌++◌}
 use Rattle.model.specs.declared.answer.Answer.{Answer}
 use Rattle.model.specs.declared.answer.Answer.TheVariants as answer
+use Rattle.model.specs.declared.answer.Refusal.{Refusal}
 use Rattle.model.specs.declared.answer.Refusal.TheVariants as refusal
 use Rattle.model.specs.declared.command.Command.{Command}
 use Rattle.model.specs.declared.geometry.Geometry.{Geometry}
@@ -11,6 +12,8 @@ use Rattle.model.specs.Machine.{Frozen, Running, Machine, Up, Down, candidates}
 use Rattle.model.specs.Step.{Step, second}
 use Rattle.device.specs.Disk.{Disk}
 use Rattle.capability.specs.Parts.{Parts, frames_of}
+use Rattle.migrator.specs.declared.checkpoint_fault.CheckpointFault.{CheckpointFault}
+use Rattle.migrator.specs.declared.checkpoint_fault.CheckpointFault.TheVariants as fault
 use Rattle.migrator.specs.declared.durable.access.Checkpoint.{Checkpoint}
 use Rattle.object_cache.specs.Store.{Aside, FrozenFrames, View}
 use Rattle.space_bank.specs.Banks.{AreCounted, BanksState}
@@ -48,6 +51,14 @@ pub record AreSound (g : Geometry) (p : Parts) (aside : Aside) (banks : BanksSta
   pub frozen : (f : FrozenFrames) → aside.frozen ≡ Some f → IsSoundFrozen g aside.saved.age frozen_age age f
   pub saved : IsSoundSaved g aside.saved
   pub order : aside.saved.age ≤ age
+
+-- the machine's refusal where its store refuses
+abbrev pub refusal_by : CheckpointFault → Refusal
+refusal_by fault.CheckpointRunning = refusal.CheckpointRunning
+refusal_by fault.MigrationPending = refusal.MigrationPending
+refusal_by (fault.NotStable left) = refusal.NotStable left
+refusal_by fault.NoCheckpoint = refusal.NoCheckpoint
+refusal_by fault.Failed = refusal.Fault
 
 -- no device
 abbrev pub nothing : Disk

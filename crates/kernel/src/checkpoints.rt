@@ -1,88 +1,103 @@
 // The stages of a checkpoint (KeyKOS: freeze, log, commit and migrate). None of them takes memory.
+ghost use Rattle.std.specs.Prelude.{◌≡◌};
 ghost use Rattle.model.specs.declared.command.Command.TheVariants as command;
-ghost use Rattle.kernel.specs.Standing.{IsCaused, IsSomeUp, ServesUp, disk_at};
+ghost use Rattle.processes.specs.Machine.{IsToldOnce, answer_of};
+ghost use Rattle.kernel.specs.Standing.{IsCaused, IsSomeUp, ServesUp, disk_at, refusal_by};
 
 use crate::power::Live;
 use device::{Device, Failed};
+use migrator::CheckpointFault;
 use model::{Answer, MAX_AGE, Refusal};
 use object_cache::ObjectStore;
+
+// What is answered where the store refuses.
+fn refused(fault: CheckpointFault) -> Result<Answer, Failed>
+    ensures answer { answer_of result ≡ Answer.Refused (refusal_by fault) }
+    ensures told_once { IsToldOnce result }
+{
+    let refusal = match fault {
+        CheckpointFault::CheckpointRunning => Refusal::CheckpointRunning,
+        CheckpointFault::MigrationPending => Refusal::MigrationPending,
+        CheckpointFault::NotStable(left) => Refusal::NotStable(left),
+        CheckpointFault::NoCheckpoint => Refusal::NoCheckpoint,
+        CheckpointFault::Failed => return Err(Failed),
+    };
+    Ok(Answer::Refused(refusal))
+}
 
 /// Begins a checkpoint: all objects are frozen as they are, and the age rises by one.
 ///
 /// It is refused by the first that applies of `Worn` at the greatest age, `CheckpointRunning` where
 /// one is on its way, and `MigrationPending` where the last one isn't home.
 #[inline(never)]
-pub fn checkpoint<D: Device, S: ObjectStore<D>>(live: &mut Live<S>) -> Answer
+pub fn checkpoint<D: Device, S: ObjectStore<D>>(live: &mut Live<S>) -> Result<Answer, Failed>
     requires { IsSomeUp D.disk S.view S.parts live.old }
-    ensures serves { ServesUp D.disk S.view S.parts live.old command.Checkpoint result live.new }
+    ensures serves { ServesUp D.disk S.view S.parts live.old command.Checkpoint (answer_of result) live.new }
     ensures cause { IsCaused (disk_at D.disk S.view S.parts live.old)
-        (disk_at D.disk S.view S.parts live.new) result }
+        (disk_at D.disk S.view S.parts live.new) (answer_of result) }
+    ensures told_once { IsToldOnce result }
 {
     if live.age >= MAX_AGE {
-        return Answer::Refused(Refusal::Worn);
+        return Ok(Answer::Refused(Refusal::Worn));
     }
-    if live.store.left().is_some() {
-        return Answer::Refused(Refusal::CheckpointRunning);
+    match live.store.freeze() {
+        Ok(size) => {
+            live.age += 1;
+            live.frozen_age = live.age;
+            Ok(Answer::Frozen(size))
+        }
+        Err(fault) => refused(fault),
     }
-    if live.store.saved().entries != 0 {
-        return Answer::Refused(Refusal::MigrationPending);
-    }
-    let size = live.store.freeze();
-    live.age += 1;
-    live.frozen_age = live.age;
-    Answer::Frozen(size)
 }
 
 /// Writes so many frozen objects to the log. It is refused by `NoCheckpoint` where none is on its
-/// way, and by `Fault` where the device failed.
+/// way, and fails where the device does.
 #[inline(never)]
-pub fn stabilize<D: Device, S: ObjectStore<D>>(live: &mut Live<S>, count: u64) -> Answer
+pub fn stabilize<D: Device, S: ObjectStore<D>>(
+    live: &mut Live<S>,
+    count: u64,
+) -> Result<Answer, Failed>
     requires { IsSomeUp D.disk S.view S.parts live.old }
-    ensures serves { ServesUp D.disk S.view S.parts live.old (command.Stabilize count) result live.new }
+    ensures serves { ServesUp D.disk S.view S.parts live.old (command.Stabilize count) (answer_of result) live.new }
     ensures cause { IsCaused (disk_at D.disk S.view S.parts live.old)
-        (disk_at D.disk S.view S.parts live.new) result }
+        (disk_at D.disk S.view S.parts live.new) (answer_of result) }
+    ensures told_once { IsToldOnce result }
 {
-    if live.store.left().is_none() {
-        return Answer::Refused(Refusal::NoCheckpoint);
-    }
     match live.store.stabilize(count) {
-        Ok(left) => Answer::Left(left),
-        Err(Failed) => Answer::Refused(Refusal::Fault),
+        Ok(left) => Ok(Answer::Left(left)),
+        Err(fault) => refused(fault),
     }
 }
 
 /// Makes the frozen objects the saved ones. It is refused by `NoCheckpoint` where none is on its
-/// way, by `NotStable` while some of it isn't in the log, and by `Fault` where the device failed:
-/// then what is saved is either of the two.
+/// way, and by `NotStable` while some of it isn't in the log. Where it fails, as the device does,
+/// what is saved is either of the two.
 #[inline(never)]
-pub fn commit<D: Device, S: ObjectStore<D>>(live: &mut Live<S>) -> Answer
+pub fn commit<D: Device, S: ObjectStore<D>>(live: &mut Live<S>) -> Result<Answer, Failed>
     requires { IsSomeUp D.disk S.view S.parts live.old }
-    ensures serves { ServesUp D.disk S.view S.parts live.old command.Commit result live.new }
+    ensures serves { ServesUp D.disk S.view S.parts live.old command.Commit (answer_of result) live.new }
     ensures cause { IsCaused (disk_at D.disk S.view S.parts live.old)
-        (disk_at D.disk S.view S.parts live.new) result }
+        (disk_at D.disk S.view S.parts live.new) (answer_of result) }
+    ensures told_once { IsToldOnce result }
 {
-    let Some(left) = live.store.left() else {
-        return Answer::Refused(Refusal::NoCheckpoint);
-    };
-    if left != 0 {
-        return Answer::Refused(Refusal::NotStable(left));
-    }
     match live.store.commit(live.frozen_age) {
-        Ok(generation) => Answer::Committed(generation),
-        Err(Failed) => Answer::Refused(Refusal::Fault),
+        Ok(generation) => Ok(Answer::Committed(generation)),
+        Err(fault) => refused(fault),
     }
 }
 
-/// Copies so many saved objects home. It is refused by `Fault` where the device failed.
+/// Copies so many saved objects home. Fails where the device does.
 #[inline(never)]
-pub fn migrate<D: Device, S: ObjectStore<D>>(live: &mut Live<S>, count: u64) -> Answer
+pub fn migrate<D: Device, S: ObjectStore<D>>(
+    live: &mut Live<S>,
+    count: u64,
+) -> Result<Answer, Failed>
     requires { IsSomeUp D.disk S.view S.parts live.old }
-    ensures serves { ServesUp D.disk S.view S.parts live.old (command.Migrate count) result live.new }
+    ensures serves { ServesUp D.disk S.view S.parts live.old (command.Migrate count) (answer_of result) live.new }
     ensures cause { IsCaused (disk_at D.disk S.view S.parts live.old)
-        (disk_at D.disk S.view S.parts live.new) result }
+        (disk_at D.disk S.view S.parts live.new) (answer_of result) }
+    ensures told_once { IsToldOnce result }
 {
-    match live.store.migrate(count) {
-        Ok(left) => Answer::Left(left),
-        Err(Failed) => Answer::Refused(Refusal::Fault),
-    }
+    let left = live.store.migrate(count)?;
+    Ok(Answer::Left(left))
 }

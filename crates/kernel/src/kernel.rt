@@ -69,13 +69,13 @@ impl<D: Device, S: ObjectStore<D>> Kernel<D, S> {
     pub fn saved(&self) -> Option<Checkpoint>
         ensures { IsTold D.disk S.view S.parts self.now result }
     {
-        self.machine.saved()
+        self.machine.power.saved()
     }
 
     /// Gives the device back, and makes no call of it.
     pub fn into_device(self) -> D
         ensures { IsDeviceOf D.disk S.view S.parts self result }
     {
-        self.machine.into_device()
+        self.machine.power.into_device()
     }
 }

@@ -1,18 +1,19 @@
 // A machine that is up or down, and its steps.
-ghost use Rattle.std.specs.Prelude.{◌≡◌, ◌↔◌, List, true, false, IfOk, IfErr};
+ghost use Rattle.std.specs.Prelude.{◌≡◌, List, false, IfOk, IfErr};
 ghost use Rattle.model.specs.declared.command.Command.TheVariants as command;
 ghost use Rattle.model.specs.declared.geometry.Geometry.{Geometry};
 ghost use Rattle.model.specs.Machine.{Saved};
 ghost use Rattle.model.specs.Step.{opens};
 ghost use Rattle.kernel.specs.Denotes.{Leaves};
-ghost use Rattle.kernel.specs.Standing.{Asks, GoesDown, HasDevice, IsCaused, IsDeviceOf, IsSomeMachine, IsSomeUp, IsTold, Serves, ServesUp, disk_at, disk_of};
+ghost use Rattle.processes.specs.Machine.{IsToldOnce, answer_of};
+ghost use Rattle.kernel.specs.Standing.{Asks, GoesDown, HasDevice, IsCaused, IsSomeMachine, Serves, disk_of};
 ghost use Rattle.kernel.specs.Opening.{IsNoReason, IsSomeDown, Opens, RefusesToOpen, Reopened, refused_by};
 
 use crate::power::{Live, Power};
-use crate::waking::{device_of, wake};
-use crate::{checkpoints, serving};
-use device::Device;
-use migrator::{Checkpoint, OpenFault, OpenRefused};
+use crate::serving::serve;
+use crate::waking::wake;
+use device::{Device, Failed};
+use migrator::{OpenFault, OpenRefused};
 use model::{Answer, Command, Refusal};
 use object_cache::ObjectStore;
 use std::alloc::Global;
@@ -37,46 +38,6 @@ fn refusal(fault: OpenFault) -> Refusal
     }
 }
 
-// Whether an answer tells that the device failed.
-fn is_fault(answer: &Answer) -> bool
-    ensures { (result ≡ true) ↔ (answer.now ≡ Answer.Refused Refusal.Fault) }
-{
-    matches!(answer, Answer::Refused(Refusal::Fault))
-}
-
-// Serves a command that doesn't open the device, by a store that serves.
-fn serve<D: Device, S: ObjectStore<D>>(
-    alloc: Global,
-    live: &mut Live<S>,
-    command: Command,
-) -> Answer
-    requires up { IsSomeUp D.disk S.view S.parts live.old }
-    requires goes_on { opens command ≡ false }
-    ensures serves { ServesUp D.disk S.view S.parts live.old command result live.new }
-    ensures cause { IsCaused (disk_at D.disk S.view S.parts live.old)
-        (disk_at D.disk S.view S.parts live.new) result }
-{
-    match command {
-        Command::Invoke(invocation) => serving::invoke::<D, S>(alloc, live, invocation),
-        Command::Load { process, address } => {
-            serving::load::<D, S>(alloc, live, process, address)
-        }
-        Command::Store {
-            process,
-            address,
-            value,
-        } => serving::store::<D, S>(alloc, live, process, address, value),
-        Command::Show { number } => serving::show::<D, S>(alloc, live, number),
-        Command::Evict { number } => serving::evict::<D, S>(live, number),
-        Command::Checkpoint => checkpoints::checkpoint::<D, S>(live),
-        Command::Stabilize { count } => checkpoints::stabilize::<D, S>(live, count),
-        Command::Commit => checkpoints::commit::<D, S>(live),
-        Command::Migrate { count } => checkpoints::migrate::<D, S>(live, count),
-        Command::Restart => unreachable!(),
-        Command::Cut => unreachable!(),
-    }
-}
-
 impl<D: Device, S: ObjectStore<D>> Machine<D, S> {
     /// Opens a device, and writes nothing to it: the machine stands at the saved part that its
     /// sectors denote. A refusal gives the least reason, and hands the device back.
@@ -94,15 +55,16 @@ impl<D: Device, S: ObjectStore<D>> Machine<D, S> {
     }
 
     // Asks the store, where it is up.
-    fn ask(&mut self, alloc: Global, command: Command) -> Answer
+    fn ask(&mut self, alloc: Global, command: Command) -> Result<Answer, Failed>
         requires some { IsSomeMachine D.disk S.view S.parts self.old.power }
         requires goes_on { opens command ≡ false }
-        ensures { Asks D.disk S.view S.parts self.old.power command result self.new.power }
+        ensures asks { Asks D.disk S.view S.parts self.old.power command (answer_of result)
+            self.new.power }
+        ensures told_once { IsToldOnce result }
     {
         match &mut self.power {
             Power::Up(live) => serve::<D, S>(alloc, live, command),
-            Power::Down(_) => Answer::Refused(Refusal::Down),
-            Power::Between => unreachable!(),
+            Power::Down(_) | Power::Between => Ok(Answer::Refused(Refusal::Down)),
         }
     }
 
@@ -112,7 +74,7 @@ impl<D: Device, S: ObjectStore<D>> Machine<D, S> {
         requires { HasDevice D.disk S.view S.parts self.old.power }
         ensures { GoesDown D.disk S.view S.parts self.old.power self.new.power }
     {
-        let device = device_of::<D, S>(mem::replace(&mut self.power, Power::Between));
+        let device = mem::replace(&mut self.power, Power::Between).into_device();
         self.power = Power::Down(device);
     }
 
@@ -124,11 +86,13 @@ impl<D: Device, S: ObjectStore<D>> Machine<D, S> {
         ensures cause { IsCaused (disk_of D.disk S.view S.parts self.old.power)
             (disk_of D.disk S.view S.parts self.new.power) result }
     {
-        let answer = self.ask(alloc, command);
-        if is_fault(&answer) {
-            self.go_down();
+        match self.ask(alloc, command) {
+            Ok(answer) => answer,
+            Err(Failed) => {
+                self.go_down();
+                Answer::Refused(Refusal::Fault)
+            }
         }
-        answer
     }
 
     // Opens a device that a crash of a kernel left, or tells why it stays down.
@@ -163,7 +127,7 @@ impl<D: Device, S: ObjectStore<D>> Machine<D, S> {
         ensures cause { IsCaused (disk_of D.disk S.view S.parts self.old.power)
             (disk_of D.disk S.view S.parts self.new.power) result }
     {
-        let device = device_of::<D, S>(mem::replace(&mut self.power, Power::Between));
+        let device = mem::replace(&mut self.power, Power::Between).into_device();
         self.rise(alloc, device)
     }
 
@@ -175,7 +139,7 @@ impl<D: Device, S: ObjectStore<D>> Machine<D, S> {
         ensures cause { IsCaused (disk_of D.disk S.view S.parts self.old.power)
             (disk_of D.disk S.view S.parts self.new.power) result }
     {
-        let mut device = device_of::<D, S>(mem::replace(&mut self.power, Power::Between));
+        let mut device = mem::replace(&mut self.power, Power::Between).into_device();
         device.power_cut();
         self.rise(alloc, device)
     }
@@ -192,24 +156,5 @@ impl<D: Device, S: ObjectStore<D>> Machine<D, S> {
             Command::Cut => self.cut(alloc),
             other => self.go_on(alloc, other),
         }
-    }
-
-    /// What is told of the committed checkpoint, where the machine is up.
-    pub fn saved(&self) -> Option<Checkpoint>
-        ensures { IsTold D.disk S.view S.parts self.now.power result }
-    {
-        match &self.power {
-            Power::Up(live) => Some(live.store.saved()),
-            Power::Down(_) => None,
-            Power::Between => None,
-        }
-    }
-
-    /// Gives the device back, and makes no call of it.
-    pub fn into_device(self) -> D
-        requires { IsSomeMachine D.disk S.view S.parts self.power }
-        ensures { IsDeviceOf D.disk S.view S.parts self.power result }
-    {
-        device_of::<D, S>(self.power)
     }
 }

@@ -1,4 +1,9 @@
 // Whether a machine is up.
+ghost use Rattle.kernel.specs.Standing.{HasDevice, IsDeviceOf, IsTold};
+
+use device::Device;
+use migrator::Checkpoint;
+use object_cache::ObjectStore;
 use space_bank::Banks;
 
 /// A store that serves.
@@ -21,4 +26,28 @@ pub enum Power<D, S> {
     Down(D),
     /// While it changes from one to the other.
     Between,
+}
+
+impl<D: Device, S: ObjectStore<D>> Power<D, S> {
+    /// What is told of the committed checkpoint, where the machine is up.
+    pub fn saved(&self) -> Option<Checkpoint>
+        ensures { IsTold D.disk S.view S.parts self.now result }
+    {
+        match self {
+            Power::Up(live) => Some(live.store.saved()),
+            Power::Down(_) | Power::Between => None,
+        }
+    }
+
+    /// The device beneath, on which no call is made.
+    pub fn into_device(self) -> D
+        requires { HasDevice D.disk S.view S.parts self }
+        ensures { IsDeviceOf D.disk S.view S.parts self result }
+    {
+        match self {
+            Power::Up(live) => live.store.into_device(),
+            Power::Down(device) => device,
+            Power::Between => unreachable!(),
+        }
+    }
 }

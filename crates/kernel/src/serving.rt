@@ -1,93 +1,72 @@
-// What processes ask of the machine, what is shown of it, and evictions.
+// What a machine that is up serves.
+ghost use Rattle.std.specs.Prelude.{◌≡◌, false};
 ghost use Rattle.model.specs.declared.command.Command.TheVariants as command;
+ghost use Rattle.model.specs.Step.{opens};
+ghost use Rattle.processes.specs.Machine.{IsToldOnce, answer_of};
 ghost use Rattle.kernel.specs.Standing.{IsCaused, IsSomeUp, ServesUp, disk_at};
 
+use crate::checkpoints;
 use crate::power::Live;
 use device::{Device, Failed};
-use model::{Answer, Invocation, Refusal};
+use model::{Answer, Command, Refusal};
 use object_cache::ObjectStore;
 use std::alloc::Global;
 
-/// An invocation by a process, which raises the age by one where it is `Done`.
-pub fn invoke<D: Device, S: ObjectStore<D>>(
-    alloc: Global,
-    live: &mut Live<S>,
-    invocation: Invocation,
-) -> Answer
-    requires { IsSomeUp D.disk S.view S.parts live.old }
-    ensures serves { ServesUp D.disk S.view S.parts live.old (command.Invoke invocation) result live.new }
-    ensures cause { IsCaused (disk_at D.disk S.view S.parts live.old)
-        (disk_at D.disk S.view S.parts live.new) result }
-{
-    let answer = processes::invoke(
-        alloc,
-        &mut live.store,
-        &mut live.banks,
-        live.age,
-        invocation,
-    );
-    if let Answer::Done = &answer {
-        live.age += 1;
-    }
-    answer
-}
-
-/// Reads a word through the address space of a process.
-pub fn load<D: Device, S: ObjectStore<D>>(
-    alloc: Global,
-    live: &mut Live<S>,
-    process: u64,
-    address: u64,
-) -> Answer
-    requires { IsSomeUp D.disk S.view S.parts live.old }
-    ensures serves { ServesUp D.disk S.view S.parts live.old (command.Load process address) result live.new }
-    ensures cause { IsCaused (disk_at D.disk S.view S.parts live.old)
-        (disk_at D.disk S.view S.parts live.new) result }
-{
-    processes::load(alloc, &mut live.store, live.age, process, address)
-}
-
-/// Writes a word through the address space of a process.
-pub fn store<D: Device, S: ObjectStore<D>>(
-    alloc: Global,
-    live: &mut Live<S>,
-    process: u64,
-    address: u64,
-    value: u64,
-) -> Answer
-    requires { IsSomeUp D.disk S.view S.parts live.old }
-    ensures serves { ServesUp D.disk S.view S.parts live.old (command.Store process address value) result live.new }
-    ensures cause { IsCaused (disk_at D.disk S.view S.parts live.old)
-        (disk_at D.disk S.view S.parts live.new) result }
-{
-    processes::store(alloc, &mut live.store, live.age, process, address, value)
-}
-
-/// Tells of an object.
+// Asks that an object leave memory. It is refused by `BadNumber` where no object has the number. It
+// takes no memory.
 #[inline(never)]
-pub fn show<D: Device, S: ObjectStore<D>>(alloc: Global, live: &mut Live<S>, number: u64) -> Answer
+fn evict<D: Device, S: ObjectStore<D>>(live: &mut Live<S>, number: u64) -> Result<Answer, Failed>
     requires { IsSomeUp D.disk S.view S.parts live.old }
-    ensures serves { ServesUp D.disk S.view S.parts live.old (command.Show number) result live.new }
+    ensures serves { ServesUp D.disk S.view S.parts live.old (command.Evict number) (answer_of result) live.new }
     ensures cause { IsCaused (disk_at D.disk S.view S.parts live.old)
-        (disk_at D.disk S.view S.parts live.new) result }
-{
-    processes::show(alloc, &mut live.store, &live.banks, live.age, number)
-}
-
-/// Asks that an object leave memory. It is refused by `BadNumber` where no object has the number,
-/// and by `Fault` where the device failed. It takes no memory.
-#[inline(never)]
-pub fn evict<D: Device, S: ObjectStore<D>>(live: &mut Live<S>, number: u64) -> Answer
-    requires { IsSomeUp D.disk S.view S.parts live.old }
-    ensures serves { ServesUp D.disk S.view S.parts live.old (command.Evict number) result live.new }
-    ensures cause { IsCaused (disk_at D.disk S.view S.parts live.old)
-        (disk_at D.disk S.view S.parts live.new) result }
+        (disk_at D.disk S.view S.parts live.new) (answer_of result) }
+    ensures told_once { IsToldOnce result }
 {
     if number >= live.store.table().count() {
-        return Answer::Refused(Refusal::BadNumber);
+        return Ok(Answer::Refused(Refusal::BadNumber));
     }
-    match live.store.evict(number) {
-        Ok(()) => Answer::Done,
-        Err(Failed) => Answer::Refused(Refusal::Fault),
+    live.store.evict(number)?;
+    Ok(Answer::Done)
+}
+
+/// Serves a command that doesn't open the device, by a store that is up. Fails exactly where the
+/// device does.
+pub fn serve<D: Device, S: ObjectStore<D>>(
+    alloc: Global,
+    live: &mut Live<S>,
+    command: Command,
+) -> Result<Answer, Failed>
+    requires up { IsSomeUp D.disk S.view S.parts live.old }
+    requires goes_on { opens command ≡ false }
+    ensures serves { ServesUp D.disk S.view S.parts live.old command (answer_of result) live.new }
+    ensures cause { IsCaused (disk_at D.disk S.view S.parts live.old)
+        (disk_at D.disk S.view S.parts live.new) (answer_of result) }
+    ensures told_once { IsToldOnce result }
+{
+    match command {
+        Command::Invoke(invocation) => processes::invoke(
+            alloc,
+            &mut live.store,
+            &mut live.banks,
+            &mut live.age,
+            invocation,
+        ),
+        Command::Load { process, address } => {
+            processes::load(alloc, &mut live.store, live.age, process, address)
+        }
+        Command::Store {
+            process,
+            address,
+            value,
+        } => processes::store(alloc, &mut live.store, live.age, process, address, value),
+        Command::Show { number } => {
+            processes::show(alloc, &mut live.store, &live.banks, live.age, number)
+        }
+        Command::Evict { number } => evict::<D, S>(live, number),
+        Command::Checkpoint => checkpoints::checkpoint::<D, S>(live),
+        Command::Stabilize { count } => checkpoints::stabilize::<D, S>(live, count),
+        Command::Commit => checkpoints::commit::<D, S>(live),
+        Command::Migrate { count } => checkpoints::migrate::<D, S>(live, count),
+        Command::Restart | Command::Cut => unreachable!(),
     }
 }

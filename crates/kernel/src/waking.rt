@@ -1,13 +1,12 @@
-// A store made of a device, and a device taken back.
+// A store made of a device.
 ghost use Rattle.std.specs.Prelude.{◌≡◌, ◌↔◌, ◌<◌, ◌≤◌, ◌^◌, IfOk, IfErr, OnOk, IsErrOf};
 ghost use Rattle.model.specs.Frame.{objects_of};
 ghost use Rattle.model.specs.Keepable.{AreKeepable, IsSoundFrames};
 ghost use Rattle.capability.specs.Parts.{LooksUp, frames_of};
 ghost use Rattle.space_bank.specs.Banks.{AreCounted};
-ghost use Rattle.kernel.specs.Standing.{HasDevice, IsDeviceOf};
 ghost use Rattle.kernel.specs.Opening.{IsUnfit, RefusesToOpen, Wakes, fault_of};
 
-use crate::power::{Live, Power};
+use crate::power::Live;
 use capability::{PrepareFault, PresentFrames};
 use consistency::{CheckFault, Inconsistency, check};
 use device::Device;
@@ -88,17 +87,5 @@ pub fn wake<D: Device, S: ObjectStore<D>>(
             }
         }
         Err(refused) => Err(refused),
-    }
-}
-
-/// The device of a kernel, on which no call is made.
-pub fn device_of<D: Device, S: ObjectStore<D>>(power: Power<D, S>) -> D
-    requires { HasDevice D.disk S.view S.parts power }
-    ensures { IsDeviceOf D.disk S.view S.parts power result }
-{
-    match power {
-        Power::Up(live) => live.store.into_device(),
-        Power::Down(device) => device,
-        Power::Between => unreachable!(),
     }
 }

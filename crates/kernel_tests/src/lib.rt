@@ -1,6 +1,6 @@
 //! The tests of `kernel` and `runs` that need a device which stops or loses power, and what tests
-//! of scripts are written with: scripts over worlds on a device in memory. The rows of checks/rows
-//! try what no such device is needed for.
+//! of scripts are written with: worlds on a device in memory. The rows of checks/rows try what no
+//! such device is needed for.
 #![tactic(auto)]
 
 mod images;
@@ -11,4 +11,4 @@ mod layouts;
 mod stops;
 
 pub use images::{first_world, second_world, written};
-pub use kernels::{answers, answers_over, opened};
+pub use kernels::opened;

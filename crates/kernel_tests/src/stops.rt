@@ -1,10 +1,11 @@
 // Devices that stop or lose power, and what is answered then.
 use crate::images::{second_world, written};
-use crate::kernels::{answers, opened};
+use crate::kernels::opened;
 use device::{Device, Fuse, Memory, Outcome};
 use kernel::Kernel;
 use migrator::{Checkpoint, OpenFault, OpenRefused};
 use object_cache::PlainStore;
+use runs::run;
 use std::alloc::Global;
 use std::process::Abort;
 use std::test::Fail;
@@ -37,7 +38,19 @@ send 1 28 2 0 43 0 0 0 0 0\nstabilize 5\n";
 const COMMITTED: &[u8] = b"call 1 2 1 0 0 0 0 0 0 0\nsend 1 28 2 0 42 0 0 0 0 0\ncheckpoint\n\
 send 1 28 2 0 43 0 0 0 0 0\nstabilize 5\ncommit\n";
 
-const ROWS: [Row<'static>; 6] = [
+const ROWS: [Row<'static>; 7] = [
+    // Each of three frames is written to a slot of the half of the log that nothing is in.
+    Row {
+        past: COMMITTED,
+        before: b"migrate 9\ncall 1 2 1 0 0 0 0 0 0 0\ncheckpoint\n",
+        ready: b"left 0\ndone\nfrozen 3\n",
+        command: b"stabilize 9\nshow 5\ncut\nshow 16\n",
+        done: b"left 0\nfree 5\nend\nat 1 3\npage 16 owner 0\nword 0 42\nend\n",
+        at_saved: b"fault\ndown\nat 1 3\npage 16 owner 0\nword 0 42\nend\n",
+        at_next: b"",
+        stops: 3,
+        kept: 0,
+    },
     // The first commit writes the directory, syncs, reads the gate of the other header, which is
     // closed, writes that header, syncs, writes the gate and syncs.
     Row {
@@ -120,6 +133,18 @@ fn second_image(alloc: Global, outcome: Outcome) -> Result<Memory, Fail> {
     let plain = second_world(alloc)?;
     let device = written(alloc, device, &plain, 9)?;
     written(alloc, device, &plain, 0)
+}
+
+// What a run of a script writes. An error where there is no memory for it.
+fn answers<D: Device>(
+    alloc: Global,
+    kernel: &mut Kernel<D, PlainStore<D>>,
+    script: &[u8],
+) -> Result<Vec<u8>, Fail> {
+    let mut reader = script;
+    let mut answers = Vec::new(alloc);
+    run(alloc, kernel, &mut reader, &mut answers)?;
+    Ok(answers)
 }
 
 // A device that holds a world, after a script.

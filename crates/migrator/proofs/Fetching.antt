@@ -19,8 +19,11 @@ use Rattle.layout.specs.Frame.{IsFrameOf}
 use Rattle.layout.specs.Image.{Denotes}
 use Rattle.layout.proofs.Images.{one_frame}
 use Rattle.frame_io.specs.Calls.{ReadsOnly}
+use Rattle.frame_io.specs.Frames.{IsRefused}
+use Rattle.frame_io.specs.declared.fault.ReadFault.{ReadFault}
+use Rattle.frame_io.specs.declared.fault.ReadFault.TheVariants as fault
 use Rattle.migrator.specs.Saved.{Holds}
-use Rattle.migrator.specs.Durable.{Books, DurableState, frozen_generation, working_generation, frozen_put, frozen_of, newest, IsRunning, stored_in, saved_state, LeavesState, IsKept, GoesOnDisk, ReadsStore}
+use Rattle.migrator.specs.Durable.{Books, DurableState, frozen_generation, working_generation, below_at, frozen_put, frozen_of, newest, IsRunning, stored_in, saved_state, LeavesState, IsKept, GoesOnDisk, ReadsStore}
 use Rattle.migrator.proofs.GoingOn.{holds}
 
 -- of bytes that are a function of an image
@@ -28,8 +31,9 @@ pub read_is : (g : Geometry) (age n : ℕ) (bytes : Image → List ℕ) (old mid
 read_is g age n bytes old mid f read same is found =
     one_frame g age n (bytes old) read f (subst (λ (i : Image). IsFrameOf g age n (bytes i) read) (agrees_is mid old same) found) is
 
-pub never_bad : (g : Geometry) (age n : ℕ) (bytes : Image → List ℕ) (old mid : Image) (f : Frame) → Agrees mid old → IsFrameOf g age n (bytes old) f → ((f : Frame) → IsFrameOf g age n (bytes mid) f → ⊥) → ⊥
-never_bad g age n bytes old mid f same is refused = refused f (subst (λ (i : Image). IsFrameOf g age n (bytes i) f) (sym (agrees_is mid old same)) is)
+pub only_failed : (g : Geometry) (age n : ℕ) (bytes : Image → List ℕ) (old mid : Image) (f : Frame) → Agrees mid old → IsFrameOf g age n (bytes old) f → (e : ReadFault) → IsRefused g age n (bytes mid) e → e ≡ fault.Failed
+only_failed g age n bytes old mid f same is fault.Failed refused = refl
+only_failed g age n bytes old mid f same is (fault.Bad reason) refused = absurd (refused.1 f (subst (λ (i : Image). IsFrameOf g age n (bytes i) f) (sym (agrees_is mid old same)) is))
 
 module _ (old new : Disk) (b : Books) (reads : ReadsOnly old new) where
   seen : new.seen ≡ old.seen
@@ -71,6 +75,11 @@ frozen_is : (image : Image) (b : Books) (o : Option ℕ) (n : ℕ) → n < count
     → frozen_put (option_map (frozen_of image b) o) n ≡ put_of image b.plan (frozen_generation b) n (place_at b.frozen n)
 frozen_is image b None n lt running = sym (ap (put_of image b.plan (frozen_generation b) n) (running n))
 frozen_is image b (Some k) n lt running = put_is image b.plan (frozen_generation b) b.frozen n lt
+
+-- what lies below, by the places
+pub below_is : (size : ℕ) (image : Image) (b : Books) (n : ℕ) → n < count_of b.plan → IsKept size image b
+    → put_or (put_of image b.plan (frozen_generation b) n (place_at b.frozen n)) (frame_at (stored_in image b).saved.frames n) ≡ below_at (stored_in image b) n
+below_is size image b n lt kept = ap (λ (x : Put). put_or x (frame_at (stored_in image b).saved.frames n)) (sym (frozen_is image b b.size n lt kept.running))
 
 -- the newest frame, by the places
 pub newest_is : (size : ℕ) (image : Image) (b : Books) (n : ℕ) → n < count_of b.plan → IsKept size image b

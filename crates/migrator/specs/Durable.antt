@@ -1,7 +1,8 @@
 -- A durable store: what it keeps in memory, and what that and the device make.
-use Rattle.std.specs.Prelude.{◌≡◌, ◌⊎◌, ◌==◌, if◌then◌else◌, ℕ, ◌+◌, ◌-◌, ◌<◌, ◌≤◌, Option, Some, None, List, length, option_map, slice_set, take, replicate}
+use Rattle.std.specs.Prelude.{◌≡◌, ◌⊎◌, ◌==◌, if◌then◌else◌, ℕ, ◌+◌, ◌-◌, ◌^◌, ◌<◌, ◌≤◌, Option, Some, None, List, length, option_map, slice_set, take, replicate}
 use Rattle.model.specs.declared.frame.Frame.{Frame}
 use Rattle.model.specs.Frame.{frame_at}
+use Rattle.model.specs.Keepable.{AreKeepable}
 use Rattle.device.specs.Disk.{Image, Disk}
 use Rattle.device.specs.Calls.{Agrees, Narrows}
 use Rattle.device.specs.Moments.{Peeks}
@@ -90,13 +91,17 @@ stored_in image b = record {
   to_move = b.header.entries - b.moved;
 }
 
--- the newest frame of an object: the one put last, else the frozen one, else the saved one
+-- what lies below a frame that is kept in memory: the frozen one that was put, else the saved one
 abbrev pub frozen_put : Option Frozen → ℕ → Put
 frozen_put None n = Absent
 frozen_put (Some f) n = put_at f.put n
 
+abbrev pub below_at : Stored → ℕ → Frame
+below_at s n = put_or (frozen_put s.frozen n) (frame_at s.saved.frames n)
+
+-- the newest frame of an object: the one put last, else the frozen one, else the saved one
 abbrev pub newest : Stored → ℕ → Frame
-newest s n = put_or (put_at s.working n) (put_or (frozen_put s.frozen n) (frame_at s.saved.frames n))
+newest s n = put_or (put_at s.working n) (below_at s n)
 
 -- ---- what always holds
 
@@ -160,6 +165,12 @@ freezing size s = record {
 -- what is saved once the frozen frames are, at an age
 abbrev pub next_saved : ℕ → Frozen → SavedFrames → SavedFrames
 next_saved age f s = record { geometry = s.geometry; frames = overlaid f.put s.frames; generation = s.generation + 1; entries = f.size; age = age }
+
+-- frozen frames may be saved at an age, once all of them were put
+pub record MayCommit (age : ℕ) (f : Frozen) (s : SavedFrames) : Type 0 where
+  pub later : s.age < age
+  pub most : age ≤ 2 ^ 62
+  pub keepable : left_of f ≡ 0 → AreKeepable s.geometry age (next_saved age f s).frames
 
 -- they are saved
 abbrev pub committed : ℕ → Frozen → Stored → Stored

@@ -8,9 +8,9 @@ ghost use Rattle.frame_io.specs.Calls.{WritesAt};
 ghost use Rattle.frame_io.specs.Frames.{IsObject};
 ghost use Rattle.migrator.specs.Table.{slot_for, whole_count};
 ghost use Rattle.migrator.specs.Put.{Broken, Kept, most, slot_bytes, puts_in, held_slot, sum_of, HasRoom};
-ghost use Rattle.migrator.specs.Durable.{Frozen, frozen_of, left_of, stored_of, is_sound, next_header, next_saved, committed, with_working, with_frozen, freezing, GoesOn, working_generation, frozen_generation};
+ghost use Rattle.migrator.specs.Durable.{Frozen, frozen_of, left_of, stored_of, is_sound, next_header, next_saved, committed, MayCommit, with_working, with_frozen, freezing, GoesOn, working_generation, frozen_generation};
 ghost use Rattle.migrator.specs.Saved.{LeavesEither, LeavesOneOf};
-ghost use Rattle.migrator.specs.Refused.{IsPutAnswer, IsFreezeAnswer, IsCommitAnswer};
+ghost use Rattle.migrator.specs.Refused.{IsPutAnswer, IsFreezeAnswer, IsCommitAnswer, IsRefused};
 
 use crate::checkpoint_fault::CheckpointFault;
 use crate::save::save;
@@ -201,7 +201,7 @@ impl<D: Device> Durable<D> {
         ensures broken { OnErr result (stored_of D.disk self.new
             ≡ with_frozen number Broken (stored_of D.disk self.old)) }
         ensures answer { IsPutAnswer (D.disk self.old.beneath) (D.disk self.new.beneath)
-            (stored_of D.disk self.old) result }
+            (option_map left_of (stored_of D.disk self.old).frozen) result }
         ensures goes_on { GoesOn D.disk self.old self.new }
     {
         match self.size {
@@ -223,7 +223,8 @@ impl<D: Device> Durable<D> {
         ensures frozen { OnOk result
             (stored_of D.disk self.new ≡ freezing size (stored_of D.disk self.old)) }
         ensures unchanged { OnErr result (self.new ≡ self.old) }
-        ensures answer { IsFreezeAnswer (stored_of D.disk self.old) result }
+        ensures answer { IsFreezeAnswer (option_map left_of (stored_of D.disk self.old).frozen)
+            (stored_of D.disk self.old).saved.entries result }
         ensures beneath { self.new.beneath ≡ self.old.beneath }
         ensures plan { self.new.books.plan ≡ self.old.books.plan }
         ensures sound { is_sound D.disk self.old → is_sound D.disk self.new }
@@ -294,20 +295,19 @@ impl<D: Device> Durable<D> {
     /// the frozen frames make of it.
     pub fn commit(&mut self, age: u64) -> Result<u64, CheckpointFault>
         requires sound { is_sound D.disk self.old }
-        requires later { (stored_of D.disk self.old).saved.age < age }
-        requires most { age ≤ 2 ^ 62 }
-        requires keepable { (f : Frozen) → (stored_of D.disk self.old).frozen ≡ Some f
-            → AreKeepable self.old.books.plan.geometry age
-            (next_saved age f (stored_of D.disk self.old).saved).frames }
+        requires ready { (f : Frozen) → (stored_of D.disk self.old).frozen ≡ Some f
+            → MayCommit age f (stored_of D.disk self.old).saved }
         ensures committed { (f : Frozen) → (stored_of D.disk self.old).frozen ≡ Some f
             → OnOk result (stored_of D.disk self.new
             ≡ committed age f (stored_of D.disk self.old)) }
         ensures stable { OnOk result ((f : Frozen) × ((stored_of D.disk self.old).frozen ≡ Some f)
             × (left_of f ≡ 0)) }
         ensures unchanged { OnErr result (stored_of D.disk self.new ≡ stored_of D.disk self.old) }
+        ensures untouched { IsRefused result → self.new ≡ self.old }
         ensures plan { self.new.books.plan ≡ self.old.books.plan }
         ensures answer { IsCommitAnswer (D.disk self.old.beneath) (D.disk self.new.beneath)
-            (stored_of D.disk self.old) result }
+            (option_map left_of (stored_of D.disk self.old).frozen)
+            (stored_of D.disk self.old).saved.generation result }
         ensures sound { IsErrOf result CheckpointFault.Failed ⊎ is_sound D.disk self.new }
         ensures size { (D.disk self.new.beneath).sectors ≡ (D.disk self.old.beneath).sectors }
         ensures any_moment { LeavesOneOf (D.disk self.old.beneath) (D.disk self.new.beneath)
@@ -322,9 +322,9 @@ impl<D: Device> Durable<D> {
         if left != 0 {
             return Err(CheckpointFault::NotStable(left));
         }
-        match self.commit_running(size, age) {
-            Ok(()) => Ok(self.header.generation),
-            Err(Failed) => Err(CheckpointFault::Failed),
-        }
+        let Ok(()) = self.commit_running(size, age) else {
+            return Err(CheckpointFault::Failed);
+        };
+        Ok(self.header.generation)
     }
 }

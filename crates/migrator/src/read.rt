@@ -75,6 +75,16 @@ pub(crate) fn read_saved<D: Device>(
     }
 }
 
+// The failure where a frame that was read before isn't read again.
+fn failure(fault: ReadFault) -> Failed
+    requires { fault ≡ ReadFault.Failed }
+{
+    match fault {
+        ReadFault::Failed => Failed,
+        ReadFault::Bad(_) => unreachable!(),
+    }
+}
+
 /// Reads a frame that was put into a slot of the half of a generation.
 pub(crate) fn read_put<D: Device>(
     device: &mut D,
@@ -97,8 +107,7 @@ pub(crate) fn read_put<D: Device>(
 {
     match log.read_slot(device, generation, slot, number, u64::MAX, room) {
         Ok(read) => Ok(read),
-        Err(ReadFault::Failed) => Err(Failed),
-        Err(ReadFault::Bad(_)) => unreachable!(),
+        Err(fault) => Err(failure(fault)),
     }
 }
 
@@ -125,7 +134,6 @@ pub(crate) fn read_again<D: Device>(
 {
     match read_saved(device, log, home, header, directory, number, room) {
         Ok(read) => Ok(read),
-        Err(ReadFault::Failed) => Err(Failed),
-        Err(ReadFault::Bad(_)) => unreachable!(),
+        Err(fault) => Err(failure(fault)),
     }
 }

@@ -121,13 +121,11 @@ fn next_entry(places: &[Place], held: &NumberSet, from: usize) -> Option<Entry>
     ensures none { result ≡ None → entries_from from (drop from places.now) ≡ [] }
 {
     let number = held.next(from)?;
-    match places[number].slot() {
-        None => unreachable!(),
-        Some(slot) => Some(Entry {
-            object: number as u64,
-            slot,
-        }),
-    }
+    let slot = places[number].slot()?;
+    Some(Entry {
+        object: number as u64,
+        slot,
+    })
 }
 
 // Writes the entries of the objects that have a slot.

@@ -38,24 +38,33 @@ fn superblock(geometry: Geometry) -> Option<Superblock> {
     Superblock::new(geometry, &homes, behind_pages, behind_pages + half, total)
 }
 
-// Writes a superblock and a first header.
-fn put_heads<D: Device>(device: &mut D, superblock: &Superblock) -> Result<(), Failed> {
+/// Writes a header of generation 0 with a sequence number, and behind it an open gate.
+pub(crate) fn put_header<D: Device>(device: &mut D, at: u64, sequence: u64) -> Result<(), Failed> {
     let header = CheckpointHeader {
-        sequence: 0,
+        sequence,
         generation: 0,
         entries: 0,
         age: 0,
     };
+    let mut sector = [0; SECTOR_SIZE];
+    if at > 3 || device.sectors() < 5 {
+        return Err(Failed);
+    }
+    encode_header(header, &mut sector);
+    device.write(at, &sector)?;
+    encode_gate(Gate::Open, &mut sector);
+    device.write(at + 1, &sector)
+}
+
+// Writes a superblock and a first header.
+fn put_heads<D: Device>(device: &mut D, superblock: &Superblock) -> Result<(), Failed> {
     let mut sector = [0; SECTOR_SIZE];
     if device.sectors() < 3 {
         return Err(Failed);
     }
     encode_superblock(superblock, &mut sector);
     device.write(0, &sector)?;
-    encode_header(header, &mut sector);
-    device.write(1, &sector)?;
-    encode_gate(Gate::Open, &mut sector);
-    device.write(2, &sector)
+    put_header(device, 1, 0)
 }
 
 // Writes the home frame of an object, with its number as its value.

@@ -1,5 +1,5 @@
 // Calls of a store, and what each of them answers.
-use crate::images::{LOGGED, image, opened};
+use crate::images::{LOGGED, image, opened, put_header};
 use crate::rig::Rig;
 use device::{Device, Failed, Fuse, Outcome};
 use migrator::{Checkpoint, CheckpointFault};
@@ -39,6 +39,8 @@ pub(crate) enum Step<'a> {
     Open,
     /// The same, after a power cut.
     Cut,
+    /// The same, after an open gate was written over a header of the other slot.
+    Misplace,
 }
 
 fn put<D: Device>(alloc: Global, rig: &mut Rig<D>, values: &[Values]) -> Result<(), Failed> {
@@ -132,6 +134,11 @@ fn taken<D: Device>(alloc: Global, rig: Rig<D>, step: Step) -> Result<Rig<D>, Fa
         Step::Cut => {
             let mut device = rig.into_device();
             device.power_cut();
+            opened(alloc, device)
+        }
+        Step::Misplace => {
+            let mut device = rig.into_device();
+            put_header(&mut device, 3, 6)?;
             opened(alloc, device)
         }
         _ => Ok(rig),

@@ -32,8 +32,10 @@ fn stopped(alloc: Global, device: Memory, steps: &[Step], calls: u64) -> (Option
     (done, device.into_inner())
 }
 
-// No objects, three, and as many as a half of the log has slots.
+// No objects, one, three, and as many as a half of the log has slots.
 const NONE: Values = (&[], 0);
+
+const ONE: [Values; 3] = [(&[17], 317), NONE, NONE];
 
 const FEW: [Values; 3] = [(&[20], 320), (&[3], 303), (&[17], 317)];
 
@@ -53,24 +55,25 @@ const SECOND: &[Step] = &[
     Step::Migrate(2, Ok(0)),
 ];
 
-// What an image went through before a generation.
-fn before(generation: u64) -> &'static [Step<'static>] {
-    if generation == 1 { AT_HOME } else { SECOND }
-}
+// What an image of generation 0 went through whose other gate is open, over a header that doesn't
+// count.
+const MISPLACED: &[Step] = &[Step::Misplace];
 
-// A checkpoint of a generation at age 3, of so many objects with values, and how many calls are
-// made up to the end of opening, putting, freezing, committing and migrating.
-type Writing = (u64, u64, [Values; 3], [u64; 5]);
+// What an image went through, and a checkpoint of a generation at age 3, of so many objects with
+// values; and how many calls are made up to the end of opening, putting, freezing, committing and
+// migrating.
+type Writing = (&'static [Step<'static>], u64, u64, [Values; 3], [u64; 5]);
 
 // A commit writes a directory where there are entries, and publishes by 6 calls where the other
 // gate is closed, and by 8 where it is open. A migration reads and writes each frame, and
 // publishes by 8 calls.
-const WRITINGS: [Writing; 5] = [
-    (1, 0, [NONE, NONE, NONE], [30, 30, 30, 36, 36]),
-    (1, 1, [(&[17], 317), NONE, NONE], [30, 31, 31, 38, 48]),
-    (1, 3, FEW, [30, 33, 33, 40, 54]),
-    (1, 16, MOST, [30, 46, 46, 53, 93]),
-    (2, 3, FEW, [30, 33, 33, 42, 56]),
+const WRITINGS: [Writing; 6] = [
+    (AT_HOME, 1, 0, [NONE, NONE, NONE], [30, 30, 30, 36, 36]),
+    (AT_HOME, 1, 1, ONE, [30, 31, 31, 38, 48]),
+    (AT_HOME, 1, 3, FEW, [30, 33, 33, 40, 54]),
+    (AT_HOME, 1, 16, MOST, [30, 46, 46, 53, 93]),
+    (MISPLACED, 1, 3, FEW, [30, 33, 33, 42, 56]),
+    (SECOND, 2, 3, FEW, [30, 33, 33, 42, 56]),
 ];
 
 // How many of these parts are done where the device stops after so many calls.
@@ -92,7 +95,7 @@ fn is_committed(end: u64, calls: u64, opened: bool) -> bool {
 
 // What has to be saved after a stop, and the values then: those of the checkpoint, or none of them.
 fn left(writing: Writing, calls: u64, opened: bool) -> (Step<'static>, [Values; 4]) {
-    let (generation, size, [first, second, third], ends) = writing;
+    let (_, generation, size, [first, second, third], ends) = writing;
     let old = if generation == 1 { NONE } else { BEFORE };
     let before = generation.wrapping_sub(1);
     if !is_committed(ends[3], calls, opened) {
@@ -112,7 +115,7 @@ fn stop_at_each(
     outcome: Outcome,
     opened: bool,
 ) -> Result<(), Fail> {
-    let (generation, size, values, ends) = writing;
+    let (past, generation, size, values, ends) = writing;
     let steps = [
         Step::Put(&values),
         Step::Freeze(size, Ok(())),
@@ -120,7 +123,7 @@ fn stop_at_each(
         Step::Migrate(size, Ok(0)),
     ];
     for calls in 0..ends[4].wrapping_add(2) {
-        let device = image(rt, alloc, outcome, before(generation))?;
+        let device = image(rt, alloc, outcome, past)?;
         let (done, device) = stopped(alloc, device, &steps, calls);
         assert!(rt; done == Some(done_at(ends, calls)), "at {calls}");
         let (saved, values) = left(writing, calls, opened);

@@ -18,7 +18,8 @@ use Rattle.capability.specs.Plain.{PlainState, HasRoom}
 use Rattle.capability.proofs.Touched.{marked_stays, length-touching}
 use Rattle.object_cache.specs.declared.snapshot.Snapshot.{Snapshot}
 use Rattle.object_cache.specs.declared.snapshot.Snapshot.TheVariants.{Below, Present}
-use Rattle.object_cache.specs.Frozen.{snapshot_at, frozen_frame, below_at, frozen_frames, is_pending, pending_count, AreFrozen, KeepsFrozen}
+use Rattle.object_cache.specs.Frozen.{snapshot_at, frozen_frame, frozen_frames, is_pending, pending_count, AreFrozen, KeepsFrozen}
+use Rattle.migrator.specs.Durable.{below_at}
 use Rattle.object_cache.specs.FrozenLaws.{frozen_equal}
 use Rattle.object_cache.specs.PlainStore.{StoreState, IsStore, GoesOnIn, IsAnnouncedIn, present_frames}
 use Rattle.object_cache.proofs.Copies.{listed_marked}

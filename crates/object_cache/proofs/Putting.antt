@@ -11,7 +11,8 @@ use Rattle.migrator.specs.Durable.{Stored, Frozen, frozen_put, left_of, with_fro
 use Rattle.capability.specs.Plain.{PlainState}
 use Rattle.object_cache.specs.declared.snapshot.Snapshot.{Snapshot}
 use Rattle.object_cache.specs.declared.snapshot.Snapshot.TheVariants.{Below, Present, Copied}
-use Rattle.object_cache.specs.Frozen.{snapshot_at, frozen_frame, below_at, frozen_frames, is_pending, pending_count, AreFrozen}
+use Rattle.object_cache.specs.Frozen.{snapshot_at, frozen_frame, frozen_frames, is_pending, pending_count, AreFrozen}
+use Rattle.migrator.specs.Durable.{below_at}
 use Rattle.object_cache.specs.FrozenLaws.{frozen_at, frozen_equal}
 use Rattle.object_cache.specs.Store.{FrozenFrames, stabilized}
 use Rattle.object_cache.specs.PlainStore.{IsStore, present_frames, aside_in, frozen_in}

@@ -19,7 +19,8 @@ use Rattle.migrator.proofs.Kept.{maps_same}
 use Rattle.capability.specs.Plain.{PlainState}
 use Rattle.object_cache.specs.declared.snapshot.Snapshot.{Snapshot}
 use Rattle.object_cache.specs.declared.snapshot.Snapshot.TheVariants.{Below, Present, Copied}
-use Rattle.object_cache.specs.Frozen.{snapshot_at, snapshot_of, frozen_frame, below_at, frozen_frames, is_pending, AreFrozen}
+use Rattle.object_cache.specs.Frozen.{snapshot_at, snapshot_of, frozen_frame, frozen_frames, is_pending, AreFrozen}
+use Rattle.migrator.specs.Durable.{below_at}
 use Rattle.object_cache.specs.FrozenLaws.{length_frozen, frozen_at, frozen_equal}
 use Rattle.object_cache.specs.Store as store
 use Rattle.object_cache.specs.PlainStore.{IsStore, present_frames, aside_in, frozen_in}

@@ -10,7 +10,8 @@ use Rattle.migrator.specs.Durable.{Stored, Frozen, DurableState, GoesOn, left_of
 use Rattle.migrator.proofs.Moving.{goes_trans, goes_none}
 use Rattle.object_cache.specs.declared.snapshot.Snapshot.{Snapshot}
 use Rattle.object_cache.specs.declared.snapshot.Snapshot.TheVariants.{Below}
-use Rattle.object_cache.specs.Frozen.{snapshot_at, frozen_frame, frozen_frames, below_at, pending_count}
+use Rattle.object_cache.specs.Frozen.{snapshot_at, frozen_frame, frozen_frames, pending_count}
+use Rattle.migrator.specs.Durable.{below_at}
 use Rattle.object_cache.specs.Store.{FrozenFrames, Aside, stabilized}
 use Rattle.object_cache.specs.PlainStore.{StoreState, IsStore, PutsBy, present_frames, aside_in, frozen_in, view_of}
 use Rattle.object_cache.proofs.Putting.{room, frame_keepable, stands_put, aside_put, stands_torn, aside_torn}

@@ -3,8 +3,8 @@ use Rattle.std.specs.Prelude.{◌≡◌, ◌⊎◌, ℕ, ◌+◌, ◌≤◌, Boo
 use Rattle.std.specs.List.{range_with_len}
 use Rattle.model.specs.declared.frame.Frame.{Frame}
 use Rattle.model.specs.Frame.{frame_at}
-use Rattle.migrator.specs.Put.{put_or, put_at, kept_count, kept_frame, held_slot}
-use Rattle.migrator.specs.Durable.{Frozen, Stored, frozen_put}
+use Rattle.migrator.specs.Put.{put_at, kept_count, kept_frame, held_slot}
+use Rattle.migrator.specs.Durable.{Frozen, Stored, below_at}
 use Rattle.object_cache.specs.declared.snapshot.Snapshot.{Snapshot}
 use Rattle.object_cache.specs.declared.snapshot.Snapshot.TheVariants.{Below, Present, Copied}
 
@@ -17,9 +17,6 @@ abbrev pub frozen_frame : Snapshot → Frame → Frame → Frame
 frozen_frame Below present below = below
 frozen_frame Present present below = present
 frozen_frame (Copied f) present below = f
-
-abbrev pub below_at : Stored → ℕ → Frame
-below_at s n = put_or (frozen_put s.frozen n) (frame_at s.saved.frames n)
 
 -- all of them; where no checkpoint is on its way, what is saved
 unfoldable pub frozen_frames : Stored → List Frame → List Snapshot → List Frame

@@ -15,7 +15,8 @@ use Rattle.migrator.proofs.Kept.{maps_same}
 use Rattle.capability.proofs.Frames.{frame_in, frame_past}
 use Rattle.object_cache.specs.declared.snapshot.Snapshot.{Snapshot}
 use Rattle.object_cache.specs.declared.snapshot.Snapshot.TheVariants.{Below, Present, Copied}
-use Rattle.object_cache.specs.Frozen.{snapshot_at, frozen_frame, below_at, frozen_frames}
+use Rattle.object_cache.specs.Frozen.{snapshot_at, frozen_frame, frozen_frames}
+use Rattle.migrator.specs.Durable.{below_at}
 
 -- the frozen frame at a number
 frozen_by : Stored → List Frame → List Snapshot → ℕ → Frame

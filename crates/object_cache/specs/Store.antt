@@ -1,10 +1,12 @@
 -- What an object store keeps beside the present objects, and what its calls do to that.
-use Rattle.std.specs.Prelude.{◌≡◌, ◌==◌, if◌then◌else◌, ℕ, ◌+◌, ◌-◌, ◌<◌, ◌≤◌, ◌^◌, Option, Some, None, List}
+use Rattle.std.specs.Prelude.{◌≡◌, ◌≢◌, ◌==◌, if◌then◌else◌, ℕ, ◌+◌, ◌-◌, ◌<◌, ◌≤◌, ◌^◌, Option, Some, None, option_map, List, Result, Ok, Err}
 use Rattle.model.specs.declared.frame.Frame.{Frame}
 use Rattle.model.specs.Keepable.{AreKeepable}
 use Rattle.model.specs.Machine.{untouched}
 use Rattle.device.specs.Disk.{Disk}
 use Rattle.device.specs.Calls.{Only}
+use Rattle.migrator.specs.declared.checkpoint_fault.CheckpointFault.{CheckpointFault}
+use Rattle.migrator.specs.declared.checkpoint_fault.CheckpointFault.TheVariants as fault
 use Rattle.migrator.specs.Saved.{SavedFrames, Holds, LeavesSaved, home_saved}
 use Rattle.migrator.specs.Opened.{Looks}
 use Rattle.capability.specs.Parts.{Parts, frames_of}
@@ -52,6 +54,17 @@ pub record Opens {D : Type 0} (disk : D → Disk) (device : D) (parts : Parts) (
 abbrev pub freezing : List Frame → ℕ → Aside → Aside
 freezing fs size c = record { frozen = Some (record { frames = fs; size = size; left = size }); saved = c.saved; to_move = c.to_move }
 
+-- of how many objects of a checkpoint on its way the frame isn't in the log
+abbrev pub left_in : Aside → Option ℕ
+left_in c = option_map (λ (f : FrozenFrames). f.left) c.frozen
+
+-- so many frames more are written to the log only where a checkpoint is on its way
+abbrev pub IsStabilizeAnswer : Disk → Disk → Option ℕ → ℕ → Result ℕ CheckpointFault → Type 0
+IsStabilizeAnswer old new left count (Ok n) = (new.failures ≡ old.failures) × (option_map (λ (k : ℕ). k - count) left ≡ Some n)
+IsStabilizeAnswer old new left count (Err fault.NoCheckpoint) = (new.failures ≡ old.failures) × (left ≡ None)
+IsStabilizeAnswer old new left count (Err fault.Failed) = (old.failures < new.failures) × (left ≢ None)
+IsStabilizeAnswer old new left count (Err _) = ⊥
+
 -- so many frozen objects more are in the log
 abbrev pub stabilized : ℕ → FrozenFrames → Aside → Aside
 stabilized n f c = record { frozen = Some (record { frames = f.frames; size = f.size; left = f.left - n }); saved = c.saved; to_move = c.to_move }
@@ -64,13 +77,11 @@ next_saved age f s = record { geometry = s.geometry; frames = f.frames; generati
 abbrev pub committed : ℕ → FrozenFrames → Aside → Aside
 committed age f c = record { frozen = None; saved = next_saved age f c.saved; to_move = f.size }
 
--- the frozen frames can be published as a checkpoint of an age
-pub record MayCommit (age : ℕ) (f : FrozenFrames) (c : Aside) : Type 0 where
-  pub frozen : c.frozen ≡ Some f
-  pub stable : f.left ≡ 0
-  pub later : c.saved.age < age
+-- frozen frames may be saved at an age, once all of them are in the log
+pub record MayCommit (age : ℕ) (f : FrozenFrames) (s : SavedFrames) : Type 0 where
+  pub later : s.age < age
   pub most : age ≤ 2 ^ 62
-  pub keepable : AreKeepable c.saved.geometry age f.frames
+  pub keepable : AreKeepable s.geometry age f.frames
 
 -- what is saved after n more of the saved objects went home
 abbrev pub moved_saved : ℕ → Aside → SavedFrames

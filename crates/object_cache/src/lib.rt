@@ -7,6 +7,6 @@ mod snapshot;
 mod snapshots;
 mod store;
 
-pub use migrator::{Checkpoint, OpenFault, OpenRefused};
+pub use migrator::{Checkpoint, CheckpointFault, OpenFault, OpenRefused};
 pub use plain_store::PlainStore;
 pub use store::ObjectStore;

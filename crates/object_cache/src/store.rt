@@ -1,5 +1,5 @@
 // The trait of object stores.
-ghost use Rattle.std.specs.Prelude.{◌≡◌, ℕ, ◌+◌, ◌-◌, ◌<◌, ◌≤◌, Option, None, Some, option_map, length, IfOk, IfErr, OnOk, OnErr, IsSome};
+ghost use Rattle.std.specs.Prelude.{◌≡◌, ℕ, ◌-◌, ◌<◌, ◌≤◌, None, Some, length, IfOk, IfErr, OnOk, OnErr};
 ghost use Rattle.model.specs.Keepable.{AreKeepable};
 ghost use Rattle.model.specs.Machine.{untouched, touched_count};
 ghost use Rattle.device.specs.Disk.{Image};
@@ -8,11 +8,12 @@ ghost use Rattle.device.specs.Moments.{Peeks};
 ghost use Rattle.migrator.specs.Saved.{Holds, LeavesSaved, LeavesEither};
 ghost use Rattle.migrator.specs.Opened.{Refuses};
 ghost use Rattle.capability.specs.Parts.{frames_of};
-ghost use Rattle.object_cache.specs.Store.{FrozenFrames, View, Leads, Opens, freezing, stabilized, next_saved, committed, MayCommit, moved, moved_saved};
+ghost use Rattle.migrator.specs.Refused.{IsCommitAnswer, IsFreezeAnswer, IsRefused};
+ghost use Rattle.object_cache.specs.Store.{FrozenFrames, View, Leads, Opens, freezing, stabilized, next_saved, committed, IsStabilizeAnswer, MayCommit, left_in, moved, moved_saved};
 
 use capability::PresentFrames;
 use device::{Device, Failed};
-use migrator::{Checkpoint, OpenRefused};
+use migrator::{Checkpoint, CheckpointFault, OpenRefused};
 use std::alloc::Global;
 
 /// The present objects, those of a checkpoint on its way as they were when it began, and those that
@@ -48,7 +49,7 @@ pub trait ObjectStore<D: Device>: PresentFrames + Sized {
 
     /// How many objects of a checkpoint on its way aren't in the log, where there is one.
     fn left(&self) -> Option<u64>
-        ensures { result ≡ option_map (λ f. f.left) (view self.now).aside.frozen };
+        ensures { result ≡ left_in (view self.now).aside };
 
     /// Puts an object out of memory, where the store may. Fails exactly where the device does.
     fn evict(&mut self, number: u64) -> Result<(), Failed>
@@ -64,31 +65,39 @@ pub trait ObjectStore<D: Device>: PresentFrames + Sized {
 
     /// Begins a checkpoint: all objects are frozen as they are. Answers how many were written since
     /// the last one began. It takes no memory, and makes no call of the device.
-    fn freeze(&mut self) -> u64
-        requires free { (view self.old).aside.frozen ≡ None }
-        requires home { (view self.old).aside.saved.entries ≡ 0 }
+    ///
+    /// It is refused by `CheckpointRunning` exactly where one is on its way, and else by
+    /// `MigrationPending` exactly where something saved isn't home, and changes nothing then.
+    fn freeze(&mut self) -> Result<u64, CheckpointFault>
         requires keepable { AreKeepable (Self.parts self.old).geometry u64.MAX
             (frames_of (Self.parts self.old)) }
-        ensures size { result ≡ touched_count (Self.parts self.old).touched }
+        ensures answer { IsFreezeAnswer (left_in (view self.old).aside)
+            (view self.old).aside.saved.entries result }
+        ensures unchanged { OnErr result (self.new ≡ self.old) }
+        ensures size { IfOk result (λ n. n ≡ touched_count (Self.parts self.old).touched) }
         ensures headers { (Self.parts self.new).headers ≡ (Self.parts self.old).headers }
         ensures contents { (Self.parts self.new).contents ≡ (Self.parts self.old).contents }
-        ensures touched { (Self.parts self.new).touched ≡ untouched (Self.parts self.old).geometry }
+        ensures touched { OnOk result
+            ((Self.parts self.new).touched ≡ untouched (Self.parts self.old).geometry) }
         ensures geometry { (Self.parts self.new).geometry ≡ (Self.parts self.old).geometry }
-        ensures aside { (view self.new).aside
-            ≡ freezing (frames_of (Self.parts self.old)) (touched_count (Self.parts self.old).touched) (view self.old).aside }
+        ensures aside { OnOk result ((view self.new).aside
+            ≡ freezing (frames_of (Self.parts self.old)) (touched_count (Self.parts self.old).touched) (view self.old).aside) }
         ensures beneath { (view self.new).beneath ≡ (view self.old).beneath }
         ensures sound { (view self.old).is_sound → (view self.new).is_sound };
 
-    /// Writes so many of the frozen objects to the log, and answers how many are left. Fails
-    /// exactly where the device does, and then some were written, no more than so many.
-    fn stabilize(&mut self, count: u64) -> Result<u64, Failed>
-        requires frozen { IsSome (view self.old).aside.frozen }
+    /// Writes so many of the frozen objects to the log, and answers how many are left.
+    ///
+    /// It is refused by `NoCheckpoint` exactly where none is on its way, and changes nothing then.
+    /// At `Failed`, which is told exactly where the device failed, some were written, no more than
+    /// so many.
+    fn stabilize(&mut self, count: u64) -> Result<u64, CheckpointFault>
+        ensures answer { IsStabilizeAnswer (D.disk (view self.old).beneath) (D.disk (view self.new).beneath)
+            (left_in (view self.old).aside) count result }
+        ensures unchanged { IsRefused result → self.new ≡ self.old }
         ensures headers { (Self.parts self.new).headers ≡ (Self.parts self.old).headers }
         ensures contents { (Self.parts self.new).contents ≡ (Self.parts self.old).contents }
         ensures touched { (Self.parts self.new).touched ≡ (Self.parts self.old).touched }
         ensures geometry { (Self.parts self.new).geometry ≡ (Self.parts self.old).geometry }
-        ensures left { (f : FrozenFrames) → (view self.old).aside.frozen ≡ Some f
-            → IfOk result (λ n. n ≡ f.left - count) }
         ensures aside { (f : FrozenFrames) → (view self.old).aside.frozen ≡ Some f
             → OnOk result ((view self.new).aside ≡ stabilized count f (view self.old).aside) }
         ensures stopped { (f : FrozenFrames) → (view self.old).aside.frozen ≡ Some f
@@ -97,28 +106,32 @@ pub trait ObjectStore<D: Device>: PresentFrames + Sized {
         ensures sound { (view self.old).is_sound → (view self.new).is_sound }
         ensures size { (D.disk (view self.new).beneath).sectors ≡ (D.disk (view self.old).beneath).sectors }
         ensures any_moment { (view self.old).is_sound
-            → LeavesSaved (D.disk (view self.old).beneath) (D.disk (view self.new).beneath) (view self.old).aside.saved }
-        ensures cause { Counts (D.disk (view self.old).beneath) (D.disk (view self.new).beneath) result };
+            → LeavesSaved (D.disk (view self.old).beneath) (D.disk (view self.new).beneath) (view self.old).aside.saved };
 
-    /// Commits the checkpoint on its way, all of which is in the log: its frames are saved, at an
-    /// age. Answers its generation. Fails exactly where the device does, and then a crash leaves
-    /// what was saved or what is frozen.
-    fn commit(&mut self, age: u64) -> Result<u64, Failed>
-        requires ready { (f : FrozenFrames) × MayCommit age f (view self.old).aside }
+    /// Commits the checkpoint on its way: its frames are saved, at an age. Answers its generation.
+    ///
+    /// It is refused by `NoCheckpoint` exactly where none is on its way, and else by
+    /// `NotStable(left)` exactly where so many of its objects aren't in the log, and changes nothing
+    /// then. At `Failed`, which is told exactly where the device failed, a crash leaves what was
+    /// saved or what is frozen.
+    fn commit(&mut self, age: u64) -> Result<u64, CheckpointFault>
         requires sound { (view self.old).is_sound }
+        requires ready { (f : FrozenFrames) → (view self.old).aside.frozen ≡ Some f
+            → MayCommit age f (view self.old).aside.saved }
+        ensures answer { IsCommitAnswer (D.disk (view self.old).beneath) (D.disk (view self.new).beneath)
+            (left_in (view self.old).aside) (view self.old).aside.saved.generation result }
+        ensures unchanged { IsRefused result → self.new ≡ self.old }
         ensures headers { (Self.parts self.new).headers ≡ (Self.parts self.old).headers }
         ensures contents { (Self.parts self.new).contents ≡ (Self.parts self.old).contents }
         ensures touched { (Self.parts self.new).touched ≡ (Self.parts self.old).touched }
         ensures geometry { (Self.parts self.new).geometry ≡ (Self.parts self.old).geometry }
-        ensures generation { IfOk result (λ n. n ≡ (view self.old).aside.saved.generation + 1) }
         ensures aside { (f : FrozenFrames) → (view self.old).aside.frozen ≡ Some f
             → OnOk result ((view self.new).aside ≡ committed age f (view self.old).aside) }
         ensures sound { OnOk result ((view self.new).is_sound) }
         ensures size { (D.disk (view self.new).beneath).sectors ≡ (D.disk (view self.old).beneath).sectors }
-        ensures any_moment { (f : FrozenFrames) → (view self.old).aside.frozen ≡ Some f
+        ensures any_moment { (f : FrozenFrames) → (view self.old).aside.frozen ≡ Some f → f.left ≡ 0
             → LeavesEither (D.disk (view self.old).beneath) (D.disk (view self.new).beneath)
-            (view self.old).aside.saved (next_saved age f (view self.old).aside.saved) }
-        ensures cause { Counts (D.disk (view self.old).beneath) (D.disk (view self.new).beneath) result };
+            (view self.old).aside.saved (next_saved age f (view self.old).aside.saved) };
 
     /// Copies so many of the saved objects home, and answers how many are left. Fails exactly where
     /// the device does, and then a crash leaves what was saved, or the same with all of it home

@@ -23,6 +23,7 @@ use Rattle.address_space.specs.References.{IsLoaded, IsStored, KeepsSound, Overf
 use Rattle.processes.specs.Machine.{IsEarly, Serves, machine_at}
 use Rattle.processes.specs.Prepared.{refused_by}
 use Rattle.processes.proofs.Serving.{AreSame, refused_serves, same_frames, same_machine, same_sound, serves_looked, standing, told_cause, unfailed}
+use Rattle.processes.proofs.Steps.{early_fine}
 use Rattle.processes.proofs.MemorySteps.{load_early, load_step, load_without_memory, loaded_answer, store_early, store_fault_step, store_full_step, store_step, store_without_memory}
 
 -- what was only looked at is the same
@@ -65,25 +66,25 @@ machine_is age new frozen saved to_move os ts objects touched =
 module _ {S : Type 0} (parts : S → Parts) (Leads : S → S → Type 0) (age : ℕ) (old new : S) (p address : ℕ) (why : Refusal)
     (sound : IsSoundFrames (parts old).geometry age (frames_of (parts old))) (early : IsEarly (objects_of (frames_of (parts old))) p (Some why))
     (aside : LooksUp parts Leads old new) (later : (parts old).failures ≤ (parts new).failures)
-    (cause : (Some why ≡ Some refusal.Fault) ↔ ((parts old).failures < (parts new).failures)) where
+    (stayed : (parts old).failures < (parts new).failures → ⊥) where
   why_cause : (why ≡ refusal.Fault) ↔ ((parts old).failures < (parts new).failures)
-  why_cause = (λ e. cause.0 (ap Some e), λ rose. let f = cause.1 rose in cc)
+  why_cause = told_cause why (early_fine (objects_of (frames_of (parts old))) p why early) stayed
 
   pub early_load : Serves age (parts old) (command.Load p address) (answer.Refused why) age (parts new)
   early_load =
       refused_serves age (parts old) (parts new) (command.Load p address) why (looked_same parts Leads old new aside) sound later why_cause
-      (λ frozen saved to_move other. load_early (parts old).geometry _ p address why early other)
+      (λ frozen saved to_move other. load_early (parts old).geometry _ p address why early)
 
   pub early_store : (word : ℕ) → Serves age (parts old) (command.Store p address word) (answer.Refused why) age (parts new)
   early_store word =
       refused_serves age (parts old) (parts new) (command.Store p address word) why (looked_same parts Leads old new aside) sound later why_cause
-      (λ frozen saved to_move other. store_early (parts old).geometry _ p address word why early other)
+      (λ frozen saved to_move other. store_early (parts old).geometry _ p address word why early)
 
 -- what is answered to a process that runs, after a look at it, by what came of its load or store
 module _ {S : Type 0} (parts : S → Parts) (Leads : S → S → Type 0) (age : ℕ) (before between after : S) (p address : ℕ)
     (sound : IsSoundFrames (parts before).geometry age (frames_of (parts before))) (acts : IsEarly (objects_of (frames_of (parts before))) p None)
     (aside : LooksUp parts Leads before between) (rises : (parts before).failures ≤ (parts between).failures)
-    (fails : (let none : Option Refusal = None in none ≡ Some refusal.Fault) ↔ ((parts before).failures < (parts between).failures)) where
+    (stayed : (parts before).failures < (parts between).failures → ⊥) where
   abbrev old : Parts
   old = parts before
 
@@ -97,7 +98,7 @@ module _ {S : Type 0} (parts : S → Parts) (Leads : S → S → Type 0) (age : 
   same = looked_same parts Leads before between aside
 
   failures : mid.failures ≡ old.failures
-  failures = unfailed old.failures mid.failures rises (λ rose. let e = fails.1 rose in cc)
+  failures = unfailed old.failures mid.failures rises stayed
 
   process : is_process (objects_of (frames_of mid)) p ≡ true
   process = ap (λ (fs : List Frame). is_process (objects_of fs) p) (same_frames old mid same) ∙ acts.0
@@ -152,11 +153,11 @@ module _ {S : Type 0} (parts : S → Parts) (Leads : S → S → Type 0) (age : 
   load_by prepare.LogFull looks = absurd (looks.room refl)
   load_by prepare.Failed looks = failed_then (command.Load p address) (looked_same parts Leads between after looks.aside) (looks.cause.0 refl)
 
-  pub load_is_refused : (f : PrepareFault) (why : Refusal) → why ≡ refused_by f →
+  pub load_is_refused : (f : PrepareFault) (a : Answer) → a ≡ answer.Refused (refused_by f) →
       (let r : Result (Result ℕ MemoryFault) PrepareFault = Err f in Looks parts Leads between after r) →
-      Serves age old (command.Load p address) (answer.Refused why) age new
-  load_is_refused f why is looks =
-      subst (λ (w : Refusal). Serves age old (command.Load p address) (answer.Refused w) age new) (sym is) (load_by f looks)
+      Serves age old (command.Load p address) a age new
+  load_is_refused f a is looks =
+      subst (λ (b : Answer). Serves age old (command.Load p address) b age new) (sym is) (load_by f looks)
 
   -- a store, after which the count of failures may have risen
   module _ (word : ℕ) (geometry : new.geometry ≡ mid.geometry) (later : mid.failures ≤ new.failures) where
@@ -204,11 +205,11 @@ module _ {S : Type 0} (parts : S → Parts) (Leads : S → S → Type 0) (age : 
         (λ frozen saved to_move. store_full_step mid.geometry _ p address word process running over.0 over.1 over.2)
     store_by prepare.Failed unchanged cause full = failed_then (command.Store p address word) unchanged (cause.0 refl)
 
-    pub store_is_refused : (f : PrepareFault) (why : Refusal) → why ≡ refused_by f → IsUnchanged mid new →
+    pub store_is_refused : (f : PrepareFault) (a : Answer) → a ≡ answer.Refused (refused_by f) → IsUnchanged mid new →
         (let r : Result (Result (Unit {0}) MemoryFault) PrepareFault = Err f in IsErrOf r prepare.Failed ↔ (mid.failures < new.failures)) →
         (let r : Result (Result (Unit {0}) MemoryFault) PrepareFault = Err f in IsErrOf r prepare.LogFull →
         OverfillsStore mid.geometry.log (objects_of (frames_of mid)) mid.touched p address) →
-        Serves age old (command.Store p address word) (answer.Refused why) age new
-    store_is_refused f why is unchanged cause full =
-        subst (λ (w : Refusal). Serves age old (command.Store p address word) (answer.Refused w) age new) (sym is)
+        Serves age old (command.Store p address word) a age new
+    store_is_refused f a is unchanged cause full =
+        subst (λ (b : Answer). Serves age old (command.Store p address word) b age new) (sym is)
         (store_by f (unchanged_same mid new geometry unchanged) cause full)

@@ -42,12 +42,11 @@ module _ (g : Geometry) (s : Running) (c : Command) (p : ℕ) (next : Option Ref
     ))
 
     -- a process that can't act
-    pub cannot_act : (why : Refusal) → IsEarly s.now.objects p (Some why) → (why ≡ refusal.Fault → ⊥) → Step g (Up s) c (answer.Refused why) (Up s)
-    cannot_act refusal.NoProcess early other = refused_step g s c refusal.NoProcess (by false (is_running_process s.now.objects p) early refl)
-    cannot_act refusal.NotRunning early other = refused_step g s c refusal.NotRunning (by true false early.0 early.1)
-    cannot_act refusal.NoMemory early other = wants_memory early
-    cannot_act refusal.Fault early other = absurd (other refl)
-    cannot_act _ early other = absurd early
+    pub cannot_act : (why : Refusal) → IsEarly s.now.objects p (Some why) → Step g (Up s) c (answer.Refused why) (Up s)
+    cannot_act refusal.NoProcess early = refused_step g s c refusal.NoProcess (by false (is_running_process s.now.objects p) early refl)
+    cannot_act refusal.NotRunning early = refused_step g s c refusal.NotRunning (by true false early.0 early.1)
+    cannot_act refusal.NoMemory early = wants_memory early
+    cannot_act _ early = absurd early
 
 -- what a load answers
 abbrev pub loaded_answer : Result ℕ MemoryFault → Answer
@@ -63,7 +62,7 @@ module _ (g : Geometry) (s : Running) (p address : ℕ) where
   pub load_without_memory : is_process s.now.objects p ≡ true → Step g (Up s) (command.Load p address) (answer.Refused refusal.NoMemory) (Up s)
   load_without_memory = wants_memory g s (command.Load p address) p None load_order refl refl refl
 
-  pub load_early : (why : Refusal) → IsEarly s.now.objects p (Some why) → (why ≡ refusal.Fault → ⊥) →
+  pub load_early : (why : Refusal) → IsEarly s.now.objects p (Some why) →
       Step g (Up s) (command.Load p address) (answer.Refused why) (Up s)
   load_early = cannot_act g s (command.Load p address) p None load_order refl refl refl
 
@@ -114,7 +113,7 @@ module _ (g : Geometry) (s : Running) (p address word : ℕ) where
       wants_memory g s (command.Store p address word) p (full_or_none (writable (reached s.now.objects p address))) store_order refl refl
       (last_gives (writable (reached s.now.objects p address)))
 
-  pub store_early : (why : Refusal) → IsEarly s.now.objects p (Some why) → (why ≡ refusal.Fault → ⊥) →
+  pub store_early : (why : Refusal) → IsEarly s.now.objects p (Some why) →
       Step g (Up s) (command.Store p address word) (answer.Refused why) (Up s)
   store_early =
       cannot_act g s (command.Store p address word) p (full_or_none (writable (reached s.now.objects p address))) store_order refl refl

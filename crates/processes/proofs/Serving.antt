@@ -1,5 +1,5 @@
 -- What a command comes to over present frames, from what each part of it told.
-use Rattle.std.proofs.Common.{◌≡◌, ◌↔◌, ℕ, ◌+◌, ◌^◌, ◌<◌, ◌≤◌, Bool, true, List, length, Option, None, Result, Ok, Err, refl, sym, ap, ◌∙◌, subst, ⊎_elim, arith}
+use Rattle.std.proofs.Common.{◌≡◌, ◌↔◌, ℕ, ◌+◌, ◌^◌, ◌<◌, ◌≤◌, Bool, true, false, List, length, Option, None, Result, Ok, Err, refl, sym, ap, ◌∙◌, subst, ⊎_elim, arith}
 use Rattle.std.proofs.lemmas.Bool.{cases_lt}
 use Rattle.model.specs.declared.answer.Answer.{Answer}
 use Rattle.model.specs.declared.answer.Answer.TheVariants as answer
@@ -20,13 +20,15 @@ use Rattle.model.specs.Step.{Step, shown}
 use Rattle.model.specs.World.{is_process, is_running_process}
 use Rattle.capability.specs.Parts.{Parts, frames_of}
 use Rattle.capability.proofs.Keeping.{keepable_count}
-use Rattle.std.specs.Prelude.{IsErrOf}
+use Rattle.std.specs.Prelude.{IsErr, IsErrOf}
 use Rattle.capability.specs.declared.present.PrepareFault.{PrepareFault}
 use Rattle.capability.specs.declared.present.PrepareFault.TheVariants as prepare
 use Rattle.gate.specs.declared.fault.InvokeFault.{InvokeFault}
 use Rattle.gate.specs.declared.fault.InvokeFault.TheVariants as fault
 use Rattle.gate.specs.Invoke.{Invokes, KeepsSoundFrames, Overfills}
-use Rattle.processes.specs.Machine.{Serves, machine_at}
+use Rattle.device.specs.declared.device.Failed.{Failed}
+use Rattle.processes.specs.Machine.{Serves, answer_of, machine_at}
+use Rattle.processes.specs.Prepared.{refused_by}
 use Rattle.processes.proofs.Steps.{bad_number_step, full_step, invoke_step, no_memory_step, show_no_memory, show_step, stalled_step}
 
 -- the same parts but for failures
@@ -204,3 +206,28 @@ shown_unfailed a e = cc
 
 pub look_unfailed : (f : PrepareFault) → f ≡ prepare.NoMemory → (let r : Result Answer PrepareFault = Err f in IsErrOf r prepare.Failed) → ⊥
 look_unfailed f is e = let d : f ≡ prepare.Failed = cc in cc
+
+-- where a call succeeds no count rises
+pub ok_stayed : {X : Type 0} (early : Option Refusal) → (let r : Result (Option Refusal) Failed = Ok early in IsErr r ↔ X) → X → ⊥
+ok_stayed early cause x = let never : false ≡ true = cause.1 x in cc
+
+-- a failure that is all there is
+pub failed_serves : (age : ℕ) (old new : Parts) (c : Command) (r : Result Answer Failed) → IsErr r → AreSame old new → IsSoundFrames old.geometry age (frames_of old) → old.failures < new.failures →
+    Serves age old c (answer_of r) age new
+failed_serves age old new c (Ok a) failed same sound rose = let never : false ≡ true = failed in cc
+failed_serves age old new c (Err e) failed same sound rose =
+    refused_serves age old new c refusal.Fault same sound (omega (arith, rose)) (λ told. rose, λ r. refl) (λ frozen saved to_move other. absurd (other refl))
+
+-- what was shown isn't a failure
+pub shown_fine : (os : List Object) (n : ℕ) (a : Answer) → a ≡ shown os n → a ≡ answer.Refused refusal.Fault → ⊥
+shown_fine os n a told e = let d : shown os n ≡ answer.Refused refusal.Fault = sym told ∙ e in cc
+
+-- an object isn't shown
+pub show_refused : (age : ℕ) (old new : Parts) (n : ℕ) → AreSame old new → IsSoundFrames old.geometry age (frames_of old) → old.failures ≤ new.failures → n < length old.headers → (f : PrepareFault) (a : Answer) →
+    a ≡ answer.Refused (refused_by f) → (let r : Result Answer PrepareFault = Err f in IsErrOf r prepare.Failed ↔ (old.failures < new.failures)) → (let r : Result Answer PrepareFault = Err f in IsErrOf r prepare.LogFull → ⊥) → Serves age old (command.Show n) a age new
+show_refused age old new n same sound later known f a is cause room = subst (λ (b : Answer). Serves age old (command.Show n) b age new) (sym is) (by f cause room)
+  where
+    by : (f : PrepareFault) → (let r : Result Answer PrepareFault = Err f in IsErrOf r prepare.Failed ↔ (old.failures < new.failures)) → (let r : Result Answer PrepareFault = Err f in IsErrOf r prepare.LogFull → ⊥) → Serves age old (command.Show n) (answer.Refused (refused_by f)) age new
+    by prepare.NoMemory cause room = show_no_memory_serves age old new n same sound later known (λ rose. look_unfailed prepare.NoMemory refl (cause.1 rose))
+    by prepare.LogFull cause room = absurd (room refl)
+    by prepare.Failed cause room = show_failed_serves age old new n same sound later (cause.0 refl)

@@ -1,5 +1,5 @@
 -- Steps of the machine: which refusal applies, and what is carried out.
-use Rattle.std.proofs.Common.{◌≡◌, ℕ, ◌+◌, ◌^◌, ◌<◌, ◌≤◌, Bool, true, false, not, Option, None, Some, refl, sym, ap, ◌∙◌, subst, inl, inr, arith}
+use Rattle.std.proofs.Common.{◌≡◌, ℕ, ◌+◌, ◌^◌, ◌<◌, ◌≤◌, Bool, true, false, not, List, Option, None, Some, refl, sym, ap, ◌∙◌, subst, inl, inr, arith}
 use Rattle.std.specs.Prelude.{nat_lt}
 use Rattle.std.proofs.lemmas.Bool.Decides.{nat_tests}
 use Rattle.model.specs.declared.answer.Answer.{Answer}
@@ -10,6 +10,7 @@ use Rattle.model.specs.declared.command.Command.{Command}
 use Rattle.model.specs.declared.command.Command.TheVariants as command
 use Rattle.model.specs.declared.command.Invocation.{Invocation}
 use Rattle.model.specs.declared.geometry.Geometry.{Geometry}
+use Rattle.model.specs.declared.object.Object.{Object}
 use Rattle.model.specs.Invoke.{Effect, invoke}
 use Rattle.model.specs.Machine.{Running, Machine, Up, touching, touched_count}
 use Rattle.model.specs.Sound.{object_count}
@@ -72,15 +73,14 @@ module _ (g : Geometry) (s : Running) (i : Invocation) where
   ))
 
   -- a process that can't act
-  pub early_step : (why : Refusal) → IsEarly s.now.objects i.process (Some why) → (why ≡ refusal.Fault → ⊥) → Step g (Up s) (command.Invoke i) (answer.Refused why) (Up s)
-  early_step refusal.NoProcess early other =
+  pub early_step : (why : Refusal) → IsEarly s.now.objects i.process (Some why) → Step g (Up s) (command.Invoke i) (answer.Refused why) (Up s)
+  early_step refusal.NoProcess early =
       refused_step g s (command.Invoke i) refusal.NoProcess
       (by false (is_running_process s.now.objects i.process) (nat_lt s.now.age (2 ^ 62)) (invoke g s.now.objects i) early refl refl refl)
-  early_step refusal.NotRunning early other =
+  early_step refusal.NotRunning early =
       refused_step g s (command.Invoke i) refusal.NotRunning (by true false (nat_lt s.now.age (2 ^ 62)) (invoke g s.now.objects i) early.0 early.1 refl refl)
-  early_step refusal.NoMemory early other = no_memory_step early
-  early_step refusal.Fault early other = absurd (other refl)
-  early_step _ early other = absurd early
+  early_step refusal.NoMemory early = no_memory_step early
+  early_step _ early = absurd early
 
   module _ (process : is_process s.now.objects i.process ≡ true) (running : is_running_process s.now.objects i.process ≡ true) where
     pub worn_step : 2 ^ 62 ≤ s.now.age → Step g (Up s) (command.Invoke i) (answer.Refused refusal.Worn) (Up s)
@@ -140,3 +140,12 @@ module _ (g : Geometry) (s : Running) (n : ℕ) where
   show_no_memory within =
       let known : nat_lt n (object_count g) ≡ true = grind (arith, nat_tests) in
       inr (inl (ap (λ (b : Bool). gives_way (unless b refusal.BadNumber None)) known, refl, refl))
+
+-- none of them is a failure
+pub early_fine : (os : List Object) (p : ℕ) (why : Refusal) → IsEarly os p (Some why) → why ≡ refusal.Fault → ⊥
+early_fine os p why early is = subst (λ (w : Refusal). IsEarly os p (Some w)) is early
+
+-- one that isn't refused runs
+pub early_none : (os : List Object) (p : ℕ) (o : Option Refusal) → ((why : Refusal) → o ≡ Some why → ⊥) → IsEarly os p o → IsEarly os p None
+early_none os p None other early = early
+early_none os p (Some why) other early = absurd (other why refl)

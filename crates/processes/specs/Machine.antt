@@ -1,5 +1,6 @@
 -- The machine of present frames, and what a command comes to over them.
-use Rattle.std.specs.Prelude.{◌≡◌, ◌↔◌, ℕ, ◌+◌, ◌<◌, ◌≤◌, Option, None, Some, List, true, false}
+use Rattle.std.specs.Prelude.{◌≡◌, ◌≢◌, ◌↔◌, ℕ, ◌<◌, ◌≤◌, Option, None, Some, List, true, false, Result, Ok, Err}
+use Rattle.device.specs.declared.device.Failed.{Failed}
 use Rattle.model.specs.declared.answer.Answer.{Answer}
 use Rattle.model.specs.declared.answer.Answer.TheVariants as answer
 use Rattle.model.specs.declared.answer.Refusal.{Refusal}
@@ -17,10 +18,15 @@ abbrev pub machine_at : ℕ → Parts → Option Frozen → Saved → ℕ → Ma
 machine_at age p frozen saved to_move =
     Up (record { now = world_at age (frames_of p); touched = p.touched; frozen = frozen; saved = saved; to_move = to_move })
 
--- the age after an answer to an invocation
-abbrev pub age_after : ℕ → Answer → ℕ
-age_after age answer.Done = age + 1
-age_after age _ = age
+-- what a step is answered by: a failure of the device by `Fault`
+abbrev pub answer_of : Result Answer Failed → Answer
+answer_of (Ok a) = a
+answer_of (Err failed) = answer.Refused refusal.Fault
+
+-- a failure is told by an error alone
+abbrev pub IsToldOnce : Result Answer Failed → Type 0
+IsToldOnce (Ok a) = a ≢ answer.Refused refusal.Fault
+IsToldOnce (Err failed) = Unit {0}
 
 -- from parts at an age to parts at an age a command is answered as the machine answers it, whatever is frozen and
 -- saved; a failure of the device aside, after which the machine is down
@@ -38,5 +44,4 @@ IsEarly os p None = (is_process os p ≡ true) × (is_running_process os p ≡ t
 IsEarly os p (Some refusal.NoProcess) = is_process os p ≡ false
 IsEarly os p (Some refusal.NotRunning) = (is_process os p ≡ true) × (is_running_process os p ≡ false)
 IsEarly os p (Some refusal.NoMemory) = is_process os p ≡ true
-IsEarly os p (Some refusal.Fault) = Unit {0}
 IsEarly os p _ = ⊥

@@ -5,50 +5,53 @@ ghost use Rattle.model.specs.Keepable.{IsSoundFrames};
 ghost use Rattle.model.specs.Frame.{objects_of};
 ghost use Rattle.capability.specs.Parts.{LooksUp, frames_of};
 ghost use Rattle.space_bank.specs.Banks.{AreCounted, BanksState};
-ghost use Rattle.processes.specs.Machine.{Serves};
+ghost use Rattle.processes.specs.Machine.{IsToldOnce, Serves, answer_of};
 ghost use Rattle.processes.specs.Prepared.{refused_by};
 
 use crate::early::early;
 use capability::{PrepareFault, PresentFrames};
+use device::Failed;
 use model::{Answer, Refusal};
 use std::alloc::Global;
 
-// The refusal where objects weren't prepared.
-fn refusal(fault: PrepareFault) -> Refusal
-    ensures { result ≡ refused_by fault }
+/// What is answered where objects weren't prepared.
+pub(crate) fn refused(fault: PrepareFault) -> Result<Answer, Failed>
+    ensures answer { answer_of result ≡ Answer.Refused (refused_by fault) }
+    ensures told_once { IsToldOnce result }
 {
     match fault {
-        PrepareFault::NoMemory => Refusal::NoMemory,
-        PrepareFault::LogFull => Refusal::LogFull,
-        PrepareFault::Failed => Refusal::Fault,
+        PrepareFault::NoMemory => Ok(Answer::Refused(Refusal::NoMemory)),
+        PrepareFault::LogFull => Ok(Answer::Refused(Refusal::LogFull)),
+        PrepareFault::Failed => Err(Failed),
     }
 }
 
 /// Reads the word at an address in the address space of a process, at an age, which stays.
 ///
 /// The answer is `Value`, or `MemoryFault` where the walk stops. It is refused by the first that
-/// applies of `NoProcess` and `NotRunning`; or by `NoMemory` where memory ran out, and `Fault`
-/// exactly where the device failed. Nothing is changed.
+/// applies of `NoProcess` and `NotRunning`; or by `NoMemory` where memory ran out. It fails exactly
+/// where the device does. Nothing is changed.
 pub fn load<F: PresentFrames>(
     alloc: Global,
     store: &mut F,
     age: u64,
     process: u64,
     address: u64,
-) -> Answer
+) -> Result<Answer, Failed>
     requires { IsSoundFrames (F.parts store.old).geometry age (frames_of (F.parts store.old)) }
-    ensures serves { Serves age (F.parts store.old) (command.Load process address) result age
-        (F.parts store.new) }
+    ensures serves { Serves age (F.parts store.old) (command.Load process address) (answer_of result)
+        age (F.parts store.new) }
+    ensures told_once { IsToldOnce result }
     ensures aside { LooksUp F.parts F.LeadsTo store.old store.new }
     ensures leads { F.LeadsTo store.old store.new }
 {
-    if let Some(refusal) = early(alloc, store, age, process) {
-        return Answer::Refused(refusal);
+    if let Some(refusal) = early(alloc, store, age, process)? {
+        return Ok(Answer::Refused(refusal));
     }
     match address_space::load(alloc, store, process, address) {
-        Ok(Ok(word)) => Answer::Value(word),
-        Ok(Err(fault)) => Answer::MemoryFault(fault),
-        Err(fault) => Answer::Refused(refusal(fault)),
+        Ok(Ok(word)) => Ok(Answer::Value(word)),
+        Ok(Err(fault)) => Ok(Answer::MemoryFault(fault)),
+        Err(fault) => refused(fault),
     }
 }
 
@@ -56,8 +59,8 @@ pub fn load<F: PresentFrames>(
 ///
 /// The answer is `Done`, or `MemoryFault` where the walk stops or the page is read-only, also where
 /// the log is full. It is refused, and changes nothing, by the first that applies of `NoProcess`,
-/// `NotRunning` and `LogFull`; or by `NoMemory` where memory ran out, and `Fault` exactly where the
-/// device failed. What is counted of banks stays what there is.
+/// `NotRunning` and `LogFull`; or by `NoMemory` where memory ran out. It fails exactly where the
+/// device does. What is counted of banks stays what there is.
 pub fn store<F: PresentFrames>(
     alloc: Global,
     store: &mut F,
@@ -65,22 +68,23 @@ pub fn store<F: PresentFrames>(
     process: u64,
     address: u64,
     word: u64,
-) -> Answer
+) -> Result<Answer, Failed>
     requires { IsSoundFrames (F.parts store.old).geometry age (frames_of (F.parts store.old)) }
-    ensures serves { Serves age (F.parts store.old) (command.Store process address word) result age
-        (F.parts store.new) }
+    ensures serves { Serves age (F.parts store.old) (command.Store process address word)
+        (answer_of result) age (F.parts store.new) }
+    ensures told_once { IsToldOnce result }
     ensures counted { (banks : BanksState) → AreCounted (F.parts store.old).geometry
         (objects_of (frames_of (F.parts store.old))) banks
         → AreCounted (F.parts store.new).geometry
         (objects_of (frames_of (F.parts store.new))) banks }
     ensures leads { F.LeadsTo store.old store.new }
 {
-    if let Some(refusal) = early(alloc, store, age, process) {
-        return Answer::Refused(refusal);
+    if let Some(refusal) = early(alloc, store, age, process)? {
+        return Ok(Answer::Refused(refusal));
     }
     match address_space::store(alloc, store, process, address, word) {
-        Ok(Ok(())) => Answer::Done,
-        Ok(Err(fault)) => Answer::MemoryFault(fault),
-        Err(fault) => Answer::Refused(refusal(fault)),
+        Ok(Ok(())) => Ok(Answer::Done),
+        Ok(Err(fault)) => Ok(Answer::MemoryFault(fault)),
+        Err(fault) => refused(fault),
     }
 }

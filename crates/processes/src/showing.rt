@@ -8,9 +8,11 @@ ghost use Rattle.model.specs.Object.{is_annex, is_bank, slots_in};
 ghost use Rattle.model.specs.World.{content_at};
 ghost use Rattle.capability.specs.Parts.{Looks, LooksUp, frames_of};
 ghost use Rattle.space_bank.specs.Banks.{AreCounted};
-ghost use Rattle.processes.specs.Machine.{Serves};
+ghost use Rattle.processes.specs.Machine.{IsToldOnce, Serves, answer_of};
 
+use crate::memory::refused;
 use capability::{PrepareFault, PresentFrames, objects, view};
+use device::Failed;
 use model::{Answer, Capability, Content, Refusal, Slots};
 use space_bank::Banks;
 use std::alloc::Global;
@@ -81,30 +83,29 @@ fn shown<F: PresentFrames>(
 
 /// Tells of an object, by its number.
 ///
-/// It is refused by `BadNumber` where no object has the number, by `NoMemory` where memory ran out,
-/// and by `Fault` exactly where the device failed.
+/// It is refused by `BadNumber` where no object has the number, and by `NoMemory` where memory ran
+/// out. It fails exactly where the device does.
 pub fn show<F: PresentFrames>(
     alloc: Global,
     store: &mut F,
     banks: &Banks,
     age: u64,
     number: u64,
-) -> Answer
+) -> Result<Answer, Failed>
     requires sound { IsSoundFrames (F.parts store.old).geometry age
         (frames_of (F.parts store.old)) }
     requires counted { AreCounted (F.parts store.old).geometry
         (objects_of (frames_of (F.parts store.old))) banks.now }
-    ensures serves { Serves age (F.parts store.old) (command.Show number) result age
+    ensures serves { Serves age (F.parts store.old) (command.Show number) (answer_of result) age
         (F.parts store.new) }
+    ensures told_once { IsToldOnce result }
     ensures aside { LooksUp F.parts F.LeadsTo store.old store.new }
 {
     if number >= store.table().count() {
-        return Answer::Refused(Refusal::BadNumber);
+        return Ok(Answer::Refused(Refusal::BadNumber));
     }
     match shown(alloc, store, banks, age, number) {
-        Ok(answer) => answer,
-        Err(PrepareFault::Failed) => Answer::Refused(Refusal::Fault),
-        Err(PrepareFault::NoMemory) => Answer::Refused(Refusal::NoMemory),
-        Err(PrepareFault::LogFull) => unreachable!(),
+        Ok(answer) => Ok(answer),
+        Err(fault) => refused(fault),
     }
 }

@@ -1,22 +1,39 @@
 //! `eros`: the core of a persistent capability system, over images in files.
 #![tactic(auto)]
 
-use command_line::{Job, command, read_job};
-use device::{Device, MAX_SECTORS};
+ghost use Rattle.std.specs.Prelude.{◌≡◌, IfOk};
+ghost use Rattle.toml.specs.View.{table_view};
+ghost use Rattle.description.specs.declared.entry.Description.{Description};
+ghost use Rattle.description.specs.Reading.{IsDescription};
+ghost use Rattle.image_builder.specs.Built.{plan_for};
+ghost use Rattle.file_device.specs.FileDevice.{file_disk};
+
+use command_line::{Job, JobFault, Script, job};
+use device::MAX_SECTORS;
 use file_device::{FileDevice, FileFault};
 use image_builder::sectors_needed;
-use jobs::{Fault, build_image, check_image, run_image};
+use jobs::{Fault, build_image, check_image, finish, run_image};
 use object_cache::PlainStore;
 use std::fs::{self, File};
-use std::io::{BufWriter, ErrorKind, Write};
+use std::io::{self, BufWriter, ErrorKind, Read, Stdout};
+use std::os::unix::fs::MetadataExt;
 use std::process::ExitCode;
 use toml::Table;
+
+// What is told where the system refused something: that memory ran out, or something else.
+fn of_io(error: &io::Error, otherwise: Fault) -> Fault {
+    if error.kind() == ErrorKind::OutOfMemory {
+        Fault::NoMemory
+    } else {
+        otherwise
+    }
+}
 
 // What is told where a file is no device: that memory ran out, or something else.
 fn of_file(fault: FileFault, otherwise: Fault) -> Fault {
     match fault {
         FileFault::NoMemory => Fault::NoMemory,
-        FileFault::Io | FileFault::Long => otherwise,
+        FileFault::Io | FileFault::Long | FileFault::Held => otherwise,
     }
 }
 
@@ -24,8 +41,7 @@ fn of_file(fault: FileFault, otherwise: Fault) -> Fault {
 fn read_table(rt: &HostRuntime, path: &str) -> Result<Table, Fault> {
     let bytes = match fs::read(rt, path) {
         Ok(bytes) => bytes,
-        Err(error) if error.kind() == ErrorKind::OutOfMemory => return Err(Fault::NoMemory),
-        Err(_) => return Err(Fault::CannotReadDescription),
+        Err(error) => return Err(of_io(&error, Fault::CannotReadDescription)),
     };
     let text = str::from_utf8(&bytes).map_err(|_| Fault::NotToml)?;
     match toml::table_from_str(rt.alloc(), text) {
@@ -35,9 +51,30 @@ fn read_table(rt: &HostRuntime, path: &str) -> Result<Table, Fault> {
     }
 }
 
-// The file of an image of so many sectors, all zeros. A file that is there is replaced.
-fn create(rt: &HostRuntime, path: &str, sectors: u64) -> Result<FileDevice, Fault> {
-    if sectors > MAX_SECTORS {
+// Whether two paths lead to one file.
+fn is_one_file(rt: &HostRuntime, one: &str, other: &str) -> bool {
+    match (fs::metadata(rt, one), fs::metadata(rt, other)) {
+        (Ok(one), Ok(other)) => one.dev() == other.dev() && one.ino() == other.ino(),
+        _ => false,
+    }
+}
+
+// The device in a new file, of so many sectors as the image of a table has, all zeros. A file that
+// is there is replaced, unless the description is read from it.
+fn create(
+    rt: &HostRuntime,
+    table: &Table,
+    description: &str,
+    path: &str,
+) -> Result<FileDevice, Fault>
+    ensures { IfOk result (λ device. (d : Description) × IsDescription (table_view table.now) d
+        × ((file_disk device).sectors ≡ (plan_for d).total)) }
+{
+    let sectors = match sectors_needed(rt.alloc(), table) {
+        Ok(sectors) => sectors,
+        Err(fault) => return Err(Fault::Build(fault)),
+    };
+    if sectors > MAX_SECTORS || is_one_file(rt, description, path) {
         return Err(Fault::CannotWriteImage);
     }
     match FileDevice::create(rt, path, sectors) {
@@ -46,70 +83,98 @@ fn create(rt: &HostRuntime, path: &str, sectors: u64) -> Result<FileDevice, Faul
     }
 }
 
-// The image in a file.
-fn open(rt: &HostRuntime, path: &str) -> Result<FileDevice, Fault> {
-    match FileDevice::open(rt, path) {
-        Ok(device) => Ok(device),
-        Err(fault) => Err(of_file(fault, Fault::CannotOpenImage)),
-    }
-}
-
-// The status, once all output is written.
-fn finish<W: Write + Drop>(mut writer: W, status: u8) -> Result<u8, Fault> {
-    match writer.flush() {
-        Err(_) if status == 0 => Err(Fault::CannotWriteOutput),
-        _ => Ok(status),
-    }
-}
-
-// Builds an image on a device, and gives the status.
-fn build_on<D: Device>(rt: &HostRuntime, table: &Table, mut device: D) -> Result<u8, Fault> {
-    let mut writer = BufWriter::new(rt.alloc(), rt.stdout()).map_err(|_| Fault::NoMemory)?;
-    let status = build_image(
-        rt.alloc(),
-        table,
-        &mut device,
-        &mut writer,
-        &mut rt.stderr(),
-    );
-    finish(writer, status)
+// What standard output is written through.
+fn output(rt: &HostRuntime) -> Result<BufWriter<Stdout>, Fault> {
+    BufWriter::new(rt.alloc(), rt.stdout()).map_err(|_| Fault::NoMemory)
 }
 
 // Builds an image, and gives the status.
 fn build(rt: &HostRuntime, description: &str, image: &str) -> Result<u8, Fault> {
     let table = read_table(rt, description)?;
-    let sectors = sectors_needed(rt.alloc(), &table).map_err(Fault::Build)?;
-    build_on(rt, &table, create(rt, image, sectors)?)
+    let mut device = create(rt, &table, description, image)?;
+    let (mut writer, mut errors) = (output(rt)?, rt.stderr());
+    let status = build_image(rt.alloc(), &table, &mut device, &mut writer, &mut errors);
+    Ok(finish(&mut writer, status, &mut errors))
 }
 
 // Runs a script over the image on a device, and gives the status.
-fn run_on<D: Device>(rt: &HostRuntime, device: D, script: &str) -> Result<u8, Fault> {
-    let mut reader = File::open(rt, script).map_err(|_| Fault::CannotReadScript)?;
-    let mut writer = BufWriter::new(rt.alloc(), rt.stdout()).map_err(|_| Fault::NoMemory)?;
-    let status = run_image::<D, PlainStore<D>, _, _, _>(
+fn run_on<R: Read>(rt: &HostRuntime, device: FileDevice, script: &mut R) -> Result<u8, Fault> {
+    let (mut writer, mut errors) = (output(rt)?, rt.stderr());
+    let status = run_image::<FileDevice, PlainStore<FileDevice>, _, _, _>(
         rt.alloc(),
         device,
         (),
-        &mut reader,
+        script,
         &mut writer,
-        &mut rt.stderr(),
+        &mut errors,
     );
-    finish(writer, status)
+    Ok(finish(&mut writer, status, &mut errors))
 }
 
-// Checks the image on a device, and gives the status.
-fn check_on<D: Device>(rt: &HostRuntime, device: D) -> Result<u8, Fault> {
-    let mut writer = BufWriter::new(rt.alloc(), rt.stdout()).map_err(|_| Fault::NoMemory)?;
-    let status = check_image(rt.alloc(), device, &mut writer, &mut rt.stderr());
-    finish(writer, status)
+// Runs a script over an image, and gives the status.
+fn run(rt: &HostRuntime, image: &str, script: &Script<'_>) -> Result<u8, Fault> {
+    let device = FileDevice::open(rt, image).map_err(|fault| of_file(
+        fault,
+        Fault::CannotOpenImage,
+    ))?;
+    match script {
+        Script::Input => run_on(rt, device, &mut rt.stdin()),
+        Script::File(path) => match File::open(rt, *path) {
+            Ok(mut file) => run_on(rt, device, &mut file),
+            Err(error) => Err(of_io(&error, Fault::CannotReadScript)),
+        },
+    }
 }
 
-// Does what the words ask, and gives the status.
-fn work(rt: &HostRuntime, job: &Job<'_>) -> Result<u8, Fault> {
+// Checks an image, and gives the status.
+fn check(rt: &HostRuntime, image: &str) -> Result<u8, Fault> {
+    let device = FileDevice::open_to_read(rt, image).map_err(|fault| of_file(
+        fault,
+        Fault::CannotOpenImage,
+    ))?;
+    let (mut writer, mut errors) = (output(rt)?, rt.stderr());
+    let status = check_image(rt.alloc(), device, &mut writer, &mut errors);
+    Ok(finish(&mut writer, status, &mut errors))
+}
+
+// Does a job, and gives the status.
+fn serve(rt: &HostRuntime, job: &Job<'_>) -> Result<u8, Fault> {
     match job {
         Job::Build { description, image } => build(rt, description, image),
-        Job::Run { image, script } => run_on(rt, open(rt, image)?, script),
-        Job::Check { image } => check_on(rt, open(rt, image)?),
+        Job::Run { image, script } => run(rt, image, script),
+        Job::Check { image } => check(rt, image),
+    }
+}
+
+// The words of the command line.
+fn words(rt: &HostRuntime) -> Result<Vec<String>, JobFault> {
+    match std::env::args(rt) {
+        Ok(words) => Ok(words.collect(rt.alloc())?),
+        Err(error) if error.kind() == ErrorKind::OutOfMemory => Err(JobFault::NoMemory),
+        Err(_) => Err(JobFault::not_text(rt.alloc())),
+    }
+}
+
+// Tells why words name no job, and gives the status.
+fn refuse(rt: &HostRuntime, fault: &JobFault) -> Result<u8, Fault> {
+    match fault {
+        JobFault::NoMemory => Err(Fault::NoMemory),
+        JobFault::BadWords(error) => match error.print(rt) {
+            Err(_) if !error.use_stderr() => Err(Fault::CannotWriteOutput),
+            _ => Ok(error.exit_code() as u8),
+        },
+    }
+}
+
+// Does what the command line asks, and gives the status.
+fn work(rt: &HostRuntime) -> Result<u8, Fault> {
+    let words = match words(rt) {
+        Ok(words) => words,
+        Err(fault) => return refuse(rt, &fault),
+    };
+    match job(rt.alloc(), words.as_slice()) {
+        Ok(job) => serve(rt, &job),
+        Err(fault) => refuse(rt, &fault),
     }
 }
 
@@ -123,23 +188,14 @@ fn guards(rt: &HostRuntime) -> [Option<File>; 3] {
     ]
 }
 
-fn main(rt: HostRuntime) -> anyhow::Result<ExitCode> {
-    let alloc = rt.alloc();
+fn main(rt: HostRuntime) -> ExitCode {
     let _guards = guards(&rt);
-    let words: Vec<String> = std::env::args(&rt)?.collect(alloc)?;
-    let job = match read_job(command(alloc)?, words.as_slice()) {
-        Ok(job) => job,
-        Err(error) => {
-            error.print(&rt)?;
-            return Ok(ExitCode::from(error.exit_code() as u8));
-        }
-    };
-    let status = match work(&rt, &job) {
+    let status = match work(&rt) {
         Ok(status) => status,
         Err(fault) => {
             let _told = fault.tell(&mut rt.stderr());
             1
         }
     };
-    Ok(ExitCode::from(status))
+    ExitCode::from(status)
 }

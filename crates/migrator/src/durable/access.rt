@@ -6,7 +6,7 @@ ghost use Rattle.model.specs.Frame.{frame_at};
 ghost use Rattle.frame_io.specs.Frames.{IsObject};
 ghost use Rattle.migrator.specs.Table.{place_at};
 ghost use Rattle.migrator.specs.Put.{put_or, put_of};
-ghost use Rattle.migrator.specs.Durable.{stored_of, newest, working_generation, frozen_generation, left_of, ReadsStore};
+ghost use Rattle.migrator.specs.Durable.{below_at, stored_of, newest, working_generation, frozen_generation, left_of, ReadsStore};
 
 use crate::durable::Durable;
 use crate::read::{read_again, read_put};
@@ -139,6 +139,24 @@ impl<D: Device> Durable<D> {
             Place::Torn(_) => self.fetch_frozen(number, room),
             Place::Nowhere => self.fetch_frozen(number, room),
         }
+    }
+
+    /// Reads what lies below a frame of an object that is kept in memory: the frozen one that was
+    /// put, else the saved one. The slots of a node or an annex and the words of a page are left in
+    /// `room`, and no memory is taken. It is refused exactly where the device failed.
+    pub fn fetch_below(
+        &mut self,
+        number: u64,
+        room: &mut Room,
+    ) -> Result<(ObjectHeader, Body), Failed>
+        requires { IsObject self.old.books.plan.geometry number }
+        ensures found { IfOk result (λ read. frame_of read room.new
+            ≡ below_at (stored_of D.disk self.old) number) }
+        ensures reads { ReadsStore D.disk self.old self.new }
+        ensures cause { Counts (D.disk self.old.beneath) (D.disk self.new.beneath) result }
+    {
+        let _ = &self.device;
+        self.fetch_frozen(number, room)
     }
 
     /// Reads the newest frame of an object: the one that was put last, else the frozen one, else

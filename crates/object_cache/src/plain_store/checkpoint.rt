@@ -1,13 +1,15 @@
 // Frozen frames are written to the log.
-ghost use Rattle.std.specs.Prelude.{◌≡◌, ◌≢◌, ℕ, ◌-◌, ◌<◌, ◌≤◌, Some, None, length, IsSome, OnOk, OnErr};
+ghost use Rattle.std.specs.Prelude.{◌≡◌, ◌≢◌, ℕ, ◌-◌, ◌<◌, ◌≤◌, Some, length, option_map, OnOk, OnErr, IfErr};
 ghost use Rattle.model.specs.Frame.{frame_at};
 ghost use Rattle.model.specs.Keepable.{IsKeepable};
 ghost use Rattle.device.specs.Calls.{Counts};
 ghost use Rattle.frame_io.specs.Frames.{IsObject};
 ghost use Rattle.migrator.specs.Put.{Broken, Kept, HasRoom, most};
-ghost use Rattle.migrator.specs.Durable.{Frozen, GoesOn, stored_of, with_frozen};
+ghost use Rattle.migrator.specs.Durable.{Frozen, GoesOn, left_of, stored_of, with_frozen};
+ghost use Rattle.migrator.specs.Refused.{IsPutAnswer};
 ghost use Rattle.object_cache.specs.declared.snapshot.Snapshot.TheVariants.{Below};
-ghost use Rattle.object_cache.specs.Frozen.{snapshot_at, frozen_frame, pending_count, below_at};
+ghost use Rattle.object_cache.specs.Frozen.{snapshot_at, frozen_frame, pending_count};
+ghost use Rattle.migrator.specs.Durable.{below_at};
 ghost use Rattle.object_cache.specs.Store.{FrozenFrames};
 ghost use Rattle.object_cache.specs.PlainStore.{present_frames, view_of, PutsBy};
 
@@ -15,9 +17,8 @@ use crate::plain_store::PlainStore;
 use crate::snapshot::Snapshot;
 use crate::snapshots::Snapshots;
 use capability::{Plain, PresentFrames};
-use device::{Device, Failed};
+use device::Device;
 use migrator::{CheckpointFault, Durable};
-use model::{Cap, Content, ObjectHeader};
 
 // The first object whose frozen frame is in memory.
 fn next_pending(snapshots: &Snapshots) -> u64
@@ -31,36 +32,6 @@ fn next_pending(snapshots: &Snapshots) -> u64
     }
 }
 
-// Puts a frame for the checkpoint on its way.
-fn put_frame<D: Device>(
-    durable: &mut Durable<D>,
-    number: u64,
-    header: ObjectHeader,
-    content: &Content<Cap>,
-) -> Result<(), Failed>
-    requires running { IsSome (stored_of D.disk durable.old).frozen }
-    requires object { IsObject durable.old.books.plan.geometry number }
-    requires keepable { IsKeepable durable.old.books.plan.geometry most number
-        (record { header = header; content = content.now }) }
-    requires room { (f : Frozen) → (stored_of D.disk durable.old).frozen ≡ Some f
-        → HasRoom f.size f.put number }
-    ensures put { OnOk result (stored_of D.disk durable.new ≡ with_frozen number
-        (Kept (record { header = header; content = content.now })) (stored_of D.disk durable.old)) }
-    ensures broken { OnErr result (stored_of D.disk durable.new
-        ≡ with_frozen number Broken (stored_of D.disk durable.old)) }
-    ensures goes_on { GoesOn D.disk durable.old durable.new }
-    ensures cause { Counts (D.disk durable.old.beneath) (D.disk durable.new.beneath) result }
-{
-    match durable.put_frozen(number, header, content) {
-        Ok(()) => Ok(()),
-        Err(CheckpointFault::Failed) => Err(Failed),
-        Err(CheckpointFault::CheckpointRunning) => unreachable!(),
-        Err(CheckpointFault::MigrationPending) => unreachable!(),
-        Err(CheckpointFault::NotStable(_)) => unreachable!(),
-        Err(CheckpointFault::NoCheckpoint) => unreachable!(),
-    }
-}
-
 // Puts the frozen frame of an object that is in memory.
 #[tactic(auto, using(capability::proofs::Frames::frame_in))]
 fn put_snapshot<D: Device>(
@@ -68,8 +39,7 @@ fn put_snapshot<D: Device>(
     present: &Plain,
     snapshot: &Snapshot,
     number: u64,
-) -> Result<(), Failed>
-    requires running { IsSome (stored_of D.disk durable.old).frozen }
+) -> Result<(), CheckpointFault>
     requires headers { number < length present.now.headers }
     requires contents { number < length present.now.contents }
     requires object { IsObject durable.old.books.plan.geometry number }
@@ -85,24 +55,26 @@ fn put_snapshot<D: Device>(
     ensures broken { OnErr result (stored_of D.disk durable.new
         ≡ with_frozen number Broken (stored_of D.disk durable.old)) }
     ensures goes_on { GoesOn D.disk durable.old durable.new }
-    ensures cause { Counts (D.disk durable.old.beneath) (D.disk durable.new.beneath) result }
+    ensures answer { IsPutAnswer (D.disk durable.old.beneath) (D.disk durable.new.beneath)
+        (option_map left_of (stored_of D.disk durable.old).frozen) result }
 {
     match snapshot {
         Snapshot::Below => unreachable!(),
         Snapshot::Present => {
             let header = present.table().header(number);
-            put_frame(durable, number, header, present.frame(number))
+            durable.put_frozen(number, header, present.frame(number))
         }
-        Snapshot::Copied(frame) => put_frame(durable, number, frame.header, &frame.content),
+        Snapshot::Copied(frame) => durable.put_frozen(number, frame.header, &frame.content),
     }
 }
 
 impl<D: Device> PlainStore<D> {
     // Writes the next frozen frame that is in memory to the log.
-    pub(crate) fn put_next(&mut self) -> Result<(), Failed>
+    pub(crate) fn put_next(&mut self) -> Result<(), CheckpointFault>
         requires { (f : FrozenFrames) × ((view_of D.disk self.old).aside.frozen ≡ Some f) × (0 < f.left) }
         ensures put { OnOk result (PutsBy D.disk self.old self.new 1) }
         ensures unput { OnErr result (PutsBy D.disk self.old self.new 0) }
+        ensures failed { IfErr result (λ e. e ≡ CheckpointFault.Failed) }
         ensures cause { Counts (D.disk self.old.durable.beneath) (D.disk self.new.durable.beneath) result }
     {
         let number = next_pending(&self.snapshots);
@@ -113,10 +85,11 @@ impl<D: Device> PlainStore<D> {
     }
 
     // Writes so many frozen frames to the log.
-    pub(crate) fn put_some(&mut self, count: u64) -> Result<(), Failed>
+    pub(crate) fn put_some(&mut self, count: u64) -> Result<(), CheckpointFault>
         requires { (f : FrozenFrames) × ((view_of D.disk self.old).aside.frozen ≡ Some f) × (count ≤ f.left) }
         ensures put { OnOk result (PutsBy D.disk self.old self.new count) }
         ensures unput { OnErr result ((k : ℕ) × (k ≤ count) × PutsBy D.disk self.old self.new k) }
+        ensures failed { IfErr result (λ e. e ≡ CheckpointFault.Failed) }
         ensures cause { Counts (D.disk self.old.durable.beneath) (D.disk self.new.durable.beneath) result }
     {
         for _ in 0..count {

@@ -1,11 +1,4 @@
 // The stages of a checkpoint.
-ghost use Rattle.std.specs.Prelude.{◌≡◌, ◌+◌, ◌-◌, ◌<◌, ◌≤◌, ◌^◌, Some, None, IfOk, OnOk, OnErr};
-ghost use Rattle.model.specs.Keepable.{AreKeepable};
-ghost use Rattle.model.specs.Machine.{touched_count};
-ghost use Rattle.device.specs.Calls.{Counts};
-ghost use Rattle.migrator.specs.Put.{held_slot, sum_of};
-ghost use Rattle.migrator.specs.Saved.{LeavesEither};
-ghost use Rattle.migrator.specs.Durable.{Frozen, freezing, committed, next_saved, left_of, stored_of, is_sound};
 ghost use Rattle.object_cache.specs.PlainStore.{view_of};
 
 use crate::plain_store::PlainStore;
@@ -14,59 +7,8 @@ use crate::snapshots::freeze_written;
 use crate::store::ObjectStore;
 use capability::PresentFrames;
 use device::{Device, Failed};
-use migrator::{Checkpoint, CheckpointFault, Durable, OpenRefused};
+use migrator::{Checkpoint, CheckpointFault, OpenRefused};
 use std::alloc::Global;
-
-// Begins a checkpoint that writes so many objects.
-fn freeze_durable<D: Device>(durable: &mut Durable<D>, size: u64)
-    requires enough { sum_of held_slot (stored_of D.disk durable.old).working ≤ size }
-    requires few { size ≤ durable.old.books.plan.geometry.log }
-    requires free { (stored_of D.disk durable.old).frozen ≡ None }
-    requires home { (stored_of D.disk durable.old).saved.entries ≡ 0 }
-    ensures frozen { stored_of D.disk durable.new ≡ freezing size (stored_of D.disk durable.old) }
-    ensures beneath { durable.new.beneath ≡ durable.old.beneath }
-    ensures sound { is_sound D.disk durable.old → is_sound D.disk durable.new }
-{
-    match durable.freeze(size) {
-        Ok(()) => {}
-        Err(CheckpointFault::CheckpointRunning) => unreachable!(),
-        Err(CheckpointFault::MigrationPending) => unreachable!(),
-        Err(CheckpointFault::NotStable(_)) => unreachable!(),
-        Err(CheckpointFault::NoCheckpoint) => unreachable!(),
-        Err(CheckpointFault::Failed) => unreachable!(),
-    }
-}
-
-// Commits a checkpoint of which all is in the log.
-fn commit_durable<D: Device>(durable: &mut Durable<D>, age: u64) -> Result<u64, Failed>
-    requires running { (f : Frozen) × ((stored_of D.disk durable.old).frozen ≡ Some f) × (left_of f ≡ 0) }
-    requires sound { is_sound D.disk durable.old }
-    requires later { (stored_of D.disk durable.old).saved.age < age }
-    requires most { age ≤ 2 ^ 62 }
-    requires keepable { (f : Frozen) → (stored_of D.disk durable.old).frozen ≡ Some f
-        → AreKeepable durable.old.books.plan.geometry age
-        (next_saved age f (stored_of D.disk durable.old).saved).frames }
-    ensures committed { (f : Frozen) → (stored_of D.disk durable.old).frozen ≡ Some f
-        → OnOk result (stored_of D.disk durable.new ≡ committed age f (stored_of D.disk durable.old)) }
-    ensures unchanged { OnErr result (stored_of D.disk durable.new ≡ stored_of D.disk durable.old) }
-    ensures plan { durable.new.books.plan ≡ durable.old.books.plan }
-    ensures generation { IfOk result (λ n. n ≡ (stored_of D.disk durable.old).saved.generation + 1) }
-    ensures sound { OnOk result (is_sound D.disk durable.new) }
-    ensures size { (D.disk durable.new.beneath).sectors ≡ (D.disk durable.old.beneath).sectors }
-    ensures any_moment { (f : Frozen) → (stored_of D.disk durable.old).frozen ≡ Some f
-        → LeavesEither (D.disk durable.old.beneath) (D.disk durable.new.beneath)
-        (stored_of D.disk durable.old).saved (next_saved age f (stored_of D.disk durable.old).saved) }
-    ensures cause { Counts (D.disk durable.old.beneath) (D.disk durable.new.beneath) result }
-{
-    match durable.commit(age) {
-        Ok(generation) => Ok(generation),
-        Err(CheckpointFault::Failed) => Err(Failed),
-        Err(CheckpointFault::CheckpointRunning) => unreachable!(),
-        Err(CheckpointFault::MigrationPending) => unreachable!(),
-        Err(CheckpointFault::NotStable(_)) => unreachable!(),
-        Err(CheckpointFault::NoCheckpoint) => unreachable!(),
-    }
-}
 
 impl<D: Device> ObjectStore<D> for PlainStore<D> {
     type Setting = ();
@@ -95,28 +37,25 @@ impl<D: Device> ObjectStore<D> for PlainStore<D> {
         Ok(())
     }
 
-    fn freeze(&mut self) -> u64 {
+    fn freeze(&mut self) -> Result<u64, CheckpointFault> {
         let size = self.present.touched_count();
-        freeze_durable(&mut self.durable, size);
+        self.durable.freeze(size)?;
         freeze_written(&self.present, &mut self.snapshots);
         self.present.forget_touched();
-        size
+        Ok(size)
     }
 
-    fn stabilize(&mut self, count: u64) -> Result<u64, Failed> {
-        let left = match self.durable.left() {
-            Some(left) => left,
-            None => unreachable!(),
+    fn stabilize(&mut self, count: u64) -> Result<u64, CheckpointFault> {
+        let Some(left) = self.durable.left() else {
+            return Err(CheckpointFault::NoCheckpoint);
         };
         let some = if count < left { count } else { left };
-        match self.put_some(some) {
-            Ok(()) => Ok(left - some),
-            Err(Failed) => Err(Failed),
-        }
+        self.put_some(some)?;
+        Ok(left - some)
     }
 
-    fn commit(&mut self, age: u64) -> Result<u64, Failed> {
-        commit_durable(&mut self.durable, age)
+    fn commit(&mut self, age: u64) -> Result<u64, CheckpointFault> {
+        self.durable.commit(age)
     }
 
     fn migrate(&mut self, count: u64) -> Result<u64, Failed> {

@@ -21,8 +21,8 @@ returns-then-eq-clause-named c = (
   given (found_of c.args.inner.now) (codes "IMAGE") c.get_str.result c.in_ok-image.image c.get_str.ensures (search rules),
 )
 
-pub returns-in_err-script-clause-none : goal.returns-in_err-script-clause-none
-returns-in_err-script-clause-none c =
+pub returns-in_err-word-clause-none : goal.returns-in_err-word-clause-none
+returns-in_err-word-clause-none c =
     let run : c.args.name.now ≡ codes "run" = search rules in
     let none : c.get_str-then-eq-2.result ≡ None = search rules in
     λ _. no_script _ (rows_of (found_of c.args.inner.now)) run (missing (found_of c.args.inner.now) (codes "SCRIPT") _ c.get_str-then-eq-2.ensures none)
@@ -31,7 +31,9 @@ pub returns-then-eq-2-clause-named : goal.returns-then-eq-2-clause-named
 returns-then-eq-2-clause-named c = (
   search rules,
   given (found_of c.args.inner.now) (codes "IMAGE") c.get_str.result c.in_ok-image.image c.get_str.ensures (search rules),
-  given (found_of c.args.inner.now) (codes "SCRIPT") c.get_str-then-eq-2.result c.in_ok-script.script c.get_str-then-eq-2.ensures (search rules),
+  c.in_ok-word.word.now,
+  given (found_of c.args.inner.now) (codes "SCRIPT") c.get_str-then-eq-2.result c.in_ok-word.word c.get_str-then-eq-2.ensures (search rules),
+  c.script_of-script.ensures,
 )
 
 pub returns-then-eq-3-clause-named : goal.returns-then-eq-3-clause-named

@@ -1,25 +1,12 @@
-use Rattle.std.proofs.Common.{◌∙◌, ap, sym}
-use Rattle.std.specs.Prelude.{not}
-use Rattle.std.specs.Option.{is_some}
-use Rattle.processes.proofs.Serving.{AreSame}
-use Rattle.model.specs.declared.answer.Refusal.TheVariants as refusal
+use Rattle.std.proofs.Common.{sym, subst}
+use Rattle.model.specs.declared.answer.Answer.{Answer}
 use Rattle.model.specs.declared.command.Command.TheVariants as command
-use Rattle.kernel.specs.Standing.{running}
-use Rattle.kernel.proofs.Acts.{refused, stabilize_failed, stabilize_went}
-use Rattle.kernel.proofs.Stages.{frozen_none, none_there, some_there}
-use Rattle.kernel.proofs.Steps.{none_to_stabilize}
+use Rattle.processes.proofs.Serving.{AreSame}
+use Rattle.object_cache.specs.Store.{left_in}
+use Rattle.kernel.specs.Standing.{IsCaused, ServesUp}
+use Rattle.kernel.proofs.Acts.{stabilize_cause, stabilize_refused, stabilize_went, with_store}
+use Rattle.kernel.proofs.Stages.{some_left_after}
 use Rattle.kernel.proofs.checkpoints.stabilize.Goals as goal
-
-pub returns-then-is_none-clause-serves : goal.returns-then-is_none-clause-serves
-returns-then-is_none-clause-serves g c =
-    let disk = g.D.Device.disk in
-    let view = g.S.ObjectStore.view in
-    let parts = g.S.PresentFrames.parts in
-    let only = g.met.D.Device.only_now in
-    let holds = g.met.S.ObjectStore.sound_holds in
-    let none = none_there (view c.args.live.now.store).aside.frozen (sym (ap is_some c.left.ensures) ∙ c.is_none.ensures ∙ ap not c.if-is_none.true) in
-    refused disk view parts only holds c.args.live.now (command.Stabilize c.args.count) refusal.NoCheckpoint
-    (λ g up. none_to_stabilize g (running disk view parts c.args.live.now) c.args.count (frozen_none (view c.args.live.now.store).aside.frozen c.args.live.now.frozen_age none))
 
 pub returns-in-Ok-clause-serves : goal.returns-in-Ok-clause-serves
 returns-in-Ok-clause-serves g c =
@@ -28,11 +15,11 @@ returns-in-Ok-clause-serves g c =
     let parts = g.S.PresentFrames.parts in
     let only = g.met.D.Device.only_now in
     let holds = g.met.S.ObjectStore.sound_holds in
-    let there = some_there (view c.args.live.now.store).aside.frozen (sym (ap is_some c.left.ensures) ∙ c.is_none.ensures ∙ ap not c.if-is_none.false) in
     let said = c.in-Ok.ensures in
+    let there = some_left_after (view c.args.live.now.store).aside.frozen c.args.count c.in-Ok.left said.answer.1 in
     let same : AreSame (parts c.args.live.now.store) (parts c.stabilize.new.self) = record { headers = said.headers; contents = said.contents; touched = said.touched; geometry = said.geometry } in
     stabilize_went disk view parts only holds c.args.live.now c.stabilize.new.self same said.size there.0 there.1 said.any_moment c.args.count c.in-Ok.left
-    (said.left there.0 there.1) (said.aside there.0 there.1) said.sound
+    there.2 (said.aside there.0 there.1) said.sound
 
 pub returns-in-Err-clause-serves : goal.returns-in-Err-clause-serves
 returns-in-Err-clause-serves g c =
@@ -41,7 +28,15 @@ returns-in-Err-clause-serves g c =
     let parts = g.S.PresentFrames.parts in
     let only = g.met.D.Device.only_now in
     let holds = g.met.S.ObjectStore.sound_holds in
-    let there = some_there (view c.args.live.now.store).aside.frozen (sym (ap is_some c.left.ensures) ∙ c.is_none.ensures ∙ ap not c.if-is_none.false) in
     let said = c.in-Err.ensures in
     let same : AreSame (parts c.args.live.now.store) (parts c.stabilize.new.self) = record { headers = said.headers; contents = said.contents; touched = said.touched; geometry = said.geometry } in
-    stabilize_failed disk view parts only holds c.args.live.now c.stabilize.new.self same said.size there.0 there.1 said.any_moment c.args.count
+    subst (λ (a : Answer). ServesUp disk view parts c.args.live.now (command.Stabilize c.args.count) a (with_store c.args.live.now c.stabilize.new.self)) (sym c.refused.ensures.answer)
+    (stabilize_refused disk view parts only holds c.args.live.now c.stabilize.new.self same said.size c.in-Err.fault c.args.count said.answer said.unchanged said.any_moment)
+
+pub returns-in-Err-clause-cause : goal.returns-in-Err-clause-cause
+returns-in-Err-clause-cause g c =
+    let aside = (g.S.ObjectStore.view c.args.live.now.store).aside in
+    let old = g.D.Device.disk (g.S.ObjectStore.view c.args.live.now.store).beneath in
+    let new = g.D.Device.disk (g.S.ObjectStore.view c.stabilize.new.self).beneath in
+    subst (λ (a : Answer). IsCaused old new a) (sym c.refused.ensures.answer)
+    (stabilize_cause old new (left_in aside) c.args.count c.in-Err.fault c.in-Err.ensures.answer)

@@ -1,6 +1,9 @@
-use Rattle.std.proofs.Common.{length, ap, arith}
+use Rattle.std.proofs.Common.{length, ap, arith, subst, sym}
+use Rattle.model.specs.declared.answer.Answer.{Answer}
+use Rattle.model.specs.declared.command.Command.TheVariants as command
 use Rattle.processes.proofs.Serving.{AreSame}
-use Rattle.kernel.proofs.Acts.{bad_number, evict_failed, evicted}
+use Rattle.kernel.specs.Standing.{ServesUp}
+use Rattle.kernel.proofs.Acts.{bad_number, err_answer, evict_failed, evicted, with_store}
 use Rattle.kernel.proofs.Stages.{keepable_most}
 use Rattle.kernel.proofs.serving.evict.Goals as goal
 
@@ -18,23 +21,25 @@ evict-requires-clause-keepable g c =
     let up = c.requires in
     keepable_most up.0 (g.S.PresentFrames.parts c.args.live.now.store) c.args.live.now.age up.1.sound.geometry up.1.sound.now
 
-pub returns-in-Ok-clause-serves : goal.returns-in-Ok-clause-serves
-returns-in-Ok-clause-serves g c =
+pub returns-clause-serves : goal.returns-clause-serves
+returns-clause-serves g c =
     let disk = g.D.Device.disk in
     let view = g.S.ObjectStore.view in
     let parts = g.S.PresentFrames.parts in
     let only = g.met.D.Device.only_now in
     let holds = g.met.S.ObjectStore.sound_holds in
-    let said = c.in-Ok.ensures in
+    let said = c.in_ok-evict.ensures in
     let same : AreSame (parts c.args.live.now.store) (parts c.evict.new.self) = record { headers = said.headers; contents = said.contents; touched = said.touched; geometry = said.geometry } in
     evicted disk view parts only holds c.args.live.now c.evict.new.self (g.met.S.ObjectStore.leads c.args.live.now.store c.evict.new.self said.leads) same c.args.number
     (omega (arith, c.if-number-count.false, c.count.ensures, ap length c.table.ensures))
 
-pub returns-in-Err-clause-serves : goal.returns-in-Err-clause-serves
-returns-in-Err-clause-serves g c =
+pub returns-in_err-evict-clause-serves : goal.returns-in_err-evict-clause-serves
+returns-in_err-evict-clause-serves g c =
     let disk = g.D.Device.disk in
     let view = g.S.ObjectStore.view in
     let parts = g.S.PresentFrames.parts in
     let only = g.met.D.Device.only_now in
     let holds = g.met.S.ObjectStore.sound_holds in
-    evict_failed disk view parts only holds c.args.live.now c.evict.new.self (g.met.S.ObjectStore.leads c.args.live.now.store c.evict.new.self c.in-Err.ensures.leads) c.args.number
+    let l = c.args.live.now in
+    subst (λ (a : Answer). ServesUp disk view parts l (command.Evict c.args.number) a (with_store l c.evict.new.self)) (sym (err_answer _ c.from_residual.result c.from_residual.ensures.1))
+    (evict_failed disk view parts only holds l c.evict.new.self (g.met.S.ObjectStore.leads l.store c.evict.new.self c.in_err-evict.ensures.leads) c.args.number)

@@ -1,7 +1,7 @@
 use Rattle.layout.specs.Frame.{frame_of}
 use Rattle.layout.specs.Image.{frame_in}
 use Rattle.layout.specs.Spelt.{frame_read}
-use Rattle.migrator.proofs.Fetching.{read_is, never_bad}
+use Rattle.migrator.proofs.Fetching.{read_is, only_failed}
 use Rattle.migrator.proofs.read.read_again.Goals as goal
 
 pub returns-in-Ok-clause-found : goal.returns-in-Ok-clause-found
@@ -9,8 +9,7 @@ returns-in-Ok-clause-found g c =
     read_is c.args.log.now.geometry c.args.header.age c.args.number (λ i. frame_in i c.args.log.now c.args.header.generation c.args.directory.now c.args.number) (g.D.Device.disk c.args.device.now).seen (g.D.Device.disk c.read_saved.new.device).seen (frame_read (g.D.Device.disk c.args.device.now).seen c.args.log.now c.args.header.generation c.args.directory.now c.args.number) (frame_of c.in-Ok.read c.read_saved.new.room)
     c.read_saved.ensures.reads.seen c.requires.spelt c.in-Ok.ensures.found
 
-pub unreachable-unreachable : goal.unreachable-unreachable
-unreachable-unreachable g c =
-    let refused = rw c.in-Err-Bad.field-0-is at c.in-Err-Bad.ensures.refused in
-    never_bad c.args.log.now.geometry c.args.header.age c.args.number (λ i. frame_in i c.args.log.now c.args.header.generation c.args.directory.now c.args.number) (g.D.Device.disk c.args.device.now).seen (g.D.Device.disk c.read_saved.new.device).seen (frame_read (g.D.Device.disk c.args.device.now).seen c.args.log.now c.args.header.generation c.args.directory.now c.args.number)
-    c.read_saved.ensures.reads.seen c.requires.spelt refused.1
+pub failure-requires : goal.failure-requires
+failure-requires g c =
+    only_failed c.args.log.now.geometry c.args.header.age c.args.number (λ i. frame_in i c.args.log.now c.args.header.generation c.args.directory.now c.args.number) (g.D.Device.disk c.args.device.now).seen (g.D.Device.disk c.read_saved.new.device).seen (frame_read (g.D.Device.disk c.args.device.now).seen c.args.log.now c.args.header.generation c.args.directory.now c.args.number)
+    c.read_saved.ensures.reads.seen c.requires.spelt c.in-Err.fault c.in-Err.ensures.refused

@@ -1,6 +1,6 @@
 use Rattle.layout.specs.Frame.{frame_of}
 use Rattle.migrator.specs.Put.{most, slot_bytes, slot_frame}
-use Rattle.migrator.proofs.Fetching.{read_is, never_bad}
+use Rattle.migrator.proofs.Fetching.{read_is, only_failed}
 use Rattle.migrator.proofs.read.read_put.Goals as goal
 
 pub returns-in-Ok-clause-found : goal.returns-in-Ok-clause-found
@@ -8,8 +8,7 @@ returns-in-Ok-clause-found g c =
     read_is c.args.log.now.geometry most c.args.number (λ i. slot_bytes i c.args.log.now c.args.generation c.args.slot c.args.number) (g.D.Device.disk c.args.device.now).seen (g.D.Device.disk c.read_slot.new.device).seen (slot_frame (g.D.Device.disk c.args.device.now).seen c.args.log.now c.args.generation c.args.slot c.args.number) (frame_of c.in-Ok.read c.read_slot.new.room)
     c.read_slot.ensures.reads.seen c.requires.spelt c.in-Ok.ensures.found
 
-pub unreachable-unreachable : goal.unreachable-unreachable
-unreachable-unreachable g c =
-    let refused = rw c.in-Err-Bad.field-0-is at c.in-Err-Bad.ensures.refused in
-    never_bad c.args.log.now.geometry most c.args.number (λ i. slot_bytes i c.args.log.now c.args.generation c.args.slot c.args.number) (g.D.Device.disk c.args.device.now).seen (g.D.Device.disk c.read_slot.new.device).seen (slot_frame (g.D.Device.disk c.args.device.now).seen c.args.log.now c.args.generation c.args.slot c.args.number)
-    c.read_slot.ensures.reads.seen c.requires.spelt refused.1
+pub failure-requires : goal.failure-requires
+failure-requires g c =
+    only_failed c.args.log.now.geometry most c.args.number (λ i. slot_bytes i c.args.log.now c.args.generation c.args.slot c.args.number) (g.D.Device.disk c.args.device.now).seen (g.D.Device.disk c.read_slot.new.device).seen (slot_frame (g.D.Device.disk c.args.device.now).seen c.args.log.now c.args.generation c.args.slot c.args.number)
+    c.read_slot.ensures.reads.seen c.requires.spelt c.in-Err.fault c.in-Err.ensures.refused

@@ -1,11 +1,14 @@
-use Rattle.std.proofs.Common.{Some, ap}
+use Rattle.std.proofs.Common.{subst}
 use Rattle.model.specs.declared.answer.Refusal.TheVariants as refusal
 use Rattle.model.specs.declared.command.Command.TheVariants as command
+use Rattle.model.specs.Frame.{objects_of}
+use Rattle.capability.specs.Parts.{frames_of}
 use Rattle.gate.specs.declared.fault.InvokeFault.TheVariants as fault
 use Rattle.gate.proofs.BankStates.{counted_looked}
 use Rattle.gate.proofs.Standing.{LooksAs}
-use Rattle.processes.proofs.Serving.{AreSame, done_after, done_unfailed, fault_is, fault_unfailed, full_after, no_memory_after, refused_serves, stalled_after, told_cause, unfailed}
-use Rattle.processes.proofs.Steps.{early_step, worn_step}
+use Rattle.processes.specs.Machine.{IsEarly}
+use Rattle.processes.proofs.Serving.{AreSame, done_after, done_unfailed, fault_is, fault_unfailed, full_after, no_memory_after, ok_stayed, refused_serves, stalled_after, told_cause, unfailed}
+use Rattle.processes.proofs.Steps.{early_fine, early_none, early_step, worn_step}
 use Rattle.processes.proofs.invocation.invoke.Goals as goal
 
 pub returns-in-Some-clause-serves : goal.returns-in-Some-clause-serves
@@ -14,9 +17,10 @@ returns-in-Some-clause-serves g c =
     let mid = g.F.PresentFrames.parts c.early.new.store in
     let aside = c.early.ensures.aside in
     let same : AreSame old mid = record { headers = aside.headers; contents = aside.contents; touched = aside.touched; geometry = aside.geometry } in
-    refused_serves c.args.age old mid (command.Invoke c.args.invocation) c.in-Some.refusal same c.requires.sound c.early.ensures.later
-    (λ e. c.in-Some.ensures.cause.0 (ap Some e), λ rose. let f = c.in-Some.ensures.cause.1 rose in cc)
-    (λ frozen saved to_move other. early_step old.geometry _ c.args.invocation c.in-Some.refusal c.in-Some.ensures.why other)
+    let early = subst (IsEarly (objects_of (frames_of old)) c.args.invocation.process) c.in-Some.is c.in_ok-refusal.ensures.why in
+    refused_serves c.args.age.now old mid (command.Invoke c.args.invocation) c.in-Some.refusal same c.requires.sound c.early.ensures.later
+    (told_cause c.in-Some.refusal (early_fine (objects_of (frames_of old)) c.args.invocation.process c.in-Some.refusal early) (ok_stayed c.in_ok-refusal.field-0 c.in_ok-refusal.ensures.cause))
+    (λ frozen saved to_move other. early_step old.geometry _ c.args.invocation c.in-Some.refusal early)
 
 pub returns-then-age-ge-MAX_AGE-clause-serves : goal.returns-then-age-ge-MAX_AGE-clause-serves
 returns-then-age-ge-MAX_AGE-clause-serves g c =
@@ -24,9 +28,10 @@ returns-then-age-ge-MAX_AGE-clause-serves g c =
     let mid = g.F.PresentFrames.parts c.early.new.store in
     let aside = c.early.ensures.aside in
     let same : AreSame old mid = record { headers = aside.headers; contents = aside.contents; touched = aside.touched; geometry = aside.geometry } in
-    refused_serves c.args.age old mid (command.Invoke c.args.invocation) refusal.Worn same c.requires.sound c.early.ensures.later
-    (told_cause refusal.Worn (λ e. cc) (λ rose. let e = c.in_default.ensures.cause.1 rose in cc))
-    (λ frozen saved to_move other. worn_step old.geometry _ c.args.invocation c.in_default.ensures.why.0 c.in_default.ensures.why.1 c.if-age-ge-MAX_AGE.true)
+    let runs = early_none (objects_of (frames_of old)) c.args.invocation.process c.in_ok-refusal.field-0 c.in_default.not-Some c.in_ok-refusal.ensures.why in
+    refused_serves c.args.age.now old mid (command.Invoke c.args.invocation) refusal.Worn same c.requires.sound c.early.ensures.later
+    (told_cause refusal.Worn (λ e. cc) (ok_stayed c.in_ok-refusal.field-0 c.in_ok-refusal.ensures.cause))
+    (λ frozen saved to_move other. worn_step old.geometry _ c.args.invocation runs.0 runs.1 c.if-age-ge-MAX_AGE.true)
 
 pub returns-in-Ok-clause-serves : goal.returns-in-Ok-clause-serves
 returns-in-Ok-clause-serves g c =
@@ -35,9 +40,10 @@ returns-in-Ok-clause-serves g c =
     let new = g.F.PresentFrames.parts c.invoke.new.store in
     let aside = c.early.ensures.aside in
     let same : AreSame old mid = record { headers = aside.headers; contents = aside.contents; touched = aside.touched; geometry = aside.geometry } in
-    let failures = unfailed old.failures mid.failures c.early.ensures.later (λ rose. let e = c.in_default.ensures.cause.1 rose in cc) in
+    let failures = unfailed old.failures mid.failures c.early.ensures.later (ok_stayed c.in_ok-refusal.field-0 c.in_ok-refusal.ensures.cause) in
+    let runs = early_none (objects_of (frames_of old)) c.args.invocation.process c.in_ok-refusal.field-0 c.in_default.not-Some c.in_ok-refusal.ensures.why in
     let said = c.in-Ok.ensures in
-    done_after c.args.age old mid new c.args.invocation same failures c.in_default.ensures.why.0 c.in_default.ensures.why.1 c.requires.sound c.if-age-ge-MAX_AGE.false
+    done_after c.args.age.now old mid new c.args.invocation same failures runs.0 runs.1 c.requires.sound c.if-age-ge-MAX_AGE.false
     said.done said.sound said.geometry said.later (λ rose. done_unfailed (said.cause.1 rose))
 
 pub returns-in-Err-Stalled-clause-serves : goal.returns-in-Err-Stalled-clause-serves
@@ -47,10 +53,11 @@ returns-in-Err-Stalled-clause-serves g c =
     let new = g.F.PresentFrames.parts c.invoke.new.store in
     let aside = c.early.ensures.aside in
     let same : AreSame old mid = record { headers = aside.headers; contents = aside.contents; touched = aside.touched; geometry = aside.geometry } in
-    let failures = unfailed old.failures mid.failures c.early.ensures.later (λ rose. let e = c.in_default.ensures.cause.1 rose in cc) in
+    let failures = unfailed old.failures mid.failures c.early.ensures.later (ok_stayed c.in_ok-refusal.field-0 c.in_ok-refusal.ensures.cause) in
+    let runs = early_none (objects_of (frames_of old)) c.args.invocation.process c.in_ok-refusal.field-0 c.in_default.not-Some c.in_ok-refusal.ensures.why in
     let said = c.in-Err-Stalled.ensures in
     let unchanged : AreSame mid new = record { headers = said.unchanged.headers; contents = said.unchanged.contents; touched = said.unchanged.touched; geometry = said.geometry } in
-    stalled_after c.args.age old mid new c.args.invocation same failures c.in_default.ensures.why.0 c.in_default.ensures.why.1 c.requires.sound c.if-age-ge-MAX_AGE.false
+    stalled_after c.args.age.now old mid new c.args.invocation same failures runs.0 runs.1 c.requires.sound c.if-age-ge-MAX_AGE.false
     (said.stalled (fault_is c.in-Err-Stalled.field-0 fault.Stalled c.in-Err-Stalled.field-0-is)) unchanged said.later (λ rose. fault_unfailed c.in-Err-Stalled.field-0 fault.Stalled c.in-Err-Stalled.field-0-is (λ e. cc) (said.cause.1 rose))
 
 pub returns-in-Err-LogFull-clause-serves : goal.returns-in-Err-LogFull-clause-serves
@@ -60,10 +67,11 @@ returns-in-Err-LogFull-clause-serves g c =
     let new = g.F.PresentFrames.parts c.invoke.new.store in
     let aside = c.early.ensures.aside in
     let same : AreSame old mid = record { headers = aside.headers; contents = aside.contents; touched = aside.touched; geometry = aside.geometry } in
-    let failures = unfailed old.failures mid.failures c.early.ensures.later (λ rose. let e = c.in_default.ensures.cause.1 rose in cc) in
+    let failures = unfailed old.failures mid.failures c.early.ensures.later (ok_stayed c.in_ok-refusal.field-0 c.in_ok-refusal.ensures.cause) in
+    let runs = early_none (objects_of (frames_of old)) c.args.invocation.process c.in_ok-refusal.field-0 c.in_default.not-Some c.in_ok-refusal.ensures.why in
     let said = c.in-Err-LogFull.ensures in
     let unchanged : AreSame mid new = record { headers = said.unchanged.headers; contents = said.unchanged.contents; touched = said.unchanged.touched; geometry = said.geometry } in
-    full_after c.args.age old mid new c.args.invocation same failures c.in_default.ensures.why.0 c.in_default.ensures.why.1 c.requires.sound c.if-age-ge-MAX_AGE.false
+    full_after c.args.age.now old mid new c.args.invocation same failures runs.0 runs.1 c.requires.sound c.if-age-ge-MAX_AGE.false
     (said.full (fault_is c.in-Err-LogFull.field-0 fault.LogFull c.in-Err-LogFull.field-0-is)) unchanged said.later (λ rose. fault_unfailed c.in-Err-LogFull.field-0 fault.LogFull c.in-Err-LogFull.field-0-is (λ e. cc) (said.cause.1 rose))
 
 pub returns-in-Err-NoMemory-clause-serves : goal.returns-in-Err-NoMemory-clause-serves
@@ -73,10 +81,11 @@ returns-in-Err-NoMemory-clause-serves g c =
     let new = g.F.PresentFrames.parts c.invoke.new.store in
     let aside = c.early.ensures.aside in
     let same : AreSame old mid = record { headers = aside.headers; contents = aside.contents; touched = aside.touched; geometry = aside.geometry } in
-    let failures = unfailed old.failures mid.failures c.early.ensures.later (λ rose. let e = c.in_default.ensures.cause.1 rose in cc) in
+    let failures = unfailed old.failures mid.failures c.early.ensures.later (ok_stayed c.in_ok-refusal.field-0 c.in_ok-refusal.ensures.cause) in
+    let runs = early_none (objects_of (frames_of old)) c.args.invocation.process c.in_ok-refusal.field-0 c.in_default.not-Some c.in_ok-refusal.ensures.why in
     let said = c.in-Err-NoMemory.ensures in
     let unchanged : AreSame mid new = record { headers = said.unchanged.headers; contents = said.unchanged.contents; touched = said.unchanged.touched; geometry = said.geometry } in
-    no_memory_after c.args.age old mid new c.args.invocation same failures c.in_default.ensures.why.0 c.in_default.ensures.why.1 c.requires.sound c.if-age-ge-MAX_AGE.false
+    no_memory_after c.args.age.now old mid new c.args.invocation same failures runs.0 runs.1 c.requires.sound c.if-age-ge-MAX_AGE.false
     unchanged said.later (λ rose. fault_unfailed c.in-Err-NoMemory.field-0 fault.NoMemory c.in-Err-NoMemory.field-0-is (λ e. cc) (said.cause.1 rose))
 
 pub returns-in-Some-clause-counted : goal.returns-in-Some-clause-counted

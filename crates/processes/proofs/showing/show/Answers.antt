@@ -1,6 +1,9 @@
 use Rattle.std.proofs.Common.{◌≡◌, ℕ, ◌≤◌, ◌<◌, List, length, refl, ap, ◌∙◌, subst, arith}
 use Rattle.model.specs.declared.frame.ObjectHeader.{ObjectHeader}
-use Rattle.processes.proofs.Serving.{AreSame, bad_number_serves, look_unfailed, show_no_memory_serves, shown_serves, shown_unfailed}
+use Rattle.model.specs.Frame.{objects_of}
+use Rattle.capability.specs.Parts.{frames_of}
+use Rattle.processes.specs.Machine.{answer_of}
+use Rattle.processes.proofs.Serving.{AreSame, bad_number_serves, show_refused, shown_fine, shown_serves, shown_unfailed}
 use Rattle.processes.proofs.showing.show.Goals as goal
 
 pub returns-then-number-count-clause-serves : goal.returns-then-number-count-clause-serves
@@ -21,15 +24,17 @@ returns-in-Ok-clause-serves g c =
     shown_serves c.args.age old new c.args.number c.in-Ok.answer (subst (λ (m : ℕ). c.args.number < m) counted c.if-number-count.false) same c.requires.sound
     said.answer said.looks.later (λ rose. shown_unfailed c.in-Ok.answer (said.looks.cause.1 rose))
 
-pub returns-in-Err-NoMemory : goal.returns-in-Err-NoMemory
-returns-in-Err-NoMemory g c =
+pub returns-in-Ok-clause-told_once : goal.returns-in-Ok-clause-told_once
+returns-in-Ok-clause-told_once g c =
+    let old = g.F.PresentFrames.parts c.args.store.now in
+    shown_fine (objects_of (frames_of old)) c.args.number c.in-Ok.answer c.in-Ok.ensures.answer
+
+pub returns-in-Err-clause-serves : goal.returns-in-Err-clause-serves
+returns-in-Err-clause-serves g c =
     let old = g.F.PresentFrames.parts c.args.store.now in
     let new = g.F.PresentFrames.parts c.shown.new.store in
-    let said = c.in-Err-NoMemory.ensures in
+    let said = c.in-Err.ensures in
     let same : AreSame old new = record { headers = said.looks.aside.headers; contents = said.looks.aside.contents; touched = said.looks.aside.touched; geometry = said.looks.aside.geometry } in
     let counted : c.count.result ≡ length old.headers = c.count.ensures ∙ ap (λ (hs : List ObjectHeader). length hs) c.table.ensures in
-    record {
-      serves = show_no_memory_serves c.args.age old new c.args.number same c.requires.sound said.looks.later (subst (λ (m : ℕ). c.args.number < m) counted c.if-number-count.false)
-          (λ rose. look_unfailed c.in-Err-NoMemory.field-0 c.in-Err-NoMemory.field-0-is (said.looks.cause.1 rose));
-      aside = said.looks.aside;
-    }
+    show_refused c.args.age old new c.args.number same c.requires.sound said.looks.later (subst (λ (m : ℕ). c.args.number < m) counted c.if-number-count.false)
+    c.in-Err.fault (answer_of c.refused.result) c.refused.ensures.answer said.looks.cause said.looks.room

@@ -1,17 +1,24 @@
-use Rattle.kernel.proofs.Machines.{down_cause, goes_down_after, stays}
+use Rattle.std.proofs.Common.{refl}
+use Rattle.model.specs.declared.answer.Answer.TheVariants as answer
+use Rattle.model.specs.declared.answer.Refusal.TheVariants as refusal
+use Rattle.kernel.proofs.Machines.{asked_cause, down_cause, goes_down_after, stays}
 use Rattle.kernel.proofs.machine.Machine.go_on.Goals as goal
 
-pub returns-then-is_fault-clause-serves : goal.returns-then-is_fault-clause-serves
-returns-then-is_fault-clause-serves g c =
-    goes_down_after g.D.Device.disk g.S.ObjectStore.view g.S.PresentFrames.parts g.met.D.Device.only_now g.met.D.Device.counts_now g.met.D.Device.seen_left c.args.self.now.power c.ask-answer.new.self.power c.go_down.new.self.power c.args.command c.ask-answer.result
-    (c.is_fault.ensures.0 c.if-is_fault.true) c.ask-answer.ensures c.go_down.ensures
+pub returns-in-Ok-clause-serves : goal.returns-in-Ok-clause-serves
+returns-in-Ok-clause-serves g c =
+    stays g.D.Device.disk g.S.ObjectStore.view g.S.PresentFrames.parts g.met.D.Device.only_now g.met.D.Device.counts_now g.met.D.Device.seen_left c.args.self.now.power c.ask.new.self.power c.args.command c.in-Ok.answer c.requires.goes_on
+    c.in-Ok.ensures.told_once c.in-Ok.ensures.asks
 
-pub returns-then-is_fault-clause-cause : goal.returns-then-is_fault-clause-cause
-returns-then-is_fault-clause-cause g c =
-    down_cause g.D.Device.disk g.S.ObjectStore.view g.S.PresentFrames.parts g.met.D.Device.only_now g.met.D.Device.counts_now g.met.D.Device.seen_left c.args.self.now.power c.ask-answer.new.self.power c.go_down.new.self.power c.args.command c.ask-answer.result
-    c.ask-answer.ensures c.go_down.ensures
+pub returns-in-Ok-clause-cause : goal.returns-in-Ok-clause-cause
+returns-in-Ok-clause-cause g c =
+    asked_cause g.D.Device.disk g.S.ObjectStore.view g.S.PresentFrames.parts g.met.D.Device.only_now g.met.D.Device.counts_now g.met.D.Device.seen_left c.args.self.now.power c.ask.new.self.power c.args.command c.in-Ok.answer c.in-Ok.ensures.asks
 
-pub returns-else-is_fault-clause-serves : goal.returns-else-is_fault-clause-serves
-returns-else-is_fault-clause-serves g c =
-    stays g.D.Device.disk g.S.ObjectStore.view g.S.PresentFrames.parts g.met.D.Device.only_now g.met.D.Device.counts_now g.met.D.Device.seen_left c.args.self.now.power c.ask-answer.new.self.power c.args.command c.ask-answer.result c.requires.goes_on
-    (λ told. let fault = c.is_fault.ensures.1 told in let fine = c.if-is_fault.false in cc) c.ask-answer.ensures
+pub returns-in-Err-clause-serves : goal.returns-in-Err-clause-serves
+returns-in-Err-clause-serves g c =
+    goes_down_after g.D.Device.disk g.S.ObjectStore.view g.S.PresentFrames.parts g.met.D.Device.only_now g.met.D.Device.counts_now g.met.D.Device.seen_left c.args.self.now.power c.ask.new.self.power c.go_down.new.self.power c.args.command (answer.Refused refusal.Fault)
+    refl c.in-Err.ensures.asks c.go_down.ensures
+
+pub returns-in-Err-clause-cause : goal.returns-in-Err-clause-cause
+returns-in-Err-clause-cause g c =
+    down_cause g.D.Device.disk g.S.ObjectStore.view g.S.PresentFrames.parts g.met.D.Device.only_now g.met.D.Device.counts_now g.met.D.Device.seen_left c.args.self.now.power c.ask.new.self.power c.go_down.new.self.power c.args.command (answer.Refused refusal.Fault)
+    c.in-Err.ensures.asks c.go_down.ensures

@@ -1,12 +1,17 @@
-use Rattle.std.proofs.Common.{rules, ◌<◌}
+use Rattle.std.proofs.Common.{rules, ◌^◌, ◌≤◌, ◌<◌}
 use Rattle.migrator.specs.Durable.{stored_of, is_sound}
 use Rattle.migrator_tests.proofs.Rigs.{rig_keepable, rig_committed}
 use Rattle.migrator_tests.proofs.rig.Rig.commit.Goals as goal
 
-pub commit-requires-clause-keepable : goal.commit-requires-clause-keepable
-commit-requires-clause-keepable g c =
+pub commit-requires-clause-ready : goal.commit-requires-clause-ready
+commit-requires-clause-ready g c =
     let later : (stored_of g.D.Device.disk c.self.inside.store).saved.age < c.args.age = search rules in
-    λ f some. rig_keepable g.D.Device.disk c.self.inside.sound c.self.inside.working c.self.inside.frozen c.self.inside.size c.self.inside.store c.self.invariant c.args.age f some later
+    let most : c.args.age ≤ 2 ^ 62 = search rules in
+    λ f some. record {
+      later = later;
+      most = most;
+      keepable = λ stable. rig_keepable g.D.Device.disk c.self.inside.sound c.self.inside.working c.self.inside.frozen c.self.inside.size c.self.inside.store c.self.invariant c.args.age f some later;
+    }
 
 pub invariant_of-self : goal.invariant_of-self
 invariant_of-self g c =

@@ -4,7 +4,8 @@ use Rattle.model.specs.Frame.{frame_at}
 use Rattle.migrator.specs.Durable.{stored_of}
 use Rattle.migrator.proofs.Saving.{on_err}
 use Rattle.object_cache.specs.declared.snapshot.Snapshot.{Snapshot}
-use Rattle.object_cache.specs.Frozen.{snapshot_at, frozen_frame, below_at}
+use Rattle.object_cache.specs.Frozen.{snapshot_at, frozen_frame}
+use Rattle.migrator.specs.Durable.{below_at}
 use Rattle.object_cache.specs.PlainStore.{StoreState, IsStore, PutsBy, present_frames}
 use Rattle.object_cache.proofs.Steps.{some_pending, room_at, keepable_at, torn_stands, torn_puts, put_stands, put_puts}
 use Rattle.object_cache.proofs.plain_store.PlainStore.put_next.Goals as goal

@@ -1,15 +1,24 @@
 use Rattle.object_cache.specs.PlainStore.{StoreState}
-use Rattle.object_cache.proofs.StageStates.{found, keepable_here, commit_stands, commit_aside, commit_moments}
+use Rattle.object_cache.proofs.StageStates.{commit_aside, commit_moments, commit_stands, may_commit, sound_here}
 use Rattle.object_cache.proofs.plain_store.stages.PlainStoreObjectStore.commit.Goals as goal
 
-pub commit_durable-requires-clause-keepable : goal.commit_durable-requires-clause-keepable
-commit_durable-requires-clause-keepable g c =
+pub commit-requires-clause-sound : goal.commit-requires-clause-sound
+commit-requires-clause-sound g c =
     let state : StoreState g.row.D.Denot = record {
       durable = c.self.inside.durable;
       present = c.self.inside.present;
       snapshots = c.self.inside.snapshots;
     } in
-    keepable_here g.D.Device.disk state c.args.self.now c.self.view_is c.self.invariant c.args.age c.requires.ready
+    sound_here g.D.Device.disk state c.args.self.now c.self.view_is c.self.invariant c.requires.sound
+
+pub commit-requires-clause-ready : goal.commit-requires-clause-ready
+commit-requires-clause-ready g c =
+    let state : StoreState g.row.D.Denot = record {
+      durable = c.self.inside.durable;
+      present = c.self.inside.present;
+      snapshots = c.self.inside.snapshots;
+    } in
+    may_commit g.D.Device.disk state c.args.self.now c.self.view_is c.self.invariant c.args.age c.requires.ready
 
 pub invariant_of-self : goal.invariant_of-self
 invariant_of-self g c =
@@ -18,9 +27,7 @@ invariant_of-self g c =
       present = c.self.inside.present;
       snapshots = c.self.inside.snapshots;
     } in
-    let f = found g.D.Device.disk state c.args.self.now c.self.view_is c.self.invariant c.args.age c.requires.ready in
-    commit_stands g.D.Device.disk state c.args.self.now c.self.view_is c.self.invariant c.args.age c.requires.ready c.commit_durable.new.durable c.commit_durable.result
-    (c.commit_durable.ensures.committed f.0 f.1) c.commit_durable.ensures.unchanged
+    commit_stands g.D.Device.disk state c.args.self.now c.self.view_is c.self.invariant c.args.age c.commit.new.self c.commit.result c.commit.ensures.committed c.commit.ensures.stable c.commit.ensures.unchanged
 
 pub returns-clause-aside : goal.returns-clause-aside
 returns-clause-aside g c =
@@ -29,9 +36,7 @@ returns-clause-aside g c =
       present = c.self.inside.present;
       snapshots = c.self.inside.snapshots;
     } in
-    let f = found g.D.Device.disk state c.args.self.now c.self.view_is c.self.invariant c.args.age c.requires.ready in
-    commit_aside g.D.Device.disk state c.args.self.now c.self.view_is c.self.invariant c.args.age c.requires.ready c.commit_durable.new.durable c.commit_durable.result
-    (c.commit_durable.ensures.committed f.0 f.1)
+    commit_aside g.D.Device.disk state c.args.self.now c.self.view_is c.self.invariant c.args.age c.commit.new.self c.commit.result c.commit.ensures.committed c.commit.ensures.stable
 
 pub returns-clause-any_moment : goal.returns-clause-any_moment
 returns-clause-any_moment g c =
@@ -40,5 +45,4 @@ returns-clause-any_moment g c =
       present = c.self.inside.present;
       snapshots = c.self.inside.snapshots;
     } in
-    let f = found g.D.Device.disk state c.args.self.now c.self.view_is c.self.invariant c.args.age c.requires.ready in
-    commit_moments g.D.Device.disk state c.args.self.now c.self.view_is c.self.invariant c.args.age c.requires.ready c.commit_durable.new.durable (c.commit_durable.ensures.any_moment f.0 f.1)
+    commit_moments g.D.Device.disk state c.args.self.now c.self.view_is c.self.invariant c.args.age c.commit.new.self c.commit.ensures.any_moment

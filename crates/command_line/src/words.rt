@@ -1,0 +1,25 @@
+// The job of a command line.
+ghost use Rattle.std.specs.Prelude.{IfErr, IfOk, map};
+ghost use Rattle.clap.specs.Words.{subcommand_of};
+ghost use Rattle.command_line.specs.Commands.{eros_app};
+ghost use Rattle.command_line.specs.Jobs.{NamesJob};
+ghost use Rattle.command_line.specs.Refusals.{IsRefused};
+
+use crate::asked::{Job, read_job};
+use crate::fault::JobFault;
+use crate::subcommands::command;
+use std::alloc::Global;
+use std::convert::AsStr;
+
+/// The job that the words name, of which the first is the program's name.
+///
+/// `BadWords` where the command doesn't take them, also where they ask for help, and `NoMemory` where memory runs out.
+pub fn job<'a, S: AsStr>(alloc: Global, words: &'a [S]) -> Result<Job<'a>, JobFault>
+    ensures named { IfOk result (NamesJob (subcommand_of eros_app (map S.text words.entry.now))) }
+    ensures refused { IfErr result (IsRefused (map S.text words.entry.now)) }
+{
+    match read_job(command(alloc)?, words) {
+        Ok(job) => Ok(job),
+        Err(error) => Err(JobFault::of(error)),
+    }
+}
