@@ -7,6 +7,7 @@ module _ {S : Type 0} (parts : S → Parts) (Fetched Announced : S → ℕ → T
   pub keeps_twice : (s t u : S) → KeepsAside parts Fetched Announced Leads s t → KeepsAside parts Fetched Announced Leads t u → KeepsAside parts Fetched Announced Leads s u
   keeps_twice s t u a b = record {
     count = b.count ∙ a.count;
+    allocations = λ n. b.allocations n ∙ a.allocations n;
     touched = b.touched ∙ a.touched;
     geometry = b.geometry ∙ a.geometry;
     failures = b.failures ∙ a.failures;

@@ -1,5 +1,5 @@
 -- The parts of a store of present frames, and what goes on beside a change.
-use Rattle.std.specs.Prelude.{◌≡◌, ◌↔◌, ℕ, ◌<◌, ◌≤◌, ◌^◌, Bool, false, List, length, replicate, slice_index_or, slice_set, take, if◌then◌else◌, Result, IsErrOf}
+use Rattle.std.specs.Prelude.{◌≡◌, ◌↔◌, ℕ, ◌+◌, ◌<◌, ◌≤◌, ◌^◌, Bool, false, List, length, replicate, slice_index_or, slice_set, take, if◌then◌else◌, Result, IsErrOf}
 use Rattle.model.specs.declared.capability.Cap.{Cap}
 use Rattle.model.specs.declared.frame.Frame.{Frame}
 use Rattle.model.specs.declared.frame.ObjectHeader.{ObjectHeader}
@@ -7,10 +7,10 @@ use Rattle.model.specs.declared.geometry.Geometry.{Geometry}
 use Rattle.model.specs.declared.object.Content.{Content}
 use Rattle.model.specs.declared.object.Content.TheVariants as content
 use Rattle.model.specs.declared.object.State.TheVariants.{Available}
-use Rattle.model.specs.Frame.{frame_at, frames_in, header_at, held_at, given_up}
+use Rattle.model.specs.Frame.{frame_at, frames_in, header_at, held_at, given_up, objects_of}
 use Rattle.model.specs.Keepable.{IsSoundFrames}
 use Rattle.model.specs.Object.{all_slots, role_of, zero_words}
-use Rattle.model.specs.Revoke.{is_member}
+use Rattle.model.specs.Revoke.{is_given_up, is_member}
 use Rattle.capability.specs.declared.present.Fresh.{Fresh}
 use Rattle.capability.specs.declared.present.Fresh.TheVariants as fresh
 use Rattle.capability.specs.declared.present.PrepareFault.{PrepareFault}
@@ -69,10 +69,11 @@ FreshFits _ = Unit {0}
 abbrev pub HaveTheirRoles : List Frame → Type 0
 HaveTheirRoles fs = (n : ℕ) → (frame_at fs n).header.role ≡ role_of (frame_at fs n).content
 
--- A change of present frames: what lies beside them goes on as it was, and what was fetched and announced
--- stays so. The parameters are the ghost members of a store of present frames.
+-- A change of present frames that gives no object up: what lies beside them goes on as it was, the counts of
+-- allocations too, and what was fetched and announced stays so. The parameters are the ghost members of a store of present frames.
 pub record KeepsAside {S : Type 0} (parts : S → Parts) (Fetched Announced : S → ℕ → Type 0) (Leads : S → S → Type 0) (old new : S) : Type 0 where
   pub count : length (parts new).headers ≡ length (parts old).headers
+  pub allocations : (n : ℕ) → (header_at (parts new).headers n).allocations ≡ (header_at (parts old).headers n).allocations
   pub touched : (parts new).touched ≡ (parts old).touched
   pub geometry : (parts new).geometry ≡ (parts old).geometry
   pub failures : (parts new).failures ≡ (parts old).failures
@@ -115,3 +116,8 @@ pub record AreGivenUp (set : List ℕ) (old new : Parts) : Type 0 where
   pub content_count : length new.contents ≡ length old.contents
   pub headers : (n : ℕ) → header_at new.headers n ≡ (if is_member set n then given_up (header_at old.headers n) else header_at old.headers n)
   pub contents : (n : ℕ) → held_at new.contents n ≡ (if is_member set n then content.Free else held_at old.contents n)
+
+-- the count of allocations of a number rises by one where its object is given up, and else stays
+pub record Renews (old new : Parts) : Type 0 where
+  pub each : (n : ℕ) → (header_at new.headers n).allocations
+      ≡ (header_at old.headers n).allocations + (if is_given_up (objects_of (frames_of old)) (objects_of (frames_of new)) n then 1 else 0)

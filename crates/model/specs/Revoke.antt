@@ -1,10 +1,11 @@
-use Rattle.std.specs.Prelude.{ℕ, ◌==◌, Bool, false, if◌then◌else◌, None, Some, List, map, nat_eq}
+use Rattle.std.specs.Prelude.{ℕ, ◌==◌, Bool, false, not, ◌&&◌, if◌then◌else◌, None, Some, List, map, nat_eq}
 use Rattle.std.specs.List.{list_any, enumerate_from}
 use Rattle.model.specs.declared.capability.Capability.{Capability}
 use Rattle.model.specs.declared.capability.Capability.TheVariants.{Void, Resume}
 use Rattle.model.specs.declared.object.Object.{Object}
 use Rattle.model.specs.Capability.{named}
-use Rattle.model.specs.Object.{free, map_content}
+use Rattle.model.specs.Object.{free, is_free, map_content}
+use Rattle.model.specs.World.{content_at}
 
 -- a capability, or void where it is one of those that go
 abbrev pub void_where : (Capability → Bool) → Capability → Capability
@@ -34,3 +35,7 @@ rescind set os = map (λ p. if is_member set p.0 then free else without (names_m
 -- no capability resumes the process p any more (EROS: a resume capability works at most once)
 unfoldable pub consume : ℕ → List Object → List Object
 consume p os = map (without (resumes p)) os
+
+-- whether an object was given up between two times: it was there, and its number is free
+abbrev pub is_given_up : List Object → List Object → ℕ → Bool
+is_given_up os us n = not (is_free (content_at os n)) && is_free (content_at us n)
