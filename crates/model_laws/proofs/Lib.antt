@@ -14,6 +14,7 @@ pub mod BankReturn
 pub mod SoundBanks
 pub mod SoundObjects
 pub mod BankWrites
+pub mod GivenUp
 pub mod Revoking
 mod Touching
 pub mod Usage

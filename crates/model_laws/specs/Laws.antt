@@ -1,4 +1,4 @@
-use Rattle.std.specs.Prelude.{◌≡◌, ◌⊎◌, ◌↔◌, ℕ, ◌+◌, ◌^◌, ◌<◌, Bool, true, false, None, Some, Ok, Err, List, [], ◌∷◌, length, slice_get, IsTrue}
+use Rattle.std.specs.Prelude.{◌≡◌, ◌⊎◌, ◌↔◌, ℕ, ◌+◌, ◌^◌, ◌<◌, Bool, true, false, None, Some, Ok, Err, List, [], ◌∷◌, length, slice_get, slice_index, IsTrue}
 use Rattle.std.specs.List.{Contains}
 use Rattle.model.specs.declared.access.Access.{Access}
 use Rattle.model.specs.declared.answer.MemoryFault.{MemoryFault}
@@ -10,12 +10,17 @@ use Rattle.model.specs.declared.command.Invocation.{Invocation}
 use Rattle.model.specs.declared.geometry.Geometry.{Geometry}
 use Rattle.model.specs.declared.line.Line.{Line}
 use Rattle.model.specs.declared.object.Object.{Object}
+use Rattle.model.specs.declared.order.Arguments.{Arguments}
+use Rattle.model.specs.declared.order.BankOrder.{BankOrder}
+use Rattle.model.specs.declared.order.BankOrder.TheVariants as bank
+use Rattle.model.specs.declared.order.ResultCode.TheVariants as code
+use Rattle.model.specs.Banking.{freed_by, on_bank, under}
 use Rattle.model.specs.Capability.{IsWeak, diminished}
-use Rattle.model.specs.Object.{is_free}
-use Rattle.model.specs.World.{World, content_at, object_at, slot_at, root_at, is_running_process}
-use Rattle.model.specs.Sound.{IsSound}
-use Rattle.model.specs.Revoke.{rescind, consume, is_member, names_member, resumes, without}
-use Rattle.model.specs.Order.{fetched}
+use Rattle.model.specs.Object.{is_bank, is_free}
+use Rattle.model.specs.World.{World, content_at, object_at, register_at, slot_at, root_at, is_running_process}
+use Rattle.model.specs.Sound.{IsSound, MayBeHeld}
+use Rattle.model.specs.Revoke.{rescind, consume, is_given_up, is_member, names_member, resumes, without}
+use Rattle.model.specs.Order.{IsNoBankOrder, fetched}
 use Rattle.model.specs.Invoke.{Effect, invoke}
 use Rattle.model.specs.Machine.{Running, touching, touched_count}
 use Rattle.model.specs.Step.{reached, refusal_of, writable}
@@ -51,6 +56,28 @@ ConsumesAll = (p : ℕ) (os : List Object) →
     ((n : ℕ) → object_at (consume p os) n ≡ without (resumes p) (object_at os n))
     × ((n i : ℕ) → resumes p (slot_at (consume p os) n i) ≡ false)
     × ((q : ℕ) → resumes p (root_at (consume p os) q).space ≡ false)
+
+-- the numbers that an order of a bank rescinds where it is done
+abbrev pub rescinded_by : List Object → ℕ → BankOrder → Arguments → List ℕ
+rescinded_by os b bank.Free args = freed_by os args.capability
+rescinded_by os b bank.Destroy args = under os b
+rescinded_by os b bank.ReturnToParent args = b ∷ []
+rescinded_by os b _ args = []
+
+-- an order of a bank that is done gives up what it rescinds and nothing else, and one that isn't gives nothing up
+abbrev pub GivesUpRescinded : Type 0
+GivesUpRescinded = (g : Geometry) (w : World) (b : ℕ) (asked : BankOrder) (args : Arguments) (n : ℕ) →
+    IsSound g w → IsTrue (is_bank (content_at w.objects b)) → MayBeHeld w.objects args.capability →
+    ((on_bank g w.objects b asked args).code ≡ code.Done →
+    is_given_up w.objects (on_bank g w.objects b asked args).objects n ≡ is_member (rescinded_by w.objects b asked args) n)
+    × (((on_bank g w.objects b asked args).code ≡ code.Done → ⊥) → is_given_up w.objects (on_bank g w.objects b asked args).objects n ≡ false)
+
+-- an invocation of a running process that asks no bank, through a gate or not, gives nothing up
+abbrev pub GivesUpNothing : Type 0
+GivesUpNothing = (g : Geometry) (w : World) (i : Invocation) (e : Effect) (n : ℕ) →
+    IsSound g w → Fits (command.Invoke i) → IsTrue (is_running_process w.objects i.process) →
+    IsNoBankOrder (register_at w.objects i.process i.register) (slice_index i.words 0) → invoke g w.objects i ≡ Some e →
+    is_given_up w.objects e.objects n ≡ false
 
 -- the numbers touched are those touched before and those written
 abbrev pub TouchesWritten : Type 0

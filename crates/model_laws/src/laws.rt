@@ -1,6 +1,6 @@
 //! Laws of the definitions, each the contract of a function that does nothing.
 
-ghost use Rattle.model_laws.specs.Laws.{DiminishesOnce, FetchesWeak, RescindsAll, ConsumesAll, TouchesWritten, LogFullIsExact, StoreLogFullIsExact, SpellsOne, SaysOne, BeginsSound};
+ghost use Rattle.model_laws.specs.Laws.{DiminishesOnce, FetchesWeak, RescindsAll, ConsumesAll, GivesUpRescinded, GivesUpNothing, TouchesWritten, LogFullIsExact, StoreLogFullIsExact, SpellsOne, SaysOne, BeginsSound};
 
 /// To diminish a capability twice is to diminish it once.
 pub fn diminishes_once()
@@ -22,6 +22,16 @@ pub fn rescinds_all()
 /// process.
 pub fn consumes_all()
     ensures { ConsumesAll }
+{}
+
+/// An order of a bank gives up what it rescinds and nothing else, and nothing where it isn't done.
+pub fn gives_up_rescinded()
+    ensures { GivesUpRescinded }
+{}
+
+/// An invocation that asks no bank, through a gate or not, gives nothing up.
+pub fn gives_up_nothing()
+    ensures { GivesUpNothing }
 {}
 
 /// The numbers touched are those touched before and those written.
