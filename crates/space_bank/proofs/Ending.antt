@@ -1,8 +1,8 @@
 -- What is left of what is counted, where objects are given up.
-use Rattle.std.proofs.Common.{◌≡◌, inl, inr, ℕ, zero, suc, ◌+◌, ◌-◌, ◌^◌, ◌<◌, ◌≤◌, ◌++◌, Bool, true, false, List, [], ◌∷◌, drop, take, length, refl, sym, ap, subst, arith, ◌∙◌}
+use Rattle.std.proofs.Common.{◌≡◌, ℕ, zero, suc, ◌+◌, ◌-◌, ◌^◌, ◌<◌, ◌≤◌, ◌++◌, Bool, true, false, List, [], ◌∷◌, drop, take, length, refl, sym, ap, subst, arith, ◌∙◌}
 use Rattle.std.specs.Prelude.{IsTrue, if◌then◌else◌, nat_eq, slice_index, slice_index_or}
 use Rattle.std.specs.List.{All}
-use Rattle.std.proofs.lemmas.Bool.{cases_Bool, eq-eqb, false_from_ne_true, false≢true}
+use Rattle.std.proofs.lemmas.Bool.{eq-eqb, false_from_ne_true, false≢true}
 use Rattle.std.proofs.lemmas.List.{take_rest}
 use Rattle.std.proofs.lemmas.List.Folds.{list_any_at}
 use Rattle.model.specs.declared.capability.Capability.{Capability}
@@ -18,12 +18,14 @@ use Rattle.model.specs.Revoke.{is_member, names_member, rescind, void_where, wit
 use Rattle.model.specs.World.{content_at, object_at}
 use Rattle.model_laws.proofs.NumberLists.{AllDiffer}
 use Rattle.model_laws.proofs.BankTree.{chain_banks, member_tail}
+use Rattle.model_laws.proofs.GivenUp.{free_rescinded}
 use Rattle.model_laws.proofs.Revoking.{at_rescind}
 use Rattle.capability.specs.Parts.{AreGivenUp, IsOnce, KeepsAside, Parts, frames_of}
 use Rattle.space_bank.specs.Banks.{AreCounted, BanksState, KeepsObjects}
 use Rattle.space_bank.specs.Carrying.{CarriesOut, MayGiveUp, MayServe, marks_of}
 use Rattle.space_bank.specs.Chains.{IsRaised}
 use Rattle.number_set.specs.Marks.{is_marked}
+use Rattle.space_bank.proofs.Renewing.{SameFree, renews_after, renews_none, renews_rescinded}
 use Rattle.space_bank.proofs.Standing.{few_allocations, few_calls, serve_count, serve_tree}
 use Rattle.space_bank.proofs.Tallies.{counted_from, marks_counted}
 
@@ -41,14 +43,6 @@ once_of_differ (n ∷ ns) differ (suc i) inside =
     ∙ once_of_differ ns differ.1 i (omega arith)
 
 -- contents after a rescind
-
-free_mapped : (f : Capability → Capability) (c : Content Capability) → is_free (map_content f c) ≡ is_free c
-free_mapped f content.Free = refl
-free_mapped f (content.Page words) = refl
-free_mapped f (content.Node slots) = refl
-free_mapped f (content.Root r) = refl
-free_mapped f (content.Annex registers) = refl
-free_mapped f (content.Bank limit) = refl
 
 bank_mapped : (f : Capability → Capability) (c : Content Capability) → is_bank (map_content f c) ≡ is_bank c
 bank_mapped f content.Free = refl
@@ -72,13 +66,6 @@ module _ (set : List ℕ) (os : List Object) (n : ℕ) where
 
   kept : is_member set n ≡ false → object_at (rescind set os) n ≡ without (names_member set) (object_at os n)
   kept e = at_rescind set os n ∙ ap (λ (b : Bool). if b then free else without (names_member set) (object_at os n)) e
-
-  -- the members are free, and the others what they were
-  pub free_gone : is_free (content_at (rescind set os) n) ≡ (if is_member set n then true else is_free (content_at os n))
-  free_gone = elim (cases_Bool (is_member set n)) [
-    | inl e ↦ rw e (ap (λ (o : Object). is_free o.content) (went e))
-    | inr e ↦ rw e (ap (λ (o : Object). is_free o.content) (kept e) ∙ free_mapped (void_where (names_member set)) (content_at os n))
-  ]
 
   pub used_stays : is_free (content_at (rescind set os) n) ≡ false → is_member set n ≡ false
   used_stays used = false_from_ne_true (is_member set n) (λ e. false≢true (sym used ∙ ap (λ (o : Object). is_free o.content) (went e)))
@@ -120,7 +107,7 @@ counted_gone g os vs s t set banks count counted same released usages =
     (λ n known.
     released.marks n
     ∙ (ap (λ (b : Bool). if is_member set n then true else b) (marks_counted g os s counted n known ∙ ap (λ (c : Content Capability). is_free c) (sym (same n)))
-    ∙ sym (free_gone set vs n)))
+    ∙ sym (free_rescinded set vs n)))
     (λ x is.
     let was = was_bank x is in
     omega (arith, released.usages.each x, counted.usage x was, usages x was (bank_stays set vs x is)))
@@ -150,11 +137,13 @@ enough_used p s above list asks gives x member =
 
 -- what lies beside the objects where a set is given up
 module _ {S : Type 0} (parts : S → Parts) (Fetched Announced : S → ℕ → Type 0) (Leads : S → S → Type 0) where
-  pub ended_aside : (old new : S) (set : List ℕ) (vs : List Object) → AreGivenUp set (parts old) (parts new) → objects_of (frames_of (parts new)) ≡ rescind set vs
+  pub ended_aside : (old new : S) (set : List ℕ) → AreGivenUp set (parts old) (parts new) → objects_of (frames_of (parts new)) ≡ rescind set (objects_of (frames_of (parts old)))
+      → ((n : ℕ) → is_member set n ≡ true → is_free (content_at (objects_of (frames_of (parts old))) n) ≡ false)
       → ((n : ℕ) → is_member set n ≡ false → Fetched old n → Fetched new n) → ((n : ℕ) → is_member set n ≡ false → Announced old n → Announced new n)
       → Leads old new → KeepsObjects parts Fetched Announced Leads old new
-  ended_aside old new set vs given objects fetched announced leads = record {
+  ended_aside old new set given objects used fetched announced leads = record {
     count = given.header_count;
+    renews = renews_rescinded (parts old) (parts new) set given objects used;
     touched = given.touched;
     geometry = given.geometry;
     failures = given.failures;
@@ -164,12 +153,13 @@ module _ {S : Type 0} (parts : S → Parts) (Fetched Announced : S → ℕ → T
   }
     where
       stays : (n : ℕ) → is_free (content_at (objects_of (frames_of (parts new))) n) ≡ false → is_member set n ≡ false
-      stays n used = used_stays set vs n (sym (ap (λ (os : List Object). is_free (content_at os n)) objects) ∙ used)
+      stays n used = used_stays set (objects_of (frames_of (parts old))) n (sym (ap (λ (os : List Object). is_free (content_at os n)) objects) ∙ used)
 
   pub aside_then_ended : (twice : (s t u : S) → Leads s t → Leads t u → Leads s u) (old mid new : S) → KeepsAside parts Fetched Announced Leads old mid
-      → KeepsObjects parts Fetched Announced Leads mid new → KeepsObjects parts Fetched Announced Leads old new
-  aside_then_ended twice old mid new a b = record {
+      → SameFree (parts old) (parts mid) → KeepsObjects parts Fetched Announced Leads mid new → KeepsObjects parts Fetched Announced Leads old new
+  aside_then_ended twice old mid new a free b = record {
     count = b.count ∙ a.count;
+    renews = renews_after (parts old) (parts mid) (parts new) a.allocations free b.renews;
     touched = b.touched ∙ a.touched;
     geometry = b.geometry ∙ a.geometry;
     failures = b.failures ∙ a.failures;
@@ -178,9 +168,12 @@ module _ {S : Type 0} (parts : S → Parts) (Fetched Announced : S → ℕ → T
     leads = twice old mid new a.leads b.leads;
   }
 
-  pub aside_alone : (old new : S) → KeepsAside parts Fetched Announced Leads old new → KeepsObjects parts Fetched Announced Leads old new
-  aside_alone old new a = record {
+  pub aside_alone : (old new : S) → KeepsAside parts Fetched Announced Leads old new
+      → ((n : ℕ) → is_free (content_at (objects_of (frames_of (parts old))) n) ≡ false → is_free (content_at (objects_of (frames_of (parts new))) n) ≡ false)
+      → KeepsObjects parts Fetched Announced Leads old new
+  aside_alone old new a stays = record {
     count = a.count;
+    renews = renews_none (parts old) (parts new) a.allocations stays;
     touched = a.touched;
     geometry = a.geometry;
     failures = a.failures;

@@ -14,7 +14,7 @@ use Rattle.model.specs.Object.{is_bank, is_free}
 use Rattle.model.specs.Revoke.{is_member}
 use Rattle.model.specs.Sound.{NamesItsKind}
 use Rattle.model.specs.World.{content_at, object_at, owner_at}
-use Rattle.model_laws.proofs.BankFreed.{destroyed_fits, freed_fits, freed_set, under_found, under_once, under_stands, usage_destroyed, usage_freed, used_within}
+use Rattle.model_laws.proofs.BankFreed.{destroyed_fits, freed_fits, freed_set, under_found, under_given_up, under_once, under_stands, usage_destroyed, usage_freed, used_within}
 use Rattle.model_laws.proofs.BankRescind.{used_where}
 use Rattle.model_laws.proofs.BankTree.{IsTree, chain_banks, chain_longer, chain_nonempty, chain_once, chain_shorter, chain_zero, owner_bank, tree_of}
 use Rattle.model_laws.proofs.SoundOrders.{IsNow}
@@ -32,6 +32,7 @@ freed_list g os b c (n ∷ ns) h is names frees some own =
     let set = freed_set g os h.frame c n ns names frees in
     record {
       once = once_of_differ (n ∷ ns) set.given_up.once;
+      used = set.given_up.used;
       apart = λ x above.
           false_from_ne_true (is_member (n ∷ ns) x)
           (λ member. false≢true (sym (set.no_bank x member) ∙ chain_banks os (tree_of g os h.frame) b x is above));
@@ -71,6 +72,7 @@ module _ (os : List Object) (t : IsTree os) (b : ℕ) (is : IsTrue (is_bank (con
 pub destroyed_gives : (g : Geometry) (os : List Object) (b : ℕ) → IsNow g os → IsTrue (is_bank (content_at os b)) → b ≢ 0 → MayGiveUp os (owner_at os b) (under os b)
 destroyed_gives g os b h is on = record {
   once = once_of_differ (under os b) (under_once os b);
+  used = (under_given_up g os h.frame b is on).used;
   apart = above_apart os (tree_of g os h.frame) b is on;
   lowered = λ x bank stays. omega (arith, usage_destroyed g os b h is on x stays, destroyed_fits g os b h is on x stays);
 }

@@ -8,6 +8,7 @@ mod Giving
 mod Lists
 mod Owners
 mod Plans
+pub mod Renewing
 mod Returning
 mod Standing
 mod Tallies

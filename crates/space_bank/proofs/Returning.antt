@@ -1,6 +1,6 @@
 -- A bank that is returned to its parent.
 use Rattle.std.proofs.Common.{◌≡◌, ◌≢◌, inl, inr, ℕ, zero, suc, ◌+◌, ◌-◌, ◌^◌, ◌<◌, ◌≤◌, ◌==◌, ◌&&◌, Bool, true, false, not, List, [], ◌∷◌, drop, length, refl, sym, ap, subst, add-one, arith, ◌∙◌}
-use Rattle.std.specs.Prelude.{if◌then◌else◌, slice_index, slice_set}
+use Rattle.std.specs.Prelude.{IsTrue, if◌then◌else◌, slice_index, slice_set}
 use Rattle.std.specs.List.{All}
 use Rattle.std.proofs.lemmas.Bool.{cases_Bool, cases_eq, false_from_ne_true, false≢true}
 use Rattle.std.proofs.lemmas.List.{ext_get_or, get_or-set_other, get_or-set_same, length-map}
@@ -9,13 +9,14 @@ use Rattle.model.specs.Bank.{chain, usage}
 use Rattle.model.specs.Banking.{handed_on, inherited, owned_by}
 use Rattle.model.specs.Frame.{header_at, objects_of}
 use Rattle.model.specs.Keepable.{AreCurrent, AreKeepable}
-use Rattle.model.specs.Object.{free, is_free}
+use Rattle.model.specs.Object.{free, is_bank, is_free}
 use Rattle.model.specs.Revoke.{is_member, rescind}
 use Rattle.model.specs.World.{content_at, object_at, owner_at}
 use Rattle.model_laws.proofs.BankFreed.{owned_found}
+use Rattle.model_laws.proofs.BankRescind.{used_where}
 use Rattle.model_laws.proofs.BankReturn.{returned_fits, usage_returned}
 use Rattle.model_laws.proofs.BankTree.{chain_banks, chain_once, member_head, member_tail, owner_bank}
-use Rattle.model_laws.proofs.NumberLists.{all_members, found_in, stands_in}
+use Rattle.model_laws.proofs.NumberLists.{all_members, found_in, only_member, stands_in}
 use Rattle.model_laws.proofs.SoundEdits.{at_map}
 use Rattle.capability.specs.Parts.{Parts, frames_of}
 use Rattle.space_bank.specs.Banks.{AreCounted, BanksState}
@@ -61,6 +62,10 @@ mark_one before now n inside is m =
       | inr differ ↦
           get_or-set_other before n m true false differ ∙ sym (ap (λ b. if b then true else is_marked before m) (member_tail m n [] differ))
     ]
+
+-- a bank alone is there
+pub only_used : (os : List Object) (b : ℕ) → IsTrue (is_bank (content_at os b)) → (n : ℕ) → is_member (b ∷ []) n ≡ true → is_free (content_at os n) ≡ false
+only_used os b is n member = subst (λ (k : ℕ). is_free (content_at os k) ≡ false) (sym (only_member b n member)) (used_where is_bank refl (content_at os b) is)
 
 -- what a bank owns is handed on
 pub owned_used : (os : List Object) (b : ℕ) → All (λ n. is_free (content_at os n) ≡ false) (owned_by os b)

@@ -11,7 +11,7 @@ use Rattle.model.specs.Frame.{objects_of}
 use Rattle.model.specs.Object.{is_bank, is_free, limit_in}
 use Rattle.model.specs.Sound.{MayBeHeld, object_count}
 use Rattle.model.specs.World.{content_at}
-use Rattle.capability.specs.Parts.{AreSound, Parts, frames_of}
+use Rattle.capability.specs.Parts.{AreSound, Parts, Renews, frames_of}
 use Rattle.space_bank.specs.declared.plan.BankPlan.{BankPlan}
 use Rattle.number_set.specs.Marks.{is_marked}
 
@@ -59,10 +59,11 @@ is_new NewProcess = true
 is_new NewBank = true
 is_new _ = false
 
--- What lies beside the objects goes on as it was, and what isn't free stays fetched and announced. The
--- parameters are ghost members of a store of present frames.
+-- What lies beside the objects goes on as it was, counts of allocations rise where objects are given up, and what
+-- isn't free stays fetched and announced. The parameters are ghost members of a store of present frames.
 pub record KeepsObjects {S : Type 0} (parts : S → Parts) (Fetched Announced : S → ℕ → Type 0) (Leads : S → S → Type 0) (old new : S) : Type 0 where
   pub count : length (parts new).headers ≡ length (parts old).headers
+  pub renews : Renews (parts old) (parts new)
   pub touched : (parts new).touched ≡ (parts old).touched
   pub geometry : (parts new).geometry ≡ (parts old).geometry
   pub failures : (parts new).failures ≡ (parts old).failures

@@ -1,12 +1,12 @@
 -- What the orders of a bank ask, and what they leave.
-use Rattle.std.specs.Prelude.{◌≡◌, ℕ, ◌+◌, ◌^◌, ◌<◌, ◌++◌, Bool, false, List, length, slice_index, if◌then◌else◌, IsTrue}
+use Rattle.std.specs.Prelude.{◌≡◌, ℕ, ◌+◌, ◌^◌, ◌<◌, ◌++◌, Bool, true, false, List, length, slice_index, if◌then◌else◌, IsTrue}
 use Rattle.model.specs.declared.capability.Capability.{Capability}
 use Rattle.model.specs.declared.object.Object.{Object}
 use Rattle.model.specs.Bank.{chain, usage}
 use Rattle.model.specs.Banking.{freed_by}
 use Rattle.model.specs.Frame.{objects_of}
 use Rattle.model.specs.Keepable.{AreCurrent, AreKeepable}
-use Rattle.model.specs.Object.{is_bank}
+use Rattle.model.specs.Object.{is_bank, is_free}
 use Rattle.model.specs.Revoke.{is_member, rescind}
 use Rattle.model.specs.Sound.{MayBeHeld}
 use Rattle.model.specs.World.{content_at, object_at, owner_at}
@@ -45,10 +45,11 @@ pub record IsFreedOf (os : List Object) (b : ℕ) (list : List ℕ) : Type 0 whe
   pub some : 0 < length list
   pub owner : owner_at os (slice_index list 0) ≡ b
 
--- A list can be given up: no number is twice in it, and of the banks that it doesn't name those in the chain of a
--- bank, all of which stay, accounted for all of it, and the others for nothing of it.
+-- A list can be given up: no number is twice in it, each has an object, and of the banks that it doesn't name those in
+-- the chain of a bank, all of which stay, accounted for all of it, and the others for nothing of it.
 pub record MayGiveUp (os : List Object) (above : ℕ) (list : List ℕ) : Type 0 where
   pub once : IsOnce list
+  pub used : (n : ℕ) → is_member list n ≡ true → is_free (content_at os n) ≡ false
   pub apart : (x : ℕ) → IsTrue (is_member (chain os above) x) → is_member list x ≡ false
   pub lowered : (x : ℕ) → IsTrue (is_bank (content_at os x)) → is_member list x ≡ false →
       usage (rescind list os) x + (if is_member (chain os above) x then length list else 0) ≡ usage os x

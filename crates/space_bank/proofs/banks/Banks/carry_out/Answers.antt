@@ -1,8 +1,12 @@
-use Rattle.std.proofs.Common.{◌∙◌, ap, arith, sym}
+use Rattle.std.proofs.Common.{◌∙◌, ap, arith, refl, sym}
+use Rattle.model.specs.declared.object.Content.TheVariants as content
+use Rattle.model.specs.Banking.{new_annex, new_node, new_page, new_root, with_new}
 use Rattle.model.specs.Frame.{objects_of}
 use Rattle.capability.specs.Parts.{frames_of}
 use Rattle.space_bank.specs.Banks.{is_new}
 use Rattle.space_bank.proofs.Done.{bank_done, destroy_done, free_done, node_done, number_all, page_done, process_done, remaining_done, return_done}
+use Rattle.space_bank.proofs.Ending.{aside_alone}
+use Rattle.space_bank.proofs.Renewing.{new_stays}
 use Rattle.space_bank.proofs.banks.Banks.carry_out.Goals as goal
 
 pub listed_at-number-requires : goal.listed_at-number-requires
@@ -197,3 +201,34 @@ pub returns-in-Remaining-clause-objects : goal.returns-in-Remaining-clause-objec
 returns-in-Remaining-clause-objects g c =
     let p = g.F.PresentFrames.parts c.args.store.now in
     remaining_done p.geometry (objects_of (frames_of p)) c.args.bank c.args.arguments c.args.self.now.listed c.args.skip c.args.order c.in-Remaining.is
+
+pub returns-in-NewPage-clause-aside : goal.returns-in-NewPage-clause-aside
+returns-in-NewPage-clause-aside g c =
+    let os = objects_of (frames_of (g.F.PresentFrames.parts c.args.store.now)) in
+    let us = objects_of (frames_of (g.F.PresentFrames.parts c.allocate.new.store)) in
+    aside_alone g.F.PresentFrames.parts g.F.PresentFrames.IsFetched g.F.PresentFrames.IsAnnounced g.F.PresentFrames.LeadsTo c.args.store.now c.allocate.new.store c.allocate.ensures.aside
+    (new_stays os us c.listed_at-number.result c.args.bank (new_page) refl c.allocate.ensures.objects)
+
+pub returns-in-NewNode-clause-aside : goal.returns-in-NewNode-clause-aside
+returns-in-NewNode-clause-aside g c =
+    let os = objects_of (frames_of (g.F.PresentFrames.parts c.args.store.now)) in
+    let us = objects_of (frames_of (g.F.PresentFrames.parts c.allocate-in-NewNode.new.store)) in
+    aside_alone g.F.PresentFrames.parts g.F.PresentFrames.IsFetched g.F.PresentFrames.IsAnnounced g.F.PresentFrames.LeadsTo c.args.store.now c.allocate-in-NewNode.new.store c.allocate-in-NewNode.ensures.aside
+    (new_stays os us c.listed_at-number-in-NewNode.result c.args.bank (new_node) refl c.allocate-in-NewNode.ensures.objects)
+
+pub returns-in-NewBank-clause-aside : goal.returns-in-NewBank-clause-aside
+returns-in-NewBank-clause-aside g c =
+    let os = objects_of (frames_of (g.F.PresentFrames.parts c.args.store.now)) in
+    let us = objects_of (frames_of (g.F.PresentFrames.parts c.sub_bank.new.store)) in
+    aside_alone g.F.PresentFrames.parts g.F.PresentFrames.IsFetched g.F.PresentFrames.IsAnnounced g.F.PresentFrames.LeadsTo c.args.store.now c.sub_bank.new.store c.sub_bank.ensures.aside
+    (new_stays os us c.listed_at-number-in-NewBank.result c.args.bank (content.Bank c.args.arguments.first) refl c.sub_bank.ensures.objects)
+
+pub returns-in-NewProcess-clause-aside : goal.returns-in-NewProcess-clause-aside
+returns-in-NewProcess-clause-aside g c =
+    let os = objects_of (frames_of (g.F.PresentFrames.parts c.args.store.now)) in
+    let us = objects_of (frames_of (g.F.PresentFrames.parts c.new_process.new.store)) in
+    let root = c.listed_at-root.result in
+    let annex = c.listed_at-annex.result in
+    let mid = with_new os root c.args.bank (new_root annex) in
+    aside_alone g.F.PresentFrames.parts g.F.PresentFrames.IsFetched g.F.PresentFrames.IsAnnounced g.F.PresentFrames.LeadsTo c.args.store.now c.new_process.new.store c.new_process.ensures.aside
+    (λ n used. new_stays mid us annex c.args.bank new_annex refl c.new_process.ensures.objects n (new_stays os mid root c.args.bank (new_root annex) refl refl n used))

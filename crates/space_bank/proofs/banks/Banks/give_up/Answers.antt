@@ -1,9 +1,11 @@
-use Rattle.std.proofs.Common.{◌≡◌, ◌+◌, ◌-◌, ◌∙◌, ◌++◌, true, ℕ, List, ap, arith, drop, length, subst, take}
+use Rattle.std.proofs.Common.{◌≡◌, ◌+◌, ◌-◌, ◌∙◌, ◌++◌, true, false, ℕ, List, ap, arith, drop, length, subst, sym, take}
 use Rattle.std.specs.Prelude.{if◌then◌else◌}
 use Rattle.std.proofs.lemmas.List.{length-drop}
 use Rattle.model.specs.Bank.{chain}
 use Rattle.model.specs.Frame.{objects_of}
+use Rattle.model.specs.Object.{is_free}
 use Rattle.model.specs.Revoke.{is_member, rescind}
+use Rattle.model.specs.World.{content_at}
 use Rattle.capability.specs.Parts.{frames_of}
 use Rattle.space_bank.specs.Banks.{BanksState}
 use Rattle.space_bank.specs.Chains.{IsRaised}
@@ -73,7 +75,12 @@ returns-clause-carried g c =
 
 pub returns-clause-aside : goal.returns-clause-aside
 returns-clause-aside g c =
-    let p = g.F.PresentFrames.parts c.args.store.now in
+    let os = objects_of (frames_of (g.F.PresentFrames.parts c.args.store.now)) in
+    let s = c.args.self.now in
+    let part = rest_is c.deref.result.now s.listed c.args.skip
+    (c.deref.ensures.value ∙ (ap (λ (k : BanksState). k.listed) c.self-2.view_is ∙ ap (λ (k : BanksState). k.listed) c.release.ensures.kept)) in
     ended_aside g.F.PresentFrames.parts g.F.PresentFrames.IsFetched g.F.PresentFrames.IsAnnounced g.F.PresentFrames.LeadsTo c.args.store.now c.rescind.new.store
-    (take (length c.deref.result.now - c.args.skip) (drop c.args.skip c.deref.result.now)) (objects_of (frames_of p))
-    c.rescind.ensures.given_up c.rescind.ensures.objects c.rescind.ensures.fetched c.rescind.ensures.announced c.rescind.ensures.leads
+    (take (length c.deref.result.now - c.args.skip) (drop c.args.skip c.deref.result.now))
+    c.rescind.ensures.given_up c.rescind.ensures.objects
+    (subst (λ (xs : List ℕ). (n : ℕ) → is_member xs n ≡ true → is_free (content_at os n) ≡ false) (sym part) c.requires.gives.used)
+    c.rescind.ensures.fetched c.rescind.ensures.announced c.rescind.ensures.leads

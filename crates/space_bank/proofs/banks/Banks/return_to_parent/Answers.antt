@@ -1,7 +1,9 @@
 use Rattle.std.proofs.Common.{◌≡◌, ◌<◌, ◌+◌, ◌-◌, ◌^◌, ◌∙◌, ◌++◌, ◌∷◌, [], false, ℕ, List, ap, arith, drop, length, subst, sym, take}
 use Rattle.std.specs.List.{All}
 use Rattle.std.proofs.lemmas.List.{length-append}
+use Rattle.model.specs.declared.capability.Capability.{Capability}
 use Rattle.model.specs.declared.geometry.Geometry.{Geometry}
+use Rattle.model.specs.declared.object.Content.{Content}
 use Rattle.model.specs.declared.object.Object.{Object}
 use Rattle.model.specs.Bank.{chain}
 use Rattle.model.specs.Banking.{owned_by}
@@ -17,7 +19,9 @@ use Rattle.space_bank.specs.Chains.{IsRaised}
 use Rattle.capability.proofs.Frames.{owner_read}
 use Rattle.space_bank.proofs.Ending.{aside_then_ended, ended_aside, released_then, rest_is}
 use Rattle.space_bank.proofs.Giving.{serve_parent}
-use Rattle.space_bank.proofs.Returning.{drop_next, handed_allocations, handed_calls, inherited_by, mark_one, one_all, one_enough, owned_used, rest_all, returned_carried}
+use Rattle.space_bank.proofs.Owners.{handed_same}
+use Rattle.space_bank.proofs.Renewing.{SameFree}
+use Rattle.space_bank.proofs.Returning.{drop_next, handed_allocations, handed_calls, inherited_by, mark_one, one_all, one_enough, only_used, owned_used, rest_all, returned_carried}
 use Rattle.space_bank.proofs.Standing.{serve_count}
 use Rattle.space_bank.proofs.banks.Banks.return_to_parent.Goals as goal
 
@@ -129,8 +133,15 @@ returns-clause-carried g c =
 
 pub returns-clause-aside : goal.returns-clause-aside
 returns-clause-aside g c =
+    let q = g.F.PresentFrames.parts c.hand_on.new.store in
+    let os = objects_of (frames_of (g.F.PresentFrames.parts c.args.store.now)) in
+    let us = objects_of (frames_of q) in
+    let list = take (length c.deref.result.now - (c.args.skip + 1)) (drop (c.args.skip + 1) c.deref.result.now) in
+    let free : SameFree (g.F.PresentFrames.parts c.args.store.now) q =
+    λ n. ap (λ (k : Content Capability). is_free k) (handed_same list c.header-parent.result.owner os us c.hand_on.ensures.objects n) in
     aside_then_ended g.F.PresentFrames.parts g.F.PresentFrames.IsFetched g.F.PresentFrames.IsAnnounced g.F.PresentFrames.LeadsTo g.met.F.PresentFrames.leads_twice
-    c.args.store.now c.hand_on.new.store c.rescind.new.store c.hand_on.ensures.aside
+    c.args.store.now c.hand_on.new.store c.rescind.new.store c.hand_on.ensures.aside free
     (ended_aside g.F.PresentFrames.parts g.F.PresentFrames.IsFetched g.F.PresentFrames.IsAnnounced g.F.PresentFrames.LeadsTo c.hand_on.new.store c.rescind.new.store
-    (c.args.bank ∷ []) (objects_of (frames_of (g.F.PresentFrames.parts c.hand_on.new.store)))
-    c.rescind.ensures.given_up c.rescind.ensures.objects c.rescind.ensures.fetched c.rescind.ensures.announced c.rescind.ensures.leads)
+    (c.args.bank ∷ []) c.rescind.ensures.given_up c.rescind.ensures.objects
+    (λ n member. free n ∙ only_used os c.args.bank c.requires.asks.bank n member)
+    c.rescind.ensures.fetched c.rescind.ensures.announced c.rescind.ensures.leads)
