@@ -60,6 +60,7 @@ pub fn store<F: PresentFrames>(
         (objects_in (F.parts frames.old)) (F.parts frames.old).touched process address word
         (objects_in (F.parts frames.new)) (F.parts frames.new).touched stored) }
     ensures sound { KeepsSound (F.parts frames.old) (F.parts frames.new) }
+    ensures headers { (F.parts frames.new).headers ≡ (F.parts frames.old).headers }
     ensures full { IsErrOf result PrepareFault.LogFull
         → OverfillsStore (F.parts frames.old).geometry.log (objects_in (F.parts frames.old))
         (F.parts frames.old).touched process address }
@@ -118,6 +119,7 @@ fn put<F: PresentFrames>(
     ensures within { touched_count (F.parts frames.new).touched
         ≤ (F.parts frames.old).geometry.log }
     ensures sound { KeepsSound (F.parts frames.old) (F.parts frames.new) }
+    ensures headers { (F.parts frames.new).headers ≡ (F.parts frames.old).headers }
     ensures full { IsErrOf result PrepareFault.LogFull
         → (F.parts frames.old).geometry.log
         < touched_count (touching (F.parts frames.old).touched (page ∷ [])) }

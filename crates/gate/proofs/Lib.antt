@@ -10,5 +10,6 @@ pub mod Known
 mod Listed
 mod Messages
 mod Plans
+mod Renewing
 mod Roles
 pub mod Standing

@@ -13,7 +13,7 @@ use Rattle.model.specs.Invoke.{deliver, reply_of, sent_by}
 use Rattle.model.specs.Order.{bank_order}
 use Rattle.model.specs.OrderOutcome.{OrderOutcome}
 use Rattle.model.specs.World.{annex_at, is_running_process, register_at, with_state}
-use Rattle.capability.specs.Parts.{Parts}
+use Rattle.capability.specs.Parts.{Parts, Renews}
 use Rattle.gate.specs.declared.banking.BankCall.{BankCall}
 
 -- what an order is given by an invocation
@@ -59,8 +59,10 @@ answered operation p os outcome = elim operation [ Call ↦ if is_running_proces
 abbrev pub banked : Geometry → List Object → BankCall → List Object
 banked g os call = answered call.operation call.process (ordered_at g os call).objects (ordered_at g os call)
 
--- What lies beside the objects goes on as it was. The parameters are ghost members of a store of present frames.
+-- What lies beside the objects goes on as it was, and counts of allocations rise where objects are given up. The
+-- parameters are ghost members of a store of present frames.
 pub record GoesOnBeside {S : Type 0} (parts : S → Parts) (Leads : S → S → Type 0) (old new : S) : Type 0 where
+  pub renews : Renews (parts old) (parts new)
   pub touched : (parts new).touched ≡ (parts old).touched
   pub geometry : (parts new).geometry ≡ (parts old).geometry
   pub failures : (parts new).failures ≡ (parts old).failures

@@ -10,7 +10,7 @@ ghost use Rattle.model.specs.Order.{bank_order};
 ghost use Rattle.model.specs.Sound.{IsSound};
 ghost use Rattle.model.specs.Text.{Fits};
 ghost use Rattle.model.specs.World.{annex_at, is_process, is_running_process};
-ghost use Rattle.capability.specs.Parts.{AreSound, KeepsAside, HaveTheirRoles, IsUnchanged, Looks, frames_of};
+ghost use Rattle.capability.specs.Parts.{AreSound, KeepsAside, HaveTheirRoles, IsUnchanged, Looks, Renews, frames_of};
 ghost use Rattle.space_bank.specs.Banks.{AreCounted, IsPlanned, KeepsObjects, MayAsk, is_new};
 ghost use Rattle.gate.specs.Banking.{answered, banked, ordered_at, outcome_at, writer_count, writers, AsksBank, GoesOnBeside};
 ghost use Rattle.gate.specs.Invoke.{Invokes, KeepsSoundFrames, Overfills};
@@ -293,6 +293,7 @@ pub fn invoke_bank<F: PresentFrames>(
         → Overfills (F.parts store.old).geometry invocation.now
         (objects_of (frames_of (F.parts store.old))) (F.parts store.old).touched }
     ensures sound { OnOk result (KeepsSoundFrames (F.parts store.old) (F.parts store.new)) }
+    ensures renews { OnOk result (Renews (F.parts store.old) (F.parts store.new)) }
     ensures counted { AreCounted (F.parts store.old).geometry
         (objects_of (frames_of (F.parts store.new))) banks.new }
     ensures unchanged { OnErr result (IsUnchanged (F.parts store.old) (F.parts store.new)) }

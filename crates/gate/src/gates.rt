@@ -7,7 +7,7 @@ ghost use Rattle.model.specs.Keepable.{AreCurrent, AreKeepable};
 ghost use Rattle.model.specs.Machine.{touching, touched_count};
 ghost use Rattle.model.specs.Text.{Fits};
 ghost use Rattle.model.specs.World.{annex_at, is_process, is_running_process};
-ghost use Rattle.capability.specs.Parts.{AreSound, IsUnchanged, KeepsAside, frames_of};
+ghost use Rattle.capability.specs.Parts.{AreSound, IsUnchanged, KeepsAside, Renews, frames_of};
 ghost use Rattle.std.specs.List.{All};
 ghost use Rattle.gate.specs.Invoke.{entered, gate_capability, received, written_through, Invokes, IsAsked, KeepsSoundFrames, Overfills};
 ghost use Rattle.gate.specs.Plan.{FitsCap};
@@ -194,6 +194,7 @@ pub fn invoke_gate<F: PresentFrames>(
         → Overfills (F.parts store.old).geometry invocation.now
         (objects_of (frames_of (F.parts store.old))) (F.parts store.old).touched }
     ensures sound { OnOk result (KeepsSoundFrames (F.parts store.old) (F.parts store.new)) }
+    ensures renews { OnOk result (Renews (F.parts store.old) (F.parts store.new)) }
     ensures unchanged { OnErr result (IsUnchanged (F.parts store.old) (F.parts store.new)) }
     ensures cause { IsErrOf result InvokeFault.Failed
         ↔ ((F.parts store.old).failures < (F.parts store.new).failures) }

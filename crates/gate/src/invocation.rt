@@ -3,7 +3,7 @@ ghost use Rattle.std.specs.Prelude.{◌≡◌, ◌↔◌, ◌<◌, ◌≤◌, No
 ghost use Rattle.model.specs.Frame.{objects_of};
 ghost use Rattle.model.specs.Invoke.{invoke};
 ghost use Rattle.model.specs.World.{is_running_process};
-ghost use Rattle.capability.specs.Parts.{AreSound, IsUnchanged, frames_of};
+ghost use Rattle.capability.specs.Parts.{AreSound, IsUnchanged, Renews, frames_of};
 ghost use Rattle.space_bank.specs.Banks.{AreCounted};
 ghost use Rattle.gate.specs.Invoke.{Invokes, KeepsSoundFrames, Overfills};
 
@@ -50,6 +50,7 @@ pub fn invoke<F: PresentFrames>(
         → Overfills (F.parts store.old).geometry invocation
         (objects_of (frames_of (F.parts store.old))) (F.parts store.old).touched }
     ensures sound { OnOk result (KeepsSoundFrames (F.parts store.old) (F.parts store.new)) }
+    ensures renews { OnOk result (Renews (F.parts store.old) (F.parts store.new)) }
     ensures counted { AreCounted (F.parts store.new).geometry
         (objects_of (frames_of (F.parts store.new))) banks.new }
     ensures unchanged { OnErr result (IsUnchanged (F.parts store.old) (F.parts store.new)) }

@@ -8,7 +8,7 @@ ghost use Rattle.model.specs.Machine.{touching, touched_count};
 ghost use Rattle.model.specs.Order.{IsNoBankOrder};
 ghost use Rattle.model.specs.Text.{Fits};
 ghost use Rattle.model.specs.World.{annex_at, is_process, is_running_process};
-ghost use Rattle.capability.specs.Parts.{AreSound, IsUnchanged, KeepsAside, Looks, frames_of};
+ghost use Rattle.capability.specs.Parts.{AreSound, IsUnchanged, KeepsAside, Looks, Renews, frames_of};
 ghost use Rattle.gate.specs.Invoke.{finished, replied_to, written_by, AreAnnounced, Invokes, IsAsked, IsKernelObject, IsPlanned, KeepsSoundFrames, Overfills};
 ghost use Rattle.gate.specs.Plan.{target_of, FitsCap, IsOfProcess, IsWithinObject, MayHold};
 
@@ -195,6 +195,7 @@ pub fn invoke_object<F: PresentFrames>(
         → Overfills (F.parts store.old).geometry invocation.now
         (objects_of (frames_of (F.parts store.old))) (F.parts store.old).touched }
     ensures sound { OnOk result (KeepsSoundFrames (F.parts store.old) (F.parts store.new)) }
+    ensures renews { OnOk result (Renews (F.parts store.old) (F.parts store.new)) }
     ensures unchanged { OnErr result (IsUnchanged (F.parts store.old) (F.parts store.new)) }
     ensures cause { IsErrOf result InvokeFault.Failed
         ↔ ((F.parts store.old).failures < (F.parts store.new).failures) }

@@ -2,6 +2,7 @@ use Rattle.std.proofs.Common.{◌+◌, refl, sym, ◌∙◌, arith}
 use Rattle.model.specs.Frame.{objects_of}
 use Rattle.capability.specs.Parts.{frames_of}
 use Rattle.capability.proofs.Keeping.{keepable_later}
+use Rattle.space_bank.proofs.Renewing.{renews_none}
 use Rattle.gate.proofs.BankOutcomes.{done_or_same}
 use Rattle.gate.proofs.banking.carry_out.Goals as goal
 
@@ -15,5 +16,5 @@ returns-in_default g c =
       counted = c.requires.asks.counted;
       current = c.requires.asks.sound.1.current;
       keepable = λ age young k. keepable_later old.geometry age (age + 1) (frames_of old) (omega arith) k;
-      aside = record { count = refl; touched = refl; geometry = refl; failures = refl; fetched = λ n there held. held; announced = λ n there held. held; leads = g.met.F.PresentFrames.leads_same c.args.store.now };
+      aside = record { count = refl; renews = renews_none old old (λ n. refl) (λ n used. used); touched = refl; geometry = refl; failures = refl; fetched = λ n there held. held; announced = λ n there held. held; leads = g.met.F.PresentFrames.leads_same c.args.store.now };
     }

@@ -15,11 +15,13 @@ use Rattle.capability.specs.Parts.{frames_of}
 use Rattle.capability.proofs.Frames.{annex_used, root_used}
 use Rattle.capability.proofs.Keeping.{keepable_roles}
 use Rattle.space_bank.specs.Banks.{AreCounted}
+use Rattle.space_bank.proofs.Renewing.{renews_after, renews_then}
 use Rattle.gate.specs.Banking.{answered, outcome_at}
 use Rattle.gate.specs.Plan.{FitsCap}
 use Rattle.gate.proofs.BankStates.{after_asks, answered_frame, banked_by, counted_on, first_of, listed_by, ordered_by, second_of}
 use Rattle.gate.proofs.Fits.{in_geometry}
 use Rattle.gate.proofs.Known.{running_process}
+use Rattle.gate.proofs.Renewing.{free_in_frame}
 use Rattle.gate.proofs.banking.finish_call.Goals as goal
 
 pub carry_out-requires-clause-announced : goal.carry_out-requires-clause-announced
@@ -150,3 +152,38 @@ returns-in-Return-clause-keepable g c age young fits k =
 
 pub returns-in-Send-clause-keepable : goal.returns-in-Send-clause-keepable
 returns-in-Send-clause-keepable g c age young fits k = c.carry_out-in-Send.ensures.keepable age young k
+
+pub returns-in-Call-clause-beside : goal.returns-in-Call-clause-beside
+returns-in-Call-clause-beside g c =
+    let old = g.F.PresentFrames.parts c.args.store.now in
+    let mid = g.F.PresentFrames.parts c.carry_out.new.store in
+    let new = g.F.PresentFrames.parts c.answer.new.store in
+    let us = objects_of (frames_of mid) in
+    let process = c.args.call.process in
+    let outcome = outcome_at old.geometry (objects_of (frames_of old)) c.args.call in
+    let free = free_in_frame mid new (answered Call process us outcome)
+    (c.answer.ensures.objects outcome c.requires.planned.code c.requires.planned.words c.requires.planned.capability) (answered_frame us process outcome) in
+    record {
+      renews = renews_then old mid new c.carry_out.ensures.aside.renews c.answer.ensures.aside.allocations free;
+      touched = c.answer.ensures.aside.touched ∙ c.carry_out.ensures.aside.touched;
+      geometry = c.answer.ensures.aside.geometry ∙ c.carry_out.ensures.aside.geometry;
+      failures = c.answer.ensures.aside.failures ∙ c.carry_out.ensures.aside.failures;
+      leads = g.met.F.PresentFrames.leads_twice _ _ _ c.carry_out.ensures.aside.leads c.answer.ensures.aside.leads;
+    }
+
+pub returns-in-Return-clause-beside : goal.returns-in-Return-clause-beside
+returns-in-Return-clause-beside g c =
+    let old = g.F.PresentFrames.parts c.args.store.now in
+    let mid = g.F.PresentFrames.parts c.set_state.new.store in
+    let new = g.F.PresentFrames.parts c.carry_out-in-Return.new.store in
+    let os = objects_of (frames_of old) in
+    let process = c.args.call.process in
+    let free = free_in_frame old mid (with_state os process Available) c.set_state.ensures.objects
+    (state_frame os process Available (running_process os process c.requires.running)) in
+    record {
+      renews = renews_after old mid new c.set_state.ensures.aside.allocations free c.carry_out-in-Return.ensures.aside.renews;
+      touched = c.carry_out-in-Return.ensures.aside.touched ∙ c.set_state.ensures.aside.touched;
+      geometry = c.carry_out-in-Return.ensures.aside.geometry ∙ c.set_state.ensures.aside.geometry;
+      failures = c.carry_out-in-Return.ensures.aside.failures ∙ c.set_state.ensures.aside.failures;
+      leads = g.met.F.PresentFrames.leads_twice _ _ _ c.set_state.ensures.aside.leads c.carry_out-in-Return.ensures.aside.leads;
+    }

@@ -15,6 +15,7 @@ use Rattle.gate.proofs.Fits.{in_geometry}
 use Rattle.capability.proofs.Frames.{process_known}
 use Rattle.gate.proofs.Known.{running_process}
 use Rattle.gate.proofs.Listed.{full_fault}
+use Rattle.gate.proofs.Renewing.{renews_looked}
 use Rattle.gate.proofs.Standing.{LooksAs, asked_annex, few_objects, inside_known, keepable_most, looked_keepable, looked_number, looked_sound, looks_again, now_sound}
 use Rattle.gate.proofs.banking.invoke_bank.Goals as goal
 
@@ -182,3 +183,12 @@ pub returns-clause-leads : goal.returns-clause-leads
 returns-clause-leads g c =
     let twice = g.met.F.PresentFrames.leads_twice in
     twice _ _ _ c.in_ok-look_at_freed.ensures.looks.aside.leads (twice _ _ _ c.in_ok-announce_call.ensures.leads c.finish_call.ensures.beside.leads)
+
+pub returns-clause-renews : goal.returns-clause-renews
+returns-clause-renews g c =
+    let old = g.F.PresentFrames.parts c.args.store.now in
+    let now = g.F.PresentFrames.parts c.look_at_freed.new.store in
+    let looks : LooksAs old now = record { headers = c.in_ok-look_at_freed.ensures.looks.aside.headers; contents = c.in_ok-look_at_freed.ensures.looks.aside.contents; geometry = c.in_ok-look_at_freed.ensures.looks.aside.geometry } in
+    let mid = g.F.PresentFrames.parts c.announce_call.new.store in
+    let there : LooksAs old mid = looks_again old now mid looks (record { headers = c.in_ok-announce_call.ensures.headers; contents = c.in_ok-announce_call.ensures.contents; geometry = c.in_ok-announce_call.ensures.geometry }) in
+    renews_looked old mid (g.F.PresentFrames.parts c.finish_call.new.store) there c.finish_call.ensures.beside.renews

@@ -1,5 +1,6 @@
 use Rattle.std.proofs.Common.{◌≡◌, ℕ, ◌+◌, ◌<◌, ◌≤◌, Bool, true, ◌||◌, List, arith, sym, ap, subst, ◌∙◌}
 use Rattle.std.specs.List.{All}
+use Rattle.std.specs.Prelude.{slice_index}
 use Rattle.std.proofs.lemmas.Result.{err_from_is_err_and}
 use Rattle.model.specs.declared.capability.Capability.{Capability}
 use Rattle.model.specs.declared.geometry.Geometry.{Geometry}
@@ -7,6 +8,7 @@ use Rattle.model.specs.declared.object.Object.{Object}
 use Rattle.model.specs.Frame.{objects_of}
 use Rattle.model.specs.Invoke.{can_start}
 use Rattle.model.specs.Machine.{touching, touched_count}
+use Rattle.model.specs.Order.{IsNoBankOrder}
 use Rattle.model.specs.World.{is_process}
 use Rattle.capability.specs.Parts.{frames_of}
 use Rattle.gate.specs.Invoke.{entered, received, written_through}
@@ -17,6 +19,7 @@ use Rattle.gate.proofs.Fits.{in_geometry}
 use Rattle.capability.proofs.Frames.{process_known}
 use Rattle.gate.proofs.Known.{running_process}
 use Rattle.gate.proofs.Listed.{full_fault}
+use Rattle.gate.proofs.Renewing.{gate_no_bank, renews_invoked}
 use Rattle.gate.proofs.Standing.{LooksAs, annex_there, calls_below, few_objects, keepable_most, looked_keepable, looked_number, looked_objects, looked_sound, looks_again, now_sound, register_kind}
 use Rattle.gate.proofs.gates.invoke_gate.Goals as goal
 
@@ -156,3 +159,20 @@ pub returns-clause-leads : goal.returns-clause-leads
 returns-clause-leads g c =
     let twice = g.met.F.PresentFrames.leads_twice in
     twice _ _ _ c.in_ok-annex.ensures.looks.aside.leads (twice _ _ _ c.in_ok-announce.ensures.leads c.enter.ensures.aside.leads)
+
+pub returns-clause-renews : goal.returns-clause-renews
+returns-clause-renews g c =
+    let old = g.F.PresentFrames.parts c.args.store.now in
+    let now = g.F.PresentFrames.parts c.look_at_process.new.store in
+    let looks : LooksAs old now = record { headers = c.in_ok-annex.ensures.looks.aside.headers; contents = c.in_ok-annex.ensures.looks.aside.contents; geometry = c.in_ok-annex.ensures.looks.aside.geometry } in
+    let mid = g.F.PresentFrames.parts c.announce.new.store in
+    let there : LooksAs old mid = looks_again old now mid looks (record { headers = c.in_ok-announce.ensures.headers; contents = c.in_ok-announce.ensures.contents; geometry = c.in_ok-announce.ensures.geometry }) in
+    let i = c.args.invocation.now in
+    let os = objects_of (frames_of old) in
+    let can = sym (c.if-not-can_enter.ensures ∙ ap (λ (us : List Object). c.args.gate.is_resume || can_start us i c.args.gate.process) (looked_objects old now looks)) in
+    let invoked = gate_invoked old.geometry os i c.args.asked c.args.gate c.requires.asked c.requires.gate c.requires.key can in
+    let objects = c.enter.ensures.objects ∙ ap (λ (us : List Object). entered us i c.args.gate c.all_sent-sent.result) (looked_objects old mid there)
+    ∙ ap (λ (cs : List Capability). entered os i c.args.gate cs) c.all_sent-sent.ensures in
+    let other = subst (λ (k : Capability). IsNoBankOrder k (slice_index i.words 0)) (sym c.requires.gate ∙ c.requires.asked.invoked) (gate_no_bank c.args.gate (slice_index i.words 0)) in
+    renews_invoked old mid (g.F.PresentFrames.parts c.enter.new.store) i (effect_through os i c.args.gate) c.requires.sound there c.requires.fits c.requires.running other invoked objects
+    c.enter.ensures.aside.allocations

@@ -4,6 +4,7 @@ use Rattle.model.specs.declared.capability.Capability.{Capability}
 use Rattle.model.specs.Order.{IsNoBankOrder}
 use Rattle.gate.proofs.BankStates.{counted_after, no_bank_order}
 use Rattle.gate.proofs.Listed.{on_ok}
+use Rattle.gate.proofs.Renewing.{renews_looked}
 use Rattle.gate.proofs.Standing.{LooksAs, keepable_most, keeps_looked}
 use Rattle.gate.proofs.invocation.invoke.Goals as goal
 
@@ -100,3 +101,43 @@ returns-in_default-clause-counted g c =
 
 pub returns-in-Some-clause-leads : goal.returns-in-Some-clause-leads
 returns-in-Some-clause-leads g c = g.met.F.PresentFrames.leads_twice _ _ _ c.in_ok-asked.ensures.looks.aside.leads c.invoke_bank.ensures.leads
+
+pub returns-in-Start-clause-renews : goal.returns-in-Start-clause-renews
+returns-in-Start-clause-renews g c =
+    let old = g.F.PresentFrames.parts c.args.store.now in
+    let mid = g.F.PresentFrames.parts c.ask.new.store in
+    let new = g.F.PresentFrames.parts c.invoke_gate.new.store in
+    let looks : LooksAs old mid = record { headers = c.in_ok-asked.ensures.looks.aside.headers; contents = c.in_ok-asked.ensures.looks.aside.contents; geometry = c.in_ok-asked.ensures.looks.aside.geometry } in
+    on_ok c.invoke_gate.result (renews_looked old mid new looks) c.invoke_gate.ensures.renews
+
+pub returns-in-Resume-clause-renews : goal.returns-in-Resume-clause-renews
+returns-in-Resume-clause-renews g c =
+    let old = g.F.PresentFrames.parts c.args.store.now in
+    let mid = g.F.PresentFrames.parts c.ask.new.store in
+    let new = g.F.PresentFrames.parts c.invoke_gate-in-Resume.new.store in
+    let looks : LooksAs old mid = record { headers = c.in_ok-asked.ensures.looks.aside.headers; contents = c.in_ok-asked.ensures.looks.aside.contents; geometry = c.in_ok-asked.ensures.looks.aside.geometry } in
+    on_ok c.invoke_gate-in-Resume.result (renews_looked old mid new looks) c.invoke_gate-in-Resume.ensures.renews
+
+pub returns-in_default-clause-renews : goal.returns-in_default-clause-renews
+returns-in_default-clause-renews g c =
+    let old = g.F.PresentFrames.parts c.args.store.now in
+    let mid = g.F.PresentFrames.parts c.ask.new.store in
+    let new = g.F.PresentFrames.parts c.invoke_object-in_default.new.store in
+    let looks : LooksAs old mid = record { headers = c.in_ok-asked.ensures.looks.aside.headers; contents = c.in_ok-asked.ensures.looks.aside.contents; geometry = c.in_ok-asked.ensures.looks.aside.geometry } in
+    on_ok c.invoke_object-in_default.result (renews_looked old mid new looks) c.invoke_object-in_default.ensures.renews
+
+pub returns-in-None-clause-renews : goal.returns-in-None-clause-renews
+returns-in-None-clause-renews g c =
+    let old = g.F.PresentFrames.parts c.args.store.now in
+    let mid = g.F.PresentFrames.parts c.ask.new.store in
+    let new = g.F.PresentFrames.parts c.invoke_object.new.store in
+    let looks : LooksAs old mid = record { headers = c.in_ok-asked.ensures.looks.aside.headers; contents = c.in_ok-asked.ensures.looks.aside.contents; geometry = c.in_ok-asked.ensures.looks.aside.geometry } in
+    on_ok c.invoke_object.result (renews_looked old mid new looks) c.invoke_object.ensures.renews
+
+pub returns-in-Some-clause-renews : goal.returns-in-Some-clause-renews
+returns-in-Some-clause-renews g c =
+    let old = g.F.PresentFrames.parts c.args.store.now in
+    let mid = g.F.PresentFrames.parts c.ask.new.store in
+    let new = g.F.PresentFrames.parts c.invoke_bank.new.store in
+    let looks : LooksAs old mid = record { headers = c.in_ok-asked.ensures.looks.aside.headers; contents = c.in_ok-asked.ensures.looks.aside.contents; geometry = c.in_ok-asked.ensures.looks.aside.geometry } in
+    on_ok c.invoke_bank.result (renews_looked old mid new looks) c.invoke_bank.ensures.renews

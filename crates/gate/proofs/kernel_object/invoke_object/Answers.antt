@@ -1,10 +1,13 @@
 use Rattle.std.proofs.Common.{ℕ, ◌+◌, ◌<◌, ◌≤◌, Bool, List, arith, sym, ap, subst, ◌∙◌}
+use Rattle.std.specs.Prelude.{slice_index}
 use Rattle.std.proofs.lemmas.Result.{err_from_is_err_and}
+use Rattle.model.specs.declared.capability.Capability.{Capability}
 use Rattle.model.specs.declared.geometry.Geometry.{Geometry}
 use Rattle.model.specs.declared.object.Object.{Object}
 use Rattle.model.specs.Frame.{objects_of}
 use Rattle.model.specs.Invoke.{on_kernel_object}
 use Rattle.model.specs.Machine.{touching, touched_count}
+use Rattle.model.specs.Order.{IsNoBankOrder}
 use Rattle.capability.specs.Parts.{frames_of}
 use Rattle.gate.specs.Invoke.{finished, written_by}
 use Rattle.gate.specs.Plan.{FitsCap, MayHold}
@@ -13,6 +16,7 @@ use Rattle.gate.proofs.Fits.{in_geometry}
 use Rattle.capability.proofs.Frames.{process_known}
 use Rattle.gate.proofs.Known.{running_process}
 use Rattle.gate.proofs.Listed.{full_fault}
+use Rattle.gate.proofs.Renewing.{renews_invoked}
 use Rattle.gate.proofs.Standing.{LooksAs, asked_annex, calls_below, inside_known, keepable_most, looked_keepable, looked_number, looked_objects, looked_sound, looks_again}
 use Rattle.gate.proofs.kernel_object.invoke_object.Goals as goal
 
@@ -128,3 +132,19 @@ pub returns-clause-leads : goal.returns-clause-leads
 returns-clause-leads g c =
     let twice = g.met.F.PresentFrames.leads_twice in
     twice _ _ _ c.in_ok-plan.ensures.looks.aside.leads (twice _ _ _ c.in_ok-announce.ensures.leads c.finish.ensures.aside.leads)
+
+pub returns-clause-renews : goal.returns-clause-renews
+returns-clause-renews g c =
+    let old = g.F.PresentFrames.parts c.args.store.now in
+    let now = g.F.PresentFrames.parts c.plan_order.new.store in
+    let looks : LooksAs old now = record { headers = c.in_ok-plan.ensures.looks.aside.headers; contents = c.in_ok-plan.ensures.looks.aside.contents; geometry = c.in_ok-plan.ensures.looks.aside.geometry } in
+    let mid = g.F.PresentFrames.parts c.announce.new.store in
+    let there : LooksAs old mid = looks_again old now mid looks (record { headers = c.in_ok-announce.ensures.headers; contents = c.in_ok-announce.ensures.contents; geometry = c.in_ok-announce.ensures.geometry }) in
+    let i = c.args.invocation.now in
+    let os = objects_of (frames_of old) in
+    let plan = c.in_ok-plan.plan in
+    let objects = c.finish.ensures.objects ∙ ap (λ (us : List Object). finished us i.operation i.process plan) (looked_objects old mid there)
+    ∙ sym (planned_objects old.geometry os i c.args.asked plan c.requires.asked c.in_ok-plan.ensures.planned) in
+    renews_invoked old mid (g.F.PresentFrames.parts c.finish.new.store) i (on_kernel_object old.geometry os i) c.requires.sound there c.requires.fits c.requires.running
+    (subst (λ (k : Capability). IsNoBankOrder k (slice_index i.words 0)) c.requires.asked.invoked c.requires.order)
+    (object_invoked old.geometry os i c.args.asked c.requires.asked c.requires.object) objects c.finish.ensures.aside.allocations
