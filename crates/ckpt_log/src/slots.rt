@@ -1,15 +1,16 @@
 // The slots of the log.
-ghost use Rattle.std.specs.Prelude.{◌≡◌, ◌<◌, ◌≤◌, IfOk, IfErr, OnOk};
+ghost use Rattle.std.specs.Prelude.{◌≡◌, ◌<◌, ◌≤◌, length, IfOk, IfErr, OnOk};
+ghost use Rattle.model.specs.declared.object.Content.TheVariants as content;
 ghost use Rattle.device.specs.Calls.{Counts};
-ghost use Rattle.layout.specs.Frame.{IsFrameOf, frame_bytes, frame_length, frame_of};
-ghost use Rattle.layout.specs.Image.{slot_sector};
+ghost use Rattle.layout.specs.Frame.{IsFrameOf, frame_bytes, frame_length, frame_of, page_frame_bytes};
+ghost use Rattle.layout.specs.Image.{sectors_from, slot_sector};
 ghost use Rattle.frame_io.specs.Calls.{ReadsOnly, WritesAt};
 ghost use Rattle.frame_io.specs.Fault.{CountsFailed};
 ghost use Rattle.frame_io.specs.Frames.{IsObject, IsRefused, bytes_at};
 
 use crate::log::Log;
 use device::{Device, Failed};
-use frame_io::{ReadFault, read_frame, write_frame};
+use frame_io::{ReadFault, read_frame, write_frame, write_page};
 use layout::{Body, Room};
 use model::{Cap, Content, ObjectHeader};
 
@@ -69,5 +70,31 @@ impl Log {
     {
         let at = self.slot_sector(generation, slot);
         write_frame(device, at, self.geometry(), number, header, content)
+    }
+
+    /// Writes the frame of a page with these words into a slot of the half of a generation, and
+    /// touches that slot alone: a crash at any moment leaves all other sectors as they could have
+    /// been left before. It is refused exactly where the device fails, and the sectors may then
+    /// hold any bytes.
+    pub fn write_page<D: Device>(
+        &self,
+        device: &mut D,
+        generation: u64,
+        slot: u64,
+        header: ObjectHeader,
+        words: &[u64],
+    ) -> Result<(), Failed>
+        requires slot { slot < self.now.geometry.log }
+        requires words { length words.now ≡ 512 }
+        requires inside { self.now.total ≤ (D.disk device.old).sectors }
+        ensures written { OnOk result (sectors_from (D.disk device.new).seen
+            (slot_sector self.now generation slot) 9
+            ≡ page_frame_bytes (record { header = header; content = content.Page words.now })) }
+        ensures writes { WritesAt (slot_sector self.now generation slot) 9
+            (D.disk device.old) (D.disk device.new) }
+        ensures cause { Counts (D.disk device.old) (D.disk device.new) result }
+    {
+        let at = self.slot_sector(generation, slot);
+        write_page(device, at, header, words)
     }
 }

@@ -1,9 +1,14 @@
 -- The bytes of sectors, by how many sectors they are.
-use Rattle.std.proofs.Common.{◌≡◌, ◌<◌, ◌+◌, ◌*◌, ◌/◌, ℕ, List, length, take, drop, subst, arith}
+use Rattle.std.proofs.Common.{◌≡◌, ◌<◌, ◌+◌, ◌*◌, ◌/◌, ℕ, List, length, take, drop, sym, ap, subst, ◌∙◌, arith}
+use Rattle.std.proofs.lemmas.List.{append-nil}
+use Rattle.model.specs.declared.frame.ObjectHeader.{ObjectHeader}
 use Rattle.device.specs.Disk.{Image}
 use Rattle.device.specs.Calls.{sectors_of}
+use Rattle.layout.specs.FrameReader.{header_from}
 use Rattle.layout.specs.Image.{sectors_from}
+use Rattle.layout.proofs.FrameReaders.{told_first}
 use Rattle.layout.proofs.Sectors.{whole_sectors}
+use Rattle.frame_io.specs.Frames.{IsHeaderAt}
 
 pub sectors_are_of : (n : ℕ) (bytes : List ℕ) → length bytes ≡ 512 * n → sectors_of bytes ≡ n
 sectors_are_of n bytes size = omega (arith, size)
@@ -12,3 +17,10 @@ sectors_are_of n bytes size = omega (arith, size)
 pub run_is : (image : Image) (at n : ℕ) (bytes : List ℕ) → length bytes ≡ 512 * n → ((i : ℕ) → i < length bytes / 512 → take 512 (drop (512 * i) bytes) ≡ image (at + i)) → sectors_from image at n ≡ bytes
 run_is image at n bytes size same =
     subst (λ (k : ℕ). sectors_from image at k ≡ bytes) (sectors_are_of n bytes size) (whole_sectors image at bytes (omega (arith, size)) same)
+
+-- the header that the bytes of a sector tell is that of the frame there
+pub header_at_is : (image : Image) (at : ℕ) (first : List ℕ) (header : ObjectHeader) → length first ≡ 512 → sectors_from image at 1 ≡ first → header ≡ header_from first → IsHeaderAt image at header
+unfolding sectors_from
+header_at_is image at first header size is told g number =
+    let sector : image at ≡ first = sym (append-nil (image at)) ∙ is in
+    told ∙ ap header_from (sym sector) ∙ sym (told_first g number image at (let long : length (image at) ≡ 512 = ap length sector ∙ size in omega (arith, long)))

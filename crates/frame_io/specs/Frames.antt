@@ -1,10 +1,12 @@
 -- Frames of objects, and why none is read.
 use Rattle.std.specs.Prelude.{◌≡◌, ◌+◌, ◌<◌, ℕ, List, ⊤}
 use Rattle.model.specs.declared.frame.Frame.{Frame}
+use Rattle.model.specs.declared.frame.ObjectHeader.{ObjectHeader}
 use Rattle.model.specs.declared.geometry.Geometry.{Geometry}
 use Rattle.layout.specs.declared.bad_image.BadImage.TheVariants.{BadFrame}
 use Rattle.device.specs.Disk.{Image}
 use Rattle.layout.specs.Frame.{IsFrameOf, frame_length}
+use Rattle.layout.specs.FrameReader.{frame_from}
 use Rattle.layout.specs.Image.{sectors_from}
 use Rattle.frame_io.specs.declared.fault.ReadFault.{ReadFault}
 use Rattle.frame_io.specs.declared.fault.ReadFault.TheVariants.{Failed, Bad}
@@ -21,3 +23,7 @@ bytes_at image at g number = sectors_from image at (frame_length g number)
 abbrev pub IsRefused : Geometry → ℕ → ℕ → List ℕ → ReadFault → Type 0
 IsRefused g age number bytes Failed = ⊤
 IsRefused g age number bytes (Bad reason) = (reason ≡ BadFrame) × ((f : Frame) → IsFrameOf g age number bytes f → ⊥)
+
+-- a header is that of the frame that lies at a sector, of whatever number
+abbrev pub IsHeaderAt : Image → ℕ → ObjectHeader → Type 0
+IsHeaderAt image at header = (g : Geometry) (number : ℕ) → header ≡ (frame_from g number (bytes_at image at g number)).header

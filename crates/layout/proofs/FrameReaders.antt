@@ -1,10 +1,13 @@
 -- Bytes that spell a frame are read as that frame.
-use Rattle.std.proofs.Common.{◌≡◌, ℕ, ◌+◌, ◌/◌, ◌%◌, ◌^◌, ◌<◌, Bool, List, [], ◌∷◌, ◌++◌, length, drop, refl, sym, ap, subst, ◌∙◌, append_assoc, inl, inr}
+use Rattle.std.proofs.Common.{◌≡◌, ℕ, ◌+◌, ◌/◌, ◌%◌, ◌^◌, ◌<◌, ◌≤◌, Bool, true, false, List, [], ◌∷◌, ◌++◌, length, take, drop, refl, sym, ap, subst, ◌∙◌, append_assoc, inl, inr, arith}
 use Rattle.std.proofs.lemmas.Bool.{cases_lt, lt-ltb, le-ltb}
-use Rattle.std.proofs.lemmas.List.{drop_at, drop-drop}
+use Rattle.std.proofs.lemmas.List.{drop_at, drop-drop, take-append-le, drop-append-le, length-drop}
 use Rattle.std.proofs.lemmas.List.Elements.{All-head, All-tail}
 use Rattle.std.specs.List.{All}
-use Rattle.std.specs.Prelude.{if◌then◌else◌}
+use Rattle.std.specs.Prelude.{nat_lt, if◌then◌else◌}
+use Rattle.byteorder.specs.Endian.{little_number}
+use Rattle.byteorder.specs.Numbers.{little_from-take}
+use Rattle.device.specs.Disk.{Image}
 use Rattle.model.specs.declared.capability.Cap.{Cap}
 use Rattle.model.specs.declared.frame.Frame.{Frame}
 use Rattle.model.specs.declared.frame.ObjectHeader.{ObjectHeader}
@@ -15,8 +18,9 @@ use Rattle.model.specs.Keepable.{IsKeptCap}
 use Rattle.model.specs.Object.{role_of, role_number}
 use Rattle.layout.specs.Bytes.{number, number_from, zeros}
 use Rattle.layout.specs.Capability.{capability_bytes, head_number, number_of}
-use Rattle.layout.specs.Frame.{front_numbers, slots_of, slots_bytes, words_bytes, page_words, role_in, body_in, page_body_in, content_of, IsNodeFrame, IsPageFrame, node_frame_bytes, page_frame_bytes, IsFront, IsFrameOf}
+use Rattle.layout.specs.Frame.{front_numbers, slots_of, slots_bytes, words_bytes, page_words, role_in, body_in, page_body_in, content_of, IsNodeFrame, IsPageFrame, node_frame_bytes, page_frame_bytes, IsFront, IsFrameOf, frame_length}
 use Rattle.layout.specs.FrameReader.{cap_with, cap_from, slots_from, words_from, header_from, node_from, page_from, frame_from}
+use Rattle.layout.specs.Image.{sectors_from}
 use Rattle.layout.proofs.Capabilities.{as_numbers, follows_fits, head_below, made_again, same_cap}
 use Rattle.layout.proofs.Numbers.{AllFit, stream, number_told, length-number}
 use Rattle.layout.proofs.Frames.{front_stream, content_again, role_again, role_fits, node_parts, front_list, length-front}
@@ -77,27 +81,36 @@ header_of r a c o = record { role = r; allocations = a; calls = c; owner = o }
 same_header : (r r' : Role) (a a' c c' o o' : ℕ) → r ≡ r' → a ≡ a' → c ≡ c' → o ≡ o' → header_of r a c o ≡ header_of r' a' c' o'
 same_header r r' a a' c c' o o' er ea ec eo = rw (er, ea, ec, eo) refl
 
+-- what the front of a frame tells
+pub record FrontTells (first : ℕ) (h : ObjectHeader) (bytes : List ℕ) : Type 0 where
+  pub first_is : number_from bytes ≡ first
+  pub header_is : header_from bytes ≡ h
+
+pub front_tells : (first : ℕ) (h : ObjectHeader) (bytes rest : List ℕ) → AllFit (front_list first h) → role_in first ≡ h.role → bytes ≡ front_numbers first h ++ rest → FrontTells first h bytes
+unfolding header_from
+front_tells first h bytes rest fits is e =
+    let whole : bytes ≡ stream (front_list first h) rest = e ∙ front_stream first h rest in
+    let after : drop 8 bytes ≡ stream (h.allocations ∷ h.calls ∷ h.owner ∷ []) rest = passed first (stream (h.allocations ∷ h.calls ∷ h.owner ∷ []) rest) bytes whole in
+    let after' : drop 16 bytes ≡ stream (h.calls ∷ h.owner ∷ []) rest = passed_on 8 h.allocations (stream (h.calls ∷ h.owner ∷ []) rest) bytes after in
+    let last : drop 24 bytes ≡ stream (h.owner ∷ []) rest = passed_on 16 h.calls (stream (h.owner ∷ []) rest) bytes after' in
+    let role : number_from bytes ≡ first = told first (stream (h.allocations ∷ h.calls ∷ h.owner ∷ []) rest) bytes fits.0 whole in
+    record {
+      first_is = role;
+      header_is = same_header (role_in (number_from bytes)) h.role (number_from (drop 8 bytes)) h.allocations (number_from (drop 16 bytes)) h.calls (number_from (drop 24 bytes)) h.owner
+          (ap role_in role ∙ is)
+          (told h.allocations (stream (h.calls ∷ h.owner ∷ []) rest) (drop 8 bytes) fits.1.0 after)
+          (told h.calls (stream (h.owner ∷ []) rest) (drop 16 bytes) fits.1.1.0 after')
+          (told h.owner rest (drop 24 bytes) fits.1.1.1.0 last);
+    }
+
 record FrontIs (f : Frame) (bytes : List ℕ) : Type 0 where
   pub role : number_from bytes ≡ role_number (role_of f.content)
   pub header : header_from bytes ≡ f.header
 
 front_again : (age : ℕ) (f : Frame) (bytes rest : List ℕ) → IsFront age f → bytes ≡ front_numbers (role_number f.header.role) f.header ++ rest → FrontIs f bytes
-unfolding header_from
 front_again age f bytes rest is e =
-    let h : ObjectHeader = f.header in
-    let whole : bytes ≡ stream (front_list (role_number h.role) h) rest = e ∙ front_stream (role_number h.role) h rest in
-    let after : drop 8 bytes ≡ stream (h.allocations ∷ h.calls ∷ h.owner ∷ []) rest = passed (role_number h.role) (stream (h.allocations ∷ h.calls ∷ h.owner ∷ []) rest) bytes whole in
-    let after' : drop 16 bytes ≡ stream (h.calls ∷ h.owner ∷ []) rest = passed_on 8 h.allocations (stream (h.calls ∷ h.owner ∷ []) rest) bytes after in
-    let last : drop 24 bytes ≡ stream (h.owner ∷ []) rest = passed_on 16 h.calls (stream (h.owner ∷ []) rest) bytes after' in
-    let role : number_from bytes ≡ role_number h.role = told (role_number h.role) (stream (h.allocations ∷ h.calls ∷ h.owner ∷ []) rest) bytes (role_fits h.role) whole in
-    record {
-      role = role ∙ ap role_number is.role;
-      header = same_header (role_in (number_from bytes)) h.role (number_from (drop 8 bytes)) h.allocations (number_from (drop 16 bytes)) h.calls (number_from (drop 24 bytes)) h.owner
-          (ap role_in role ∙ role_again h.role)
-          (told h.allocations (stream (h.calls ∷ h.owner ∷ []) rest) (drop 8 bytes) is.allocations.1 after)
-          (told h.calls (stream (h.owner ∷ []) rest) (drop 16 bytes) is.calls.1 after')
-          (told h.owner rest (drop 24 bytes) is.owner last);
-    }
+    let tells = front_tells (role_number f.header.role) f.header bytes rest (role_fits f.header.role, (is.allocations.1, (is.calls.1, (is.owner, tt)))) (role_again f.header.role) e in
+    record { role = tells.first_is ∙ ap role_number is.role; header = tells.header_is }
 
 abbrev frame_with : ObjectHeader → Content Cap → Frame
 frame_with h c = record { header = h; content = c }
@@ -141,3 +154,44 @@ frame_again g age object bytes f is = elim (cases_lt object g.nodes) [
       let one = page_of_frame g age object bytes f le is in
       ap (λ (b : Bool). if b then node_from bytes else page_from bytes) (le-ltb object g.nodes le) ∙ page_again age f bytes one.0 one.1
 ]
+
+-- ---- the front of a frame in its first sector
+
+number_front : (xs ys : List ℕ) → take 8 xs ≡ take 8 ys → number_from xs ≡ number_from ys
+unfolding number_from
+number_front xs ys same = sym (little_from-take 0 8 8 xs (omega arith)) ∙ ap (λ (b : List ℕ). little_number 8 b) same ∙ little_from-take 0 8 8 ys (omega arith)
+
+-- what follows isn't looked at
+number_before : (xs ys : List ℕ) (k : ℕ) → k + 8 ≤ length xs → number_from (drop k (xs ++ ys)) ≡ number_from (drop k xs)
+number_before xs ys k room =
+    number_front (drop k (xs ++ ys)) (drop k xs)
+    (ap (take 8) (drop-append-le k xs ys (omega (arith, room))) ∙ take-append-le 8 (drop k xs) ys (omega (arith, room, length-drop k xs)))
+
+pub header_before : (xs ys : List ℕ) → 32 ≤ length xs → header_from (xs ++ ys) ≡ header_from xs
+unfolding header_from
+header_before xs ys room =
+    same_header (role_in (number_from (xs ++ ys))) (role_in (number_from xs)) (number_from (drop 8 (xs ++ ys))) (number_from (drop 8 xs)) (number_from (drop 16 (xs ++ ys))) (number_from (drop 16 xs))
+    (number_from (drop 24 (xs ++ ys))) (number_from (drop 24 xs))
+    (ap role_in (number_front (xs ++ ys) xs (take-append-le 8 xs ys (omega (arith, room)))))
+    (number_before xs ys 8 (omega (arith, room))) (number_before xs ys 16 (omega (arith, room))) (number_before xs ys 24 (omega (arith, room)))
+
+abbrev header_held : Frame → ObjectHeader
+header_held f = f.header
+
+header_by : (b : Bool) (bytes : List ℕ) → header_held (if b then node_from bytes else page_from bytes) ≡ header_from bytes
+header_by true bytes = refl
+header_by false bytes = refl
+
+-- the header of a frame, of whatever number
+pub header_is : (g : Geometry) (object : ℕ) (bytes : List ℕ) → (frame_from g object bytes).header ≡ header_from bytes
+unfolding frame_from
+header_is g object bytes = header_by (nat_lt object g.nodes) bytes
+
+first_sector : (b : Bool) (image : Image) (at : ℕ) → 32 ≤ length (image at) → header_from (sectors_from image at (if b then 2 else 9)) ≡ header_from (image at)
+unfolding sectors_from
+first_sector true image at room = header_before (image at) (sectors_from image (at + 1) 1) room
+first_sector false image at room = header_before (image at) (sectors_from image (at + 1) 8) room
+
+-- is told by its first sector
+pub told_first : (g : Geometry) (object : ℕ) (image : Image) (at : ℕ) → 32 ≤ length (image at) → (frame_from g object (sectors_from image at (frame_length g object))).header ≡ header_from (image at)
+told_first g object image at room = header_is g object (sectors_from image at (frame_length g object)) ∙ first_sector (nat_lt object g.nodes) image at room

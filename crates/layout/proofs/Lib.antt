@@ -11,7 +11,7 @@ mod Superblocks
 pub mod Images
 pub mod Sectors
 pub mod Halves
-mod FrameReaders
+pub mod FrameReaders
 pub mod Spelling
 pub mod SlotsOf
 pub mod Totals

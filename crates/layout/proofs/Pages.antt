@@ -211,25 +211,24 @@ one_page_frame age e f ie if same =
 take_gap : (xs : List ℕ) → take 480 (drop 32 xs) ≡ drop 32 (take 512 xs)
 take_gap xs = sym (drop-take 32 480 xs)
 
-pub page_written : (f : Frame) (blanked fronted new body : List ℕ) → take 512 blanked ≡ zeros 512
-    → take 32 fronted ≡ front_numbers (role_number f.header.role) f.header → drop 32 fronted ≡ drop 32 blanked
-    → body ≡ words_bytes (page_words f.content) → new ≡ take 512 fronted ++ body → new ≡ page_frame_bytes f
+pub fronted : (h : ObjectHeader) (blanked new : List ℕ) → take 512 blanked ≡ zeros 512
+    → take 32 new ≡ front_numbers (role_number h.role) h → drop 32 new ≡ drop 32 blanked → take 512 new ≡ front_bytes h ++ zeros 480
+fronted h blanked new blank before after =
+    let gap : take 480 (drop 32 new) ≡ zeros 480 = ap (take 480) after ∙ take_gap blanked ∙ ap (drop 32) blank ∙ drop_zeros 32 512 in
+    take-add 32 480 new ∙ ap (λ (r : List ℕ). r ++ take 480 (drop 32 new)) (before ∙ sym (front_bytes_are h)) ∙ ap (λ (r : List ℕ). front_bytes h ++ r) gap
+
+pub page_written : (f : Frame) (front new body : List ℕ) → take 512 front ≡ front_bytes f.header ++ zeros 480 → body ≡ words_bytes (page_words f.content) → new ≡ take 512 front ++ body → new ≡ page_frame_bytes f
 unfolding page_frame_bytes
-page_written f blanked fronted new body blank before after spelt is =
-    let gap : take 480 (drop 32 fronted) ≡ zeros 480 = ap (take 480) after ∙ take_gap blanked ∙ ap (drop 32) blank ∙ drop_zeros 32 512 in
-    let front : take 512 fronted ≡ front_bytes f.header ++ zeros 480 = take-add 32 480 fronted ∙ ap (λ (r : List ℕ). r ++ take 480 (drop 32 fronted)) (before ∙ sym (front_bytes_are f.header)) ∙ ap (λ (r : List ℕ). front_bytes f.header ++ r) gap in
-    is ∙ ap (λ (r : List ℕ). r ++ body) front ∙ ap (λ (r : List ℕ). front_bytes f.header ++ zeros 480 ++ r) spelt
+page_written f front new body before spelt is =
+    is ∙ ap (λ (r : List ℕ). r ++ body) before ∙ ap (λ (r : List ℕ). front_bytes f.header ++ zeros 480 ++ r) spelt
 
 pub put_last : (xs ys : List ℕ) (at : ℕ) → put_mid at (length xs - at) xs ys ≡ take at xs ++ ys
 put_last xs ys at =
     let past : drop (length xs - at) (drop at xs) ≡ [] = drop_all (length xs - at) (drop at xs) (omega (arith, length-drop at xs)) in
     rw (past, append-nil) refl
 
-pub default_written : (f : Frame) (blanked fronted new : List ℕ) → take 512 blanked ≡ zeros 512
-    → take 32 fronted ≡ front_numbers (role_number f.header.role) f.header → drop 32 fronted ≡ drop 32 blanked
-    → page_words f.content ≡ zero_words → new ≡ take 512 fronted ++ zeros 4096 → new ≡ page_frame_bytes f
-default_written f blanked fronted new blank before after words is =
-    page_written f blanked fronted new (zeros 4096) blank before after (sym zero_words_bytes ∙ ap words_bytes (sym words)) is
+pub default_written : (f : Frame) (front new : List ℕ) → take 512 front ≡ front_bytes f.header ++ zeros 480 → page_words f.content ≡ zero_words → new ≡ take 512 front ++ zeros 4096 → new ≡ page_frame_bytes f
+default_written f front new before words is = page_written f front new (zeros 4096) before (sym zero_words_bytes ∙ ap words_bytes (sym words)) is
 
 pub blanked_front : (old new : List ℕ) (n : ℕ) → n ≤ length old → new ≡ zeros (length (take n old)) → (take n (new ++ drop n old) ≡ zeros n) × (drop n (new ++ drop n old) ≡ drop n old)
 blanked_front old new n room e =

@@ -1,8 +1,11 @@
-// Numbers of sectors that may be damaged.
+// What a few bytes tell of a sector that may be damaged.
 ghost use Rattle.std.specs.Prelude.{◌≡◌, ◌≤◌, length};
+ghost use Rattle.layout.specs.FrameReader.{header_from};
 ghost use Rattle.layout.specs.Image.{total_in, sequence_in};
 
 use crate::bytes::number_at;
+use crate::front::decode_front;
+use model::ObjectHeader;
 
 /// The total of sectors that the sector of a superblock tells, whatever its other bytes are.
 pub fn total_in(bytes: &[u8]) -> u64
@@ -18,4 +21,13 @@ pub fn sequence_in(bytes: &[u8]) -> u64
     ensures { result ≡ sequence_in bytes.now }
 {
     number_at(bytes, 8)
+}
+
+/// The header that the first 32 bytes of a frame tell, whatever its other bytes are.
+pub fn header_in(bytes: &[u8]) -> ObjectHeader
+    requires { 32 ≤ length bytes.now }
+    ensures { result ≡ header_from bytes.now }
+{
+    let (_, header) = decode_front(bytes);
+    header
 }

@@ -1,9 +1,11 @@
 // Frames with the number of a page.
-ghost use Rattle.std.specs.Prelude.{◌≡◌, ◌*◌, ◌↔◌, length, IsTrue, IfOk, IfErr};
+ghost use Rattle.std.specs.Prelude.{◌≡◌, ◌*◌, ◌++◌, ◌↔◌, length, take, IsTrue, IfOk, IfErr};
 ghost use Rattle.model.specs.declared.frame.Frame.{Frame};
+ghost use Rattle.model.specs.declared.object.Content.TheVariants as content;
 ghost use Rattle.model.specs.Keepable.{AreKeptWords};
 ghost use Rattle.model.specs.Object.{zero_words};
-ghost use Rattle.layout.specs.Frame.{words_bytes, frame_of, page_frame_bytes, page_body_in, IsPageBody, IsPageFrame};
+ghost use Rattle.layout.specs.Bytes.{zeros};
+ghost use Rattle.layout.specs.Frame.{front_bytes, words_bytes, frame_of, page_frame_bytes, page_body_in, IsPageBody, IsPageFrame};
 
 use crate::bad_image::BadImage;
 use crate::body::{Body, Room};
@@ -82,16 +84,38 @@ pub fn decode_page_frame(
     }
 }
 
+// Writes the front of a frame, and zeros up to the words.
+fn put_front(header: ObjectHeader, into: &mut [u8])
+    requires { length into.old ≡ 4608 }
+    ensures before { take 512 into.new ≡ front_bytes header ++ zeros 480 }
+    ensures size { length into.new ≡ 4608 }
+{
+    blank_front(into, FRONT_BYTES);
+    encode_front(header, into);
+}
+
+/// Writes the 4608 bytes of the frame of a page with these words.
+pub fn encode_page(header: ObjectHeader, words: &[u64], into: &mut [u8])
+    requires size { length into.old ≡ 4608 }
+    requires words { length words.now ≡ 512 }
+    ensures { into.new
+        ≡ page_frame_bytes (record { header = header; content = content.Page words.now }) }
+{
+    put_front(header, into);
+    encode_words(words, &mut into[FRONT_BYTES..]);
+}
+
 /// Writes the 4608 bytes of a frame with the number of a page. What is neither free nor a page has
 /// no spelling here: it is written as words of 0.
 pub fn encode_page_frame(header: ObjectHeader, content: &Content<Cap>, into: &mut [u8])
     requires { length into.old ≡ 4608 }
     ensures { into.new ≡ page_frame_bytes (record { header = header; content = content.now }) }
 {
-    blank_front(into, FRONT_BYTES);
-    encode_front(header, into);
     match content {
-        Content::Page(words) => encode_words(words.as_slice(), &mut into[FRONT_BYTES..]),
-        _ => blank_from(into, FRONT_BYTES),
+        Content::Page(words) => encode_page(header, words.as_slice(), into),
+        _ => {
+            put_front(header, into);
+            blank_from(into, FRONT_BYTES);
+        }
     }
 }
