@@ -1,8 +1,8 @@
 mod CapabilityTexts
 mod CapabilityWords
 mod Commands
+mod FirstWords
 mod Fronts
-mod Keywords
 mod Numbers
 mod Spellings
 mod Split

@@ -21,55 +21,39 @@ pub enum Keyword {
     Cut,
 }
 
-impl Keyword {
-    // Every keyword, the commonest first.
-    const ALL: [Keyword; 13] = [
-        Keyword::Invoke(Operation::Call),
-        Keyword::Invoke(Operation::Return),
-        Keyword::Invoke(Operation::Send),
-        Keyword::Load,
-        Keyword::Store,
-        Keyword::Show,
-        Keyword::Evict,
-        Keyword::Checkpoint,
-        Keyword::Stabilize,
-        Keyword::Commit,
-        Keyword::Migrate,
-        Keyword::Restart,
-        Keyword::Cut,
-    ];
-
-    // The word that says the keyword.
-    fn name(self) -> &'static [u8]
-        ensures { result.now ≡ keyword_name self }
-    {
-        match self {
-            Keyword::Invoke(Operation::Call) => b"call",
-            Keyword::Invoke(Operation::Return) => b"return",
-            Keyword::Invoke(Operation::Send) => b"send",
-            Keyword::Load => b"load",
-            Keyword::Store => b"store",
-            Keyword::Show => b"show",
-            Keyword::Evict => b"evict",
-            Keyword::Checkpoint => b"checkpoint",
-            Keyword::Stabilize => b"stabilize",
-            Keyword::Commit => b"commit",
-            Keyword::Migrate => b"migrate",
-            Keyword::Restart => b"restart",
-            Keyword::Cut => b"cut",
-        }
-    }
-}
-
 /// The keyword that is the word.
 pub fn keyword_of(word: &[u8]) -> Option<Keyword>
     ensures found { IfSome result (λ k. word.now ≡ keyword_name k) }
     ensures none { IfNone result ((k : Keyword) → word.now ≢ keyword_name k) }
 {
-    for keyword in Keyword::ALL {
-        if keyword.name() == word {
-            return Some(keyword);
-        }
+    // The commonest first.
+    if word == b"call".as_slice() {
+        Some(Keyword::Invoke(Operation::Call))
+    } else if word == b"return".as_slice() {
+        Some(Keyword::Invoke(Operation::Return))
+    } else if word == b"send".as_slice() {
+        Some(Keyword::Invoke(Operation::Send))
+    } else if word == b"load".as_slice() {
+        Some(Keyword::Load)
+    } else if word == b"store".as_slice() {
+        Some(Keyword::Store)
+    } else if word == b"show".as_slice() {
+        Some(Keyword::Show)
+    } else if word == b"evict".as_slice() {
+        Some(Keyword::Evict)
+    } else if word == b"checkpoint".as_slice() {
+        Some(Keyword::Checkpoint)
+    } else if word == b"stabilize".as_slice() {
+        Some(Keyword::Stabilize)
+    } else if word == b"commit".as_slice() {
+        Some(Keyword::Commit)
+    } else if word == b"migrate".as_slice() {
+        Some(Keyword::Migrate)
+    } else if word == b"restart".as_slice() {
+        Some(Keyword::Restart)
+    } else if word == b"cut".as_slice() {
+        Some(Keyword::Cut)
+    } else {
+        None
     }
-    None
 }
