@@ -1,6 +1,7 @@
 mod CapabilityTexts
 mod CapabilityWords
 mod Commands
+mod Digits
 mod FirstWords
 mod Fronts
 mod Numbers

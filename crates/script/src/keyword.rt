@@ -26,34 +26,20 @@ pub fn keyword_of(word: &[u8]) -> Option<Keyword>
     ensures found { IfSome result (λ k. word.now ≡ keyword_name k) }
     ensures none { IfNone result ((k : Keyword) → word.now ≢ keyword_name k) }
 {
-    // The commonest first.
-    if word == b"call".as_slice() {
-        Some(Keyword::Invoke(Operation::Call))
-    } else if word == b"return".as_slice() {
-        Some(Keyword::Invoke(Operation::Return))
-    } else if word == b"send".as_slice() {
-        Some(Keyword::Invoke(Operation::Send))
-    } else if word == b"load".as_slice() {
-        Some(Keyword::Load)
-    } else if word == b"store".as_slice() {
-        Some(Keyword::Store)
-    } else if word == b"show".as_slice() {
-        Some(Keyword::Show)
-    } else if word == b"evict".as_slice() {
-        Some(Keyword::Evict)
-    } else if word == b"checkpoint".as_slice() {
-        Some(Keyword::Checkpoint)
-    } else if word == b"stabilize".as_slice() {
-        Some(Keyword::Stabilize)
-    } else if word == b"commit".as_slice() {
-        Some(Keyword::Commit)
-    } else if word == b"migrate".as_slice() {
-        Some(Keyword::Migrate)
-    } else if word == b"restart".as_slice() {
-        Some(Keyword::Restart)
-    } else if word == b"cut".as_slice() {
-        Some(Keyword::Cut)
-    } else {
-        None
+    match word {
+        b"call" => Some(Keyword::Invoke(Operation::Call)),
+        b"return" => Some(Keyword::Invoke(Operation::Return)),
+        b"send" => Some(Keyword::Invoke(Operation::Send)),
+        b"load" => Some(Keyword::Load),
+        b"store" => Some(Keyword::Store),
+        b"show" => Some(Keyword::Show),
+        b"evict" => Some(Keyword::Evict),
+        b"checkpoint" => Some(Keyword::Checkpoint),
+        b"stabilize" => Some(Keyword::Stabilize),
+        b"commit" => Some(Keyword::Commit),
+        b"migrate" => Some(Keyword::Migrate),
+        b"restart" => Some(Keyword::Restart),
+        b"cut" => Some(Keyword::Cut),
+        _ => None,
     }
 }

@@ -38,6 +38,7 @@ fn value_in_front(text: &[u8]) -> Option<Front>
 }
 
 /// The number whose decimal text, without leading zeros, is the first word of a text.
+#[inline(never)]
 pub fn number_in_front(text: &[u8]) -> Option<Front>
     ensures size { IfSome result (λ front. front.size ≡ first_end text.now) }
     ensures found { IfSome result (λ front. (front.number < 2 ^ 64)

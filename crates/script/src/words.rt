@@ -88,17 +88,26 @@ impl<'a> Words<'a> {
     }
 
     /// Takes the next word as a number.
+    #[inline(always)]
     #[tactic(auto, unfolding(crate::specs::Reading::number_at))]
     pub fn number(&mut self) -> Option<u64>
         ensures { Gives result self.new (number_at self.old) }
     {
         let rest = self.rest?;
+        // Most numbers have one digit.
+        if let [digit, space, more @ ..] = rest {
+            if *space == b' ' && digit.is_ascii_digit() {
+                self.rest = Some(more);
+                return Some(u64::from(*digit - b'0'));
+            }
+        }
         let front = number_in_front(rest)?;
         self.rest = behind_first(rest, front.size);
         Some(front.number)
     }
 
     /// Takes the next word as the number of a register.
+    #[inline(always)]
     #[tactic(auto, unfolding(crate::specs::Reading::register_at))]
     pub fn register(&mut self) -> Option<Register>
         ensures { Gives result self.new (register_at self.old) }
