@@ -54,18 +54,14 @@ impl ObjectTable {
     pub fn current_count(&self, capability: Capability) -> u64
         ensures { result ≡ current_count self.now capability }
     {
-        match capability {
-            Capability::Page { object, .. }
-            | Capability::Node { object, .. }
-            | Capability::Space { object, .. } => self.header(object).allocations,
-            Capability::Process(number)
-            | Capability::Start {
-                process: number,
-                ..
-            }
-            | Capability::Bank(number) => self.header(number).allocations,
-            Capability::Resume(process) => self.header(process).calls,
-            Capability::Void | Capability::Number(_) | Capability::Discrim => 0,
+        let Some(number) = capability.named() else {
+            return 0;
+        };
+        let header = self.header(number);
+        if let Capability::Resume(_) = capability {
+            header.calls
+        } else {
+            header.allocations
         }
     }
 

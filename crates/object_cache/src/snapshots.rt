@@ -64,6 +64,7 @@ impl Snapshots {
     }
 
     /// Says where the frozen frame of an object is.
+    #[inline(never)]
     pub(crate) fn set(&mut self, number: u64, snapshot: Snapshot)
         requires { number < length self.old }
         ensures { self.new ≡ slice_set self.old number snapshot }
@@ -87,6 +88,7 @@ impl Snapshots {
 
 // Copies a present object.
 #[tactic(auto, using(capability::proofs::Frames::frame_in))]
+#[inline(never)]
 fn copy_frame(alloc: Global, present: &Plain, number: u64) -> Result<Frame, AllocError>
     requires headers { number < length present.now.headers }
     requires contents { number < length present.now.contents }

@@ -1,8 +1,9 @@
 mod CapabilityTexts
 mod CapabilityWords
 mod Commands
+mod Digits
+mod FirstWords
 mod Fronts
-mod Keywords
 mod Numbers
 mod Spellings
 mod Split

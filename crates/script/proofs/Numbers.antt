@@ -1,5 +1,5 @@
 -- The decimal text of a number, and the words that are one.
-use Rattle.std.proofs.Common.{◌≡◌, ◌≢◌, ℕ, zero, suc, ◌<◌, ◌≤◌, ◌^◌, ◌+◌, ◌-◌, ◌*◌, List, Option, None, Some, length, get_or, take, decimal, sym, ap, ◌∙◌, arith}
+use Rattle.std.proofs.Common.{◌≡◌, ◌≢◌, ℕ, zero, suc, ◌<◌, ◌≤◌, ◌^◌, ◌+◌, ◌-◌, ◌*◌, List, Option, None, Some, length, get_or, take, decimal, sym, ap, subst, ◌∙◌, arith}
 use Rattle.std.specs.Prelude.{IfSome, IfNone}
 use Rattle.std.specs.Int.{IsInRange}
 use Rattle.std.proofs.lemmas.Str.{digit_value_digit}
@@ -7,6 +7,8 @@ use Rattle.std.specs.Str.Parse.{AllDigits, digits_value}
 use Rattle.std.proofs.lemmas.Fmt.{decimal_nonempty, first_decimal, decimal_digit, digits_decimal, digits_value-decimal, decimal-digits_value}
 use Rattle.std.proofs.lemmas.Int.Digits.{digits_value_more, digits_more}
 use Rattle.std.proofs.lemmas.Str.Parse.{IsNumeralModel, numerals_by_value, tells_digits, digits_value-take-le}
+use Rattle.script.specs.Reading.{first_end, first_word}
+use Rattle.script.proofs.FirstWords.{word_reads}
 
 own : IsNumeralModel (AllDigits 10) (digits_value 10)
 own = numerals_by_value (AllDigits 10) tells_digits
@@ -41,6 +43,14 @@ pub value_great : (digits : List ℕ) (i value : ℕ) → i < length digits → 
     → IsInRange 48 57 (get_or digits i 0) → (value * 10 + (get_or digits i 0 - 48) < 2 ^ 64 → ⊥) → 2 ^ 64 ≤ digits_value 10 digits
 value_great digits i value lt is digit great =
     omega (arith, digits_value_more 10 digits i lt, digit_value_digit (get_or digits i 0) digit, digits_value-take-le 10 digits (i + 1) (omega arith), great)
+
+-- of the first word of a text
+pub word_great : (text : List ℕ) (i value : ℕ) → i < first_end text → value ≡ digits_value 10 (take i text)
+    → IsInRange 48 57 (get_or text i 0) → (value * 10 + (get_or text i 0 - 48) < 2 ^ 64 → ⊥) → 2 ^ 64 ≤ digits_value 10 (first_word text)
+word_great text i value lt is digit great =
+    let reads = word_reads text i lt in
+    value_great (first_word text) i value reads.0 (is ∙ ap (λ (w : List ℕ). digits_value 10 w) (sym reads.2))
+    (subst (λ (d : ℕ). IsInRange 48 57 d) (sym reads.1) digit) (λ small. great (subst (λ (d : ℕ). value * 10 + (d - 48) < 2 ^ 64) reads.1 small))
 
 -- what the value of its digits says of a word with no leading zero
 pub number_found : (word : List ℕ) (r : Option ℕ) → 0 < length word → (get_or word 0 0 ≡ 48 → length word ≡ 1)

@@ -1,5 +1,5 @@
 -- The pieces of a line between its spaces.
-use Rattle.std.proofs.Common.{◌≡◌, ℕ, ◌+◌, ◌-◌, ◌==◌, Bool, false, List, [], ◌∷◌, None, Some, length, take, drop, refl, ap, subst, inl, inr, arith}
+use Rattle.std.proofs.Common.{◌≡◌, ℕ, ◌+◌, ◌-◌, ◌==◌, Bool, false, List, [], ◌∷◌, None, Some, length, take, drop, refl, ap, subst, inl, inr, arith, ◌≤◌, ◌<◌}
 use Rattle.std.specs.List.{position, position_or_len}
 use Rattle.std.proofs.lemmas.Bool.{cases_lt, lt-ltb}
 use Rattle.std.proofs.lemmas.List.{take_all, length-drop}
@@ -7,7 +7,7 @@ use Rattle.std.proofs.lemmas.List.Elements.{All-from_get_or}
 use Rattle.std.proofs.lemmas.List.Quantifiers.{position-Some}
 use Rattle.std.proofs.lemmas.List.Splits.{slice_split_none, slice_split_first, length-slice_split}
 use Rattle.std.proofs.lemmas.List.Sums.{position_or_len_is, fails_before_first}
-use Rattle.script.specs.Reading.{words_of}
+use Rattle.script.specs.Reading.{first_end, first_word, words_of}
 
 abbrev is_space : ℕ → Bool
 is_space b = b == 32
@@ -27,6 +27,25 @@ first_piece line i some =
     let whole : take (length line - (i + 1)) (drop (i + 1) line) ≡ drop (i + 1) line = take_all (length line - (i + 1)) (drop (i + 1) line) (omega (arith, length-drop (i + 1) line)) in
     let split = slice_split_first is_space line 0 (omega (arith, at.0)) in
     rw whole (subst (λ (k : ℕ). words_of line ≡ take k line ∷ words_of (drop (k + 1) line)) here split)
+
+-- by where the first word ends
+pub word_and_more : (text : List ℕ) (end : ℕ) → end ≡ first_end text → end < length text
+    → words_of text ≡ first_word text ∷ words_of (take (length text - (end + 1)) (drop (end + 1) text))
+word_and_more text end is within =
+    let split = slice_split_first is_space text 0 (omega (arith, is, within)) in
+    rw (is, take_all (length text - (first_end text + 1)) (drop (first_end text + 1) text) (omega (arith, length-drop (first_end text + 1) text))) split
+
+pub word_alone : (text : List ℕ) (end : ℕ) → end ≡ first_end text → length text ≤ end → words_of text ≡ first_word text ∷ []
+word_alone text end is past =
+    rw (take_all (first_end text) text (omega (arith, is, past)))
+    (slice_split_none is_space text (All-from_get_or (λ b. is_space b ≡ false) text 0 (λ i lt. fails_before_first is_space text i 0 (omega (arith, is, past, lt)))))
+
+pub begins_with_word : (text : List ℕ) → (left : List (List ℕ)) × (words_of text ≡ first_word text ∷ left)
+begins_with_word text =
+    elim (cases_lt (first_end text) (length text)) [
+      | inl lt ↦ (words_of (take (length text - (first_end text + 1)) (drop (first_end text + 1) text)), word_and_more text (first_end text) refl lt)
+      | inr le ↦ ([], word_alone text (first_end text) refl le)
+    ]
 
 pub some_word : (line : List ℕ) → words_of line ≡ [] → ⊥
 some_word line none = let long : length (words_of line) ≡ 0 = ap length none in omega (arith, length-slice_split is_space line)

@@ -1,6 +1,6 @@
 -- Reading the words of a line from left to right.
-use Rattle.std.specs.Prelude.{◌≡◌, ℕ, ◌==◌, ◌&&◌, ◌^◌, nat_lt, if◌then◌else◌, Option, None, Some, List, [], ◌∷◌, decimal}
-use Rattle.std.specs.List.{slice_split}
+use Rattle.std.specs.Prelude.{◌≡◌, ℕ, ◌==◌, ◌&&◌, ◌^◌, nat_lt, if◌then◌else◌, Option, None, Some, List, [], ◌∷◌, decimal, take}
+use Rattle.std.specs.List.{slice_split, position_or_len}
 use Rattle.std.specs.Str.{bytes_eq}
 use Rattle.std.specs.Str.Parse.{digits_value}
 use Rattle.model.specs.declared.command.Command.{Command}
@@ -24,6 +24,13 @@ words_of line = slice_split (λ b. b == 32) line
 abbrev pub words_left : Option (List ℕ) → Words
 words_left None = []
 words_left (Some rest) = words_of rest
+
+-- where the first word of a text ends, and the word
+abbrev pub first_end : List ℕ → ℕ
+first_end text = position_or_len (λ b. b == 32) text
+
+abbrev pub first_word : List ℕ → List ℕ
+first_word text = take (first_end text) text
 
 -- what a reader returned, and the words that it left, are what reading gives
 abbrev pub Gives : {A : Type 0} → Option A → Words → Option (A × Words) → Type 0

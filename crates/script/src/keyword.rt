@@ -21,55 +21,25 @@ pub enum Keyword {
     Cut,
 }
 
-impl Keyword {
-    // Every keyword, the commonest first.
-    const ALL: [Keyword; 13] = [
-        Keyword::Invoke(Operation::Call),
-        Keyword::Invoke(Operation::Return),
-        Keyword::Invoke(Operation::Send),
-        Keyword::Load,
-        Keyword::Store,
-        Keyword::Show,
-        Keyword::Evict,
-        Keyword::Checkpoint,
-        Keyword::Stabilize,
-        Keyword::Commit,
-        Keyword::Migrate,
-        Keyword::Restart,
-        Keyword::Cut,
-    ];
-
-    // The word that says the keyword.
-    fn name(self) -> &'static [u8]
-        ensures { result.now ≡ keyword_name self }
-    {
-        match self {
-            Keyword::Invoke(Operation::Call) => b"call",
-            Keyword::Invoke(Operation::Return) => b"return",
-            Keyword::Invoke(Operation::Send) => b"send",
-            Keyword::Load => b"load",
-            Keyword::Store => b"store",
-            Keyword::Show => b"show",
-            Keyword::Evict => b"evict",
-            Keyword::Checkpoint => b"checkpoint",
-            Keyword::Stabilize => b"stabilize",
-            Keyword::Commit => b"commit",
-            Keyword::Migrate => b"migrate",
-            Keyword::Restart => b"restart",
-            Keyword::Cut => b"cut",
-        }
-    }
-}
-
 /// The keyword that is the word.
 pub fn keyword_of(word: &[u8]) -> Option<Keyword>
     ensures found { IfSome result (λ k. word.now ≡ keyword_name k) }
     ensures none { IfNone result ((k : Keyword) → word.now ≢ keyword_name k) }
 {
-    for keyword in Keyword::ALL {
-        if keyword.name() == word {
-            return Some(keyword);
-        }
+    match word {
+        b"call" => Some(Keyword::Invoke(Operation::Call)),
+        b"return" => Some(Keyword::Invoke(Operation::Return)),
+        b"send" => Some(Keyword::Invoke(Operation::Send)),
+        b"load" => Some(Keyword::Load),
+        b"store" => Some(Keyword::Store),
+        b"show" => Some(Keyword::Show),
+        b"evict" => Some(Keyword::Evict),
+        b"checkpoint" => Some(Keyword::Checkpoint),
+        b"stabilize" => Some(Keyword::Stabilize),
+        b"commit" => Some(Keyword::Commit),
+        b"migrate" => Some(Keyword::Migrate),
+        b"restart" => Some(Keyword::Restart),
+        b"cut" => Some(Keyword::Cut),
+        _ => None,
     }
-    None
 }

@@ -42,6 +42,19 @@ impl LineBuffer {
         }
     }
 
+    /// What it says with these bytes behind it, and begins another. Where nothing was read of it
+    /// before, they are read where they lie.
+    pub fn end_with(&mut self, bytes: &[u8]) -> Line
+        ensures says { (line : List ℕ) → Holds self.old line → Says (line ++ bytes.now) result }
+        ensures begun { Holds self.new [] }
+    {
+        if !self.is_long && self.text.is_empty() {
+            return parse_line(bytes);
+        }
+        self.extend(bytes);
+        self.end()
+    }
+
     /// What it says, and begins another.
     pub fn end(&mut self) -> Line
         ensures says { (line : List ℕ) → Holds self.old line → Says line result }

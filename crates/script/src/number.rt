@@ -1,35 +1,56 @@
 // Numbers in decimal.
-ghost use Rattle.std.specs.Prelude.{◌≡◌, ◌≢◌, ℕ, ◌<◌, ◌≤◌, ◌^◌, IfSome, IfNone, decimal};
+ghost use Rattle.std.specs.Prelude.{◌≡◌, ◌≢◌, ℕ, ◌<◌, ◌≤◌, ◌^◌, IfSome, IfNone, decimal, take};
 ghost use Rattle.std.specs.Str.Parse.{AllDigits, digits_value};
+ghost use Rattle.script.specs.Reading.{first_end, first_word};
 
-// The value of the digits, if they are digits and it is below 2^64.
-fn value_of(digits: &[u8]) -> Option<u64>
-    ensures found { IfSome result (λ n.
-        (n < 2 ^ 64) × AllDigits 10 digits.now × (n ≡ digits_value 10 digits.now)) }
-    ensures none { IfNone result (AllDigits 10 digits.now → 2 ^ 64 ≤ digits_value 10 digits.now) }
-{
-    let mut value: u64 = 0;
-    for digit in digits {
-        if !digit.is_ascii_digit() {
-            return None;
-        }
-        value = value
-            .checked_mul(10)?
-            .checked_add(u64::from(*digit - b'0'))?;
-    }
-    Some(value)
+/// A number that a text begins with.
+#[derive(Clone, Copy)]
+pub struct Front {
+    pub number: u64,
+    /// How many bytes of the text it takes.
+    pub size: usize,
 }
 
-/// The number whose decimal text, without leading zeros, is the word.
-pub fn number_of(word: &[u8]) -> Option<u64>
-    ensures found { IfSome result (λ n. (n < 2 ^ 64) × (word.now ≡ decimal n)) }
-    ensures none { IfNone result ((n : ℕ) → n < 2 ^ 64 → word.now ≢ decimal n) }
+// The value of the first word of a text, if it is digits alone and below 2^64.
+fn value_in_front(text: &[u8]) -> Option<Front>
+    ensures size { IfSome result (λ front. front.size ≡ first_end text.now) }
+    ensures found { IfSome result (λ front. (front.number < 2 ^ 64)
+        × AllDigits 10 (first_word text.now) × (front.number ≡ digits_value 10 (first_word text.now))) }
+    ensures none { IfNone result (AllDigits 10 (first_word text.now)
+        → 2 ^ 64 ≤ digits_value 10 (first_word text.now)) }
 {
-    if word.is_empty() {
+    let mut number: u64 = 0;
+    for (size, byte) in text.iter().enumerate() {
+        if *byte == b' ' {
+            return Some(Front { number, size });
+        }
+        if !byte.is_ascii_digit() {
+            return None;
+        }
+        number = number
+            .checked_mul(10)?
+            .checked_add(u64::from(*byte - b'0'))?;
+    }
+    Some(Front {
+        number,
+        size: text.len(),
+    })
+}
+
+/// The number whose decimal text, without leading zeros, is the first word of a text.
+#[inline(never)]
+pub fn number_in_front(text: &[u8]) -> Option<Front>
+    ensures size { IfSome result (λ front. front.size ≡ first_end text.now) }
+    ensures found { IfSome result (λ front. (front.number < 2 ^ 64)
+        × (first_word text.now ≡ decimal front.number)) }
+    ensures none { IfNone result ((n : ℕ) → n < 2 ^ 64 → first_word text.now ≢ decimal n) }
+{
+    let front = value_in_front(text)?;
+    if front.size == 0 {
         return None;
     }
-    if word.len() > 1 && word[0] == b'0' {
+    if front.size > 1 && text[0] == b'0' {
         return None;
     }
-    value_of(word)
+    Some(front)
 }

@@ -1,9 +1,9 @@
 // The words of a line.
-ghost use Rattle.std.specs.Prelude.{◌≡◌, ◌==◌, [], ◌∷◌, MatchOption, IfSome, IsSome, IsTrue, ◌↔◌, ◌<◌};
+ghost use Rattle.std.specs.Prelude.{◌≡◌, ◌==◌, [], ◌∷◌, MatchOption, IfSome, IsSome, IsTrue, ◌↔◌, ◌<◌, option_map};
 ghost use Rattle.std.specs.List.{position};
-ghost use Rattle.script.specs.Reading.{words_of, Gives, number_at, register_at, numbers_at, registers_at};
+ghost use Rattle.script.specs.Reading.{first_end, first_word, words_left, words_of, Gives, number_at, register_at, numbers_at, registers_at};
 
-use crate::number::number_of;
+use crate::number::number_in_front;
 use model::Register;
 use std::marker::Model;
 
@@ -12,6 +12,19 @@ fn first_space(bytes: &[u8]) -> Option<usize>
     ensures { result ≡ position (λ b. b == 32) bytes.now }
 {
     bytes.iter().position(|byte| *byte == b' ')
+}
+
+// What follows the space behind the first word of a text, if there is a space.
+fn behind_first(text: &[u8], end: usize) -> Option<&[u8]>
+    requires { end ≡ first_end text.now }
+    ensures { words_of text.now ≡ first_word text.now
+        ∷ words_left (option_map (λ rest. rest.now) result) }
+{
+    if end < text.len() {
+        Some(&text[end + 1..])
+    } else {
+        None
+    }
 }
 
 // The register of a number, where a process has it.
@@ -75,14 +88,26 @@ impl<'a> Words<'a> {
     }
 
     /// Takes the next word as a number.
+    #[inline(always)]
     #[tactic(auto, unfolding(crate::specs::Reading::number_at))]
     pub fn number(&mut self) -> Option<u64>
         ensures { Gives result self.new (number_at self.old) }
     {
-        number_of(self.next()?)
+        let rest = self.rest?;
+        // Most numbers have one digit.
+        if let [digit, space, more @ ..] = rest {
+            if *space == b' ' && digit.is_ascii_digit() {
+                self.rest = Some(more);
+                return Some(u64::from(*digit - b'0'));
+            }
+        }
+        let front = number_in_front(rest)?;
+        self.rest = behind_first(rest, front.size);
+        Some(front.number)
     }
 
     /// Takes the next word as the number of a register.
+    #[inline(always)]
     #[tactic(auto, unfolding(crate::specs::Reading::register_at))]
     pub fn register(&mut self) -> Option<Register>
         ensures { Gives result self.new (register_at self.old) }

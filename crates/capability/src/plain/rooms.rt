@@ -56,6 +56,7 @@ fn put_one(
 
 // A blank node for a number of a node, else a blank page.
 #[tactic(auto, unfolding(model::specs::Object::all_slots, model::specs::Object::zero_words))]
+#[inline(never)]
 fn blank(alloc: Global, geometry: Geometry, number: u64) -> Result<Content<Cap>, AllocError>
     ensures { IfOk result (λ content. content ≡ room_at geometry number) }
 {

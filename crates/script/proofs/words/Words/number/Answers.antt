@@ -1,5 +1,24 @@
+use Rattle.std.proofs.Common.{◌≡◌, ◌∙◌, sym, ap, None, Some, option_map}
+use Rattle.script.specs.Reading.{number_at, first_word, words_left, words_of}
 use Rattle.script.proofs.Commands.{number_gives}
+use Rattle.script.proofs.Digits.{digit_alone}
+use Rattle.script.proofs.Split.{begins_with_word}
 use Rattle.script.proofs.words.Words.number.Goals as goal
 
+pub returns-in_err-front : goal.returns-in_err-front
+returns-in_err-front c =
+    let view : words_of c.in_ok-rest.rest.now ≡ c.args.self.now = rw c.in_ok-rest.was at c.self.view_is in
+    let words = begins_with_word c.in_ok-rest.rest.now in
+    rw c.from_residual-in_err-front.ensures
+    (number_gives None (first_word c.in_ok-rest.rest.now) c.args.self.now words.0 (sym view ∙ words.1) tt c.in_err-front.ensures.none)
+
 pub returns : goal.returns
-returns c = number_gives c.number_of.result c.in_ok-next.field-0.now c.args.self.now c.next.new.self c.in_ok-next.ensures c.number_of.ensures.found c.number_of.ensures.none
+returns c =
+    let view : words_of c.in_ok-rest.rest.now ≡ c.args.self.now = rw c.in_ok-rest.was at c.self.view_is in
+    number_gives (Some c.in_ok-front.front.number) (first_word c.in_ok-rest.rest.now) c.args.self.now (words_left (option_map (λ r. r.now) c.behind_first-self-inside.result))
+    (sym view ∙ c.behind_first-self-inside.ensures) c.in_ok-front.ensures.found tt
+
+pub returns-then-is_ascii_digit : goal.returns-then-is_ascii_digit
+returns-then-is_ascii_digit c =
+    let view : words_of c.in_ok-rest.rest.now ≡ c.args.self.now = rw c.in_ok-rest.was at c.self.view_is in
+    ap number_at (sym view) ∙ digit_alone c.in_ok-rest.rest.now c.from.result c.in-len2-up.len_at_least c.if-space-eq32.true c.if-is_ascii_digit.ensures.cases c.from.ensures

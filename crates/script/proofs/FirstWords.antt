@@ -1,0 +1,43 @@
+-- The first word of a text, up to a space or the end.
+use Rattle.std.proofs.Common.{◌≡◌, ◌≢◌, ℕ, ◌<◌, ◌≤◌, ◌==◌, Bool, List, length, get_or, take, inl, inr, arith}
+use Rattle.std.proofs.lemmas.Bool.{cases_lt}
+use Rattle.std.proofs.lemmas.Bool.Decides.{nat_tests}
+use Rattle.std.proofs.lemmas.List.{get_or-take, length-take-le, take-take}
+use Rattle.std.proofs.lemmas.List.Sums.{fails_before_first, passes_at_first, prefix_len-le-length}
+use Rattle.script.specs.Reading.{first_end, first_word}
+
+abbrev is_space : ℕ → Bool
+is_space b = b == 32
+
+pub first_end_within : (text : List ℕ) → first_end text ≤ length text
+first_end_within text = prefix_len-le-length _ text
+
+-- it ends at the first space
+pub ends_here : (text : List ℕ) (i : ℕ) → i ≤ first_end text → i < length text → get_or text i 0 ≡ 32 → i ≡ first_end text
+ends_here text i before lt space =
+    elim (cases_lt i (first_end text)) [
+      | inl earlier ↦ let other = fails_before_first is_space text i 0 earlier in absurd (grind (arith, nat_tests))
+      | inr le ↦ omega arith
+    ]
+
+pub goes_on : (text : List ℕ) (i : ℕ) → i ≤ first_end text → i < length text → get_or text i 0 ≢ 32 → i < first_end text
+goes_on text i before lt other =
+    elim (cases_lt i (first_end text)) [
+      | inl earlier ↦ earlier
+      | inr le ↦
+          let here : first_end text ≡ i = omega arith in
+          let space = passes_at_first is_space text 0 (omega arith) in
+          absurd (other (grind (arith, nat_tests)))
+    ]
+
+pub word_length : (text : List ℕ) → length (first_word text) ≡ first_end text
+word_length text = length-take-le (first_end text) text (first_end_within text)
+
+-- its bytes are those of the text
+pub word_reads : (text : List ℕ) (i : ℕ) → i < first_end text
+    → (i < length (first_word text)) × (get_or (first_word text) i 0 ≡ get_or text i 0) × (take i (first_word text) ≡ take i text)
+word_reads text i lt = (
+  omega (arith, word_length text),
+  get_or-take (first_end text) text i 0 lt,
+  take-take i (first_end text) text (omega arith),
+)

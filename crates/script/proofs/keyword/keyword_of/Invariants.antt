@@ -1,7 +1,0 @@
-use Rattle.std.proofs.Common.{◌≢◌, ℕ, ◌<◌, get_or}
-use Rattle.script.specs.declared.keyword.Keyword.TheVariants.{Cut}
-use Rattle.script.specs.Keywords.{keyword_name}
-use Rattle.script.proofs.keyword.keyword_of.Given as goal
-
-abbrev pub invariant-loop-keyword : goal.invariant-loop-keyword
-invariant-loop-keyword l = (i : ℕ) → i < l.keyword-index → l.word ≢ keyword_name (get_or l.keyword-items i Cut)

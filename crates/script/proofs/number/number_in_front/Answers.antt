@@ -1,0 +1,28 @@
+use Rattle.std.proofs.Common.{◌∙◌, None, Some, arith}
+use Rattle.script.specs.Reading.{first_word}
+use Rattle.script.proofs.FirstWords.{word_length, word_reads}
+use Rattle.script.proofs.Numbers.{decimal_not_empty, decimal_no_zero, number_found, number_none}
+use Rattle.script.proofs.number.number_in_front.Goals as goal
+use Rattle.script.proofs.number.number_in_front.Goals.{else-front-gt1-via-then-front-gt1+else-text-eq48, else-front-gt1-via-else-front-gt1}
+
+pub returns-in_err-front-clause-none : goal.returns-in_err-front-clause-none
+returns-in_err-front-clause-none c = rw c.from_residual.ensures (number_none (first_word c.args.text.now) None c.in_err-front.ensures.none)
+
+pub returns-then-front-eq0-clause-none : goal.returns-then-front-eq0-clause-none
+returns-then-front-eq0-clause-none c = λ n small is.
+    omega (arith, decimal_not_empty (first_word c.args.text.now) n small is, word_length c.args.text.now, c.in_ok-front.ensures.size, c.if-front-eq0.true)
+
+pub returns-then-text-eq48-clause-none : goal.returns-then-text-eq48-clause-none
+returns-then-text-eq48-clause-none c = λ n small is.
+    decimal_no_zero (first_word c.args.text.now) n small is (omega (arith, word_length c.args.text.now, c.in_ok-front.ensures.size, c.if-front-gt1.true))
+    ((word_reads c.args.text.now 0 (omega (arith, c.in_ok-front.ensures.size, c.if-front-gt1.true))).1 ∙ c.if-text-eq48.true)
+
+pub returns-clause-found : goal.returns-clause-found
+returns-clause-found c =
+    let long = word_length c.args.text.now in
+    let some = word_reads c.args.text.now 0 (omega (arith, c.in_ok-front.ensures.size, c.if-front-eq0.false)) in
+    number_found (first_word c.args.text.now) (Some c.in_ok-front.front.number) some.0
+    (λ zero. elim c.else-front-gt1.branch [
+      | else-front-gt1-via-then-front-gt1+else-text-eq48 w ↦ absurd (omega (arith, some.1, zero, w.if-text-eq48.false))
+      | else-front-gt1-via-else-front-gt1 w ↦ omega (arith, some.0, long, c.in_ok-front.ensures.size, w.if-front-gt1.false)
+    ]) c.in_ok-front.ensures.found

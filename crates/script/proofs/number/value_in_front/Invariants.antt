@@ -1,0 +1,12 @@
+use Rattle.std.proofs.Common.{◌≡◌, ◌<◌, ◌≤◌, ◌^◌, take}
+use Rattle.std.specs.Str.Parse.{AllDigits, digits_value}
+use Rattle.script.specs.Reading.{first_end}
+use Rattle.script.proofs.number.value_in_front.Given as goal
+
+abbrev pub invariant-loop-size : goal.invariant-loop-size
+invariant-loop-size l = record {
+  small : l.number < 2 ^ 64;
+  first : l.size ≤ first_end l.text;
+  digits : AllDigits 10 (take l.size l.text);
+  value : l.number ≡ digits_value 10 (take l.size l.text);
+}
