@@ -2,10 +2,14 @@
 #![tactic(auto)]
 
 mod arena;
+mod cache;
 mod capacity;
 mod entries;
 mod entry;
+mod held;
 
+pub use cache::BoundedCache;
 pub use capacity::Capacity;
 pub use entries::Entries;
 pub use entry::Entry;
+pub use held::Held;
