@@ -19,8 +19,8 @@ use std::alloc::{AllocError, Global};
 use std::marker::Model;
 use std::mem;
 
-mod rooms;
-mod touched;
+pub mod rooms;
+pub mod touched;
 mod worlds;
 
 /// All objects in memory, by number, which numbers were written, and the age.

@@ -8,5 +8,5 @@ mod snapshots;
 mod store;
 
 pub use migrator::{Checkpoint, CheckpointFault, OpenFault, OpenRefused};
-pub use plain_store::PlainStore;
+pub use plain_store::{PlainStore, held};
 pub use store::ObjectStore;

@@ -19,6 +19,8 @@ mod checkpoint;
 mod open;
 mod stages;
 
+pub use open::held;
+
 /// An object store that holds all present objects in memory, from its opening on.
 #[derive(Drop)]
 pub struct PlainStore<D: Device> {

@@ -54,10 +54,10 @@ fn put_one(
     Ok(())
 }
 
-// A blank node for a number of a node, else a blank page.
+/// A blank node for a number of a node, else a blank page. Fails only where memory runs out.
 #[tactic(auto, unfolding(model::specs::Object::all_slots, model::specs::Object::zero_words))]
 #[inline(never)]
-fn blank(alloc: Global, geometry: Geometry, number: u64) -> Result<Content<Cap>, AllocError>
+pub fn blank(alloc: Global, geometry: Geometry, number: u64) -> Result<Content<Cap>, AllocError>
     ensures { IfOk result (λ content. content ≡ room_at geometry number) }
 {
     if number < geometry.nodes {

@@ -27,8 +27,9 @@ struct Objects {
     snapshots: Snapshots,
 }
 
-// What an object holds, of which the body was read, in memory of its own.
-fn held(alloc: Global, body: Body, room: &Room) -> Result<Content<Cap>, AllocError>
+/// What an object holds, of which the body was read, in memory of its own. The slots of a node or
+/// an annex and the words of a page are those in `room`. Fails only where memory runs out.
+pub fn held(alloc: Global, body: Body, room: &Room) -> Result<Content<Cap>, AllocError>
     ensures { IfOk result (λ content. content ≡ content_of body room.now.slots room.now.words) }
 {
     match body {

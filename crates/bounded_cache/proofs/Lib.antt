@@ -1,0 +1,5 @@
+mod Lists
+mod Arenas
+mod Orders
+mod Changing
+mod Objects

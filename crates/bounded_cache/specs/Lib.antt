@@ -1,0 +1,5 @@
+pub use Rattle.object_cache.specs.Store
+pub mod Entries
+pub mod Order
+pub mod Memory
+pub mod Cache

@@ -1,0 +1,136 @@
+// The object store that holds so many objects in memory.
+ghost use Rattle.std.specs.Prelude.{◌≡◌, ◌<◌, ◌≤◌, slice_set};
+ghost use Rattle.std.specs.Borrow.{Lends, sem};
+ghost use Rattle.model.specs.contracts.object.Content.{the_row as content_row};
+ghost use Rattle.model.specs.contracts.capability.Cap.{the_row as cap_row};
+ghost use Rattle.model.specs.Frame.{header_at, held_at, given_up, owned_by, called};
+ghost use Rattle.model.specs.Machine.{touched_count};
+ghost use Rattle.migrator.specs.Durable.{stored_of};
+
+use crate::entries::Entries;
+use crate::held::Held;
+use capability::ObjectTable;
+use device::Device;
+use layout::Room;
+use migrator::Durable;
+use model::{Cap, Content, Geometry};
+use number_set::NumberSet;
+use std::marker::Model;
+
+/// An object store that holds no more than so many objects in memory. The others lie on the device.
+///
+/// The headers of all objects are always in memory.
+#[derive(Drop)]
+pub struct BoundedCache<D: Device> {
+    durable: Durable<D>,
+    table: ObjectTable,
+    /// The numbers written since the last checkpoint began.
+    touched: NumberSet,
+    /// How many they are.
+    count: u64,
+    /// Those of them that weren't put since they were written.
+    dirty: NumberSet,
+    entries: Entries,
+    /// The numbers whose frozen frame isn't in its slot.
+    pending: NumberSet,
+    /// The headers of all objects as they were frozen.
+    frozen_headers: ObjectTable,
+    /// How many objects of a checkpoint on its way are said to be left.
+    left: u64,
+    /// A body that is in no entry, and perhaps no longer in its slot.
+    hand: Option<Held>,
+    room: Room,
+}
+
+impl<D: Device> Model for BoundedCache<D> {
+    ghost use Rattle.std.specs.Prelude.{◌≤◌};
+    ghost use Rattle.migrator.specs.Durable.{stored_of};
+    ghost use Rattle.bounded_cache.specs.Memory.{memory_of};
+    ghost use Rattle.bounded_cache.specs.Cache.{CacheState, IsCache, cache_of};
+
+    ghost Value = { CacheState D };
+
+    ghost view = { λ s. cache_of D.disk s.durable
+        (memory_of s.table s.frozen_headers s.touched s.dirty s.pending s.entries.at s.hand)
+        s.left s.entries.order s.entries.most };
+
+    ghost invariant = { λ s. IsCache (stored_of D.disk s.durable)
+        (memory_of s.table s.frozen_headers s.touched s.dirty s.pending s.entries.at s.hand)
+        s.left s.count × (8 ≤ s.entries.most) };
+}
+
+impl<D: Device> BoundedCache<D> {
+    ghost use Rattle.bounded_cache.specs.Cache.{IsFetchedIn, IsAnnouncedIn, with_content_in};
+    ghost use Rattle.bounded_cache.specs.contracts.cache.BoundedCache.{the_row};
+
+    /// How much there is room for.
+    pub fn geometry(&self) -> Geometry
+        ensures geometry { result ≡ (stored_of D.disk self.now.durable).saved.geometry }
+        ensures within { touched_count self.now.touched ≤ (stored_of D.disk self.now.durable).saved.geometry.log }
+    {
+        self.durable.geometry()
+    }
+
+    /// The headers of all objects.
+    pub fn table(&self) -> &ObjectTable
+        ensures { result.now ≡ self.now.headers }
+    {
+        &self.table
+    }
+
+    /// What an object holds that is in memory.
+    pub fn frame(&self, number: u64) -> &Content<Cap>
+        requires { IsFetchedIn self.now number }
+        ensures { result.now ≡ held_at self.now.contents number }
+    {
+        self.entries.present(number)
+    }
+
+    /// Lends what an object holds that is in memory, to be changed.
+    pub fn frame_mut(&mut self, number: u64) -> &mut Content<Cap>
+        requires fetched { IsFetchedIn self.old number }
+        requires announced { IsAnnouncedIn D.disk self.old number }
+        ensures* writes_back { sem 𝓛 (Lends (the_row D.row D.Device) (content_row cap_row) self.entry result
+            (with_content_in self.old number)) }
+        ensures value { result.now ≡ held_at self.old.contents number }
+    {
+        self.entries.present_mut(number)
+    }
+
+    /// Gives an object another owner.
+    pub fn set_owner(&mut self, number: u64, bank: u64)
+        requires { IsAnnouncedIn D.disk self.old number }
+        ensures { self.new ≡ record self.old {
+          headers = slice_set self.old.headers number
+              (owned_by bank (header_at self.old.headers number));
+        } }
+    {
+        self.table.set_owner(number, bank);
+    }
+
+    /// Gives the right to resume a process up: its call count is one more.
+    pub fn consume(&mut self, root: u64)
+        requires announced { IsAnnouncedIn D.disk self.old root }
+        requires calls { (header_at self.old.headers root).calls < u64.MAX }
+        ensures { self.new ≡ record self.old {
+          headers = slice_set self.old.headers root
+              (called (header_at self.old.headers root));
+        } }
+    {
+        self.table.consume(root);
+    }
+
+    /// Gives an object up: it is free, and both of its counts are one more.
+    pub fn reset(&mut self, number: u64)
+        requires announced { IsAnnouncedIn D.disk self.old number }
+        requires allocations { (header_at self.old.headers number).allocations < u64.MAX }
+        requires calls { (header_at self.old.headers number).calls < u64.MAX }
+        ensures { self.new ≡ record self.old {
+          headers = slice_set self.old.headers number (given_up (header_at self.old.headers number));
+          contents = slice_set self.old.contents number Content.Free;
+        } }
+    {
+        self.entries.free(number);
+        self.table.rescind(number);
+    }
+}

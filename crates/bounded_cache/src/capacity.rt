@@ -1,0 +1,48 @@
+// How much a bounded cache holds.
+ghost use Rattle.std.specs.Prelude.{◌≡◌, ◌≤◌, ◌↔◌, IfSome, IsSome};
+
+use std::marker::Model;
+
+/// The least capacity: as many objects as are ever wanted at a time.
+pub const LEAST_CAPACITY: u64 = 8;
+
+/// The greatest capacity: as many objects as an image has at most.
+pub const GREATEST_CAPACITY: u64 = 8192;
+
+/// How many objects a bounded cache holds at most, 8 to 8192.
+#[derive(Clone, Copy, PartialEq, Eq, Debug)]
+pub struct Capacity(u64);
+
+impl Model for Capacity {
+    ghost use Rattle.std.specs.Prelude.{ℕ, ◌≤◌};
+
+    ghost Value = { ℕ };
+
+    ghost view = { λ c. c.0 };
+
+    ghost inverse = { λ n. record { 0 = n } };
+
+    ghost invariant = { λ c. (8 ≤ c.0) × (c.0 ≤ 8192) };
+}
+
+impl Capacity {
+    /// The capacity of so many objects, where there is such a one.
+    pub fn new(count: u64) -> Option<Capacity>
+        ensures capacity { IfSome result (λ c. c ≡ count) }
+        ensures some { IsSome result ↔ ((8 ≤ count) × (count ≤ 8192)) }
+    {
+        if count < LEAST_CAPACITY || count > GREATEST_CAPACITY {
+            return None;
+        }
+        Some(Capacity(count))
+    }
+
+    /// How many objects that is.
+    pub fn count(self) -> u64
+        ensures value { result ≡ self }
+        ensures least { 8 ≤ result }
+        ensures greatest { result ≤ 8192 }
+    {
+        self.0
+    }
+}

@@ -1,0 +1,15 @@
+//! The object store that holds so many objects in memory, of which the others lie on the device.
+#![tactic(auto)]
+
+mod arena;
+mod cache;
+mod capacity;
+mod entries;
+mod entry;
+mod held;
+
+pub use cache::BoundedCache;
+pub use capacity::Capacity;
+pub use entries::Entries;
+pub use entry::Entry;
+pub use held::Held;
