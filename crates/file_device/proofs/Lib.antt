@@ -1,2 +1,3 @@
 mod Copies
+mod Deeds
 mod Walks

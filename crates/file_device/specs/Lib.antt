@@ -1,6 +1,7 @@
 pub mod Codes
 pub mod FileDevice
 pub mod Known
+pub mod RawCalls
 pub mod Sound
 pub mod SoundLaws
 pub mod Steps

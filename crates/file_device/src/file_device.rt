@@ -8,6 +8,7 @@ use crate::host_file::HostFile;
 use crate::sector_file::SectorFile;
 use device::sectors::put;
 use device::{Device, Failed, SECTOR_SIZE};
+use std::fs::File;
 
 /// A device in a file, and a copy of its sectors.
 ///
@@ -24,7 +25,7 @@ pub struct CopiedFile<F: SectorFile> {
 }
 
 /// A device in a file of the operating system.
-pub type FileDevice = CopiedFile<HostFile>;
+pub type FileDevice = CopiedFile<HostFile<File>>;
 
 impl<F: SectorFile> CopiedFile<F> {
     ghost use Rattle.file_device.specs.FileDevice.{file_disk};

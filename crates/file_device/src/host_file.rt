@@ -1,37 +1,70 @@
-// A file of the operating system.
-ghost use Rattle.std.specs.Prelude.{◌≡◌, ◌<◌, ◌≤◌, ◌+◌, ◌*◌, [], nat_lt, IsTrue, IsOk, ◌↔◌, OnOk, OnErr};
-ghost use Rattle.std.specs.Io.Seek.{MovesTo};
-ghost use Rattle.std.specs.Io.KnownBytes.{Keeps};
+// A file of the operating system, as a file of sectors.
+ghost use Rattle.std.specs.Prelude.{◌≡◌, ◌≤◌, [], false, nat_lt, length, take, IfSome, IsOk, OnOk};
+ghost use Rattle.file_device.specs.RawCalls.{Adds, Takes, Tells, WritesAt, calls_of, syncs};
 
 use crate::history::{History, Step};
+use crate::raw_file::RawFile;
 use crate::sector_file::SectorFile;
 use device::{Failed, SECTOR_SIZE};
-use std::fs::File;
-use std::io::{self, Seek, SeekFrom, Write};
+use std::io::ErrorKind;
 
 /// An open file of the operating system, which nothing else writes to.
+///
+/// What is told to have been done to it is what its calls did, as long as none has failed.
 #[derive(Drop)]
-pub struct HostFile {
-    file: File,
+pub struct HostFile<F: RawFile> {
+    file: F,
     // A call has failed.
     is_broken: bool,
     history: History,
     ghost broken: { is_broken ≡ nat_lt 0 history.failures },
+    ghost told: { is_broken ≡ false → ∥ Tells history.events (F.calls file) ∥₁ },
 }
 
-// Goes to the sector `at`.
-fn seek_sector<S: Seek>(file: &mut S, at: u64) -> io::Result<()>
-    requires { at ≤ 131072 }
-    ensures moves { MovesTo (S.stream_position file.old) (S.stream_position file.new) (512 * at) result }
-    ensures bytes { Keeps (S.stream_bytes file.old) (S.stream_bytes file.new) }
+// Writes all of the bytes, where the file stands. A call that was interrupted is made again.
+fn put_fully<F: RawFile>(file: &mut F, from: &[u8]) -> Result<(), Failed>
+    ensures { OnOk result (Takes (F.calls file.old) (F.calls file.new) from.now) }
 {
-    file.seek(SeekFrom::Start(at * SECTOR_SIZE as u64))?;
-    Ok(())
+    let mut done = 0;
+    for _ in 0..u64::MAX {
+        if done == from.len() {
+            return Ok(());
+        }
+        match file.put(&from[done..]) {
+            Ok(0) => return Err(Failed),
+            Ok(count) => done += count,
+            Err(error) => {
+                if error.kind() != ErrorKind::Interrupted {
+                    return Err(Failed);
+                }
+            }
+        }
+    }
+    Err(Failed)
 }
 
-impl HostFile {
+// Writes these sectors from `at` on.
+fn put_sectors<F: RawFile>(file: &mut F, at: u64, from: &[u8]) -> Result<(), Failed>
+    requires { at ≤ 131072 }
+    ensures { OnOk result (WritesAt at (F.calls file.old) (F.calls file.new) from.now) }
+{
+    match file.go_to(at * SECTOR_SIZE as u64) {
+        Ok(_) => put_fully(file, from),
+        Err(_) => Err(Failed),
+    }
+}
+
+// Makes durable what was written.
+fn sync_all<F: RawFile>(file: &mut F) -> Result<(), Failed>
+    ensures { OnOk result (Adds (F.calls file.old) (F.calls file.new) (calls_of syncs)) }
+{
+    file.keep().map_err(|_| Failed)
+}
+
+impl<F: RawFile> HostFile<F> {
     /// A file that holds these bytes, on which nothing has been done.
-    pub(crate) fn new(file: File, bytes: &[u8]) -> HostFile
+    pub(crate) fn new(file: F, bytes: &[u8]) -> HostFile<F>
+        requires { IfSome (F.calls file) (λ calls. calls ≡ []) }
         ensures first { result.history.first ≡ bytes.now }
         ensures events { result.history.events ≡ [] }
         ensures failures { result.history.failures ≡ 0 }
@@ -42,34 +75,9 @@ impl HostFile {
             history: History::new(bytes),
         }
     }
-
-    // Writes to the file, and leaves its history as it is.
-    fn write_through(&mut self, at: u64, from: &[u8]) -> io::Result<()>
-        requires { at ≤ 131072 }
-        ensures { self.new.history ≡ self.old.history }
-    {
-        seek_sector(&mut self.file, at)?;
-        self.file.write_all(from)
-    }
-
-    // Answers whether a call went well, and notes a failure.
-    fn answer(&mut self, is_done: bool) -> Result<(), Failed>
-        ensures done { IsOk result ↔ IsTrue is_done }
-        ensures first { self.new.history.first ≡ self.old.history.first }
-        ensures events { self.new.history.events ≡ self.old.history.events }
-        ensures ok { OnOk result (self.new.history.failures ≡ self.old.history.failures) }
-        ensures err { OnErr result (self.new.history.failures ≡ self.old.history.failures + 1) }
-    {
-        if is_done {
-            return Ok(());
-        }
-        self.is_broken = true;
-        self.history = self.history.then(&Step::Failed);
-        Err(Failed)
-    }
 }
 
-impl SectorFile for HostFile {
+impl<F: RawFile> SectorFile for HostFile<F> {
     ghost first = { λ f. f.history.first };
 
     ghost events = { λ f. f.history.events };
@@ -77,17 +85,24 @@ impl SectorFile for HostFile {
     ghost failures = { λ f. f.history.failures };
 
     fn write(&mut self, at: u64, from: &[u8]) -> Result<(), Failed> {
-        let is_written = !self.is_broken && self.write_through(at, from).is_ok();
-        self.history = self.history.then(&Step::Wrote { at, bytes: from });
-        self.answer(is_written)
+        let history = self.history.then(&Step::Wrote { at, bytes: from });
+        if !self.is_broken && put_sectors(&mut self.file, at, from).is_ok() {
+            self.history = history;
+            return Ok(());
+        }
+        self.is_broken = true;
+        self.history = history.then(&Step::Failed);
+        Err(Failed)
     }
 
     fn sync(&mut self) -> Result<(), Failed> {
-        let is_synced = !self.is_broken && self.file.sync_data().is_ok();
-        if is_synced {
+        if !self.is_broken && sync_all(&mut self.file).is_ok() {
             self.history = self.history.then(&Step::Synced);
+            return Ok(());
         }
-        self.answer(is_synced)
+        self.is_broken = true;
+        self.history = self.history.then(&Step::Failed);
+        Err(Failed)
     }
 
     fn power_cut(&mut self) {

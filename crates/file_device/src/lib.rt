@@ -8,6 +8,7 @@ mod file_device;
 mod history;
 mod host_file;
 mod open;
+mod raw_file;
 mod sector_file;
 #[cfg(test)]
 mod tests;
@@ -15,4 +16,5 @@ mod tests;
 pub use fault::FileFault;
 pub use file_device::{CopiedFile, FileDevice};
 pub use host_file::HostFile;
+pub use raw_file::RawFile;
 pub use sector_file::SectorFile;

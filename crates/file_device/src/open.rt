@@ -110,7 +110,7 @@ fn sync_folder(rt: &HostRuntime, path: &str) -> Result<(), FileFault> {
     Ok(())
 }
 
-impl CopiedFile<HostFile> {
+impl CopiedFile<HostFile<File>> {
     /// The device in the file at `path`, which has to be there. Its sectors are the whole ones of
     /// the file: what comes after the last of them is left as it is. The file is synced before it
     /// is read, so what a read of the device gives at first is durable. Until the device is dropped no other is open

@@ -1,6 +1,6 @@
 use Rattle.std.proofs.Common.{◌*◌, ◌∙◌, arith}
 use Rattle.device.proofs.Flat.{zeros_are}
-use Rattle.file_device.proofs.open.CopiedFile+HostFile.create.Goals as goal
+use Rattle.file_device.proofs.open.CopiedFile+HostFile+File.create.Goals as goal
 
 pub returns-clause-zeros : goal.returns-clause-zeros
 returns-clause-zeros c i lt =

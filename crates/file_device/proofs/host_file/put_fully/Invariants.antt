@@ -1,0 +1,9 @@
+use Rattle.std.proofs.Common.{◌≤◌, length, take}
+use Rattle.file_device.specs.RawCalls.{Takes}
+use Rattle.file_device.proofs.host_file.put_fully.Given as goal
+
+abbrev pub invariant-loop : goal.invariant-loop
+invariant-loop g l = record {
+  within : l.done ≤ length l.from;
+  taken : Takes (g.F.RawFile.calls l.fn.file) (g.F.RawFile.calls l.file) (take l.done l.from);
+}
