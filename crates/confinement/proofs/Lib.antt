@@ -1,4 +1,5 @@
 mod Banks
+mod ConfinedWorld
 mod Gates
 mod Kept
 mod Orders

@@ -1,1 +1,2 @@
 pub mod Confinement
+pub mod Worked

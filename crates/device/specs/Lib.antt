@@ -1,12 +1,4 @@
 pub mod Calls
 pub mod Disk
-pub mod Fuse
-pub mod Memory
-pub mod Mirror
 pub mod Moments
 pub mod Ordered
-pub mod Past
-pub mod PastLaws
-pub mod Record
-pub mod Sound
-pub mod SoundLaws

@@ -1,10 +1,11 @@
 // Tests of each device.
 ghost use Rattle.std.specs.Prelude.{◌≡◌, ◌≤◌, ◌+◌, IfOk};
-ghost use Rattle.device.specs.Memory.{memory_disk};
-ghost use Rattle.device.specs.Fuse.{fused};
+ghost use Rattle.memory_device.specs.Memory.{memory_disk};
+ghost use Rattle.memory_device.specs.Fuse.{fused};
 ghost use Rattle.device.specs.Calls.{Only};
 
-use device::{Device, Failed, Fuse, Memory, Outcome, write_in_order};
+use device::{Device, Failed, write_in_order};
+use memory_device::{Fuse, Memory, Outcome};
 use std::alloc::Global;
 use std::process::Abort;
 use std::test::Fail;

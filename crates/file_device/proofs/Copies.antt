@@ -1,14 +1,14 @@
 -- Each call keeps the copy and the file in accord.
 use Rattle.std.proofs.Common.{◌≡◌, ◌<◌, ◌≤◌, ℕ, ◌+◌, ◌-◌, ◌*◌, List, [], ◌∷◌, ◌++◌, length, All, Result, Ok, Err, OnOk, OnErr, refl, sym, ◌∙◌, ap, subst, arith, inl, ⊎_elim}
 use Rattle.std.proofs.lemmas.Bool.{cases_lt}
-use Rattle.device.specs.declared.record.Outcome.TheVariants.{Keep}
+use Rattle.memory_device.specs.declared.record.Outcome.TheVariants.{Keep}
 use Rattle.device.specs.Disk.{IsWhole}
 use Rattle.device.specs.Calls.{Elsewhere, AreSectors, sectors_of, image_of, Narrows, Tears, Only}
 use Rattle.device.specs.Moments.{Elapses}
-use Rattle.device.specs.Past.{Event, synced, cut, State, at_first, after, MayLeave, disk_of, writes_of}
-use Rattle.device.specs.PastLaws.{image_whole}
-use Rattle.device.proofs.Past.{replay-append, replay-one, written-durable}
-use Rattle.device.proofs.Disks as Disks
+use Rattle.memory_device.specs.Past.{Event, synced, cut, State, at_first, after, MayLeave, disk_of, writes_of}
+use Rattle.memory_device.specs.PastLaws.{image_whole}
+use Rattle.memory_device.proofs.Past.{replay-append, replay-one, written-durable}
+use Rattle.memory_device.proofs.Disks as Disks
 use Rattle.file_device.specs.Sound.{IsCopy, now_of}
 use Rattle.file_device.specs.SoundLaws.{present_whole, unwritten_same}
 

@@ -7,7 +7,7 @@ use Rattle.std.proofs.lemmas.List.Concat.{flat_map-append}
 use Rattle.std.proofs.lemmas.List.Folds.{concat-append}
 use Rattle.std.specs.List.{concat}
 use Rattle.device.specs.Calls.{sectors_of}
-use Rattle.device.specs.Past.{Event, writes_of}
+use Rattle.memory_device.specs.Past.{Event, writes_of}
 use Rattle.file_device.specs.RawCalls.{Adds, Call, went, took, Deed, writes, calls_of, events_by, Takes, Tells, WritesAt}
 
 adds_more : (a b c : Option (List Call)) (xs ys : List Call) → Adds a b xs → Adds b c ys → Adds a c (xs ++ ys)

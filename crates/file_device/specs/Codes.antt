@@ -1,8 +1,8 @@
 -- How the logic stores an event of a device.
 use Rattle.std.specs.Prelude.{◌≡◌, ℕ, zero, suc, List, [], refl}
 use Rattle.std.specs.Coded.{Coded, code_by, coded×, coded_ℕ, coded_list}
-use Rattle.device.specs.declared.record.Outcome.TheVariants.{Keep, Drop, Fill}
-use Rattle.device.specs.Past.{Event, wrote, synced, cut}
+use Rattle.memory_device.specs.declared.record.Outcome.TheVariants.{Keep, Drop, Fill}
+use Rattle.memory_device.specs.Past.{Event, wrote, synced, cut}
 
 -- which event, a number and bytes
 abbrev Parts : Type 0

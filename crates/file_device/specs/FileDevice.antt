@@ -1,7 +1,7 @@
 -- A device in a file.
 use Rattle.device.specs.Disk.{Disk}
 use Rattle.device.specs.Calls.{image_of}
-use Rattle.device.specs.Past.{disk_of}
+use Rattle.memory_device.specs.Past.{disk_of}
 use Rattle.file_device.specs.declared.file_device.CopiedFile.{CopiedFile}
 use Rattle.file_device.specs.declared.sector_file.SectorFile as files
 

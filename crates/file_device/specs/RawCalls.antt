@@ -1,9 +1,9 @@
 -- The calls of a file of the operating system, and what they do to its sectors.
 use Rattle.std.specs.Prelude.{◌≡◌, ℕ, ◌*◌, List, [], ◌∷◌, ◌++◌, map, Option, None, Some, ⊤}
 use Rattle.std.specs.List.{concat, flat_map}
-use Rattle.device.specs.declared.record.Outcome.TheVariants.{Keep}
+use Rattle.memory_device.specs.declared.record.Outcome.TheVariants.{Keep}
 use Rattle.device.specs.Calls.{sectors_of}
-use Rattle.device.specs.Past.{Event, synced, cut, writes_of}
+use Rattle.memory_device.specs.Past.{Event, synced, cut, writes_of}
 
 -- a call that went well: to a byte, bytes taken from there on, or what was written made durable
 pub data Call : Type 0 where

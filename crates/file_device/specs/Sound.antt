@@ -2,7 +2,7 @@
 use Rattle.std.specs.Prelude.{◌≡◌, ◌<◌, ◌≤◌, ℕ, ◌*◌, List, length, All}
 use Rattle.device.specs.Disk.{IsWhole}
 use Rattle.device.specs.Calls.{Agrees, image_of}
-use Rattle.device.specs.Past.{Event, State, at_first, replay}
+use Rattle.memory_device.specs.Past.{Event, State, at_first, replay}
 
 -- the sectors after all that was done to the file
 abbrev pub now_of : List ℕ → List Event → State

@@ -4,8 +4,8 @@ use Rattle.std.proofs.Common.{refl, ap, ◌∙◌, subst}
 use Rattle.std.proofs.Math.Path.{fun_ext}
 use Rattle.device.specs.Disk.{Image, IsWhole}
 use Rattle.device.specs.Calls.{image_of}
-use Rattle.device.specs.Past.{Event, wrote, synced, cut, State, at_first, after, replay, MayLeave}
-use Rattle.device.specs.PastLaws.{image_whole}
+use Rattle.memory_device.specs.Past.{Event, wrote, synced, cut, State, at_first, after, replay, MayLeave}
+use Rattle.memory_device.specs.PastLaws.{image_whole}
 use Rattle.file_device.specs.Sound.{IsCopy, now_of}
 
 -- what wasn't written since the last sync or power cut is durable

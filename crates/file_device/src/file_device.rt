@@ -6,8 +6,8 @@ ghost use Rattle.file_device.specs.Sound.{IsCopy};
 
 use crate::host_file::HostFile;
 use crate::sector_file::SectorFile;
-use device::sectors::put;
 use device::{Device, Failed, SECTOR_SIZE};
+use memory_device::sectors::put;
 use std::fs::File;
 
 /// A device in a file, and a copy of its sectors.
@@ -52,7 +52,7 @@ impl<F: SectorFile> CopiedFile<F> {
 impl<F: SectorFile> Device for CopiedFile<F> {
     ghost use Rattle.file_device.specs.FileDevice.{file_disk};
     ghost use Rattle.file_device.specs.SoundLaws.{copy_seen_left};
-    ghost use Rattle.device.specs.PastLaws.{past_counts_now, past_only_now};
+    ghost use Rattle.memory_device.specs.PastLaws.{past_counts_now, past_only_now};
 
     ghost disk = { λ d. file_disk d };
 

@@ -2,7 +2,7 @@
 ghost use Rattle.std.specs.Prelude.{◌≡◌, ℕ, List};
 ghost use Rattle.std.specs.Borrow.{ftrue};
 ghost use Rattle.std.specs.Coded.{coded_list};
-ghost use Rattle.device.specs.Past.{Event};
+ghost use Rattle.memory_device.specs.Past.{Event};
 ghost use Rattle.file_device.specs.Codes.{coded_event};
 
 use std::marker::Model;

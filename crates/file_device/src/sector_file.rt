@@ -1,8 +1,8 @@
 // A file, as a device needs one.
 ghost use Rattle.std.specs.Prelude.{◌≡◌, ◌<◌, ◌≤◌, ◌+◌, ◌%◌, ◌++◌, ◌∷◌, [], ℕ, List, length, IsErr, OnOk, OnErr};
-ghost use Rattle.device.specs.declared.record.Outcome.TheVariants.{Keep};
+ghost use Rattle.memory_device.specs.declared.record.Outcome.TheVariants.{Keep};
 ghost use Rattle.device.specs.Calls.{sectors_of};
-ghost use Rattle.device.specs.Past.{Event, synced, cut, writes_of};
+ghost use Rattle.memory_device.specs.Past.{Event, synced, cut, writes_of};
 
 use device::Failed;
 

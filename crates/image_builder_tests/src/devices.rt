@@ -1,5 +1,6 @@
 // Devices that are too small, and that stop.
-use device::{Device, Fuse, Memory, Outcome};
+use device::Device;
+use memory_device::{Fuse, Memory, Outcome};
 use image_builder::build;
 use std::alloc::Global;
 use std::test::Fail;

@@ -1,7 +1,8 @@
 // Devices that stop or lose power, and what is answered then.
 use crate::images::{second_world, written};
 use crate::kernels::opened;
-use device::{Device, Fuse, Memory, Outcome};
+use device::Device;
+use memory_device::{Fuse, Memory, Outcome};
 use kernel::Kernel;
 use migrator::{Checkpoint, OpenFault, OpenRefused};
 use object_cache::PlainStore;

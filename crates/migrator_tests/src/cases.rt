@@ -1,7 +1,8 @@
 // What a store answers, step by step.
 use crate::images::{AT_HOME, IN_LOG, LOGGED, OPENING, image};
 use crate::steps::{Step, try_each};
-use device::{Device, Failed, Outcome};
+use device::{Device, Failed};
+use memory_device::Outcome;
 use migrator::{CheckpointFault, Durable};
 use model::Role;
 use std::alloc::Global;

@@ -2,7 +2,8 @@
 use crate::frames::frame;
 use crate::rig::Rig;
 use crate::steps::{Step, Values, take_from};
-use device::{Device, Failed, Memory, Outcome, SECTOR_SIZE};
+use device::{Device, Failed, SECTOR_SIZE};
+use memory_device::{Memory, Outcome};
 use home_ranges::Home;
 use layout::{
     CheckpointHeader, Gate, HomeRange, Superblock, encode_gate, encode_header, encode_superblock,

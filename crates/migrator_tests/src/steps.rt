@@ -1,7 +1,8 @@
 // Calls of a store, and what each of them answers.
 use crate::images::{LOGGED, image, opened, put_header};
 use crate::rig::Rig;
-use device::{Device, Failed, Fuse, Outcome};
+use device::{Device, Failed};
+use memory_device::{Fuse, Outcome};
 use migrator::{Checkpoint, CheckpointFault};
 use std::alloc::Global;
 use std::process::Abort;

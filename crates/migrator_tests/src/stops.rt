@@ -2,7 +2,8 @@
 use crate::images::{AT_HOME, IN_LOG, OPENING, OUTCOMES, image};
 use crate::rig::Rig;
 use crate::steps::{Step, Values, answered, take_from};
-use device::{Device, Fuse, Memory, Outcome};
+use device::Device;
+use memory_device::{Fuse, Memory, Outcome};
 use migrator::{OpenFault, OpenRefused};
 use std::alloc::Global;
 use std::process::Abort;

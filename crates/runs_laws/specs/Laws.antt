@@ -1,18 +1,27 @@
 -- What holds of every run: what it writes is settled where nothing is wanting, and what it can change is bounded.
-use Rattle.std.specs.Prelude.{◌≡◌, ℕ, Bool, true, false, List, [], ◌∷◌}
+use Rattle.std.specs.Prelude.{◌≡◌, ◌⊎◌, ℕ, Bool, true, false, List, [], ◌∷◌}
+use Rattle.std.specs.List.{Contains}
 use Rattle.model.specs.declared.answer.Answer.TheVariants as answer
 use Rattle.model.specs.declared.answer.Refusal.TheVariants as refusal
+use Rattle.model.specs.declared.command.Command.{Command}
 use Rattle.model.specs.declared.geometry.Geometry.{Geometry}
+use Rattle.model.specs.declared.line.Line.TheVariants as line
 use Rattle.model.specs.Closed.{IsClosed}
-use Rattle.model.specs.Machine.{Machine, Running, Up}
+use Rattle.model.specs.Machine.{Machine, Running, Saved, Up, candidates, opened}
 use Rattle.model.specs.Run.{Reply, Told, Turn, IsRun, output_of}
+use Rattle.model.specs.Step.{second}
+use Rattle.model.specs.Text.{Says}
 use Rattle.model.specs.World.{object_at}
-use Rattle.device.specs.Disk.{Disk}
+use Rattle.device.specs.Disk.{Disk, Image}
+use Rattle.device.specs.Moments.{LeavesOnly}
+use Rattle.migrator.specs.declared.open_fault.OpenFault.{OpenFault}
 use Rattle.confinement.specs.Confinement.{AreBy, IsKept, with_free}
 use Rattle.capability.specs.Parts.{Parts}
 use Rattle.object_cache.specs.Store.{View}
 use Rattle.kernel.specs.declared.power.Power.{Power}
-use Rattle.kernel.specs.Standing.{Stands}
+use Rattle.kernel.specs.Denotes.{Denotes}
+use Rattle.kernel.specs.Opening.{IsNoReason, Opens, RefusesToOpen}
+use Rattle.kernel.specs.Standing.{Stands, disk_of}
 use Rattle.runs.specs.KernelRuns.{IsRunOf, lines_in}
 
 -- neither memory ran out nor the device failed
@@ -30,6 +39,11 @@ abbrev pub SteadyRunsAgree : Type 0
 SteadyRunsAgree = (g : Geometry) (s : Running) (ts us : List Turn) (a b : Machine) → IsRun g (Up s) ts a → IsRun g (Up s) us b → lines_in ts ≡ lines_in us →
     AreSteady ts → AreSteady us → (output_of ts ≡ output_of us) × (a ≡ b)
 
+-- what a run may leave saved: a candidate of one of its machines, or what one of its commands is to save besides
+abbrev pub MaySave : Machine → List Turn → Saved → Type 0
+MaySave m [] s = Contains (candidates m) s
+MaySave m (t ∷ ts) s = Contains (candidates m) s ⊎ ((c : Command) × Says t.line (line.Command c) × Contains (second m c) s) ⊎ MaySave t.after ts s
+
 -- The parameters are ghost members of a device and of an object store.
 module _ {D S : Type 0} (disk : D → Disk) (view : S → View D) (parts : S → Parts) where
   -- the authority bound: over a run of invocations and memory references by processes of a closed set, and of those that
@@ -39,3 +53,16 @@ module _ {D S : Type 0} (disk : D → Disk) (view : S → View D) (parts : S →
       Stands disk view parts g old (Up s) → Stands disk view parts g new (Up t) → IsRunOf disk view parts g (Up s) old new turns →
       IsClosed s.now.objects inside → AreBy (with_free s.now.objects inside) turns →
       (n : ℕ) → with_free s.now.objects inside n ≡ false → IsKept inside (object_at s.now.objects n) (object_at t.now.objects n)
+
+  -- a device that holds an image is opened at a saved part, or is told to have failed or to lack memory
+  abbrev pub IsOpenedAt : Geometry → ℕ → Image → Saved → Type 0
+  IsOpenedAt g size c s = (d : D) → (disk d).sectors ≡ size → (disk d).seen ≡ c →
+      ((k : Power D S) → Opens disk view parts d k → Stands disk view parts g k (Up (opened g s)))
+      × ((back : D) (why : OpenFault) → RefusesToOpen disk d back why → IsNoReason why)
+
+  -- the headline: at every moment since a run began a crash leaves what denotes a saved part of the run, and opening it stands there
+  abbrev pub CrashesAreSurvived : Type 0
+  CrashesAreSurvived = (g : Geometry) (m : Machine) (old new : Power D S) (turns : List Turn) →
+      Stands disk view parts g old m → IsRunOf disk view parts g m old new turns →
+      LeavesOnly (disk_of disk view parts old) (disk_of disk view parts new) (λ c. (s : Saved) × MaySave m turns s
+      × Denotes g (disk_of disk view parts old).sectors c s × IsOpenedAt g (disk_of disk view parts old).sectors c s)

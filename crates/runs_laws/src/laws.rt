@@ -1,6 +1,6 @@
 //! Laws of runs, each the contract of a function that does nothing.
 
-ghost use Rattle.runs_laws.specs.Laws.{RunsAreConfined, SteadyRunsAgree};
+ghost use Rattle.runs_laws.specs.Laws.{CrashesAreSurvived, RunsAreConfined, SteadyRunsAgree};
 
 use device::Device;
 use object_cache::ObjectStore;
@@ -17,4 +17,11 @@ pub fn steady_runs_agree()
 /// confinement).
 pub fn runs_are_confined<D: Device, S: ObjectStore<D>>()
     ensures { RunsAreConfined D.disk S.view S.parts }
+{}
+
+/// The headline, in one sentence: at every moment since a run began a crash leaves what denotes the
+/// checkpoint that is committed then, or the one that a line of the run is to commit; and a device that
+/// holds it is opened at that one, unless it fails or memory is wanting.
+pub fn crashes_are_survived<D: Device, S: ObjectStore<D>>()
+    ensures { CrashesAreSurvived D.disk S.view S.parts }
 {}

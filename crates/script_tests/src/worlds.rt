@@ -4,7 +4,8 @@ ghost use Rattle.capability.specs.Parts.{frames_of};
 ghost use Rattle.capability.specs.Plain.{parts_of};
 
 use capability::Plain;
-use device::{Device, Memory, Outcome};
+use device::Device;
+use memory_device::{Memory, Outcome};
 use kernel_tests::{opened, written};
 use runs::run;
 use script::RunFault;

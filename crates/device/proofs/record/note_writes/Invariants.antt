@@ -1,9 +1,0 @@
-use Rattle.std.proofs.Common.{◌≡◌, ◌≤◌, ◌++◌, vec_capacity}
-use Rattle.device.specs.Record.{entries_of}
-use Rattle.device.proofs.record.note_writes.Given as goal
-
-abbrev pub invariant-loop-i : goal.invariant-loop-i
-invariant-loop-i l = record {
-  items : l.entries.items ≡ l.initial.entries.items ++ entries_of l.at l.i l.from;
-  capacity : vec_capacity l.initial.entries ≤ vec_capacity l.entries;
-}

@@ -1,0 +1,6 @@
+pub mod Disks
+mod Entries
+mod Keeps
+mod Mirrors
+pub mod Past
+mod Patches

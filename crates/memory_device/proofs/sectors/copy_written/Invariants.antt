@@ -1,0 +1,10 @@
+use Rattle.std.proofs.Common.{◌<◌, take, All}
+use Rattle.device.specs.Calls.{image_of, Patches}
+use Rattle.memory_device.specs.Record.{names}
+use Rattle.memory_device.proofs.sectors.copy_written.Given as goal
+
+abbrev pub invariant-loop-entry : goal.invariant-loop-entry
+invariant-loop-entry l = record {
+  patched : Patches (names (take l.entry-index l.entries)) (image_of l.from) (image_of l.initial.into) (image_of l.into);
+  fits : All (λ b. b < 256) l.initial.into → All (λ b. b < 256) l.into;
+}

@@ -1,0 +1,8 @@
+pub mod Fuse
+pub mod Memory
+pub mod Mirror
+pub mod Past
+pub mod PastLaws
+pub mod Record
+pub mod Sound
+pub mod SoundLaws

@@ -1,0 +1,20 @@
+-- A device in memory as what it has gone through.
+use Rattle.std.specs.Prelude.{ℕ, List}
+use Rattle.memory_device.specs.declared.mirror.Mirror.{Mirror}
+use Rattle.device.specs.Disk.{Disk}
+use Rattle.device.specs.Calls.{image_of}
+use Rattle.memory_device.specs.Past.{Event, State, disk_of}
+use Rattle.memory_device.specs.Record.{events_of}
+use Rattle.memory_device.specs.Sound.{now_of}
+
+-- all that has happened to it
+abbrev pub past_of : Mirror → List Event
+past_of m = events_of m.entries.items
+
+-- its sectors now
+abbrev pub state_of : Mirror → State
+state_of m = now_of m.first.items m.entries.items
+
+-- it as a device with so many failures
+abbrev pub disk_of_mirror : ℕ → Mirror → Disk
+disk_of_mirror failures m = disk_of m.sectors (image_of m.first.items) (past_of m) failures

@@ -1,0 +1,14 @@
+//! Devices with a record of what was done to them: `Memory` is one in memory, whose power cuts leave
+//! what it is told, and `Fuse` makes any device stop after some calls.
+#![tactic(auto)]
+
+mod fuse;
+mod memory;
+mod mirror;
+mod record;
+pub mod sectors;
+mod tally;
+
+pub use fuse::Fuse;
+pub use memory::Memory;
+pub use record::Outcome;
