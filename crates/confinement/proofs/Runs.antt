@@ -24,7 +24,7 @@ use Rattle.model.specs.declared.object.Object.{Object}
 use Rattle.model.specs.Capability.{named, union}
 use Rattle.model.specs.Closed.{IsClosed, StaysInside}
 use Rattle.model.specs.Invoke.{Effect, invoke}
-use Rattle.model.specs.Machine.{Machine, Running, Saved, Up, Down}
+use Rattle.model.specs.Machine.{Machine, Running, Saved, Up, Down, renewing}
 use Rattle.model.specs.Object.{is_bank, is_free, is_node, is_page, is_root, is_waiting, map_content, root_in, slots_in}
 use Rattle.model.specs.Revoke.{void_where}
 use Rattle.model.specs.Run.{IsRun, IsTurn, Replies, Turn}
@@ -254,7 +254,7 @@ unless_passes false why next e = cc
 abbrev invoked : Running → Option Effect → Outcome
 invoked s found = elim found [
   | None ↦ outcome answer.Done s
-  | Some effect ↦ outcome answer.Done (writing s effect.objects (s.now.age + 1) effect.written)
+  | Some effect ↦ outcome answer.Done (writing s effect.objects (s.now.age + 1) effect.written (renewing s.renewed s.now.objects effect.objects))
 ]
 
 abbrev loaded : Running → ℕ → Result (ℕ × Access) MemoryFault → Outcome
@@ -265,7 +265,7 @@ loaded s address found = elim found [
 
 abbrev written : Running → ℕ → ℕ → Result ℕ MemoryFault → Outcome
 written s address value found = elim found [
-  | Ok page ↦ outcome answer.Done (writing s (with_word s.now.objects page (address % 512) value) s.now.age (page ∷ []))
+  | Ok page ↦ outcome answer.Done (writing s (with_word s.now.objects page (address % 512) value) s.now.age (page ∷ []) s.renewed)
   | Err why ↦ outcome (answer.MemoryFault why) s
 ]
 

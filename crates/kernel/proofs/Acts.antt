@@ -12,7 +12,7 @@ use Rattle.model.specs.declared.geometry.Geometry.{Geometry}
 use Rattle.model.specs.Frame.{objects_of}
 use Rattle.model.specs.Keepable.{AreKeepable, IsSoundFrames, world_at}
 use Rattle.model.specs.Machine.{Frozen, Running, Saved, Up, touched_count, untouched}
-use Rattle.model.specs.Step.{Step, refusal_of, second}
+use Rattle.model.specs.Step.{Step, moved, refusal_of, second}
 use Rattle.device.specs.declared.device.Failed.{Failed}
 use Rattle.device.specs.Disk.{Image, Disk}
 use Rattle.migrator.specs.declared.checkpoint_fault.CheckpointFault.{CheckpointFault}
@@ -29,8 +29,9 @@ use Rattle.processes.proofs.Serving.{AreSame}
 use Rattle.processes.proofs.Steps.{refused_step}
 use Rattle.kernel.specs.declared.power.Live.{Live}
 use Rattle.kernel.specs.Denotes.{saved_of, LeavesOne}
-use Rattle.kernel.specs.Standing.{AreSound, IsCaused, IsUp, ServesUp, disk_at, frozen_of, refusal_by, running, running_of}
+use Rattle.kernel.specs.Standing.{AreSound, IsCaused, IsUp, ServesUp, base_of, disk_at, frozen_of, refusal_by, renewed_since, running, running_of}
 use Rattle.kernel.proofs.Crashes.{leaves_along, leaves_either, leaves_here, leaves_home, leaves_saved}
+use Rattle.kernel.proofs.Renewed.{base_frozen, base_moved, none_renewed, renewed_on}
 use Rattle.kernel.proofs.Stages.{acts_sound, begun_sound, committed_sound, frames_again, frozen_none, frozen_some, moved_sound, next_sound, none_there, same_running, saved_moved, some_left, some_there, stabilized_sound, stays_sound}
 use Rattle.kernel.proofs.Steps.{checkpoint_step, commit_step, evict_refused, evict_step, migrate_step, none_to_commit, none_to_stabilize, not_home, not_stable, running_already, second_of_commit, stabilize_step}
 
@@ -93,9 +94,13 @@ module _ {D S : Type 0} (disk : D → Disk) (view : S → View D) (parts : S →
           step = λ other.
               subst (λ (x : Aside). Step g (Up (running disk view parts l)) c a (Up (running_of (parts s) x age l.frozen_age))) (sym leads.aside)
               (subst (λ (h : Geometry). Step h (Up (running disk view parts l)) c a (Up (running_of (parts s) (view l.store).aside age l.frozen_age))) up.sound.geometry
-              (serves.step (frozen_of l.frozen_age (view l.store).aside.frozen) (saved_of (view l.store).aside.saved) (view l.store).aside.to_move other));
+              (subst (λ (rs : List Bool). Step (parts l.store).geometry (Up (running disk view parts l)) c a
+              (Up (record (running_of (parts s) (view l.store).aside age l.frozen_age) { renewed = rs })))
+              (renewed_on (base_of (view l.store).aside) (parts l.store) (parts s) serves.renews up.sound.risen)
+              (serves.step (renewed_since (base_of (view l.store).aside) (frames_of (parts l.store))) (frozen_of l.frozen_age (view l.store).aside.frozen) (saved_of (view l.store).aside.saved)
+              (view l.store).aside.to_move other)));
           up = λ other. is_up g (record { store = s; banks = banks; age = age; frozen_age = l.frozen_age }) (leads.sound up.store)
-              (acts_sound g (parts l.store) (parts s) (view l.store).aside (view s).aside l.banks banks l.age age l.frozen_age leads.aside later geometry
+              (acts_sound g (parts l.store) (parts s) (view l.store).aside (view s).aside l.banks banks l.age age l.frozen_age leads.aside later geometry serves.renews
               (subst (λ (h : Geometry). IsSoundFrames h age (frames_of (parts s))) geometry serves.sound)
               (subst (λ (h : Geometry). AreCounted h (objects_of (frames_of (parts s))) banks) geometry counted) up.sound);
           leaves = leads_along g c up;
@@ -143,11 +148,14 @@ module _ {D S : Type 0} (disk : D → Disk) (view : S → View D) (parts : S →
             subst (λ (m : ℕ). Step g (Up before) command.Checkpoint (answer.Frozen m) (Up (running_of (parts s) (view s).aside (l.age + 1) (l.age + 1)))) (sym size)
             (subst (λ (x : Aside). Step g (Up before) command.Checkpoint (answer.Frozen k) (Up (running_of (parts s) x (l.age + 1) (l.age + 1)))) (sym beside)
             (subst (λ fs. Step g (Up before) command.Checkpoint (answer.Frozen k)
-            (Up (record { now = world_at (l.age + 1) fs; touched = (parts s).touched; frozen = Some (record { world = world_at (l.age + 1) (frames_of p); size = k; left = k }); saved = saved_of a.saved; to_move = a.to_move }))) (sym frames)
+            (Up (record { now = world_at (l.age + 1) fs; touched = (parts s).touched; renewed = renewed_since (frames_of p) fs; frozen = Some (record { world = world_at (l.age + 1) (frames_of p); size = k; left = k }); saved = saved_of a.saved; to_move = a.to_move }))) (sym frames)
             (subst (λ (ts : List Bool). Step g (Up before) command.Checkpoint (answer.Frozen k)
-            (Up (record { now = world_at (l.age + 1) (frames_of p); touched = ts; frozen = Some (record { world = world_at (l.age + 1) (frames_of p); size = k; left = k }); saved = saved_of a.saved; to_move = a.to_move })))
+            (Up (record { now = world_at (l.age + 1) (frames_of p); touched = ts; renewed = renewed_since (frames_of p) (frames_of p); frozen = Some (record { world = world_at (l.age + 1) (frames_of p); size = k; left = k }); saved = saved_of a.saved; to_move = a.to_move })))
             (sym (touched ∙ ap untouched up.sound.geometry))
-            (checkpoint_step g before young (frozen_none a.frozen l.frozen_age none) home))));
+            (subst (λ (rs : List Bool). Step g (Up before) command.Checkpoint (answer.Frozen k)
+            (Up (record { now = world_at (l.age + 1) (frames_of p); touched = untouched g; renewed = rs; frozen = Some (record { world = world_at (l.age + 1) (frames_of p); size = k; left = k }); saved = saved_of a.saved; to_move = a.to_move })))
+            (sym (none_renewed g (frames_of p) up.sound.now.keepable.count))
+            (checkpoint_step g before young (frozen_none a.frozen l.frozen_age none) home)))));
         up = λ other. is_up g (record { store = s; banks = l.banks; age = l.age + 1; frozen_age = l.age + 1 }) (sound up.store)
             (subst (λ (x : Aside). AreSound g (parts s) x l.banks (l.age + 1) (l.age + 1)) (sym beside)
             (begun_sound g p a l.banks l.age l.frozen_age up.sound (parts s) k geometry frames young));
@@ -186,7 +194,10 @@ module _ {D S : Type 0} (disk : D → Disk) (view : S → View D) (parts : S →
           step = λ other.
               stepped g (stabilized n f (view l.store).aside) (command.Stabilize n) (answer.Left left) beside
               (subst (λ (k : ℕ). Step g (Up (running disk view parts l)) (command.Stabilize n) (answer.Left k) (Up (running_of (parts l.store) (stabilized n f (view l.store).aside) l.age l.frozen_age))) (sym told)
-              (stabilize_step g (running disk view parts l) n now_frozen is_frozen));
+              (subst (λ (base : List Frame). Step g (Up (running disk view parts l)) (command.Stabilize n) (answer.Left (f.left - n))
+              (Up (record (running_of (parts l.store) (stabilized n f (view l.store).aside) l.age l.frozen_age) { renewed = renewed_since base (frames_of (parts l.store)) })))
+              (base_frozen (view l.store).aside f frozen)
+              (stabilize_step g (running disk view parts l) n now_frozen is_frozen)));
           up = λ other. came g (stabilized n f (view l.store).aside) beside (sound up.store) (stabilized_sound g (parts l.store) (view l.store).aside l.banks l.age l.frozen_age up.sound n f frozen);
           leaves = stabilize_along g up;
         }
@@ -212,7 +223,10 @@ module _ {D S : Type 0} (disk : D → Disk) (view : S → View D) (parts : S →
           step = λ other.
               stepped g (store.committed l.frozen_age f (view l.store).aside) command.Commit (answer.Committed generation) beside
               (subst (λ (k : ℕ). Step g (Up (running disk view parts l)) command.Commit (answer.Committed k) (Up (running_of (parts l.store) (store.committed l.frozen_age f (view l.store).aside) l.age l.frozen_age))) (sym told)
-              (commit_step g (running disk view parts l) now_frozen is_frozen stable));
+              (subst (λ (base : List Frame). Step g (Up (running disk view parts l)) command.Commit (answer.Committed ((view l.store).aside.saved.generation + 1))
+              (Up (record (running_of (parts l.store) (store.committed l.frozen_age f (view l.store).aside) l.age l.frozen_age) { renewed = renewed_since base (frames_of (parts l.store)) })))
+              (base_frozen (view l.store).aside f frozen)
+              (commit_step g (running disk view parts l) now_frozen is_frozen stable)));
           up = λ other. came g (store.committed l.frozen_age f (view l.store).aside) beside sound (committed_sound g (parts l.store) (view l.store).aside l.banks l.age l.frozen_age up.sound f frozen);
           leaves = commit_along g up;
         }
@@ -233,9 +247,12 @@ module _ {D S : Type 0} (disk : D → Disk) (view : S → View D) (parts : S →
             stepped g (store.moved n (view l.store).aside) (command.Migrate n) (answer.Left left) beside
             (subst (λ (k : ℕ). Step g (Up (running disk view parts l)) (command.Migrate n) (answer.Left k) (Up (running_of (parts l.store) (store.moved n (view l.store).aside) l.age l.frozen_age))) (sym told)
             (subst (λ (x : Saved). Step g (Up (running disk view parts l)) (command.Migrate n) (answer.Left ((view l.store).aside.to_move - n))
-            (Up (record { now = world_at l.age (frames_of (parts l.store)); touched = (parts l.store).touched; frozen = frozen_of l.frozen_age (view l.store).aside.frozen; saved = x; to_move = (view l.store).aside.to_move - n })))
+            (Up (record (running_of (parts l.store) (store.moved n (view l.store).aside) l.age l.frozen_age) { saved = x })))
             (sym (saved_moved (parts l.store) (view l.store).aside l.age l.frozen_age n))
-            (migrate_step g (running disk view parts l) n)));
+            (subst (λ (base : List Frame). Step g (Up (running disk view parts l)) (command.Migrate n) (answer.Left ((view l.store).aside.to_move - n))
+            (Up (record (running_of (parts l.store) (store.moved n (view l.store).aside) l.age l.frozen_age) { saved = moved (running disk view parts l) n; renewed = renewed_since base (frames_of (parts l.store)) })))
+            (sym (base_moved (view l.store).aside n))
+            (migrate_step g (running disk view parts l) n))));
         up = λ other. came g (store.moved n (view l.store).aside) beside sound (moved_sound g (parts l.store) (view l.store).aside l.banks l.age l.frozen_age up.sound n);
         leaves = migrate_along g up;
       }

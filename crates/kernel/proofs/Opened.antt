@@ -22,8 +22,9 @@ use Rattle.processes.proofs.Serving.{AreSame, same_frames, unfailed}
 use Rattle.kernel.specs.declared.power.Live.{Live}
 use Rattle.kernel.specs.Denotes.{saved_of, IsSoundSaved}
 use Rattle.kernel.specs.Opening.{IsUnfit, IsWhy, RefusesToOpen, Wakes}
-use Rattle.kernel.specs.Standing.{AreSound, frozen_of, running}
+use Rattle.kernel.specs.Standing.{AreSound, base_of, frozen_of, renewed_since, running}
 use Rattle.kernel.proofs.Crashes.{leaves_saved}
+use Rattle.kernel.proofs.Renewed.{allocations_at, base_saved, none_renewed}
 use Rattle.kernel.proofs.Stages.{frozen_none}
 
 none_touched : (n : ℕ) → touched_count (replicate n false) ≡ 0
@@ -114,6 +115,9 @@ module _ {D S : Type 0} (disk : D → Disk) (view : S → View D) (parts : S →
           (subst (λ (fs : List Frame). IsSoundFrames (view t).aside.saved.geometry age fs) frames now_sound);
     }
 
+    base_is : base_of (view t).aside ≡ frames_of (parts t)
+    base_is = base_saved (view t).aside frozen ∙ sym frames
+
     is_sound : AreSound (view t).aside.saved.geometry (parts t) (view t).aside banks age age
     is_sound = record {
       geometry = geometry_is t;
@@ -123,6 +127,7 @@ module _ {D S : Type 0} (disk : D → Disk) (view : S → View D) (parts : S →
       frozen = λ f is. absurd (never f (sym frozen ∙ is));
       saved = saved_sound;
       order = omega (arith, age_saved);
+      risen = λ n. subst (λ (fs : List Frame). allocations_at fs n ≤ allocations_at (frames_of (parts t)) n) (sym base_is) (omega arith);
     }
       where
         never : (f : FrozenFrames) → None ≡ Some f → ⊥
@@ -133,12 +138,14 @@ module _ {D S : Type 0} (disk : D → Disk) (view : S → View D) (parts : S →
     at_saved =
         let a = (view t).aside in
         let g = a.saved.geometry in
-        ap (λ (n : ℕ). let r : Running = record { now = world_at n (frames_of (parts t)); touched = (parts t).touched; frozen = frozen_of age a.frozen; saved = saved_of a.saved; to_move = a.to_move } in r) age_saved
-        ∙ ap (λ (fs : List Frame). let r : Running = record { now = world_at a.saved.age fs; touched = (parts t).touched; frozen = frozen_of age a.frozen; saved = saved_of a.saved; to_move = a.to_move } in r) frames
-        ∙ ap (λ (ts : List Bool). let r : Running = record { now = world_at a.saved.age a.saved.frames; touched = ts; frozen = frozen_of age a.frozen; saved = saved_of a.saved; to_move = a.to_move } in r)
+        ap (λ (rs : List Bool). let r : Running = record { now = world_at age (frames_of (parts t)); touched = (parts t).touched; renewed = rs; frozen = frozen_of age a.frozen; saved = saved_of a.saved; to_move = a.to_move } in r)
+        (ap (λ (fs : List Frame). renewed_since fs (frames_of (parts t))) base_is ∙ none_renewed g (frames_of (parts t)) now_sound.keepable.count)
+        ∙ ap (λ (n : ℕ). let r : Running = record { now = world_at n (frames_of (parts t)); touched = (parts t).touched; renewed = untouched g; frozen = frozen_of age a.frozen; saved = saved_of a.saved; to_move = a.to_move } in r) age_saved
+        ∙ ap (λ (fs : List Frame). let r : Running = record { now = world_at a.saved.age fs; touched = (parts t).touched; renewed = untouched g; frozen = frozen_of age a.frozen; saved = saved_of a.saved; to_move = a.to_move } in r) frames
+        ∙ ap (λ (ts : List Bool). let r : Running = record { now = world_at a.saved.age a.saved.frames; touched = ts; renewed = untouched g; frozen = frozen_of age a.frozen; saved = saved_of a.saved; to_move = a.to_move } in r)
         (same.touched ∙ opens.touched ∙ ap (λ (x : Aside). untouched x.saved.geometry) (sym leads.aside))
-        ∙ ap (λ (o : Option Frozen). let r : Running = record { now = world_at a.saved.age a.saved.frames; touched = untouched g; frozen = o; saved = saved_of a.saved; to_move = a.to_move } in r) (frozen_none a.frozen age frozen)
-        ∙ ap (λ (n : ℕ). let r : Running = record { now = world_at a.saved.age a.saved.frames; touched = untouched g; frozen = None; saved = saved_of a.saved; to_move = n } in r)
+        ∙ ap (λ (o : Option Frozen). let r : Running = record { now = world_at a.saved.age a.saved.frames; touched = untouched g; renewed = untouched g; frozen = o; saved = saved_of a.saved; to_move = a.to_move } in r) (frozen_none a.frozen age frozen)
+        ∙ ap (λ (n : ℕ). let r : Running = record { now = world_at a.saved.age a.saved.frames; touched = untouched g; renewed = untouched g; frozen = None; saved = saved_of a.saved; to_move = n } in r)
         (ap (λ (x : Aside). x.to_move) leads.aside ∙ opens.to_move ∙ ap (λ (x : Aside). x.saved.entries) (sym leads.aside))
 
     pub wakes : Wakes disk view parts device (record { store = t; banks = banks; age = age; frozen_age = age })

@@ -8,7 +8,7 @@ use Rattle.model.specs.Keepable.{AreKeepable, IsSoundFrames, world_at}
 use Rattle.model.specs.Machine.{Running}
 use Rattle.model.specs.Sound.{IsSound}
 use Rattle.model.specs.Step.{at_home, moved}
-use Rattle.capability.specs.Parts.{Parts, frames_of}
+use Rattle.capability.specs.Parts.{Parts, Renews, frames_of}
 use Rattle.capability.proofs.Keeping.{keepable_later}
 use Rattle.migrator.specs.Put.{most}
 use Rattle.migrator.specs.Saved.{SavedFrames, home_saved}
@@ -17,7 +17,8 @@ use Rattle.object_cache.specs.Store as store
 use Rattle.space_bank.specs.Banks.{AreCounted, BanksState}
 use Rattle.processes.proofs.Serving.{AreSame, same_frames}
 use Rattle.kernel.specs.Denotes.{saved_of, IsSoundSaved}
-use Rattle.kernel.specs.Standing.{AreSound, IsSoundFrozen, frozen_of, running_of}
+use Rattle.kernel.specs.Standing.{AreSound, IsSoundFrozen, base_of, frozen_of, renewed_since, running_of}
+use Rattle.kernel.proofs.Renewed.{allocations_at, base_frozen, base_moved, risen_on}
 
 -- ---- frames at a later age
 
@@ -63,8 +64,8 @@ module _ (g : Geometry) (p q : Parts) (same : AreSame p q) (a b : Aside) (beside
   pub same_running : (age frozen_age : ℕ) → running_of q b age frozen_age ≡ running_of p a age frozen_age
   same_running age frozen_age =
       ap (λ (x : Aside). running_of q x age frozen_age) beside
-      ∙ ap (λ (fs : List Frame). let r : Running = record { now = world_at age fs; touched = q.touched; frozen = frozen_of frozen_age a.frozen; saved = saved_of a.saved; to_move = a.to_move } in r) (same_frames p q same)
-      ∙ ap (λ (ts : List Bool). let r : Running = record { now = world_at age (frames_of p); touched = ts; frozen = frozen_of frozen_age a.frozen; saved = saved_of a.saved; to_move = a.to_move } in r) same.touched
+      ∙ ap (λ (fs : List Frame). let r : Running = record { now = world_at age fs; touched = q.touched; renewed = renewed_since (base_of a) fs; frozen = frozen_of frozen_age a.frozen; saved = saved_of a.saved; to_move = a.to_move } in r) (same_frames p q same)
+      ∙ ap (λ (ts : List Bool). let r : Running = record { now = world_at age (frames_of p); touched = ts; renewed = renewed_since (base_of a) (frames_of p); frozen = frozen_of frozen_age a.frozen; saved = saved_of a.saved; to_move = a.to_move } in r) same.touched
 
   pub stays_sound : (banks : BanksState) (age frozen_age : ℕ) → AreSound g p a banks age frozen_age → AreSound g q b banks age frozen_age
   stays_sound banks age frozen_age s = subst (λ (x : Aside). AreSound g q x banks age frozen_age) (sym beside) (record {
@@ -74,18 +75,20 @@ module _ (g : Geometry) (p q : Parts) (same : AreSame p q) (a b : Aside) (beside
     frozen = s.frozen;
     saved = s.saved;
     order = s.order;
+    risen = λ n. subst (λ (fs : List Frame). allocations_at (base_of a) n ≤ allocations_at fs n) (sym (same_frames p q same)) (s.risen n);
   })
 
 -- other objects, at an age that didn't fall
-pub acts_sound : (g : Geometry) (p q : Parts) (a b : Aside) (old_banks banks : BanksState) (old_age age frozen_age : ℕ) → b ≡ a → old_age ≤ age → q.geometry ≡ g → IsSoundFrames g age (frames_of q) →
+pub acts_sound : (g : Geometry) (p q : Parts) (a b : Aside) (old_banks banks : BanksState) (old_age age frozen_age : ℕ) → b ≡ a → old_age ≤ age → q.geometry ≡ g → Renews p q → IsSoundFrames g age (frames_of q) →
     AreCounted g (objects_of (frames_of q)) banks → AreSound g p a old_banks old_age frozen_age → AreSound g q b banks age frozen_age
-acts_sound g p q a b old_banks banks old_age age frozen_age beside later geometry now counted s = subst (λ (x : Aside). AreSound g q x banks age frozen_age) (sym beside) (record {
+acts_sound g p q a b old_banks banks old_age age frozen_age beside later geometry renews now counted s = subst (λ (x : Aside). AreSound g q x banks age frozen_age) (sym beside) (record {
   geometry = geometry;
   now = now;
   counted = counted;
   frozen = λ f is. let h = s.frozen f is in record { after = h.after; before = omega (arith, h.before, later); sound = h.sound };
   saved = s.saved;
   order = omega (arith, s.order, later);
+  risen = risen_on (base_of a) p q renews s.risen;
 })
 
 -- ---- stages
@@ -102,6 +105,7 @@ module _ (g : Geometry) (p : Parts) (a : Aside) (banks : BanksState) (age frozen
         frozen = λ f is. frozen_now f is now;
         saved = s.saved;
         order = omega (arith, s.order);
+        risen = λ n. subst (λ (fs : List Frame). allocations_at (frames_of p) n ≤ allocations_at fs n) (sym frames) (omega arith);
       }
     where
       frozen_now : (f : FrozenFrames) → Some (record { frames = frames_of p; size = n; left = n }) ≡ Some f → IsSoundFrames g (age + 1) (frames_of p) → IsSoundFrozen g a.saved.age (age + 1) (age + 1) f
@@ -109,6 +113,10 @@ module _ (g : Geometry) (p : Parts) (a : Aside) (banks : BanksState) (age frozen
           let fs : FrozenFrames = record { frames = frames_of p; size = n; left = n } in
           let same : fs ≡ f = cc in
           subst (IsSoundFrozen g a.saved.age (age + 1) (age + 1)) same (record { after = omega (arith, s.order); before = omega arith; sound = now })
+
+  -- no count fell since it was frozen
+  risen_frozen : (f : FrozenFrames) → a.frozen ≡ Some f → (n : ℕ) → allocations_at f.frames n ≤ allocations_at (frames_of p) n
+  risen_frozen f is n = subst (λ (fs : List Frame). allocations_at fs n ≤ allocations_at (frames_of p) n) (base_frozen a f is) (s.risen n)
 
   -- some more of it is in the log
   pub stabilized_sound : (n : ℕ) (f : FrozenFrames) → a.frozen ≡ Some f → AreSound g p (stabilized n f a) banks age frozen_age
@@ -119,6 +127,7 @@ module _ (g : Geometry) (p : Parts) (a : Aside) (banks : BanksState) (age frozen
     frozen = λ e same. still e same;
     saved = s.saved;
     order = s.order;
+    risen = risen_frozen f is;
   }
     where
       still : (e : FrozenFrames) → Some (record { frames = f.frames; size = f.size; left = f.left - n }) ≡ Some e → IsSoundFrozen g a.saved.age frozen_age age e
@@ -140,6 +149,7 @@ module _ (g : Geometry) (p : Parts) (a : Aside) (banks : BanksState) (age frozen
     frozen = λ e same. none e same;
     saved = next_sound f is;
     order = (s.frozen f is).before;
+    risen = risen_frozen f is;
   }
     where
       none : (e : FrozenFrames) → None ≡ Some e → IsSoundFrozen g frozen_age frozen_age age e
@@ -167,6 +177,7 @@ module _ (g : Geometry) (p : Parts) (a : Aside) (banks : BanksState) (age frozen
         frozen = λ f is. subst (λ (k : ℕ). IsSoundFrozen g k frozen_age age f) (sym same) (s.frozen f is);
         saved = moved_saved_sound n;
         order = subst (λ (k : ℕ). k ≤ age) (sym same) s.order;
+        risen = λ m. subst (λ (fs : List Frame). allocations_at fs m ≤ allocations_at (frames_of p) m) (sym (base_moved a n)) (s.risen m);
       }
 
 -- what is saved after a migration is that of the machine

@@ -15,7 +15,7 @@ use Rattle.processes.proofs.Steps.{done_step}
 
 -- a machine with another checkpoint on its way
 abbrev pub with_frozen : Running → Option Frozen → Running
-with_frozen s frozen = record { now = s.now; touched = s.touched; frozen = frozen; saved = s.saved; to_move = s.to_move }
+with_frozen s frozen = record { now = s.now; touched = s.touched; renewed = s.renewed; frozen = frozen; saved = s.saved; to_move = s.to_move }
 
 module _ (g : Geometry) (s : Running) where
   -- ---- evictions
@@ -70,7 +70,7 @@ module _ (g : Geometry) (s : Running) where
     pub checkpoint_step : s.frozen ≡ None → s.saved.entries ≡ 0 →
         (let now : World = record { objects = s.now.objects; age = s.now.age + 1 } in
         let f : Frozen = record { world = now; size = touched_count s.touched; left = touched_count s.touched } in
-        Step g (Up s) command.Checkpoint (answer.Frozen (touched_count s.touched)) (Up (record { now = now; touched = untouched g; frozen = Some f; saved = s.saved; to_move = s.to_move })))
+        Step g (Up s) command.Checkpoint (answer.Frozen (touched_count s.touched)) (Up (record { now = now; touched = untouched g; renewed = untouched g; frozen = Some f; saved = s.saved; to_move = s.to_move })))
     unfolding carried_out
     checkpoint_step none home =
         let there : (s.saved.entries == 0) ≡ true = grind (arith, nat_tests) in
@@ -105,7 +105,7 @@ module _ (g : Geometry) (s : Running) where
 
   commit_with : (f : Frozen) → f.left ≡ 0 →
       Step g (Up (with_frozen s (Some f))) command.Commit (answer.Committed (s.saved.generation + 1))
-      (Up (record { now = s.now; touched = s.touched; frozen = None; saved = committed s f; to_move = f.size }))
+      (Up (record { now = s.now; touched = s.touched; renewed = s.renewed; frozen = None; saved = committed s f; to_move = f.size }))
   unfolding refusal_of carried_out
   commit_with f stable =
       let there : (f.left == 0) ≡ true = grind (arith, nat_tests) in
@@ -113,14 +113,14 @@ module _ (g : Geometry) (s : Running) where
 
   pub commit_step : (f : Frozen) → s.frozen ≡ Some f → f.left ≡ 0 →
       Step g (Up s) command.Commit (answer.Committed (s.saved.generation + 1))
-      (Up (record { now = s.now; touched = s.touched; frozen = None; saved = committed s f; to_move = f.size }))
+      (Up (record { now = s.now; touched = s.touched; renewed = s.renewed; frozen = None; saved = committed s f; to_move = f.size }))
   commit_step f is stable =
       subst (λ (o : Option Frozen). Step g (Up (with_frozen s o)) command.Commit (answer.Committed (s.saved.generation + 1))
-      (Up (record { now = s.now; touched = s.touched; frozen = None; saved = committed s f; to_move = f.size })))
+      (Up (record { now = s.now; touched = s.touched; renewed = s.renewed; frozen = None; saved = committed s f; to_move = f.size })))
       (sym is) (commit_with f stable)
 
   pub migrate_step : (n : ℕ) → Step g (Up s) (command.Migrate n) (answer.Left (s.to_move - n))
-      (Up (record { now = s.now; touched = s.touched; frozen = s.frozen; saved = moved s n; to_move = s.to_move - n }))
+      (Up (record { now = s.now; touched = s.touched; renewed = s.renewed; frozen = s.frozen; saved = moved s n; to_move = s.to_move - n }))
   unfolding refusal_of carried_out
   migrate_step n = done_step g s (command.Migrate n) _ _ refl refl refl
 

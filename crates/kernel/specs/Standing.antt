@@ -1,12 +1,14 @@
 -- Which machine a kernel stands for, and what serving a command comes to.
-use Rattle.std.specs.Prelude.{◌≡◌, ◌↔◌, ℕ, ◌<◌, ◌≤◌, Option, None, Some, [], ◌∷◌, ◌++◌}
+use Rattle.std.specs.Prelude.{◌≡◌, ◌↔◌, ℕ, ◌<◌, ◌≤◌, ◌==◌, Bool, not, Option, None, Some, List, [], ◌∷◌, ◌++◌, length, map}
+use Rattle.std.specs.List.{range_with_len}
 use Rattle.model.specs.declared.answer.Answer.{Answer}
 use Rattle.model.specs.declared.answer.Answer.TheVariants as answer
 use Rattle.model.specs.declared.answer.Refusal.{Refusal}
 use Rattle.model.specs.declared.answer.Refusal.TheVariants as refusal
 use Rattle.model.specs.declared.command.Command.{Command}
+use Rattle.model.specs.declared.frame.Frame.{Frame}
 use Rattle.model.specs.declared.geometry.Geometry.{Geometry}
-use Rattle.model.specs.Frame.{objects_of}
+use Rattle.model.specs.Frame.{frame_at, objects_of}
 use Rattle.model.specs.Keepable.{IsSoundFrames, world_at}
 use Rattle.model.specs.Machine.{Frozen, Running, Machine, Up, Down, candidates}
 use Rattle.model.specs.Step.{Step, second}
@@ -27,11 +29,20 @@ abbrev pub frozen_of : ℕ → Option FrozenFrames → Option Frozen
 frozen_of age None = None
 frozen_of age (Some f) = Some (record { world = world_at age f.frames; size = f.size; left = f.left })
 
+-- the frames that the last checkpoint or restart began from
+abbrev pub base_of : Aside → List Frame
+base_of a = elim a.frozen [ None ↦ a.saved.frames | Some f ↦ f.frames ]
+
+-- the numbers whose counts of allocations have risen since
+unfoldable pub renewed_since : List Frame → List Frame → List Bool
+renewed_since base fs = map (λ n. not ((frame_at fs n).header.allocations == (frame_at base n).header.allocations)) (range_with_len 0 (length base))
+
 -- the machine of present frames and of what is kept beside them
 abbrev pub running_of : Parts → Aside → ℕ → ℕ → Running
 running_of p aside age frozen_age = record {
   now = world_at age (frames_of p);
   touched = p.touched;
+  renewed = renewed_since (base_of aside) (frames_of p);
   frozen = frozen_of frozen_age aside.frozen;
   saved = saved_of aside.saved;
   to_move = aside.to_move;
@@ -43,7 +54,7 @@ pub record IsSoundFrozen (g : Geometry) (saved_age frozen_age age : ℕ) (f : Fr
   pub before : frozen_age ≤ age
   pub sound : IsSoundFrames g frozen_age f.frames
 
--- all that a kernel keeps is sound, and what is counted of banks is what there is
+-- all that a kernel keeps is sound, what is counted of banks is what there is, and no count of allocations has fallen
 pub record AreSound (g : Geometry) (p : Parts) (aside : Aside) (banks : BanksState) (age frozen_age : ℕ) : Type 0 where
   pub geometry : p.geometry ≡ g
   pub now : IsSoundFrames g age (frames_of p)
@@ -51,6 +62,7 @@ pub record AreSound (g : Geometry) (p : Parts) (aside : Aside) (banks : BanksSta
   pub frozen : (f : FrozenFrames) → aside.frozen ≡ Some f → IsSoundFrozen g aside.saved.age frozen_age age f
   pub saved : IsSoundSaved g aside.saved
   pub order : aside.saved.age ≤ age
+  pub risen : (n : ℕ) → (frame_at (base_of aside) n).header.allocations ≤ (frame_at (frames_of p) n).header.allocations
 
 -- the machine's refusal where its store refuses
 abbrev pub refusal_by : CheckpointFault → Refusal

@@ -1,6 +1,8 @@
-use Rattle.std.specs.Prelude.{ℕ, ◌+◌, Bool, true, false, Option, None, List, [], ◌∷◌, replicate, slice_set}
-use Rattle.std.specs.List.{count_by}
+use Rattle.std.specs.Prelude.{ℕ, ◌+◌, Bool, true, false, ◌||◌, Option, None, List, [], ◌∷◌, length, map, replicate, slice_index_or, slice_set}
+use Rattle.std.specs.List.{count_by, range_with_len}
 use Rattle.model.specs.declared.geometry.Geometry.{Geometry}
+use Rattle.model.specs.declared.object.Object.{Object}
+use Rattle.model.specs.Revoke.{is_given_up}
 use Rattle.model.specs.World.{World}
 
 -- what a committed checkpoint saves; entries is 0 once all of it is home
@@ -15,11 +17,13 @@ pub record Frozen : Type 0 where
   pub size : ℕ
   pub left : ℕ
 
--- a machine that is up. touched tells for each number whether it was written since the last
--- checkpoint or restart; to_move counts the saved objects that aren't home, which after a restart is taken for all entries again
+-- a machine that is up. touched tells for each number whether it was written since the last checkpoint or restart, and
+-- renewed whether its object was given up since; to_move counts the saved objects that aren't home, which after a restart
+-- is taken for all entries again
 pub record Running : Type 0 where
   pub now : World
   pub touched : List Bool
+  pub renewed : List Bool
   pub frozen : Option Frozen
   pub saved : Saved
   pub to_move : ℕ
@@ -45,6 +49,10 @@ touching touched (n ∷ ns) = touching (slice_set touched n true) ns
 abbrev pub touched_count : List Bool → ℕ
 touched_count touched = count_by (λ b. b) touched
 
+-- those of a set of numbers, and those whose objects are given up between two times
+unfoldable pub renewing : List Bool → List Object → List Object → List Bool
+renewing renewed os us = map (λ n. slice_index_or renewed n false || is_given_up os us n) (range_with_len 0 (length renewed))
+
 -- opened at a saved part
 abbrev pub opened : Geometry → Saved → Running
-opened g saved = record { now = saved.world; touched = untouched g; frozen = None; saved = saved; to_move = saved.entries }
+opened g saved = record { now = saved.world; touched = untouched g; renewed = untouched g; frozen = None; saved = saved; to_move = saved.entries }

@@ -18,7 +18,7 @@ use Rattle.model.specs.Bank.{usage}
 use Rattle.model.specs.Sound.{object_count}
 use Rattle.model.specs.Walk.{walk}
 use Rattle.model.specs.Invoke.{invoke}
-use Rattle.model.specs.Machine.{Saved, Frozen, Running, Machine, Up, Down, candidates, untouched, touching, touched_count, opened}
+use Rattle.model.specs.Machine.{Saved, Frozen, Running, Machine, Up, Down, candidates, untouched, touching, touched_count, renewing, opened}
 
 -- whether writing these too is more than half of the log holds
 abbrev pub overfills : Geometry → List Bool → List ℕ → Bool
@@ -96,14 +96,14 @@ pub record Outcome : Type 0 where
 abbrev pub outcome : Answer → Running → Outcome
 outcome a s = record { answer = a; after = s }
 
--- a machine with other objects now, and these numbers written
-abbrev pub writing : Running → List Object → ℕ → List ℕ → Running
-writing s os age written =
-    record { now = record { objects = os; age = age }; touched = touching s.touched written; frozen = s.frozen; saved = s.saved; to_move = s.to_move }
+-- a machine with other objects now, these numbers written, and these renewed
+abbrev pub writing : Running → List Object → ℕ → List ℕ → List Bool → Running
+writing s os age written renewed =
+    record { now = record { objects = os; age = age }; touched = touching s.touched written; renewed = renewed; frozen = s.frozen; saved = s.saved; to_move = s.to_move }
 
 -- a machine with another checkpoint on its way
 abbrev pub freezing : Running → Option Frozen → Running
-freezing s frozen = record { now = s.now; touched = s.touched; frozen = frozen; saved = s.saved; to_move = s.to_move }
+freezing s frozen = record { now = s.now; touched = s.touched; renewed = s.renewed; frozen = frozen; saved = s.saved; to_move = s.to_move }
 
 -- a checkpoint begins: the age rises, all is frozen as it is, and nothing is written since
 abbrev pub frozen_now : Geometry → Running → Outcome
@@ -113,6 +113,7 @@ frozen_now g s =
     outcome (answer.Frozen size) (record {
       now = now;
       touched = untouched g;
+      renewed = untouched g;
       frozen = Some (record { world = now; size = size; left = size });
       saved = s.saved;
       to_move = s.to_move;
@@ -128,21 +129,21 @@ abbrev pub commits : Running → Outcome
 commits s = elim s.frozen [
   | None ↦ outcome answer.Done s
   | Some f ↦ outcome (answer.Committed (s.saved.generation + 1))
-      (record { now = s.now; touched = s.touched; frozen = None; saved = committed s f; to_move = f.size })
+      (record { now = s.now; touched = s.touched; renewed = s.renewed; frozen = None; saved = committed s f; to_move = f.size })
 ]
 
 -- a command that isn't refused, carried out
 unfoldable pub carried_out : Geometry → Running → Command → Outcome
 carried_out g s (command.Invoke i) = elim (invoke g s.now.objects i) [
   | None ↦ outcome answer.Done s
-  | Some effect ↦ outcome answer.Done (writing s effect.objects (s.now.age + 1) effect.written)
+  | Some effect ↦ outcome answer.Done (writing s effect.objects (s.now.age + 1) effect.written (renewing s.renewed s.now.objects effect.objects))
 ]
 carried_out g s (command.Load p address) = elim (reached s.now.objects p address) [
   | Ok found ↦ outcome (answer.Value (word_at s.now.objects found.0 (address % 512))) s
   | Err why ↦ outcome (answer.MemoryFault why) s
 ]
 carried_out g s (command.Store p address value) = elim (writable (reached s.now.objects p address)) [
-  | Ok page ↦ outcome answer.Done (writing s (with_word s.now.objects page (address % 512) value) s.now.age (page ∷ []))
+  | Ok page ↦ outcome answer.Done (writing s (with_word s.now.objects page (address % 512) value) s.now.age (page ∷ []) s.renewed)
   | Err why ↦ outcome (answer.MemoryFault why) s
 ]
 carried_out g s (command.Show n) = outcome (shown s.now.objects n) s
@@ -152,7 +153,7 @@ carried_out g s (command.Stabilize n) = stabilized s n
 carried_out g s command.Commit = commits s
 carried_out g s (command.Migrate n) =
     outcome (answer.Left (s.to_move - n))
-    (record { now = s.now; touched = s.touched; frozen = s.frozen; saved = moved s n; to_move = s.to_move - n })
+    (record { now = s.now; touched = s.touched; renewed = s.renewed; frozen = s.frozen; saved = moved s n; to_move = s.to_move - n })
 carried_out g s command.Restart = outcome (answer.At s.saved.generation s.saved.world.age) (opened g s.saved)
 carried_out g s command.Cut = outcome (answer.At s.saved.generation s.saved.world.age) (opened g s.saved)
 

@@ -1,8 +1,10 @@
 -- What is given up: exactly what is rescinded.
-use Rattle.std.proofs.Common.{◌≡◌, ◌≢◌, ℕ, ◌==◌, ◌&&◌, Bool, true, false, not, List, [], ◌∷◌, inl, inr, refl, sym, ap, subst, ◌∙◌}
-use Rattle.std.specs.Prelude.{IsTrue, if◌then◌else◌, length, nat_lt, slice_set}
+use Rattle.std.proofs.Common.{◌≡◌, ◌≢◌, ℕ, ◌==◌, ◌<◌, ◌&&◌, ◌||◌, Bool, true, false, not, List, [], ◌∷◌, inl, inr, refl, sym, ap, subst, arith, ◌∙◌}
+use Rattle.std.specs.Prelude.{IsTrue, if◌then◌else◌, length, map, nat_lt, slice_index_or, slice_set}
+use Rattle.std.specs.List.{range_with_len}
 use Rattle.std.proofs.lemmas.Bool.{cases_Bool, cases_eq, eqb-false}
-use Rattle.std.proofs.lemmas.List.{get_or-set_other, get_or-set_same}
+use Rattle.std.proofs.lemmas.List.{ext_get_or, get_or-set_other, get_or-set_same}
+use Rattle.std.proofs.lemmas.List.FromFn.{get_or-map-range_with_len, length-map-range_with_len}
 use Rattle.model.specs.declared.capability.Capability.{Capability}
 use Rattle.model.specs.declared.capability.Capability.TheVariants.{Bank, Process, Void}
 use Rattle.model.specs.declared.geometry.Geometry.{Geometry}
@@ -16,6 +18,7 @@ use Rattle.model.specs.declared.order.ResultCode.{ResultCode}
 use Rattle.model.specs.declared.order.ResultCode.TheVariants as code
 use Rattle.model.specs.Bank.{chain}
 use Rattle.model.specs.Banking.{allocated, bank_allocated, freed, freed_by, free_nodes, free_pages, has_room, inherited, new_annex, new_node, new_page, new_root, on_bank, owned_by, process_allocated, under, with_new}
+use Rattle.model.specs.Machine.{renewing}
 use Rattle.model.specs.Object.{free, is_bank, is_free}
 use Rattle.model.specs.OrderOutcome.{OrderOutcome, made, refused}
 use Rattle.model.specs.Revoke.{is_given_up, is_member, rescind}
@@ -158,3 +161,19 @@ gives_up_rescinded g w b asked args n sound is held = order_gives_up g w.objects
 
 pub gives_up_nothing : GivesUpNothing
 gives_up_nothing g w i e n sound fits runs other done = none_in_frame w.objects e.objects (invocation_frame g w.objects i e (nearly_from g w sound) fits runs other done) n
+
+-- where nothing is given up no number is renewed
+pub renewing_none : (renewed : List Bool) (os us : List Object) → ((n : ℕ) → is_given_up os us n ≡ false) → renewing renewed os us ≡ renewed
+unfolding renewing
+renewing_none renewed os us none =
+    let test : ℕ → Bool = λ n. slice_index_or renewed n false || is_given_up os us n in
+    let count = length-map-range_with_len test 0 (length renewed) in
+    ext_get_or false (map test (range_with_len 0 (length renewed))) renewed count
+    (λ n inside.
+    let known : n < length renewed = omega (arith, inside, count) in
+    get_or-map-range_with_len test 0 (length renewed) n n false known (omega arith)
+    ∙ (ap (λ (b : Bool). slice_index_or renewed n false || b) (none n) ∙ either (slice_index_or renewed n false)))
+  where
+    either : (b : Bool) → (b || false) ≡ b
+    either true = refl
+    either false = refl

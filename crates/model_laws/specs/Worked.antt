@@ -31,7 +31,7 @@ at_world w = opened small (record { world = w; generation = 0; entries = 0 })
 abbrev pub with_all_nodes_written : World → Machine
 with_all_nodes_written w =
     let s = at_world w in
-    record { now = s.now; touched = replicate 16 true ++ replicate 8 false; frozen = s.frozen; saved = s.saved; to_move = s.to_move }
+    record { now = s.now; touched = replicate 16 true ++ replicate 8 false; renewed = s.renewed; frozen = s.frozen; saved = s.saved; to_move = s.to_move }
 
 -- what a command comes to: its first refusal, or what carrying it out tells
 abbrev pub answered : Machine → Command → Outcome

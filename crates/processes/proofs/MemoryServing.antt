@@ -9,20 +9,25 @@ use Rattle.model.specs.declared.answer.Refusal.TheVariants as refusal
 use Rattle.model.specs.declared.command.Command.{Command}
 use Rattle.model.specs.declared.command.Command.TheVariants as command
 use Rattle.model.specs.declared.frame.Frame.{Frame}
+use Rattle.model.specs.declared.frame.ObjectHeader.{ObjectHeader}
 use Rattle.model.specs.declared.geometry.Geometry.{Geometry}
 use Rattle.model.specs.declared.object.Object.{Object}
-use Rattle.model.specs.Frame.{objects_of}
+use Rattle.model.specs.Frame.{header_at, objects_of}
 use Rattle.model.specs.Keepable.{IsSoundFrames}
 use Rattle.model.specs.Machine.{Frozen, Saved, Machine, touching, touched_count}
 use Rattle.model.specs.Step.{Step}
 use Rattle.model.specs.World.{is_process, is_running_process, with_word}
+use Rattle.model_laws.proofs.GivenUp.{none_in_frame, renewing_none}
+use Rattle.model_laws.proofs.InvocationFrame.{word_frame}
+use Rattle.model_laws.proofs.Usage.{SameFrame, frame_refl, tests_at}
 use Rattle.capability.specs.declared.present.PrepareFault.{PrepareFault}
 use Rattle.capability.specs.declared.present.PrepareFault.TheVariants as prepare
 use Rattle.capability.specs.Parts.{IsUnchanged, Looks, LooksUp, Parts, frames_of}
 use Rattle.address_space.specs.References.{IsLoaded, IsStored, KeepsSound, OverfillsStore}
-use Rattle.processes.specs.Machine.{IsEarly, Serves, machine_at}
+use Rattle.space_bank.proofs.Renewing.{renews_none}
+use Rattle.processes.specs.Machine.{IsEarly, Serves, machine_at, renewed_by}
 use Rattle.processes.specs.Prepared.{refused_by}
-use Rattle.processes.proofs.Serving.{AreSame, refused_serves, same_frames, same_machine, same_sound, serves_looked, standing, told_cause, unfailed}
+use Rattle.processes.proofs.Serving.{AreSame, refused_serves, same_frames, same_renews, same_sound, serves_looked, standing, still_machine, told_cause, unfailed}
 use Rattle.processes.proofs.Steps.{early_fine}
 use Rattle.processes.proofs.MemorySteps.{load_early, load_step, load_without_memory, loaded_answer, store_early, store_fault_step, store_full_step, store_step, store_without_memory}
 
@@ -56,11 +61,12 @@ stored_unfailed (Ok done) e = cc
 stored_unfailed (Err why) e = cc
 
 -- the machine of parts with these objects and these numbers touched
-machine_is : (age : ℕ) (new : Parts) (frozen : Option Frozen) (saved : Saved) (to_move : ℕ) (os : List Object) (ts : List Bool) →
-    objects_of (frames_of new) ≡ os → new.touched ≡ ts → standing age frozen saved to_move os ts ≡ machine_at age new frozen saved to_move
-machine_is age new frozen saved to_move os ts objects touched =
-    ap (λ (us : List Object). standing age frozen saved to_move us ts) (sym objects)
-    ∙ ap (standing age frozen saved to_move (objects_of (frames_of new))) (sym touched)
+machine_is : (age : ℕ) (new : Parts) (renewed now : List Bool) (frozen : Option Frozen) (saved : Saved) (to_move : ℕ) (os : List Object) (ts : List Bool) →
+    objects_of (frames_of new) ≡ os → new.touched ≡ ts → renewed ≡ now → standing age renewed frozen saved to_move os ts ≡ machine_at age new now frozen saved to_move
+machine_is age new renewed now frozen saved to_move os ts objects touched same =
+    ap (λ (us : List Object). standing age renewed frozen saved to_move us ts) (sym objects)
+    ∙ ap (standing age renewed frozen saved to_move (objects_of (frames_of new))) (sym touched)
+    ∙ ap (λ (rs : List Bool). standing age rs frozen saved to_move (objects_of (frames_of new)) new.touched) same
 
 -- a process that can't act
 module _ {S : Type 0} (parts : S → Parts) (Leads : S → S → Type 0) (age : ℕ) (old new : S) (p address : ℕ) (why : Refusal)
@@ -73,12 +79,12 @@ module _ {S : Type 0} (parts : S → Parts) (Leads : S → S → Type 0) (age : 
   pub early_load : Serves age (parts old) (command.Load p address) (answer.Refused why) age (parts new)
   early_load =
       refused_serves age (parts old) (parts new) (command.Load p address) why (looked_same parts Leads old new aside) sound later why_cause
-      (λ frozen saved to_move other. load_early (parts old).geometry _ p address why early)
+      (λ renewed frozen saved to_move other. load_early (parts old).geometry _ p address why early)
 
   pub early_store : (word : ℕ) → Serves age (parts old) (command.Store p address word) (answer.Refused why) age (parts new)
   early_store word =
       refused_serves age (parts old) (parts new) (command.Store p address word) why (looked_same parts Leads old new aside) sound later why_cause
-      (λ frozen saved to_move other. store_early (parts old).geometry _ p address word why early)
+      (λ renewed frozen saved to_move other. store_early (parts old).geometry _ p address word why early)
 
 -- what is answered to a process that runs, after a look at it, by what came of its load or store
 module _ {S : Type 0} (parts : S → Parts) (Leads : S → S → Type 0) (age : ℕ) (before between after : S) (p address : ℕ)
@@ -110,21 +116,22 @@ module _ {S : Type 0} (parts : S → Parts) (Leads : S → S → Type 0) (age : 
   mid_sound = same_sound old mid same age sound
 
   refused_then : (c : Command) (why : Refusal) → (why ≡ refusal.Fault → ⊥) → AreSame mid new → mid.failures ≤ new.failures → (mid.failures < new.failures → ⊥) →
-      ((frozen : Option Frozen) (saved : Saved) (to_move : ℕ) →
-      Step mid.geometry (machine_at age mid frozen saved to_move) c (answer.Refused why) (machine_at age mid frozen saved to_move)) →
+      ((renewed : List Bool) (frozen : Option Frozen) (saved : Saved) (to_move : ℕ) →
+      Step mid.geometry (machine_at age mid renewed frozen saved to_move) c (answer.Refused why) (machine_at age mid renewed frozen saved to_move)) →
       Serves age old c (answer.Refused why) age new
   refused_then c why other unchanged later stayed step =
       serves_looked age age old mid new c (answer.Refused why) same failures
       (refused_serves age mid new c why unchanged mid_sound later (told_cause why other stayed)
-      (λ frozen saved to_move differs. step frozen saved to_move))
+      (λ renewed frozen saved to_move differs. step renewed frozen saved to_move))
 
   load_then : (loaded : Result ℕ MemoryFault) → IsLoaded (objects_of (frames_of mid)) p address loaded → AreSame mid new → mid.failures ≤ new.failures →
       (mid.failures < new.failures → ⊥) → Serves age old (command.Load p address) (loaded_answer loaded) age new
   load_then loaded is unchanged later stayed = serves_looked age age old mid new (command.Load p address) (loaded_answer loaded) same failures (record {
-    step = λ frozen saved to_move other.
-        subst (λ (m : Machine). Step mid.geometry (machine_at age mid frozen saved to_move) (command.Load p address) (loaded_answer loaded) m)
-        (sym (same_machine mid new unchanged age frozen saved to_move))
+    step = λ renewed frozen saved to_move other.
+        subst (λ (m : Machine). Step mid.geometry (machine_at age mid renewed frozen saved to_move) (command.Load p address) (loaded_answer loaded) m)
+        (sym (still_machine mid new unchanged age renewed frozen saved to_move))
         (load_step mid.geometry _ p address process running loaded is);
+    renews = same_renews mid new unchanged;
     sound = same_sound mid new unchanged age mid_sound;
     geometry = unchanged.geometry;
     later = later;
@@ -142,14 +149,14 @@ module _ {S : Type 0} (parts : S → Parts) (Leads : S → S → Type 0) (age : 
   failed_then c unchanged rose =
       serves_looked age age old mid new c (answer.Refused refusal.Fault) same failures
       (refused_serves age mid new c refusal.Fault unchanged mid_sound (omega (arith, rose)) (λ e. rose, λ r. refl)
-      (λ frozen saved to_move other. absurd (other refl)))
+      (λ renewed frozen saved to_move other. absurd (other refl)))
 
   load_by : (f : PrepareFault) → (let r : Result (Result ℕ MemoryFault) PrepareFault = Err f in Looks parts Leads between after r) →
       Serves age old (command.Load p address) (answer.Refused (refused_by f)) age new
   load_by prepare.NoMemory looks =
       refused_then (command.Load p address) refusal.NoMemory (λ e. cc) (looked_same parts Leads between after looks.aside) looks.later
       (λ rose. err_unfailed prepare.NoMemory (λ e. cc) (looks.cause.1 rose))
-      (λ frozen saved to_move. load_without_memory mid.geometry _ p address process)
+      (λ renewed frozen saved to_move. load_without_memory mid.geometry _ p address process)
   load_by prepare.LogFull looks = absurd (looks.room refl)
   load_by prepare.Failed looks = failed_then (command.Load p address) (looked_same parts Leads between after looks.aside) (looks.cause.0 refl)
 
@@ -160,18 +167,33 @@ module _ {S : Type 0} (parts : S → Parts) (Leads : S → S → Type 0) (age : 
       subst (λ (b : Answer). Serves age old (command.Load p address) b age new) (sym is) (load_by f looks)
 
   -- a store, after which the count of failures may have risen
-  module _ (word : ℕ) (geometry : new.geometry ≡ mid.geometry) (later : mid.failures ≤ new.failures) where
+  module _ (word : ℕ) (geometry : new.geometry ≡ mid.geometry) (headers : new.headers ≡ mid.headers) (later : mid.failures ≤ new.failures) where
+    -- a store leaves the frame of the objects
+    stored_frame : (stored : Result (Unit {0}) MemoryFault) →
+        IsStored mid.geometry.log (objects_of (frames_of mid)) mid.touched p address word (objects_of (frames_of new)) new.touched stored →
+        SameFrame (objects_of (frames_of mid)) (objects_of (frames_of new))
+    stored_frame (Ok done) is =
+        subst (λ (us : List Object). SameFrame (objects_of (frames_of mid)) us) (sym is.2) (word_frame (objects_of (frames_of mid)) is.0 (address % 512) word)
+    stored_frame (Err why) is = subst (λ (us : List Object). SameFrame (objects_of (frames_of mid)) us) (sym is.1) (frame_refl (objects_of (frames_of mid)))
+
+    none_renewed : (renewed : List Bool) → SameFrame (objects_of (frames_of mid)) (objects_of (frames_of new)) → renewed_by renewed mid new ≡ renewed
+    none_renewed renewed frame =
+        renewing_none renewed (objects_of (frames_of mid)) (objects_of (frames_of new)) (none_in_frame (objects_of (frames_of mid)) (objects_of (frames_of new)) frame)
+
     stored_step : (stored : Result (Unit {0}) MemoryFault) →
         IsStored mid.geometry.log (objects_of (frames_of mid)) mid.touched p address word (objects_of (frames_of new)) new.touched stored →
-        (frozen : Option Frozen) (saved : Saved) (to_move : ℕ) →
-        Step mid.geometry (machine_at age mid frozen saved to_move) (command.Store p address word) (stored_answer stored) (machine_at age new frozen saved to_move)
-    stored_step (Ok done) is frozen saved to_move =
-        subst (λ (m : Machine). Step mid.geometry (machine_at age mid frozen saved to_move) (command.Store p address word) answer.Done m)
-        (machine_is age new frozen saved to_move (with_word (objects_of (frames_of mid)) is.0 (address % 512) word) (touching mid.touched (is.0 ∷ [])) is.2 is.3)
+        (renewed : List Bool) (frozen : Option Frozen) (saved : Saved) (to_move : ℕ) →
+        Step mid.geometry (machine_at age mid renewed frozen saved to_move) (command.Store p address word) (stored_answer stored)
+        (machine_at age new (renewed_by renewed mid new) frozen saved to_move)
+    stored_step (Ok done) is renewed frozen saved to_move =
+        subst (λ (m : Machine). Step mid.geometry (machine_at age mid renewed frozen saved to_move) (command.Store p address word) answer.Done m)
+        (machine_is age new renewed (renewed_by renewed mid new) frozen saved to_move (with_word (objects_of (frames_of mid)) is.0 (address % 512) word) (touching mid.touched (is.0 ∷ [])) is.2 is.3
+        (sym (none_renewed renewed (stored_frame (Ok done) is))))
         (store_step mid.geometry _ p address word process running is.0 is.1 (subst (λ (ts : List Bool). touched_count ts ≤ mid.geometry.log) is.3 is.4))
-    stored_step (Err why) is frozen saved to_move =
-        subst (λ (m : Machine). Step mid.geometry (machine_at age mid frozen saved to_move) (command.Store p address word) (answer.MemoryFault why) m)
-        (machine_is age new frozen saved to_move (objects_of (frames_of mid)) mid.touched is.1 is.2)
+    stored_step (Err why) is renewed frozen saved to_move =
+        subst (λ (m : Machine). Step mid.geometry (machine_at age mid renewed frozen saved to_move) (command.Store p address word) (answer.MemoryFault why) m)
+        (machine_is age new renewed (renewed_by renewed mid new) frozen saved to_move (objects_of (frames_of mid)) mid.touched is.1 is.2
+        (sym (none_renewed renewed (stored_frame (Err why) is))))
         (store_fault_step mid.geometry _ p address word process running why is.0)
 
     pub store_answers : (stored told : Result (Unit {0}) MemoryFault) → stored ≡ told →
@@ -182,7 +204,9 @@ module _ {S : Type 0} (parts : S → Parts) (Leads : S → S → Type 0) (age : 
     store_answers stored told is found keeps cause =
         subst (λ (r : Result (Unit {0}) MemoryFault). Serves age old (command.Store p address word) (stored_answer r) age new) is
         (serves_looked age age old mid new (command.Store p address word) (stored_answer stored) same failures (record {
-          step = λ frozen saved to_move other. stored_step stored found frozen saved to_move;
+          step = λ renewed frozen saved to_move other. stored_step stored found renewed frozen saved to_move;
+          renews = renews_none mid new (λ n. ap (λ (hs : List ObjectHeader). (header_at hs n).allocations) headers)
+              (λ n used. (tests_at (objects_of (frames_of mid)) (objects_of (frames_of new)) (stored_frame stored found) n).free ∙ used);
           sound = subst (λ (g : Geometry). IsSoundFrames g age (frames_of new)) (sym geometry) (keeps age mid_sound);
           geometry = geometry;
           later = later;
@@ -197,12 +221,12 @@ module _ {S : Type 0} (parts : S → Parts) (Leads : S → S → Type 0) (age : 
     store_by prepare.NoMemory unchanged cause full =
         refused_then (command.Store p address word) refusal.NoMemory (λ e. cc) unchanged later
         (λ rose. err_unfailed prepare.NoMemory (λ e. cc) (cause.1 rose))
-        (λ frozen saved to_move. store_without_memory mid.geometry _ p address word process)
+        (λ renewed frozen saved to_move. store_without_memory mid.geometry _ p address word process)
     store_by prepare.LogFull unchanged cause full =
         let over = full refl in
         refused_then (command.Store p address word) refusal.LogFull (λ e. cc) unchanged later
         (λ rose. err_unfailed prepare.LogFull (λ e. cc) (cause.1 rose))
-        (λ frozen saved to_move. store_full_step mid.geometry _ p address word process running over.0 over.1 over.2)
+        (λ renewed frozen saved to_move. store_full_step mid.geometry _ p address word process running over.0 over.1 over.2)
     store_by prepare.Failed unchanged cause full = failed_then (command.Store p address word) unchanged (cause.0 refl)
 
     pub store_is_refused : (f : PrepareFault) (a : Answer) → a ≡ answer.Refused (refused_by f) → IsUnchanged mid new →

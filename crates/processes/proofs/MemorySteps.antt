@@ -121,7 +121,7 @@ module _ (g : Geometry) (s : Running) (p address word : ℕ) where
 
   abbrev after_storing : Result ℕ MemoryFault → Outcome
   after_storing r = elim r [
-    | Ok page ↦ outcome answer.Done (writing s (with_word s.now.objects page (address % 512) word) s.now.age (page ∷ []))
+    | Ok page ↦ outcome answer.Done (writing s (with_word s.now.objects page (address % 512) word) s.now.age (page ∷ []) s.renewed)
     | Err why ↦ outcome (answer.MemoryFault why) s
   ]
 
@@ -143,7 +143,7 @@ module _ (g : Geometry) (s : Running) (p address word : ℕ) where
         (ap (λ (o : Outcome). Up o.after) (sym (stores r is)))
 
     pub store_step : (page : ℕ) → writable (reached s.now.objects p address) ≡ Ok page → touched_count (touching s.touched (page ∷ [])) ≤ g.log →
-        Step g (Up s) (command.Store p address word) answer.Done (Up (writing s (with_word s.now.objects page (address % 512) word) s.now.age (page ∷ [])))
+        Step g (Up s) (command.Store p address word) answer.Done (Up (writing s (with_word s.now.objects page (address % 512) word) s.now.age (page ∷ []) s.renewed))
     store_step page is within =
         let fits : overfills g s.touched (page ∷ []) ≡ false = grind (arith, nat_tests) in
         store_done (Ok page) is (ap (λ (b : Bool). unless (not b) refusal.LogFull None) fits)

@@ -12,13 +12,15 @@ use Rattle.model.specs.declared.frame.Frame.{Frame}
 use Rattle.model.specs.declared.geometry.Geometry.{Geometry}
 use Rattle.model.specs.declared.object.Object.{Object}
 use Rattle.model.specs.declared.frame.ObjectHeader.{ObjectHeader}
-use Rattle.model.specs.Frame.{frames_in, objects_of}
+use Rattle.model.specs.Frame.{frames_in, header_at, objects_of}
 use Rattle.model.specs.Invoke.{invoke}
 use Rattle.model.specs.Keepable.{IsSoundFrames, world_at}
-use Rattle.model.specs.Machine.{Frozen, Running, Saved, Machine, Up, touching, touched_count}
+use Rattle.model.specs.Machine.{Frozen, Running, Saved, Machine, Up, renewing, touching, touched_count}
+use Rattle.model.specs.Object.{is_free}
 use Rattle.model.specs.Step.{Step, shown}
-use Rattle.model.specs.World.{is_process, is_running_process}
-use Rattle.capability.specs.Parts.{Parts, frames_of}
+use Rattle.model.specs.World.{content_at, is_process, is_running_process}
+use Rattle.model_laws.proofs.GivenUp.{none_given_up, renewing_none}
+use Rattle.capability.specs.Parts.{Parts, Renews, frames_of}
 use Rattle.capability.proofs.Keeping.{keepable_count}
 use Rattle.std.specs.Prelude.{IsErr, IsErrOf}
 use Rattle.capability.specs.declared.present.PrepareFault.{PrepareFault}
@@ -27,7 +29,8 @@ use Rattle.gate.specs.declared.fault.InvokeFault.{InvokeFault}
 use Rattle.gate.specs.declared.fault.InvokeFault.TheVariants as fault
 use Rattle.gate.specs.Invoke.{Invokes, KeepsSoundFrames, Overfills}
 use Rattle.device.specs.declared.device.Failed.{Failed}
-use Rattle.processes.specs.Machine.{Serves, answer_of, machine_at}
+use Rattle.space_bank.proofs.Renewing.{renews_after, renews_none}
+use Rattle.processes.specs.Machine.{Serves, answer_of, machine_at, renewed_by}
 use Rattle.processes.specs.Prepared.{refused_by}
 use Rattle.processes.proofs.Steps.{bad_number_step, full_step, invoke_step, no_memory_step, show_no_memory, show_step, stalled_step}
 
@@ -47,21 +50,38 @@ module _ (old new : Parts) (same : AreSame old new) where
       subst (λ (g : Geometry). IsSoundFrames g age (frames_of new)) (sym same.geometry)
       (subst (λ (fs : List Frame). IsSoundFrames old.geometry age fs) (sym same_frames) sound)
 
-  pub same_machine : (age : ℕ) (frozen : Option Frozen) (saved : Saved) (to_move : ℕ) → machine_at age new frozen saved to_move ≡ machine_at age old frozen saved to_move
-  same_machine age frozen saved to_move =
-      ap (λ (fs : List Frame). let r : Running = record { now = world_at age fs; touched = new.touched; frozen = frozen; saved = saved; to_move = to_move } in Up r) same_frames
-      ∙ ap (λ (ts : List Bool). let r : Running = record { now = world_at age (frames_of old); touched = ts; frozen = frozen; saved = saved; to_move = to_move } in Up r) same.touched
+  pub same_machine : (age : ℕ) (renewed : List Bool) (frozen : Option Frozen) (saved : Saved) (to_move : ℕ) → machine_at age new renewed frozen saved to_move ≡ machine_at age old renewed frozen saved to_move
+  same_machine age renewed frozen saved to_move =
+      ap (λ (fs : List Frame). let r : Running = record { now = world_at age fs; touched = new.touched; renewed = renewed; frozen = frozen; saved = saved; to_move = to_move } in Up r) same_frames
+      ∙ ap (λ (ts : List Bool). let r : Running = record { now = world_at age (frames_of old); touched = ts; renewed = renewed; frozen = frozen; saved = saved; to_move = to_move } in Up r) same.touched
+
+  -- nothing is given up
+  pub same_renews : Renews old new
+  same_renews =
+      renews_none old new (λ n. ap (λ (hs : List ObjectHeader). (header_at hs n).allocations) same.headers)
+      (λ n used. ap (λ (fs : List Frame). is_free (content_at (objects_of fs) n)) same_frames ∙ used)
+
+  pub same_renewed : (renewed : List Bool) → renewed_by renewed old new ≡ renewed
+  same_renewed renewed =
+      renewing_none renewed (objects_of (frames_of old)) (objects_of (frames_of new))
+      (λ n. none_given_up (objects_of (frames_of old)) (objects_of (frames_of new)) n (λ used. ap (λ (fs : List Frame). is_free (content_at (objects_of fs) n)) same_frames ∙ used))
+
+  pub still_machine : (age : ℕ) (renewed : List Bool) (frozen : Option Frozen) (saved : Saved) (to_move : ℕ) →
+      machine_at age new (renewed_by renewed old new) frozen saved to_move ≡ machine_at age old renewed frozen saved to_move
+  still_machine age renewed frozen saved to_move =
+      ap (λ (rs : List Bool). machine_at age new rs frozen saved to_move) (same_renewed renewed) ∙ same_machine age renewed frozen saved to_move
 
 -- a refusal that changes nothing
 pub refused_serves : (age : ℕ) (old new : Parts) (c : Command) (why : Refusal) → AreSame old new → IsSoundFrames old.geometry age (frames_of old) → old.failures ≤ new.failures →
     ((why ≡ refusal.Fault) ↔ (old.failures < new.failures)) →
-    ((frozen : Option Frozen) (saved : Saved) (to_move : ℕ) → (why ≡ refusal.Fault → ⊥) →
-    Step old.geometry (machine_at age old frozen saved to_move) c (answer.Refused why) (machine_at age old frozen saved to_move)) →
+    ((renewed : List Bool) (frozen : Option Frozen) (saved : Saved) (to_move : ℕ) → (why ≡ refusal.Fault → ⊥) →
+    Step old.geometry (machine_at age old renewed frozen saved to_move) c (answer.Refused why) (machine_at age old renewed frozen saved to_move)) →
     Serves age old c (answer.Refused why) age new
 refused_serves age old new c why same sound later cause step = record {
-  step = λ frozen saved to_move other.
-      subst (λ (m : Machine). Step old.geometry (machine_at age old frozen saved to_move) c (answer.Refused why) m) (sym (same_machine old new same age frozen saved to_move))
-      (step frozen saved to_move (λ e. other (ap answer.Refused e)));
+  step = λ renewed frozen saved to_move other.
+      subst (λ (m : Machine). Step old.geometry (machine_at age old renewed frozen saved to_move) c (answer.Refused why) m) (sym (still_machine old new same age renewed frozen saved to_move))
+      (step renewed frozen saved to_move (λ e. other (ap answer.Refused e)));
+  renews = same_renews old new same;
   sound = same_sound old new same age sound;
   geometry = same.geometry;
   later = later;
@@ -79,40 +99,46 @@ unfailed m n later stayed = ⊎_elim (λ (rose : m < n). absurd (stayed rose)) (
 -- what is answered after a look is answered before it
 pub serves_looked : (age after : ℕ) (old mid new : Parts) (c : Command) (a : Answer) → AreSame old mid → mid.failures ≡ old.failures → Serves age mid c a after new → Serves age old c a after new
 serves_looked age after old mid new c a same failures serves = record {
-  step = λ frozen saved to_move other.
-      subst (λ (g : Geometry). Step g (machine_at age old frozen saved to_move) c a (machine_at after new frozen saved to_move)) same.geometry
-      (subst (λ (m : Machine). Step mid.geometry m c a (machine_at after new frozen saved to_move)) (same_machine old mid same age frozen saved to_move)
-      (serves.step frozen saved to_move other));
+  step = λ renewed frozen saved to_move other.
+      subst (λ (g : Geometry). Step g (machine_at age old renewed frozen saved to_move) c a (machine_at after new (renewed_by renewed old new) frozen saved to_move)) same.geometry
+      (subst (λ (m : Machine). Step mid.geometry m c a (machine_at after new (renewed_by renewed old new) frozen saved to_move)) (same_machine old mid same age renewed frozen saved to_move)
+      (subst (λ (fs : List Frame). Step mid.geometry (machine_at age mid renewed frozen saved to_move) c a
+      (machine_at after new (renewing renewed (objects_of fs) (objects_of (frames_of new))) frozen saved to_move)) (same_frames old mid same)
+      (serves.step renewed frozen saved to_move other)));
+  renews = renews_after old mid new (λ n. ap (λ (hs : List ObjectHeader). (header_at hs n).allocations) same.headers)
+      (λ n. ap (λ (fs : List Frame). is_free (content_at (objects_of fs) n)) (same_frames old mid same)) serves.renews;
   sound = serves.sound;
   geometry = serves.geometry ∙ same.geometry;
   later = subst (λ (n : ℕ). n ≤ new.failures) failures serves.later;
   cause = subst (λ (n : ℕ). (a ≡ answer.Refused refusal.Fault) ↔ (n < new.failures)) failures serves.cause;
 }
 
-abbrev pub standing : ℕ → Option Frozen → Saved → ℕ → List Object → List Bool → Machine
-standing age frozen saved to_move os ts = Up (record { now = record { objects = os; age = age }; touched = ts; frozen = frozen; saved = saved; to_move = to_move })
+abbrev pub standing : ℕ → List Bool → Option Frozen → Saved → ℕ → List Object → List Bool → Machine
+standing age renewed frozen saved to_move os ts = Up (record { now = record { objects = os; age = age }; touched = ts; renewed = renewed; frozen = frozen; saved = saved; to_move = to_move })
 
 -- an invocation that was carried out
 pub done_serves : (age : ℕ) (old new : Parts) (i : Invocation) → age < 2 ^ 62 → is_process (objects_of (frames_of old)) i.process ≡ true →
     is_running_process (objects_of (frames_of old)) i.process ≡ true → IsSoundFrames old.geometry age (frames_of old) →
-    Invokes old.geometry i (objects_of (frames_of old)) old.touched (objects_of (frames_of new)) new.touched → KeepsSoundFrames old new → new.geometry ≡ old.geometry →
+    Invokes old.geometry i (objects_of (frames_of old)) old.touched (objects_of (frames_of new)) new.touched → KeepsSoundFrames old new → Renews old new → new.geometry ≡ old.geometry →
     old.failures ≤ new.failures → (old.failures < new.failures → ⊥) → Serves age old (command.Invoke i) answer.Done (age + 1) new
-done_serves age old new i young process running sound invokes keeps geometry later stayed = record {
-  step = λ frozen saved to_move other.
-      let s : Running = record { now = world_at age (frames_of old); touched = old.touched; frozen = frozen; saved = saved; to_move = to_move } in
-      subst (Step old.geometry (Up s) (command.Invoke i) answer.Done) (made frozen saved to_move)
+done_serves age old new i young process running sound invokes keeps renews geometry later stayed = record {
+  step = λ renewed frozen saved to_move other.
+      let s : Running = record { now = world_at age (frames_of old); touched = old.touched; renewed = renewed; frozen = frozen; saved = saved; to_move = to_move } in
+      subst (Step old.geometry (Up s) (command.Invoke i) answer.Done) (made renewed frozen saved to_move)
       (invoke_step old.geometry s i process running young invokes.0 invokes.1 (subst (λ (ts : List Bool). touched_count ts ≤ old.geometry.log) invokes.3 invokes.4));
+  renews = renews;
   sound = subst (λ (g : Geometry). IsSoundFrames g (age + 1) (frames_of new)) (sym geometry) (keeps age young sound);
   geometry = geometry;
   later = later;
   cause = (λ e. cc, λ rose. absurd (stayed rose));
 }
   where
-    made : (frozen : Option Frozen) (saved : Saved) (to_move : ℕ) →
-        standing (age + 1) frozen saved to_move invokes.0.objects (touching old.touched invokes.0.written) ≡ machine_at (age + 1) new frozen saved to_move
-    made frozen saved to_move =
-        ap (λ (os : List Object). standing (age + 1) frozen saved to_move os (touching old.touched invokes.0.written)) (sym invokes.2)
-        ∙ ap (standing (age + 1) frozen saved to_move (objects_of (frames_of new))) (sym invokes.3)
+    made : (renewed : List Bool) (frozen : Option Frozen) (saved : Saved) (to_move : ℕ) →
+        standing (age + 1) (renewing renewed (objects_of (frames_of old)) invokes.0.objects) frozen saved to_move invokes.0.objects (touching old.touched invokes.0.written)
+        ≡ machine_at (age + 1) new (renewed_by renewed old new) frozen saved to_move
+    made renewed frozen saved to_move =
+        ap (λ (os : List Object). standing (age + 1) (renewing renewed (objects_of (frames_of old)) os) frozen saved to_move os (touching old.touched invokes.0.written)) (sym invokes.2)
+        ∙ ap (standing (age + 1) (renewed_by renewed old new) frozen saved to_move (objects_of (frames_of new))) (sym invokes.3)
 
 -- what is answered to a process that runs, after a look, by what came of its invocation
 module _ (age : ℕ) (old mid new : Parts) (i : Invocation) (same : AreSame old mid) (failures : mid.failures ≡ old.failures)
@@ -124,15 +150,15 @@ module _ (age : ℕ) (old mid new : Parts) (i : Invocation) (same : AreSame old 
   running_then : is_running_process (objects_of (frames_of mid)) i.process ≡ true
   running_then = ap (λ (fs : List Frame). is_running_process (objects_of fs) i.process) (same_frames old mid same) ∙ running
 
-  pub done_after : Invokes mid.geometry i (objects_of (frames_of mid)) mid.touched (objects_of (frames_of new)) new.touched → KeepsSoundFrames mid new → new.geometry ≡ mid.geometry →
+  pub done_after : Invokes mid.geometry i (objects_of (frames_of mid)) mid.touched (objects_of (frames_of new)) new.touched → KeepsSoundFrames mid new → Renews mid new → new.geometry ≡ mid.geometry →
       mid.failures ≤ new.failures → (mid.failures < new.failures → ⊥) → Serves age old (command.Invoke i) answer.Done (age + 1) new
-  done_after invokes keeps geometry later stayed =
+  done_after invokes keeps renews geometry later stayed =
       serves_looked age (age + 1) old mid new (command.Invoke i) answer.Done same failures
-      (done_serves age mid new i young process_then running_then (same_sound old mid same age sound) invokes keeps geometry later stayed)
+      (done_serves age mid new i young process_then running_then (same_sound old mid same age sound) invokes keeps renews geometry later stayed)
 
   refused_after : (why : Refusal) → AreSame mid new → mid.failures ≤ new.failures → ((why ≡ refusal.Fault) ↔ (mid.failures < new.failures)) →
-      ((frozen : Option Frozen) (saved : Saved) (to_move : ℕ) → (why ≡ refusal.Fault → ⊥) →
-      Step mid.geometry (machine_at age mid frozen saved to_move) (command.Invoke i) (answer.Refused why) (machine_at age mid frozen saved to_move)) →
+      ((renewed : List Bool) (frozen : Option Frozen) (saved : Saved) (to_move : ℕ) → (why ≡ refusal.Fault → ⊥) →
+      Step mid.geometry (machine_at age mid renewed frozen saved to_move) (command.Invoke i) (answer.Refused why) (machine_at age mid renewed frozen saved to_move)) →
       Serves age old (command.Invoke i) (answer.Refused why) age new
   refused_after why unchanged later cause step =
       serves_looked age age old mid new (command.Invoke i) (answer.Refused why) same failures
@@ -142,24 +168,24 @@ module _ (age : ℕ) (old mid new : Parts) (i : Invocation) (same : AreSame old 
       Serves age old (command.Invoke i) (answer.Refused refusal.Stalled) age new
   stalled_after none unchanged later stayed =
       refused_after refusal.Stalled unchanged later (told_cause refusal.Stalled (λ e. cc) stayed)
-      (λ frozen saved to_move other. stalled_step mid.geometry _ i process_then running_then young none)
+      (λ renewed frozen saved to_move other. stalled_step mid.geometry _ i process_then running_then young none)
 
   pub full_after : Overfills mid.geometry i (objects_of (frames_of mid)) mid.touched → AreSame mid new → mid.failures ≤ new.failures → (mid.failures < new.failures → ⊥) →
       Serves age old (command.Invoke i) (answer.Refused refusal.LogFull) age new
   full_after over unchanged later stayed =
       refused_after refusal.LogFull unchanged later (told_cause refusal.LogFull (λ e. cc) stayed)
-      (λ frozen saved to_move other. full_step mid.geometry _ i process_then running_then young over.0 over.1 over.2)
+      (λ renewed frozen saved to_move other. full_step mid.geometry _ i process_then running_then young over.0 over.1 over.2)
 
   pub no_memory_after : AreSame mid new → mid.failures ≤ new.failures → (mid.failures < new.failures → ⊥) →
       Serves age old (command.Invoke i) (answer.Refused refusal.NoMemory) age new
   no_memory_after unchanged later stayed =
       refused_after refusal.NoMemory unchanged later (told_cause refusal.NoMemory (λ e. cc) stayed)
-      (λ frozen saved to_move other. no_memory_step mid.geometry _ i process_then)
+      (λ renewed frozen saved to_move other. no_memory_step mid.geometry _ i process_then)
 
   pub failed_after : AreSame mid new → mid.failures < new.failures → Serves age old (command.Invoke i) (answer.Refused refusal.Fault) age new
   failed_after unchanged rose =
       refused_after refusal.Fault unchanged (omega (arith, rose)) (λ e. rose, λ r. refl)
-      (λ frozen saved to_move other. absurd (other refl))
+      (λ renewed frozen saved to_move other. absurd (other refl))
 
 -- what a fault of an invocation isn't
 pub done_unfailed : (let r : Result (Unit {0}) InvokeFault = Ok tt in IsErrOf r fault.Failed) → ⊥
@@ -175,9 +201,10 @@ fault_unfailed f k is other e = let d : f ≡ fault.Failed = cc in other (sym is
 pub shown_serves : (age : ℕ) (old new : Parts) (n : ℕ) (a : Answer) → n < length old.headers → AreSame old new → IsSoundFrames old.geometry age (frames_of old) →
     a ≡ shown (objects_of (frames_of old)) n → old.failures ≤ new.failures → (old.failures < new.failures → ⊥) → Serves age old (command.Show n) a age new
 shown_serves age old new n a known same sound told later stayed = record {
-  step = λ frozen saved to_move other.
-      subst (λ (m : Machine). Step old.geometry (machine_at age old frozen saved to_move) (command.Show n) a m) (sym (same_machine old new same age frozen saved to_move))
+  step = λ renewed frozen saved to_move other.
+      subst (λ (m : Machine). Step old.geometry (machine_at age old renewed frozen saved to_move) (command.Show n) a m) (sym (still_machine old new same age renewed frozen saved to_move))
       (show_step old.geometry _ n (subst (λ (m : ℕ). n < m) (keepable_count old.geometry age old sound.keepable) known) a told);
+  renews = same_renews old new same;
   sound = same_sound old new same age sound;
   geometry = same.geometry;
   later = later;
@@ -188,17 +215,17 @@ module _ (age : ℕ) (old new : Parts) (n : ℕ) (same : AreSame old new) (sound
   pub bad_number_serves : length old.headers ≤ n → (old.failures < new.failures → ⊥) → Serves age old (command.Show n) (answer.Refused refusal.BadNumber) age new
   bad_number_serves past stayed =
       refused_serves age old new (command.Show n) refusal.BadNumber same sound later (told_cause refusal.BadNumber (λ e. cc) stayed)
-      (λ frozen saved to_move other. bad_number_step old.geometry _ n (subst (λ (m : ℕ). m ≤ n) (keepable_count old.geometry age old sound.keepable) past))
+      (λ renewed frozen saved to_move other. bad_number_step old.geometry _ n (subst (λ (m : ℕ). m ≤ n) (keepable_count old.geometry age old sound.keepable) past))
 
   pub show_no_memory_serves : n < length old.headers → (old.failures < new.failures → ⊥) → Serves age old (command.Show n) (answer.Refused refusal.NoMemory) age new
   show_no_memory_serves known stayed =
       refused_serves age old new (command.Show n) refusal.NoMemory same sound later (told_cause refusal.NoMemory (λ e. cc) stayed)
-      (λ frozen saved to_move other. show_no_memory old.geometry _ n (subst (λ (m : ℕ). n < m) (keepable_count old.geometry age old sound.keepable) known))
+      (λ renewed frozen saved to_move other. show_no_memory old.geometry _ n (subst (λ (m : ℕ). n < m) (keepable_count old.geometry age old sound.keepable) known))
 
   pub show_failed_serves : old.failures < new.failures → Serves age old (command.Show n) (answer.Refused refusal.Fault) age new
   show_failed_serves rose =
       refused_serves age old new (command.Show n) refusal.Fault same sound later (λ e. rose, λ r. refl)
-      (λ frozen saved to_move other. absurd (other refl))
+      (λ renewed frozen saved to_move other. absurd (other refl))
 
 -- what a fault of a look isn't
 pub shown_unfailed : (a : Answer) → (let r : Result Answer PrepareFault = Ok a in IsErrOf r prepare.Failed) → ⊥
@@ -216,7 +243,7 @@ pub failed_serves : (age : ℕ) (old new : Parts) (c : Command) (r : Result Answ
     Serves age old c (answer_of r) age new
 failed_serves age old new c (Ok a) failed same sound rose = let never : false ≡ true = failed in cc
 failed_serves age old new c (Err e) failed same sound rose =
-    refused_serves age old new c refusal.Fault same sound (omega (arith, rose)) (λ told. rose, λ r. refl) (λ frozen saved to_move other. absurd (other refl))
+    refused_serves age old new c refusal.Fault same sound (omega (arith, rose)) (λ told. rose, λ r. refl) (λ renewed frozen saved to_move other. absurd (other refl))
 
 -- what was shown isn't a failure
 pub shown_fine : (os : List Object) (n : ℕ) (a : Answer) → a ≡ shown os n → a ≡ answer.Refused refusal.Fault → ⊥

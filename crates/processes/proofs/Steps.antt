@@ -12,7 +12,7 @@ use Rattle.model.specs.declared.command.Invocation.{Invocation}
 use Rattle.model.specs.declared.geometry.Geometry.{Geometry}
 use Rattle.model.specs.declared.object.Object.{Object}
 use Rattle.model.specs.Invoke.{Effect, invoke}
-use Rattle.model.specs.Machine.{Running, Machine, Up, touching, touched_count}
+use Rattle.model.specs.Machine.{Running, Machine, Up, renewing, touching, touched_count}
 use Rattle.model.specs.Sound.{object_count}
 use Rattle.model.specs.Step.{Step, Outcome, refusal_of, carried_out, unless, overfills, writing, gives_way, shown}
 use Rattle.model.specs.World.{is_process, is_running_process}
@@ -105,7 +105,7 @@ module _ (g : Geometry) (s : Running) (i : Invocation) where
       abbrev after_invoking : Option Effect → Outcome
       after_invoking o = elim o [
         | None ↦ record { answer = answer.Done; after = s }
-        | Some effect ↦ record { answer = answer.Done; after = writing s effect.objects (s.now.age + 1) effect.written }
+        | Some effect ↦ record { answer = answer.Done; after = writing s effect.objects (s.now.age + 1) effect.written (renewing s.renewed s.now.objects effect.objects) }
       ]
 
       done_by_effect : (e : Effect) → invoke g s.now.objects i ≡ Some e → carried_out g s (command.Invoke i) ≡ after_invoking (Some e)
@@ -113,7 +113,7 @@ module _ (g : Geometry) (s : Running) (i : Invocation) where
       done_by_effect e is = ap after_invoking is
 
       pub invoke_step : (e : Effect) → invoke g s.now.objects i ≡ Some e → touched_count (touching s.touched e.written) ≤ g.log →
-          Step g (Up s) (command.Invoke i) answer.Done (Up (writing s e.objects (s.now.age + 1) e.written))
+          Step g (Up s) (command.Invoke i) answer.Done (Up (writing s e.objects (s.now.age + 1) e.written (renewing s.renewed s.now.objects e.objects)))
       invoke_step e is within =
           let fits : overfills g s.touched e.written ≡ false = grind (arith, nat_tests) in
           done_step g s (command.Invoke i) answer.Done _

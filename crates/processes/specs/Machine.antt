@@ -1,5 +1,5 @@
 -- The machine of present frames, and what a command comes to over them.
-use Rattle.std.specs.Prelude.{◌≡◌, ◌≢◌, ◌↔◌, ℕ, ◌<◌, ◌≤◌, Option, None, Some, List, true, false, Result, Ok, Err}
+use Rattle.std.specs.Prelude.{◌≡◌, ◌≢◌, ◌↔◌, ℕ, ◌<◌, ◌≤◌, Bool, Option, None, Some, List, true, false, Result, Ok, Err}
 use Rattle.device.specs.declared.device.Failed.{Failed}
 use Rattle.model.specs.declared.answer.Answer.{Answer}
 use Rattle.model.specs.declared.answer.Answer.TheVariants as answer
@@ -7,16 +7,21 @@ use Rattle.model.specs.declared.answer.Refusal.{Refusal}
 use Rattle.model.specs.declared.answer.Refusal.TheVariants as refusal
 use Rattle.model.specs.declared.command.Command.{Command}
 use Rattle.model.specs.declared.object.Object.{Object}
+use Rattle.model.specs.Frame.{objects_of}
 use Rattle.model.specs.Keepable.{IsSoundFrames, world_at}
-use Rattle.model.specs.Machine.{Frozen, Saved, Machine, Up}
+use Rattle.model.specs.Machine.{Frozen, Saved, Machine, Up, renewing}
 use Rattle.model.specs.Step.{Step}
 use Rattle.model.specs.World.{is_process, is_running_process}
-use Rattle.capability.specs.Parts.{Parts, frames_of}
+use Rattle.capability.specs.Parts.{Parts, Renews, frames_of}
 
 -- the machine whose objects now are those of present frames
-abbrev pub machine_at : ℕ → Parts → Option Frozen → Saved → ℕ → Machine
-machine_at age p frozen saved to_move =
-    Up (record { now = world_at age (frames_of p); touched = p.touched; frozen = frozen; saved = saved; to_move = to_move })
+abbrev pub machine_at : ℕ → Parts → List Bool → Option Frozen → Saved → ℕ → Machine
+machine_at age p renewed frozen saved to_move =
+    Up (record { now = world_at age (frames_of p); touched = p.touched; renewed = renewed; frozen = frozen; saved = saved; to_move = to_move })
+
+-- those of a set of numbers, and those whose objects are given up from some parts to others
+abbrev pub renewed_by : List Bool → Parts → Parts → List Bool
+renewed_by renewed old new = renewing renewed (objects_of (frames_of old)) (objects_of (frames_of new))
 
 -- what a step is answered by: a failure of the device by `Fault`
 abbrev pub answer_of : Result Answer Failed → Answer
@@ -28,11 +33,12 @@ abbrev pub IsToldOnce : Result Answer Failed → Type 0
 IsToldOnce (Ok a) = a ≢ answer.Refused refusal.Fault
 IsToldOnce (Err failed) = Unit {0}
 
--- from parts at an age to parts at an age a command is answered as the machine answers it, whatever is frozen and
--- saved; a failure of the device aside, after which the machine is down
+-- from parts at an age to parts at an age a command is answered as the machine answers it, whatever was renewed and is
+-- frozen and saved; a failure of the device aside, after which the machine is down
 pub record Serves (old_age : ℕ) (old : Parts) (c : Command) (a : Answer) (new_age : ℕ) (new : Parts) : Type 0 where
-  pub step : (frozen : Option Frozen) (saved : Saved) (to_move : ℕ) → (a ≡ answer.Refused refusal.Fault → ⊥) →
-      Step old.geometry (machine_at old_age old frozen saved to_move) c a (machine_at new_age new frozen saved to_move)
+  pub step : (renewed : List Bool) (frozen : Option Frozen) (saved : Saved) (to_move : ℕ) → (a ≡ answer.Refused refusal.Fault → ⊥) →
+      Step old.geometry (machine_at old_age old renewed frozen saved to_move) c a (machine_at new_age new (renewed_by renewed old new) frozen saved to_move)
+  pub renews : Renews old new
   pub sound : IsSoundFrames new.geometry new_age (frames_of new)
   pub geometry : new.geometry ≡ old.geometry
   pub later : old.failures ≤ new.failures

@@ -20,7 +20,7 @@ returns-in-Some-clause-serves g c =
     let early = subst (IsEarly (objects_of (frames_of old)) c.args.invocation.process) c.in-Some.is c.in_ok-refusal.ensures.why in
     refused_serves c.args.age.now old mid (command.Invoke c.args.invocation) c.in-Some.refusal same c.requires.sound c.early.ensures.later
     (told_cause c.in-Some.refusal (early_fine (objects_of (frames_of old)) c.args.invocation.process c.in-Some.refusal early) (ok_stayed c.in_ok-refusal.field-0 c.in_ok-refusal.ensures.cause))
-    (λ frozen saved to_move other. early_step old.geometry _ c.args.invocation c.in-Some.refusal early)
+    (λ renewed frozen saved to_move other. early_step old.geometry _ c.args.invocation c.in-Some.refusal early)
 
 pub returns-then-age-ge-MAX_AGE-clause-serves : goal.returns-then-age-ge-MAX_AGE-clause-serves
 returns-then-age-ge-MAX_AGE-clause-serves g c =
@@ -31,7 +31,7 @@ returns-then-age-ge-MAX_AGE-clause-serves g c =
     let runs = early_none (objects_of (frames_of old)) c.args.invocation.process c.in_ok-refusal.field-0 c.in_default.not-Some c.in_ok-refusal.ensures.why in
     refused_serves c.args.age.now old mid (command.Invoke c.args.invocation) refusal.Worn same c.requires.sound c.early.ensures.later
     (told_cause refusal.Worn (λ e. cc) (ok_stayed c.in_ok-refusal.field-0 c.in_ok-refusal.ensures.cause))
-    (λ frozen saved to_move other. worn_step old.geometry _ c.args.invocation runs.0 runs.1 c.if-age-ge-MAX_AGE.true)
+    (λ renewed frozen saved to_move other. worn_step old.geometry _ c.args.invocation runs.0 runs.1 c.if-age-ge-MAX_AGE.true)
 
 pub returns-in-Ok-clause-serves : goal.returns-in-Ok-clause-serves
 returns-in-Ok-clause-serves g c =
@@ -44,7 +44,7 @@ returns-in-Ok-clause-serves g c =
     let runs = early_none (objects_of (frames_of old)) c.args.invocation.process c.in_ok-refusal.field-0 c.in_default.not-Some c.in_ok-refusal.ensures.why in
     let said = c.in-Ok.ensures in
     done_after c.args.age.now old mid new c.args.invocation same failures runs.0 runs.1 c.requires.sound c.if-age-ge-MAX_AGE.false
-    said.done said.sound said.geometry said.later (λ rose. done_unfailed (said.cause.1 rose))
+    said.done said.sound said.renews said.geometry said.later (λ rose. done_unfailed (said.cause.1 rose))
 
 pub returns-in-Err-Stalled-clause-serves : goal.returns-in-Err-Stalled-clause-serves
 returns-in-Err-Stalled-clause-serves g c =

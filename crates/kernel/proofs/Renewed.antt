@@ -1,0 +1,116 @@
+-- Which numbers were renewed since the last checkpoint or restart, told by counts.
+use Rattle.std.proofs.Common.{◌≡◌, ℕ, ◌+◌, ◌-◌, ◌<◌, ◌≤◌, ◌==◌, ◌||◌, Bool, true, false, not, Option, None, Some, List, length, map, replicate, slice_index_or, refl, sym, ap, ◌∙◌, arith}
+use Rattle.std.specs.Prelude.{if◌then◌else◌}
+use Rattle.std.specs.List.{range_with_len}
+use Rattle.std.proofs.Math.ListN.{get_or-map}
+use Rattle.std.proofs.lemmas.Bool.{eq-eqb, ne_eqb}
+use Rattle.std.proofs.lemmas.List.{ext_get_or, get_or-replicate, length-replicate}
+use Rattle.std.proofs.lemmas.List.FromFn.{get_or-map-range_with_len, length-map-range_with_len}
+use Rattle.model.specs.declared.capability.Cap.{Cap}
+use Rattle.model.specs.declared.frame.Frame.{Frame}
+use Rattle.model.specs.declared.frame.ObjectHeader.{ObjectHeader}
+use Rattle.model.specs.declared.geometry.Geometry.{Geometry}
+use Rattle.model.specs.declared.object.Content.{Content}
+use Rattle.model.specs.Frame.{blank_frame, frame_at, frames_in, header_at, objects_of}
+use Rattle.model.specs.Machine.{renewing, untouched}
+use Rattle.model.specs.Revoke.{is_given_up}
+use Rattle.capability.specs.Parts.{Parts, Renews, frames_of}
+use Rattle.capability.proofs.Frames.{headers_in}
+use Rattle.migrator.specs.Saved.{SavedFrames, home_saved}
+use Rattle.object_cache.specs.Store.{Aside, FrozenFrames, moved, moved_saved}
+use Rattle.kernel.specs.Standing.{base_of, renewed_since}
+
+-- the count of allocations of a number, among frames
+abbrev pub allocations_at : List Frame → ℕ → ℕ
+allocations_at fs n = (frame_at fs n).header.allocations
+
+header_in : (hs : List ObjectHeader) (cs : List (Content Cap)) (n : ℕ) → (frame_at (frames_in hs cs) n).header ≡ header_at hs n
+header_in hs cs n = sym (get_or-map (λ (f : Frame). f.header) (frames_in hs cs) n blank_frame) ∙ ap (λ (ks : List ObjectHeader). header_at ks n) (headers_in hs cs)
+
+-- a count differs where it did before, or rises now
+differs : (gone : Bool) (base old new : ℕ) → base ≤ old → new ≡ old + (if gone then 1 else 0) → (not (old == base) || gone) ≡ not (new == base)
+differs true base old new le is =
+    let up : new ≡ old + 1 = is in
+    either (not (old == base)) ∙ sym (ap (λ (b : Bool). not b) (ne_eqb new base (λ e. omega (arith, le, up, e))))
+  where
+    either : (b : Bool) → (b || true) ≡ true
+    either true = refl
+    either false = refl
+differs false base old new le is =
+    let same : old ≡ new = omega (arith, is) in
+    neither (not (old == base)) ∙ ap (λ (k : ℕ). not (k == base)) same
+  where
+    neither : (b : Bool) → (b || false) ≡ b
+    neither true = refl
+    neither false = refl
+
+-- counts through an invocation
+module _ (base : List Frame) (p q : Parts) (renews : Renews p q) (risen : (n : ℕ) → allocations_at base n ≤ allocations_at (frames_of p) n) where
+  abbrev gone : ℕ → Bool
+  gone n = is_given_up (objects_of (frames_of p)) (objects_of (frames_of q)) n
+
+  rises : (n : ℕ) → allocations_at (frames_of q) n ≡ allocations_at (frames_of p) n + (if gone n then 1 else 0)
+  rises n =
+      ap (λ (h : ObjectHeader). h.allocations) (header_in q.headers q.contents n)
+      ∙ (renews.each n
+      ∙ ap (λ (h : ObjectHeader). h.allocations + (if gone n then 1 else 0)) (sym (header_in p.headers p.contents n)))
+
+  pub risen_on : (n : ℕ) → allocations_at base n ≤ allocations_at (frames_of q) n
+  risen_on n = omega (arith, risen n, rises n)
+
+  abbrev was : ℕ → Bool
+  was n = not (allocations_at (frames_of p) n == allocations_at base n)
+
+  abbrev now : ℕ → Bool
+  now n = not (allocations_at (frames_of q) n == allocations_at base n)
+
+  pub renewed_on : renewing (renewed_since base (frames_of p)) (objects_of (frames_of p)) (objects_of (frames_of q)) ≡ renewed_since base (frames_of q)
+  unfolding renewing renewed_since
+  renewed_on =
+      let before = map was (range_with_len 0 (length base)) in
+      let test : ℕ → Bool = λ n. slice_index_or before n false || gone n in
+      let count = length-map-range_with_len test 0 (length before) in
+      let size = length-map-range_with_len was 0 (length base) in
+      ext_get_or false (map test (range_with_len 0 (length before))) (map now (range_with_len 0 (length base)))
+      (count ∙ (size ∙ sym (length-map-range_with_len now 0 (length base))))
+      (λ n inside.
+      let within : n < length before = omega (arith, inside, count) in
+      let known : n < length base = omega (arith, within, size) in
+      get_or-map-range_with_len test 0 (length before) n n false within (omega arith)
+      ∙ (ap (λ (b : Bool). b || gone n) (get_or-map-range_with_len was 0 (length base) n n false known (omega arith))
+      ∙ (differs (gone n) (allocations_at base n) (allocations_at (frames_of p) n) (allocations_at (frames_of q) n) (risen n) (rises n)
+      ∙ sym (get_or-map-range_with_len now 0 (length base) n n false known (omega arith)))))
+
+-- as it begins no number is renewed
+pub none_renewed : (g : Geometry) (fs : List Frame) → length fs ≡ g.nodes + g.pages → renewed_since fs fs ≡ untouched g
+unfolding renewed_since untouched
+none_renewed g fs count =
+    let test : ℕ → Bool = λ n. not (allocations_at fs n == allocations_at fs n) in
+    let size = length-map-range_with_len test 0 (length fs) in
+    ext_get_or false (map test (range_with_len 0 (length fs))) (replicate (g.nodes + g.pages) false)
+    (size ∙ (count ∙ sym (length-replicate {A = Bool} (g.nodes + g.pages) false)))
+    (λ n inside.
+    let known : n < length fs = omega (arith, inside, size) in
+    get_or-map-range_with_len test 0 (length fs) n n false known (omega arith)
+    ∙ (ap (λ (b : Bool). not b) (eq-eqb (allocations_at fs n) (allocations_at fs n) refl)
+    ∙ sym (get_or-replicate (g.nodes + g.pages) n false false (omega (arith, known, count)))))
+
+-- what it began from
+abbrev base_by : List Frame → Option FrozenFrames → List Frame
+base_by saved o = elim o [ None ↦ saved | Some f ↦ f.frames ]
+
+pub base_frozen : (a : Aside) (f : FrozenFrames) → a.frozen ≡ Some f → base_of a ≡ f.frames
+base_frozen a f is = ap (base_by a.saved.frames) is
+
+pub base_saved : (a : Aside) → a.frozen ≡ None → base_of a ≡ a.saved.frames
+base_saved a is = ap (base_by a.saved.frames) is
+
+frames_if : (b : Bool) (fs : SavedFrames) → (if b then home_saved fs else fs).frames ≡ fs.frames
+frames_if true fs = refl
+frames_if false fs = refl
+
+pub base_moved : (a : Aside) (n : ℕ) → base_of (moved n a) ≡ base_of a
+base_moved a n = ap (λ (fs : List Frame). base_by fs a.frozen) (moved_frames a n)
+  where
+    moved_frames : (a : Aside) (n : ℕ) → (moved_saved n a).frames ≡ a.saved.frames
+    moved_frames a n = frames_if (a.to_move - n == 0) a.saved
