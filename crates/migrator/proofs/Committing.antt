@@ -86,7 +86,7 @@ directory_inside p generation m le = directories_inside p generation m le
 
 -- ---- the header that is committed next
 
-one_more : (t : Bool) → cond t 1 0 ≤ 1
+pub one_more : (t : Bool) → cond t 1 0 ≤ 1
 one_more true = omega arith
 one_more false = omega arith
 

@@ -11,6 +11,8 @@ pub mod Saving
 mod Committing
 pub mod Moving
 mod Finishing
+mod Later
+mod Journaling
 mod Moves
 mod Opening
 mod Reading

@@ -24,6 +24,14 @@ IsFreezeAnswer left entries (Err fault.CheckpointRunning) = left ≢ None
 IsFreezeAnswer left entries (Err fault.MigrationPending) = (left ≡ None) × (entries ≢ 0)
 IsFreezeAnswer left entries (Err _) = ⊥
 
+-- and so a page is journaled, as the generation after the next
+abbrev pub IsJournalAnswer : Disk → Disk → Option ℕ → ℕ → ℕ → Result ℕ CheckpointFault → Type 0
+IsJournalAnswer old new left entries saved (Ok generation) = (new.failures ≡ old.failures) × (left ≡ None) × (entries ≡ 0) × (generation ≡ saved + 2)
+IsJournalAnswer old new left entries saved (Err fault.CheckpointRunning) = (new.failures ≡ old.failures) × (left ≢ None)
+IsJournalAnswer old new left entries saved (Err fault.MigrationPending) = (new.failures ≡ old.failures) × (left ≡ None) × (entries ≢ 0)
+IsJournalAnswer old new left entries saved (Err fault.Failed) = (old.failures < new.failures) × (left ≡ None) × (entries ≡ 0)
+IsJournalAnswer old new left entries saved (Err _) = ⊥
+
 -- it is committed, as the generation after the one that is saved, where all of its frames were put
 abbrev pub IsCommitAnswer : Disk → Disk → Option ℕ → ℕ → Result ℕ CheckpointFault → Type 0
 IsCommitAnswer old new left saved (Ok generation) = (new.failures ≡ old.failures) × (left ≡ Some 0) × (generation ≡ saved + 1)

@@ -24,6 +24,7 @@ use std::marker::Model;
 use std::mem;
 
 mod access;
+mod journal;
 mod migrate;
 mod open;
 

@@ -1,0 +1,442 @@
+-- One object is saved anew: its frame lies in the half of the log that the saved generation used, and it is the one entry of the generation after the next.
+use Rattle.std.proofs.Common.{◌≡◌, ◌⊎◌, ⊎_elim, ℕ, zero, suc, ◌+◌, ◌*◌, ◌%◌, ◌^◌, ◌<◌, ◌≤◌, Bool, Option, Some, None, List, [], ◌∷◌, length, get_or, set, take, refl, sym, ap, subst, ◌∙◌, inl, inr, arith}
+use Rattle.std.specs.Prelude.{◌==◌, if◌then◌else◌, option_map}
+use Rattle.std.proofs.lemmas.Bool.{cases_lt, cases_eq, le-ltb}
+use Rattle.std.proofs.lemmas.List.{get_or_past, get_or_default}
+use Rattle.model.specs.declared.capability.Cap.{Cap}
+use Rattle.model.specs.declared.frame.Frame.{Frame}
+use Rattle.model.specs.declared.frame.ObjectHeader.{ObjectHeader}
+use Rattle.model.specs.declared.geometry.Geometry.{Geometry}
+use Rattle.model.specs.declared.object.Content.{Content}
+use Rattle.model.specs.declared.object.Content.TheVariants as content
+use Rattle.model.specs.declared.object.Role.TheVariants as role
+use Rattle.model.specs.Frame.{frame_at, blank_frame}
+use Rattle.model.specs.Keepable.{IsKeepable, AreKeptWords}
+use Rattle.model.specs.Object.{role_of}
+use Rattle.model.specs.Sound.{IsOfKind}
+use Rattle.device.specs.Calls.{Agrees}
+use Rattle.device.specs.Disk.{Image, Disk}
+use Rattle.device.specs.Moments.{LeavesOnly}
+use Rattle.device.proofs.Images.{agrees_is}
+use Rattle.device.proofs.Moments.{leaves_weaker, leaves_on}
+use Rattle.layout.specs.declared.directory.Entry.{Entry}
+use Rattle.layout.specs.declared.extent.Extent.{Extent}
+use Rattle.layout.specs.declared.half.Half.{Half}
+use Rattle.layout.specs.declared.half.Half.TheVariants.{First, Second}
+use Rattle.layout.specs.declared.header.CheckpointHeader.{CheckpointHeader}
+use Rattle.layout.specs.Directory.{IsDirectory, IsEntry}
+use Rattle.layout.specs.Frame.{IsFrameOf, page_frame_bytes, node_frame_bytes}
+use Rattle.layout.specs.FrameReader.{frame_from}
+use Rattle.layout.specs.Half.{half_of}
+use Rattle.layout.specs.Header.{IsHeader}
+use Rattle.layout.specs.Image.{Denotes, frame_in, slot_in, slot_sector, half_sector, sectors_from}
+use Rattle.layout.specs.Spelt.{count_of, frame_read, frames_read, IsSpelt, AreSpelt, state_in}
+use Rattle.layout.specs.Superblock.{Plan, IsPlan, IsInside, half_extent, half_start}
+use Rattle.layout.proofs.SlotsOf.{slot_here, slot_behind}
+use Rattle.layout.proofs.Spelling.{length_read, read_at, spelt_same, spelt_at, bytes_spelt}
+use Rattle.frame_io.specs.Calls.{WritesAt}
+use Rattle.frame_io.specs.Frames.{IsHeaderAt, bytes_at}
+use Rattle.home_ranges.specs.Home.{home_place}
+use Rattle.ckpt_log.specs.Places.{slot_extent, directory_extent}
+use Rattle.ckpt_log.proofs.Places.{slots_inside}
+use Rattle.migrator.specs.declared.table.Place.{Place}
+use Rattle.migrator.specs.declared.table.Place.TheVariants.{Nowhere, Torn, Whole}
+use Rattle.migrator.specs.Table.{place_at}
+use Rattle.migrator.specs.Put.{Put, Kept, most, slot_bytes, put_of, puts_in, ArePut}
+use Rattle.migrator.specs.Saved.{SavedFrames, kept_of, Holds, LeavesSaved, LeavesEither}
+use Rattle.migrator.specs.Durable.{Books, books_of, DurableState, frozen_generation, working_generation, generation_after, Frozen, Stored, saved_state, frozen_of, stored_in, stored_of, IsRunning, IsKept, LeavesState, GoesOnDisk, replaced_saved, replaced, with_words, replaced_header, journaled, journaled_saved, first_bytes, first_frame}
+use Rattle.migrator.specs.Saving.{MaySave, SavesOnly}
+use Rattle.migrator.specs.Spared.{SparesFrames}
+use Rattle.migrator.proofs.Spared.{touches}
+use Rattle.migrator.proofs.Kept.{map_set, maps_same, SparesKept, stored_stays, kept_on}
+use Rattle.migrator.proofs.GoingOn.{holds, goes_spared}
+use Rattle.migrator.proofs.Later.{keepable_later}
+use Rattle.migrator.proofs.PlacesApart.{in_slot, at_home, frame_apart, home_apart, slot_fits, spares_log, no_slots}
+use Rattle.migrator.proofs.Putting.{other_parity, half_spares, none_spares, homes_spare}
+use Rattle.migrator.proofs.Committing.{one_more, slots_apart_directory, directory_inside, kept_saves, stored_saves, state_saves}
+
+-- ---- generations of one half
+
+half_same : (g h : ℕ) → g % 2 ≡ h % 2 → half_of g ≡ half_of h
+half_same g h same = ap (λ (r : ℕ). if r == 0 then First else Second) same
+
+module _ (image : Image) (p : Plan) (g h : ℕ) (same : half_of g ≡ half_of h) where
+  slot_same : (s n : ℕ) → slot_bytes image p g s n ≡ slot_bytes image p h s n
+  slot_same s n = ap (λ (half : Half). bytes_at image (half_start p half + 9 * s) p.geometry n) same
+
+  put_same : (n : ℕ) (q : Place) → put_of image p g n q ≡ put_of image p h n q
+  put_same n Nowhere = refl
+  put_same n (Torn s) = refl
+  put_same n (Whole s) = ap (λ (bytes : List ℕ). Kept (frame_from p.geometry n bytes)) (slot_same s n)
+
+  -- what was put for one was put for the other
+  puts_same : (ps : List Place) → puts_in image p g ps ≡ puts_in image p h ps
+  unfolding puts_in
+  puts_same ps = maps_same (λ n. put_of image p g n (place_at ps n)) (λ n. put_of image p h n (place_at ps n)) (count_of p) (λ n lt. put_same n (place_at ps n))
+
+  are_put_same : (ps : List Place) → ArePut image p g ps → ArePut image p h ps
+  are_put_same ps are = record {
+    count = are.count;
+    few = are.few;
+    table = are.table;
+    spelt = λ n s lt is. subst (λ (bytes : List ℕ). IsFrameOf p.geometry most n bytes (frame_from p.geometry n bytes)) (slot_same s n) (are.spelt n s lt is);
+  }
+
+-- ---- a page with other words
+
+words_kind : (g : Geometry) (n : ℕ) (words : List ℕ) (c : Content Cap) → role_of c ≡ role.Page → IsOfKind g n c → IsOfKind {C = Cap} g n (content.Page words)
+words_kind g n words content.Free is kind = absurd cc
+words_kind g n words (content.Page ws) is kind = kind
+words_kind g n words (content.Node slots) is kind = absurd cc
+words_kind g n words (content.Root root) is kind = absurd cc
+words_kind g n words (content.Annex registers) is kind = absurd cc
+words_kind g n words (content.Bank limit) is kind = absurd cc
+
+words_keepable : (g : Geometry) (age n : ℕ) (f : Frame) (words : List ℕ) → f.header.role ≡ role.Page → AreKeptWords 512 words → IsKeepable g age n f → IsKeepable g age n (with_words words f)
+words_keepable g age n f words page fits is = record {
+  kind = words_kind g n words f.content (sym is.kept.role ∙ page) is.kind;
+  kept = record {
+    role = page;
+    allocations = is.kept.allocations;
+    calls = is.kept.calls;
+    owner = is.kept.owner;
+    unowned = is.kept.unowned;
+    content = fits;
+  };
+}
+
+pub words_fit : (words : List ℕ) → length words ≡ 512 → ((i : ℕ) → get_or words i 0 < 2 ^ 64) → AreKeptWords 512 words
+words_fit words count fits = record { count_is = count; each = λ i d lt. subst (λ (word : ℕ). word < 2 ^ 64) (sym (get_or_default words i d 0 lt)) (fits i) }
+
+-- its bytes
+page_spelt : (g : Geometry) (age n : ℕ) (image : Image) (at : ℕ) (f : Frame) → g.nodes ≤ n → IsKeepable g age n f → sectors_from image at 9 ≡ page_frame_bytes f → IsFrameOf g age n (bytes_at image at g n) f
+page_spelt g age n image at f le is written =
+    let test = le-ltb n g.nodes le in
+    (is, ap (λ (node : Bool). sectors_from image at (if node then 2 else 9)) test ∙ written ∙ sym (ap (λ (node : Bool). if node then node_frame_bytes f else page_frame_bytes f) test))
+
+-- ---- where all that is saved is home
+
+module _ (size : ℕ) (image : Image) (b : Books) (kept : IsKept size image b) (home : b.header.entries ≡ 0) where
+  none_saved : (n : ℕ) → slot_in b.directory n ≡ None
+  none_saved n = by (slot_in b.directory n) refl where
+    by : (o : Option ℕ) → slot_in b.directory n ≡ o → slot_in b.directory n ≡ None
+    by None is = is
+    by (Some s) is = absurd (no_slots b.directory n s (kept.count ∙ home) is)
+
+  -- the saved frame of an object lies at home
+  pub lies_home : (n : ℕ) → frame_in image b.plan b.header.generation b.directory n ≡ bytes_at image (home_place b.plan n) b.plan.geometry n
+  lies_home n = at_home image b.plan b.header.generation b.directory n (none_saved n)
+
+  pub saved_read : (n : ℕ) → n < count_of b.plan → frame_at (frames_read image b.plan b.header.generation b.directory) n ≡ frame_from b.plan.geometry n (bytes_at image (home_place b.plan n) b.plan.geometry n)
+  saved_read n lt = read_at image b.plan b.header.generation b.directory n lt ∙ ap (frame_from b.plan.geometry n) (lies_home n)
+
+  -- only an object is a page
+  pub page_known : (n : ℕ) → (frame_at (frames_read image b.plan b.header.generation b.directory) n).header.role ≡ role.Page → n < count_of b.plan
+  page_known n page = elim (cases_lt n (count_of b.plan)) [
+    | inl lt ↦ lt
+    | inr le ↦
+        let past = get_or_past (frames_read image b.plan b.header.generation b.directory) n blank_frame (omega (arith, le, length_read image b.plan b.header.generation b.directory)) in
+        let never : role.Free ≡ role.Page = sym (ap (λ (f : Frame). f.header.role) past) ∙ page in absurd cc
+  ]
+
+  saved_keepable : (n : ℕ) → n < count_of b.plan → IsKeepable b.plan.geometry b.header.age n (frame_at (frames_read image b.plan b.header.generation b.directory) n)
+  saved_keepable n lt = subst (IsKeepable b.plan.geometry b.header.age n) (sym (read_at image b.plan b.header.generation b.directory n lt)) (kept.saved n lt).0
+
+-- the header that was read of its home is the saved one
+pub header_read : (old new : Disk) (b : Books) → IsKept old.sectors old.seen b → b.header.entries ≡ 0 → (n at : ℕ) → n < count_of b.plan → at ≡ home_place b.plan n → Agrees new.seen old.seen → (header : ObjectHeader) → IsHeaderAt new.seen at header
+    → header ≡ (frame_at (stored_in old.seen b).saved.frames n).header
+header_read old new b kept home n at lt place same header is =
+    is b.plan.geometry n ∙ ap (λ (image : Image). (frame_from b.plan.geometry n (bytes_at image at b.plan.geometry n)).header) (agrees_is new.seen old.seen same)
+    ∙ ap (λ (sector : ℕ). (frame_from b.plan.geometry n (bytes_at old.seen sector b.plan.geometry n)).header) place
+    ∙ sym (ap (λ (f : Frame). f.header) (saved_read old.sectors old.seen b kept home n lt))
+
+-- ---- and no checkpoint is on its way
+
+module _ (size : ℕ) (image : Image) (b : Books) (kept : IsKept size image b) (free : b.size ≡ None) (home : b.header.entries ≡ 0) where
+  blank : (n : ℕ) → place_at b.frozen n ≡ Nowhere
+  blank = subst (IsRunning b) free kept.running
+
+  other_half : (g : ℕ) → g % 2 ≡ b.header.generation % 2 → working_generation b % 2 ≡ g % 2 → ⊥
+  other_half g same is = other_parity b.header.generation (sym (sym (ap (λ (o : Option ℕ). generation_after b.header.generation o % 2) free) ∙ is ∙ same))
+
+  -- the half of the saved generation lies apart from all that is kept
+  spares_half : (g : ℕ) (e : Extent) → g % 2 ≡ b.header.generation % 2 → IsInside e (half_extent b.plan.geometry (half_sector b.plan g)) → SparesKept b e
+  spares_half g e same inside = record {
+    frames = (spares_log b.plan b.header b.directory g e kept.plan kept.count home inside).frames;
+    homes = homes_spare size image b g e kept inside;
+    frozen = none_spares b.plan (frozen_generation b) b.frozen e blank;
+    working = half_spares b.plan (working_generation b) g b.working e kept.plan (other_half g same) kept.working.table kept.working.few inside;
+  }
+
+-- ---- a page is written into the first slot of that half
+
+module _ (old new : Disk) (b : Books) (kept : IsKept old.sectors old.seen b) (free : b.size ≡ None) (home : b.header.entries ≡ 0) (writes : WritesAt (slot_sector b.plan b.header.generation 0) 9 old new) where
+  inside : IsInside (slot_extent b.plan b.header.generation 0) (half_extent b.plan.geometry (half_sector b.plan b.header.generation))
+  inside = slots_inside b.plan b.header.generation 0 (omega (arith, kept.plan.geometry.least_log))
+
+  spares : SparesKept b (slot_extent b.plan b.header.generation 0)
+  spares = spares_half old.sectors old.seen b kept free home b.header.generation (slot_extent b.plan b.header.generation 0) refl inside
+
+  pub put_kept : IsKept new.sectors new.seen b
+  put_kept = subst (λ (size : ℕ). IsKept size new.seen b) (sym writes.size) (kept_on old.sectors b (slot_extent b.plan b.header.generation 0) old.seen new.seen spares writes.elsewhere kept)
+
+  pub put_stored : stored_in new.seen b ≡ stored_in old.seen b
+  put_stored = stored_stays old.sectors b (slot_extent b.plan b.header.generation 0) old.seen new.seen spares writes.elsewhere
+
+  pub put_goes_on : GoesOnDisk old new b b
+  put_goes_on =
+      goes_spared old new b b (slot_extent b.plan b.header.generation 0) refl refl refl
+      (spares_log b.plan b.header b.directory b.header.generation (slot_extent b.plan b.header.generation 0) kept.plan kept.count home inside)
+      (touches (slot_sector b.plan b.header.generation 0) 9 old new writes)
+
+  -- the slot spells the page with its words, at each age from the saved one on
+  pub put_spelt : (n : ℕ) (header : ObjectHeader) (words : List ℕ) → (frame_at (stored_in old.seen b).saved.frames n).header.role ≡ role.Page → header ≡ (frame_at (stored_in old.seen b).saved.frames n).header → AreKeptWords 512 words
+      → sectors_from new.seen (slot_sector b.plan b.header.generation 0) 9 ≡ page_frame_bytes (record { header = header; content = content.Page words }) → (age : ℕ) → b.header.age ≤ age
+      → IsFrameOf b.plan.geometry age n (slot_bytes new.seen b.plan b.header.generation 0 n) (with_words words (frame_at (stored_in old.seen b).saved.frames n))
+  put_spelt n header words page is fits written age le =
+      let saved : Frame = frame_at (stored_in old.seen b).saved.frames n in
+      let lt = page_known old.sectors old.seen b kept home n page in
+      let keepable = words_keepable b.plan.geometry age n saved words page fits (keepable_later b.plan.geometry b.header.age age le n saved (saved_keepable old.sectors old.seen b kept home n lt)) in
+      page_spelt b.plan.geometry age n new.seen (slot_sector b.plan b.header.generation 0) (with_words words saved) keepable.kind.0 keepable
+      (written ∙ ap (λ (h : ObjectHeader). page_frame_bytes (record { header = h; content = content.Page words })) is)
+
+-- ---- the object of that slot is saved anew
+
+abbrev pub one_entry : ℕ → List Entry
+one_entry n = record { object = n; slot = 0 } ∷ []
+
+one_fits : (p : Plan) (n : ℕ) → IsPlan p → n < count_of p → IsDirectory p.geometry (record { object = n; slot = 0 } ∷ [])
+one_fits p n fits lt = record {
+  each = each;
+  rising = λ i less. absurd (omega (arith, less));
+  apart = λ i j less within. absurd (omega (arith, less, within));
+} where
+  entry : IsEntry p.geometry (record { object = n; slot = 0 })
+  entry = record {
+    object = lt;
+    slot = omega (arith, fits.geometry.least_log);
+    object_fits = omega (arith, lt, fits.geometry.most_nodes, fits.geometry.most_pages);
+    slot_fits = omega arith;
+  }
+
+  each : (i : ℕ) (d : Entry) → i < 1 → IsEntry p.geometry (get_or (record { object = n; slot = 0 } ∷ []) i d)
+  each zero d less = entry
+  each (suc i) d less = absurd (omega (arith, less))
+
+header_fits : (room age : ℕ) (b : Books) → IsHeader room b.header → b.header.age < age → age ≤ 2 ^ 62 → 1 ≤ room → IsHeader room (replaced_header age b)
+header_fits room age b is later most some = record {
+  entries = some;
+  age = most;
+  generation = omega (arith, is.generation, later);
+  sequence = let more = one_more (b.header.entries == 0) in omega (arith, is.sequence, more, later);
+  entries_fit = omega arith;
+}
+
+-- what is kept then
+abbrev books_with : Books → CheckpointHeader → List Entry → Books
+books_with b h es = record { plan = b.plan; header = h; directory = es; moved = 0; frozen = b.frozen; size = b.size; working = b.working }
+
+abbrev pub replaced_books : ℕ → ℕ → Books → Books
+replaced_books age n b = record { plan = b.plan; header = replaced_header age b; directory = one_entry n; moved = 0; frozen = b.frozen; size = b.size; working = b.working }
+
+pub books_again : (age n : ℕ) (b : Books) (h : CheckpointHeader) (es : List Entry) → h ≡ replaced_header age b → take h.entries es ≡ one_entry n → books_of b.plan h es 0 b.frozen b.size b.working ≡ replaced_books age n b
+books_again age n b h es header directory =
+    ap (λ (ds : List Entry). books_with b h ds) directory ∙ ap (λ (x : CheckpointHeader). books_with b x (one_entry n)) header
+
+pub first_set : {X : Type 0} (xs : List X) (x : X) → 0 < length xs → take 1 (set xs 0 x) ≡ x ∷ []
+first_set [] x some = absurd (omega (arith, some))
+first_set (y ∷ ys) x some = refl
+
+after_half : (g : ℕ) (o : Option ℕ) → half_of (generation_after (g + 2) o) ≡ half_of (generation_after g o)
+after_half g None = half_same (g + 2 + 1) (g + 1) (omega arith)
+after_half g (Some k) = half_same (g + 2 + 1 + 1) (g + 1 + 1) (omega arith)
+
+none_frozen : (f g : ℕ → Frozen) (o : Option ℕ) → o ≡ None → option_map f o ≡ option_map g o
+none_frozen f g None is = refl
+none_frozen f g (Some k) is = absurd cc
+
+module _ (disk : Disk) (b : Books) (kept : IsKept disk.sectors disk.seen b) (free : b.size ≡ None) (home : b.header.entries ≡ 0) (n : ℕ) (lt : n < count_of b.plan)
+    (age : ℕ) (later : b.header.age < age) (most_age : age ≤ 2 ^ 62)
+    (spelt : IsFrameOf b.plan.geometry age n (first_bytes disk.seen b n) (first_frame disk.seen b n)) where
+  abbrev again : ℕ
+  again = b.header.generation + 2
+
+  abbrev extent : Extent
+  extent = directory_extent b.plan again 1
+
+  abbrev entry : Entry
+  entry = record { object = n; slot = 0 }
+
+  pub some : 1 ≤ b.plan.geometry.log
+  some = omega (arith, kept.plan.geometry.least_log)
+
+  pub fits_next : IsHeader b.plan.geometry.log (replaced_header age b)
+  fits_next = header_fits b.plan.geometry.log age b kept.header later most_age some
+
+  directory_next : IsDirectory b.plan.geometry (one_entry n)
+  directory_next = one_fits b.plan n kept.plan lt
+
+  parity : again % 2 ≡ b.header.generation % 2
+  parity = omega arith
+
+  inside_half : IsInside extent (half_extent b.plan.geometry (half_sector b.plan again))
+  inside_half = directory_inside b.plan again 1 some
+
+  frame_here : frame_in disk.seen b.plan again (one_entry n) n ≡ first_bytes disk.seen b n
+  frame_here = in_slot disk.seen b.plan again (one_entry n) n 0 (slot_here entry [] n refl) ∙ slot_same disk.seen b.plan again b.header.generation (half_same again b.header.generation parity) 0 n
+
+  frame_there : (m : ℕ) → (n ≡ m → ⊥) → frame_in disk.seen b.plan again (one_entry n) m ≡ frame_in disk.seen b.plan b.header.generation b.directory m
+  frame_there m other = at_home disk.seen b.plan again (one_entry n) m (slot_behind entry [] m other) ∙ sym (lies_home disk.sectors disk.seen b kept home m)
+
+  frames_next : frames_read disk.seen b.plan again (one_entry n) ≡ set (frames_read disk.seen b.plan b.header.generation b.directory) n (first_frame disk.seen b n)
+  unfolding frames_read
+  frames_next =
+      map_set (frame_read disk.seen b.plan b.header.generation b.directory) (frame_read disk.seen b.plan again (one_entry n)) (count_of b.plan) n (first_frame disk.seen b n) lt
+      (ap (frame_from b.plan.geometry n) frame_here)
+      (λ m within other. ap (frame_from b.plan.geometry m) (frame_there m (λ same. other (sym same))))
+
+  spelt_here : IsSpelt disk.seen b.plan age again (one_entry n) n
+  spelt_here = subst (λ (bytes : List ℕ). IsFrameOf b.plan.geometry age n bytes (frame_from b.plan.geometry n bytes)) (sym frame_here) spelt
+
+  spelt_there : (m : ℕ) → m < count_of b.plan → (n ≡ m → ⊥) → IsSpelt disk.seen b.plan age again (one_entry n) m
+  spelt_there m within other =
+      let was = spelt_same disk.seen disk.seen b.plan b.header.age again b.header.generation (one_entry n) b.directory m (frame_there m other) (kept.saved m within) in
+      spelt_at disk.seen b.plan b.header.age age again (one_entry n) m was (keepable_later b.plan.geometry b.header.age age (omega (arith, later)) m (frame_read disk.seen b.plan again (one_entry n) m) was.0)
+
+  spelt_next : AreSpelt disk.seen b.plan age again (one_entry n)
+  spelt_next m within = elim (cases_eq n m) [
+    | inl same ↦ subst (λ (k : ℕ). IsSpelt disk.seen b.plan age again (one_entry n) k) same spelt_here
+    | inr other ↦ spelt_there m within other
+  ]
+
+  spares_then : SparesFrames b.plan again (one_entry n) extent
+  spares_then m within =
+      frame_apart b.plan again (one_entry n) m extent (λ s is. slots_apart_directory b.plan again s 1 m (slot_fits b.plan (one_entry n) m s directory_next is) some)
+      (λ _. home_apart b.plan again m extent kept.plan within inside_half)
+
+  pub may_replace : LeavesState disk (saved_state disk.seen b) → MaySave disk b.plan b.header b.directory (replaced_header age b) (one_entry n)
+  may_replace sound = record {
+    plan = kept.plan;
+    inside = kept.inside;
+    header = kept.header;
+    sound = sound;
+    fits = fits_next;
+    after = refl;
+    directory = directory_next;
+    count = refl;
+    spelt = spelt_next;
+    spares = spares_log b.plan b.header b.directory again extent kept.plan kept.count home inside_half;
+    spares_next = spares_then;
+  }
+
+  then_half : working_generation (replaced_books age n b) % 2 ≡ again % 2 → ⊥
+  then_half is = other_parity again (sym (sym (ap (λ (o : Option ℕ). generation_after again o % 2) free) ∙ is))
+
+  replaced_kept : IsKept disk.sectors disk.seen (replaced_books age n b)
+  replaced_kept = record {
+    plan = kept.plan;
+    inside = kept.inside;
+    header = fits_next;
+    count = refl;
+    directory = directory_next;
+    saved = spelt_next;
+    few = omega arith;
+    moved = λ i less. absurd (omega (arith, less));
+    frozen = are_put_same disk.seen b.plan (frozen_generation b) (again + 1) (half_same (frozen_generation b) (again + 1) (omega arith)) b.frozen kept.frozen;
+    running = subst (IsRunning (replaced_books age n b)) (sym free) (blank disk.sectors disk.seen b kept free home);
+    working = are_put_same disk.seen b.plan (working_generation b) (working_generation (replaced_books age n b)) (sym (after_half b.header.generation b.size)) b.working kept.working;
+  }
+
+  replaced_spares : SparesKept (replaced_books age n b) extent
+  replaced_spares = record {
+    frames = spares_then;
+    homes = λ i less. absurd (omega (arith, less));
+    frozen = none_spares b.plan (again + 1) b.frozen extent (blank disk.sectors disk.seen b kept free home);
+    working = half_spares b.plan (working_generation (replaced_books age n b)) again b.working extent kept.plan then_half kept.working.table kept.working.few inside_half;
+  }
+
+  abbrev stored_as : List Put → Option Frozen → List Frame → Stored
+  stored_as working frozen frames = record {
+    working = working;
+    frozen = frozen;
+    saved = record { geometry = b.plan.geometry; frames = frames; generation = again; entries = 1; age = age };
+    to_move = 1;
+  }
+
+  replaced_stored : stored_in disk.seen (replaced_books age n b) ≡ replaced age n (first_frame disk.seen b n) (stored_in disk.seen b)
+  replaced_stored =
+      ap (λ (puts : List Put). stored_as puts (option_map (frozen_of disk.seen (replaced_books age n b)) b.size) (frames_read disk.seen b.plan again (one_entry n)))
+      (puts_same disk.seen b.plan (working_generation (replaced_books age n b)) (working_generation b) (after_half b.header.generation b.size) b.working)
+      ∙ ap (λ (frozen : Option Frozen). stored_as (puts_in disk.seen b.plan (working_generation b) b.working) frozen (frames_read disk.seen b.plan again (one_entry n)))
+      (none_frozen (frozen_of disk.seen (replaced_books age n b)) (frozen_of disk.seen b) b.size free)
+      ∙ ap (λ (fs : List Frame). stored_as (puts_in disk.seen b.plan (working_generation b) b.working) (option_map (frozen_of disk.seen b) b.size) fs) frames_next
+
+  -- what was kept lies apart from the directory
+  spares_now : SparesKept b extent
+  spares_now = spares_half disk.sectors disk.seen b kept free home again extent parity inside_half
+
+  module _ (new : Image) (only : SavesOnly b.plan (replaced_header age b) disk.seen new) where
+    pub done_kept : IsKept disk.sectors new (replaced_books age n b)
+    done_kept = kept_saves disk.sectors (replaced_books age n b) (replaced_header age b) disk.seen new replaced_kept only replaced_spares
+
+    pub done_stored : stored_in new (replaced_books age n b) ≡ replaced age n (first_frame disk.seen b n) (stored_in disk.seen b)
+    done_stored = stored_saves disk.sectors (replaced_books age n b) (replaced_header age b) disk.seen new replaced_kept only replaced_spares ∙ replaced_stored
+
+    pub done_state : saved_state new (replaced_books age n b) ≡ state_in disk.seen b.plan (replaced_header age b) (one_entry n)
+    done_state = state_saves disk.sectors (replaced_books age n b) (replaced_header age b) disk.seen new replaced_kept only replaced_spares
+
+    pub failed_kept : IsKept disk.sectors new b
+    failed_kept = kept_saves disk.sectors b (replaced_header age b) disk.seen new kept only spares_now
+
+    pub failed_stored : stored_in new b ≡ stored_in disk.seen b
+    failed_stored = stored_saves disk.sectors b (replaced_header age b) disk.seen new kept only spares_now
+
+  next_kept : kept_of (state_in disk.seen b.plan (replaced_header age b) (one_entry n)) ≡ replaced_saved age n (first_frame disk.seen b n) (stored_in disk.seen b).saved
+  next_kept = ap (λ (fs : List Frame). (stored_as [] None fs).saved) frames_next
+
+  pub replace_moments : (new : Disk) → LeavesOnly disk new (λ c. Denotes c disk.sectors (saved_state disk.seen b) ⊎ Denotes c disk.sectors (state_in disk.seen b.plan (replaced_header age b) (one_entry n)))
+      → LeavesEither disk new (stored_in disk.seen b).saved (replaced_saved age n (first_frame disk.seen b n) (stored_in disk.seen b).saved)
+  replace_moments new run =
+      leaves_weaker {old = disk} {new = new} {P = λ c. Denotes c disk.sectors (saved_state disk.seen b) ⊎ Denotes c disk.sectors (state_in disk.seen b.plan (replaced_header age b) (one_entry n))}
+      (λ c. Holds disk.sectors c (stored_in disk.seen b).saved ⊎ Holds disk.sectors c (replaced_saved age n (first_frame disk.seen b n) (stored_in disk.seen b).saved))
+      (λ c. ⊎_elim (λ is. inl (holds disk.sectors c (saved_state disk.seen b) is))
+      (λ is. inr (subst (Holds disk.sectors c) next_kept (holds disk.sectors c (state_in disk.seen b.plan (replaced_header age b) (one_entry n)) is)))) run
+
+-- ---- the write, and then the commit
+
+-- where the write failed
+pub either_first : (old new : Disk) (saved next : SavedFrames) → LeavesSaved old new saved → LeavesEither old new saved next
+either_first old new saved next run =
+    leaves_weaker {old = old} {new = new} {P = λ c. Holds old.sectors c saved} (λ c. Holds old.sectors c saved ⊎ Holds old.sectors c next) (λ c is. inl is) run
+
+both_runs : (old mid new : Disk) (saved next : SavedFrames) → mid.sectors ≡ old.sectors → LeavesSaved old mid saved → LeavesEither mid new saved next → LeavesEither old new saved next
+both_runs old mid new saved next size first second =
+    leaves_on {old = old} {mid = mid} {new = new} {P = λ c. Holds old.sectors c saved ⊎ Holds old.sectors c next} (either_first old mid saved next first)
+    (subst (λ (k : ℕ). LeavesOnly mid new (λ c. Holds k c saved ⊎ Holds k c next)) size second)
+
+module _ {D : Type 0} (disk : D → Disk) (old mid : DurableState D) (n age : ℕ) (words : List ℕ) (books : mid.books ≡ old.books) (stored : stored_of disk mid ≡ stored_of disk old)
+    (spelt : IsFrameOf old.books.plan.geometry age n (first_bytes (disk mid.beneath).seen old.books n) (with_words words (frame_at (stored_of disk old).saved.frames n))) where
+  abbrev page : Frame
+  page = with_words words (frame_at (stored_of disk old).saved.frames n)
+
+  spelt_mid : IsFrameOf mid.books.plan.geometry age n (first_bytes (disk mid.beneath).seen mid.books n) page
+  spelt_mid = subst (λ (b : Books). IsFrameOf b.plan.geometry age n (first_bytes (disk mid.beneath).seen b n) page) (sym books) spelt
+
+  -- the slot spells a frame, which is the page
+  pub found : IsFrameOf mid.books.plan.geometry age n (first_bytes (disk mid.beneath).seen mid.books n) (first_frame (disk mid.beneath).seen mid.books n) × (first_frame (disk mid.beneath).seen mid.books n ≡ page)
+  found = bytes_spelt mid.books.plan.geometry age n (first_bytes (disk mid.beneath).seen mid.books n) page spelt_mid.0 spelt_mid.1
+
+  pub object_is : n < mid.books.plan.geometry.nodes + mid.books.plan.geometry.pages
+  object_is = spelt_mid.0.kind.1
+
+  pub journaled_is : replaced age n (first_frame (disk mid.beneath).seen mid.books n) (stored_of disk mid) ≡ journaled age n words (stored_of disk old)
+  journaled_is = ap (λ (f : Frame). replaced age n f (stored_of disk mid)) found.1 ∙ ap (λ (s : Stored). replaced age n page s) stored
+
+  -- the run to its end
+  pub either_run : (new : Disk) → (disk mid.beneath).sectors ≡ (disk old.beneath).sectors → LeavesSaved (disk old.beneath) (disk mid.beneath) (stored_of disk old).saved
+      → LeavesEither (disk mid.beneath) new (stored_of disk mid).saved (replaced_saved age n (first_frame (disk mid.beneath).seen mid.books n) (stored_of disk mid).saved)
+      → LeavesEither (disk old.beneath) new (stored_of disk old).saved (journaled_saved age n words (stored_of disk old).saved)
+  either_run new size first second =
+      both_runs (disk old.beneath) (disk mid.beneath) new (stored_of disk old).saved (journaled_saved age n words (stored_of disk old).saved) size first
+      (subst (λ (s : Stored). LeavesEither (disk mid.beneath) new s.saved (replaced_saved age n page s.saved)) stored
+      (subst (λ (f : Frame). LeavesEither (disk mid.beneath) new (stored_of disk mid).saved (replaced_saved age n f (stored_of disk mid).saved)) found.1 second))
