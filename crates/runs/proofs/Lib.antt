@@ -1,3 +1,4 @@
+mod Newlines
 mod ScriptLines
 mod TurnLists
 mod Turning

@@ -158,12 +158,13 @@ module _ {D S : Type 0} (disk : D → Disk) (view : S → View D) (parts : S →
     written = so_far.written;
   }
 
-  -- a line is at its end
-  module _ (g : Geometry) (m : Machine) (old mid new : Power D S) (text : List ℕ) (held next : LineBuffer) (output written wrote : Option (List ℕ))
-      (so_far : SoFar disk view parts g m old mid text held output written) (says : Line) (said : (l : List ℕ) → Holds held l → Says l says) (empty : Holds next [])
+  -- a line is at its end, and this the text that it ends
+  module _ (g : Geometry) (m : Machine) (old mid new : Power D S) (before : List ℕ) (held next : LineBuffer) (output written wrote : Option (List ℕ))
+      (so_far : SoFar disk view parts g m old mid before held output written) (text rest : List ℕ) (lines : AreLines text (lines_in so_far.turns) rest)
+      (says : Line) (said : Says rest says) (empty : Holds next [])
       (result : Result (Unit {0}) RunFault) (turn : TakesTurn disk view parts g so_far.run.after says mid new written wrote result) where
     abbrev turn_of : Turn
-    turn_of = record { line = so_far.rest; before = so_far.run.after; reply = turn.reply; after = turn.after }
+    turn_of = record { line = rest; before = so_far.run.after; reply = turn.reply; after = turn.after }
 
     abbrev turns_on : List Turn
     turns_on = so_far.turns ++ turn_of ∷ []
@@ -177,14 +178,14 @@ module _ {D S : Type 0} (disk : D → Disk) (view : S → View D) (parts : S →
           any_moment = leaves_weaker {old = disk_of disk view parts mid} {new = disk_of disk view parts new}
               {P = λ c. DenotesOne g size (candidates so_far.run.after) c ⊎ ((command : Command) × (says ≡ line.Command command) × DenotesOne g size (second so_far.run.after command) c)}
               (IsLeftIn g size turn_of)
-              (λ c has. ⊎_elim (λ first. inl first) (λ besides. inr (besides.0, subst (Says so_far.rest) besides.1 (said so_far.rest so_far.held), besides.2)) has) turn.any_moment;
+              (λ c has. ⊎_elim (λ first. inl first) (λ besides. inr (besides.0, subst (Says rest) besides.1 said, besides.2)) has) turn.any_moment;
           faults = turn.faults;
         }
 
     more_run : IsRunOf disk view parts g m old new turns_on
     more_run = record {
       after = turn.after;
-      run = run_more g m so_far.turns so_far.run.after turn_of so_far.run.run refl (says, said so_far.rest so_far.held, turn.replies);
+      run = run_more g m so_far.turns so_far.run.after turn_of so_far.run.run refl (says, said, turn.replies);
       stands = turn.stands;
       each = turns_more g old mid new so_far.turns turn_of so_far.run.each turn_taken;
     }
@@ -204,7 +205,7 @@ module _ {D S : Type 0} (disk : D → Disk) (view : S → View D) (parts : S →
     }
 
     whole_lines : AreLines (text ++ 10 ∷ []) (lines_in turns_on) []
-    whole_lines = subst (λ (ls : List (List ℕ)). AreLines (text ++ 10 ∷ []) ls []) (sym (lines_more so_far.turns turn_of)) (line_more text (lines_in so_far.turns) so_far.rest so_far.lines)
+    whole_lines = subst (λ (ls : List (List ℕ)). AreLines (text ++ 10 ∷ []) ls []) (sym (lines_more so_far.turns turn_of)) (line_more text (lines_in so_far.turns) rest lines)
 
     -- by its newline
     pub goes_on : Appends written wrote (reply_text turn.reply) → SoFar disk view parts g m old new (text ++ 10 ∷ []) next output wrote
@@ -219,13 +220,13 @@ module _ {D S : Type 0} (disk : D → Disk) (view : S → View D) (parts : S →
     }
 
     -- by the end of the input
-    last_lines : (so_far.rest ≡ [] → ⊥) → lines_of text ≡ lines_in turns_on
-    last_lines some = lines_with_rest text (lines_in so_far.turns) so_far.rest so_far.lines some ∙ sym (lines_more so_far.turns turn_of)
+    last_lines : (rest ≡ [] → ⊥) → lines_of text ≡ lines_in turns_on
+    last_lines some = lines_with_rest text (lines_in so_far.turns) rest lines some ∙ sym (lines_more so_far.turns turn_of)
 
-    pub ended_by_rest : (so_far.rest ≡ [] → ⊥) → Appends written wrote (reply_text turn.reply) → Ended disk view parts g m old new text output wrote
+    pub ended_by_rest : (rest ≡ [] → ⊥) → Appends written wrote (reply_text turn.reply) → Ended disk view parts g m old new text output wrote
     ended_by_rest some all = record { turns = turns_on; run = more_run; lines = last_lines some; written = all_written all }
 
-    pub stopped_at_rest : (so_far.rest ≡ [] → ⊥) → AppendsFront written wrote (reply_text turn.reply) → Stopped disk view parts (λ lines. lines_of text ≡ lines) g m old new output wrote
+    pub stopped_at_rest : (rest ≡ [] → ⊥) → AppendsFront written wrote (reply_text turn.reply) → Stopped disk view parts (λ lines. lines_of text ≡ lines) g m old new output wrote
     stopped_at_rest some cut = record { turns = turns_on; run = more_run; lines = last_lines some; cut = cut_short cut }
 
   -- nothing is left of the input
@@ -259,16 +260,22 @@ module _ {D S : Type 0} (disk : D → Disk) (view : S → View D) (parts : S →
     abbrev pub GoesTo : List ℕ → List ℕ → Power D S → LineBuffer → Option (List ℕ) → Type 0
     GoesTo piece rest k line written = (read : List ℕ) × (piece ≡ read ++ rest) × Goes read k line written
 
-    module _ (read : List ℕ) (k new : Power D S) (line next : LineBuffer) (written wrote : Option (List ℕ)) (goes : Goes read k line written) (says : Line)
-        (said : (l : List ℕ) → Holds line l → Says l says) (empty : Holds next []) where
-      pub goes_newline : ((g : Geometry) (m : Machine) → Stands disk view parts g k m → TakesTurn disk view parts g m says k new written wrote (Ok tt)) → Goes (read ++ 10 ∷ []) new next wrote
+    -- a line is at its end, of which these are the last bytes
+    module _ (read : List ℕ) (k new : Power D S) (line next : LineBuffer) (written wrote : Option (List ℕ)) (goes : Goes read k line written) (bytes : List ℕ) (one : IsOneLine bytes)
+        (says : Line) (said : (l : List ℕ) → Holds line l → Says (l ++ bytes) says) (empty : Holds next []) where
+      text_is : (text : List ℕ) → ((text ++ read) ++ bytes) ++ 10 ∷ [] ≡ text ++ ((read ++ bytes) ++ 10 ∷ [])
+      text_is text =
+          append_assoc (text ++ read) bytes (10 ∷ []) ∙ append_assoc text read (bytes ++ 10 ∷ []) ∙ ap (λ (t : List ℕ). text ++ t) (sym (append_assoc read bytes (10 ∷ [])))
+
+      pub goes_newline : ((g : Geometry) (m : Machine) → Stands disk view parts g k m → TakesTurn disk view parts g m says k new written wrote (Ok tt)) → Goes ((read ++ bytes) ++ 10 ∷ []) new next wrote
       goes_newline turn g m start text output so_far =
           let now = goes g m start text output so_far in
           let taken = turn g now.run.after now.run.stands in
-          subst (λ (t : List ℕ). SoFar disk view parts g m start new t next output wrote) (append_assoc text read (10 ∷ []))
-          (goes_on g m start k new (text ++ read) line next output written wrote now says said empty (Ok tt) taken taken.writes)
+          subst (λ (t : List ℕ). SoFar disk view parts g m start new t next output wrote) (text_is text)
+          (goes_on g m start k new (text ++ read) line next output written wrote now ((text ++ read) ++ bytes) (now.rest ++ bytes)
+          (bytes_more (text ++ read) (lines_in now.turns) now.rest bytes now.lines one) says (said now.rest now.held) empty (Ok tt) taken taken.writes)
 
-      pub stops_newline : (e : RunFault) (more whole : List ℕ) → whole ≡ (read ++ 10 ∷ []) ++ more →
+      pub stops_newline : (e : RunFault) (more whole : List ℕ) → whole ≡ ((read ++ bytes) ++ 10 ∷ []) ++ more →
           ((g : Geometry) (m : Machine) → Stands disk view parts g k m → TakesTurn disk view parts g m says k new written wrote (Err e)) →
           (g : Geometry) (m : Machine) (start : Power D S) (text : List ℕ) (output : Option (List ℕ)) →
           SoFar disk view parts g m start first text begun_line output had → Stopped disk view parts (BeginsWith (text ++ whole)) g m start new output wrote
@@ -276,30 +283,27 @@ module _ {D S : Type 0} (disk : D → Disk) (view : S → View D) (parts : S →
           let now = goes g m start text output so_far in
           let taken = turn g now.run.after now.run.stands in
           subst (λ (t : List ℕ). Stopped disk view parts (BeginsWith t) g m start new output wrote)
-          (append_assoc (text ++ read) (10 ∷ []) more ∙ append_assoc text read (10 ∷ more) ∙ ap (λ (t : List ℕ). text ++ t) (sym (append_assoc read (10 ∷ []) more) ∙ sym is))
-          (stopped g m start k new (text ++ read) line next output written wrote now says said empty (Err e) taken more taken.writes.1)
+          (ap (λ (t : List ℕ). t ++ more) (text_is text) ∙ append_assoc text ((read ++ bytes) ++ 10 ∷ []) more ∙ ap (λ (t : List ℕ). text ++ t) (sym is))
+          (stopped g m start k new (text ++ read) line next output written wrote now ((text ++ read) ++ bytes) (now.rest ++ bytes)
+          (bytes_more (text ++ read) (lines_in now.turns) now.rest bytes now.lines one) says (said now.rest now.held) empty (Err e) taken more taken.writes.1)
 
-    -- what is left of a piece begins with a line, which was taken
-    module _ (piece rest : List ℕ) (k new : Power D S) (line whole_line next : LineBuffer) (written wrote : Option (List ℕ)) (goes : GoesTo piece rest k line written)
+    -- what is left of a piece begins with the end of a line, which was taken
+    module _ (piece rest : List ℕ) (k new : Power D S) (line next : LineBuffer) (written wrote : Option (List ℕ)) (goes : GoesTo piece rest k line written)
         (end : ℕ) (within : end < length rest) (one : IsOneLine (take end rest)) (newline : slice_index_or rest end 0 ≡ 10)
-        (extended : (l : List ℕ) → Holds line l → Holds whole_line (l ++ take end rest))
-        (says : Line) (said : (l : List ℕ) → Holds whole_line l → Says l says) (empty : Holds next []) where
-      with_line : Goes (goes.0 ++ take end rest) k whole_line written
-      with_line = goes_longer goes.0 k line whole_line written (take end rest) goes.2 one extended
-
+        (says : Line) (said : (l : List ℕ) → Holds line l → Says (l ++ take end rest) says) (empty : Holds next []) where
       pub goes_to_next : ((g : Geometry) (m : Machine) → Stands disk view parts g k m → TakesTurn disk view parts g m says k new written wrote (Ok tt)) →
           GoesTo piece (drop (suc end) rest) new next wrote
       goes_to_next turn = (
         (goes.0 ++ take end rest) ++ 10 ∷ [],
         line_taken piece goes.0 rest end goes.1 within newline,
-        goes_newline (goes.0 ++ take end rest) k new whole_line next written wrote with_line says said empty turn,
+        goes_newline goes.0 k new line next written wrote goes.2 (take end rest) one says said empty turn,
       )
 
       pub stops_in_piece : (e : RunFault) →
           ((g : Geometry) (m : Machine) → Stands disk view parts g k m → TakesTurn disk view parts g m says k new written wrote (Err e)) →
           (g : Geometry) (m : Machine) (start : Power D S) (text : List ℕ) (output : Option (List ℕ)) →
           SoFar disk view parts g m start first text begun_line output had → Stopped disk view parts (BeginsWith (text ++ piece)) g m start new output wrote
-      stops_in_piece e = stops_newline (goes.0 ++ take end rest) k new whole_line next written wrote with_line says said empty e (drop (suc end) rest) piece
+      stops_in_piece e = stops_newline goes.0 k new line next written wrote goes.2 (take end rest) one says said empty e (drop (suc end) rest) piece
           (line_taken piece goes.0 rest end goes.1 within newline)
 
     -- or it has no newline
@@ -379,7 +383,7 @@ module _ {D S : Type 0} (disk : D → Disk) (view : S → View D) (parts : S →
     rest_ends (Err e) turn = tt
     rest_ends (Ok a) turn = λ g m start text output so_far.
         let taken = turn g so_far.run.after so_far.run.stands in
-        ended_by_rest g m start k new text line next output written wrote so_far says said empty (Ok a) taken (not_none so_far.rest so_far.held) taken.writes
+        ended_by_rest g m start k new text line next output written wrote so_far text so_far.rest so_far.lines says (said so_far.rest so_far.held) empty (Ok a) taken (not_none so_far.rest so_far.held) taken.writes
 
     pub rest_stops : (result : Result (Unit {0}) RunFault) →
         ((g : Geometry) (m : Machine) → Stands disk view parts g k m → TakesTurn disk view parts g m says k new written wrote result) →
@@ -388,4 +392,4 @@ module _ {D S : Type 0} (disk : D → Disk) (view : S → View D) (parts : S →
     rest_stops (Ok a) turn = tt
     rest_stops (Err e) turn = λ g m start text output so_far.
         let taken = turn g so_far.run.after so_far.run.stands in
-        stopped_at_rest g m start k new text line next output written wrote so_far says said empty (Err e) taken (not_none so_far.rest so_far.held) taken.writes.1
+        stopped_at_rest g m start k new text line next output written wrote so_far text so_far.rest so_far.lines says (said so_far.rest so_far.held) empty (Err e) taken (not_none so_far.rest so_far.held) taken.writes.1

@@ -11,6 +11,7 @@ ghost use Rattle.runs.specs.Taking.{Ended, ReadsPiece, SoFar, Stopped, TakesTurn
 
 use device::Device;
 use kernel::Kernel;
+use memchr::memchr;
 use model::Line;
 use object_cache::ObjectStore;
 use script::{LineBuffer, RunFault, print_answer, print_bad_line};
@@ -77,10 +78,10 @@ fn end_of_line(bytes: &[u8]) -> Option<usize>
         × IsOneLine (take end bytes.now) × (slice_index_or bytes.now end 0 ≡ 10)) }
     ensures none { IfNone result (IsOneLine bytes.now) }
 {
-    bytes.iter().position(|byte| *byte == b'\n')
+    memchr(b'\n', bytes)
 }
 
-// Takes each line that ends in a piece, and keeps the beginning of the next.
+// Takes each line that ends in a piece, in place where it lies in it whole, and keeps the beginning of the next.
 fn take_piece<D: Device, S: ObjectStore<D>, W: Write>(
     alloc: Global,
     kernel: &mut Kernel<D, S>,
@@ -98,8 +99,7 @@ fn take_piece<D: Device, S: ObjectStore<D>, W: Write>(
 {
     let mut rest = piece;
     while let Some(end) = end_of_line(rest) {
-        line.extend(&rest[..end]);
-        take(alloc, kernel, &line.end(), writer)?;
+        take(alloc, kernel, &line.end_with(&rest[..end]), writer)?;
         rest = &rest[end + 1..];
     }
     line.extend(rest);

@@ -1,28 +1,24 @@
 -- What a crash leaves in the course of a run, and that it is opened.
-use Rattle.std.proofs.Common.{◌≡◌, ◌⊎◌, ℕ, zero, suc, List, [], ◌∷◌, refl, sym, subst, ⊎_elim, inl, inr, arith}
+use Rattle.std.proofs.Common.{ℕ, zero, suc, List, [], ◌∷◌, refl, sym, subst, ⊎_elim, inl, inr, arith}
 use Rattle.std.specs.List.{Contains}
-use Rattle.model.specs.declared.command.Command.{Command}
 use Rattle.model.specs.declared.geometry.Geometry.{Geometry}
-use Rattle.model.specs.declared.line.Line.TheVariants as line
 use Rattle.model.specs.Machine.{Machine, Running, Saved, Up, Down, candidates, opened}
 use Rattle.model.specs.Run.{Turn, IsRun}
 use Rattle.model.specs.Step.{second}
-use Rattle.model.specs.Text.{Says}
 use Rattle.device.specs.Disk.{Image, Disk}
 use Rattle.device.specs.Moments.{LeavesOnly}
 use Rattle.device.proofs.Moments.{leaves_on, leaves_weaker, started}
-use Rattle.layout.specs.declared.bad_image.BadImage.{BadImage}
 use Rattle.migrator.specs.declared.open_fault.OpenFault.{OpenFault}
 use Rattle.migrator.specs.declared.open_fault.OpenFault.TheVariants as fault
 use Rattle.capability.specs.Parts.{Parts}
 use Rattle.object_cache.specs.Store.{View}
 use Rattle.kernel.specs.declared.power.Power.{Power}
 use Rattle.kernel.specs.declared.power.Power.TheVariants as power
-use Rattle.kernel.specs.Denotes.{Denotes, DenotesOne, saved_of}
+use Rattle.kernel.specs.Denotes.{Denotes, DenotesOne}
 use Rattle.kernel.specs.Opening.{IsNoReason, Opens, RefusesToOpen}
 use Rattle.kernel.specs.Standing.{Stands, disk_of}
 use Rattle.kernel.proofs.Denoted.{denotes_one, denoted_not_bad}
-use Rattle.runs.specs.KernelRuns.{AreTurnsOf, IsLeftIn, IsRunOf, IsTurnOf}
+use Rattle.runs.specs.KernelRuns.{AreTurnsOf, IsLeftIn}
 use Rattle.runs_laws.specs.Laws.{CrashesAreSurvived, IsOpenedAt, MaySave}
 
 -- what denotes one of several denotes this one

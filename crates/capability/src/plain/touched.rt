@@ -1,5 +1,5 @@
 // Which numbers were written since the last checkpoint.
-ghost use Rattle.std.specs.Prelude.{◌≡◌, ◌+◌, ◌<◌, length};
+ghost use Rattle.std.specs.Prelude.{◌≡◌, ◌+◌, ◌<◌, length, slice_set, true};
 ghost use Rattle.std.specs.List.{All};
 ghost use Rattle.model.specs.Machine.{touching, touched_count};
 
@@ -29,6 +29,16 @@ pub fn mark(touched: &mut NumberSet, written: &[u64])
     ensures each { length touched.new ≡ length touched.old }
 {
     for number in written {
-        touched.set(*number as usize, true);
+        mark_one(touched, *number);
+    }
+}
+
+// Marks a number, where it isn't marked yet.
+fn mark_one(touched: &mut NumberSet, number: u64)
+    requires { number < length touched.old }
+    ensures { touched.new ≡ slice_set touched.old number true }
+{
+    if !touched.contains(number as usize) {
+        touched.set(number as usize, true);
     }
 }

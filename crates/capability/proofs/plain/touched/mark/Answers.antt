@@ -6,6 +6,6 @@ pub loop-number-preserved : goal.loop-number-preserved
 loop-number-preserved c =
     let number = get_or c.args.written.now c.loop-number.number-index 0 in
     record {
-      marked = c.set.ensures ∙ ap (λ t. set t number true) c.loop-number.invariant.marked ∙ sym (touching_more c.args.touched.now c.args.written.now c.loop-number.number-index c.loop-number-test.true);
-      each = ap length c.set.ensures ∙ length-set c.loop-number.touched number true ∙ c.loop-number.invariant.each;
+      marked = c.mark_one.ensures ∙ ap (λ t. set t number true) c.loop-number.invariant.marked ∙ sym (touching_more c.args.touched.now c.args.written.now c.loop-number.number-index c.loop-number-test.true);
+      each = ap length c.mark_one.ensures ∙ length-set c.loop-number.touched number true ∙ c.loop-number.invariant.each;
     }

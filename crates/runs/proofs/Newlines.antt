@@ -1,0 +1,25 @@
+-- The first newline.
+use Rattle.std.proofs.Common.{◌≡◌, ◌≢◌, ℕ, ◌<◌, ◌==◌, true, List, None, Some, Option, length, take, get_or, ◌∙◌, sym, subst, arith}
+use Rattle.std.specs.Prelude.{slice_index_or, IfNone, IfSome}
+use Rattle.std.proofs.lemmas.Bool.Decides.{nat_tests}
+use Rattle.std.proofs.lemmas.List.{get_or-take, get_or_default, length-take, take_all}
+use Rattle.std.specs.List.{All}
+use Rattle.memchr.specs.Find.{IsFirstByte, Nowhere, Passes, is_byte}
+use Rattle.script.specs.Lines.{IsOneLine}
+
+-- where it is not found there is none before
+one_line : (bytes : List ℕ) (end : ℕ) → Nowhere (Passes (is_byte 10) bytes) 0 end → IsOneLine (take end bytes)
+one_line bytes end nowhere k d lt = λ is.
+    let before : k < end = omega (arith, length-take end bytes, lt) in
+    let within : k < length bytes = omega (arith, length-take end bytes, lt) in
+    let here : get_or bytes k 0 ≡ 10 = get_or_default bytes k 0 d within ∙ sym (get_or-take end bytes k d before) ∙ is in
+    nowhere k (omega arith) before (grind (arith, nat_tests))
+
+pub line_ends : (bytes : List ℕ) (r : Option ℕ) → IsFirstByte (is_byte 10) bytes r
+    → IfSome r (λ end. (end < length bytes) × IsOneLine (take end bytes) × (slice_index_or bytes end 0 ≡ 10))
+line_ends bytes None first = tt
+line_ends bytes (Some end) first = (first.0.high, one_line bytes end first.0.before, grind (arith, nat_tests))
+
+pub no_line_ends : (bytes : List ℕ) (r : Option ℕ) → IsFirstByte (is_byte 10) bytes r → IfNone r (IsOneLine bytes)
+no_line_ends bytes None first = subst (λ (text : List ℕ). IsOneLine text) (take_all (length bytes) bytes (omega arith)) (one_line bytes (length bytes) first)
+no_line_ends bytes (Some end) first = tt
