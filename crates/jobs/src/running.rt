@@ -7,20 +7,20 @@ use crate::fault::{Fault, status};
 use device::Device;
 use kernel::Kernel;
 use object_cache::ObjectStore;
-use runs::run;
+use runs::{Output, Script, run};
 use std::alloc::Global;
-use std::io::{Read, Write};
+use std::io::Write;
 
 // Opens a device, and runs a script over it.
-fn open_and_run<D: Device, S: ObjectStore<D>, R: Read, W: Write>(
+fn open_and_run<D: Device, S: ObjectStore<D>, R: Script, W: Output>(
     alloc: Global,
     device: D,
     setting: S::Setting,
     reader: &mut R,
     writer: &mut W,
 ) -> Result<(), Fault>
-    ensures { RunsImage D.disk S.view S.parts device (R.remaining reader.old)
-        (R.remaining reader.new) (W.contents writer.old) (W.contents writer.new) result }
+    ensures { RunsImage D.disk S.view S.parts device (R.unread reader.old)
+        (R.unread reader.new) (W.contents writer.old) (W.contents writer.new) result }
 {
     let mut kernel = match Kernel::<D, S>::open(alloc, device, setting) {
         Ok(kernel) => kernel,
@@ -37,7 +37,7 @@ fn open_and_run<D: Device, S: ObjectStore<D>, R: Read, W: Write>(
 /// 1: `bad image` with a number from 1 to 10, `device failed` or `no memory` where the device isn't
 /// opened, of which nothing was read or written; `cannot read script` and `cannot write output`
 /// where the reader or the writer fails.
-pub fn run_image<D: Device, S: ObjectStore<D>, R: Read, W: Write, V: Write>(
+pub fn run_image<D: Device, S: ObjectStore<D>, R: Script, W: Output, V: Write>(
     alloc: Global,
     device: D,
     setting: S::Setting,
@@ -47,8 +47,8 @@ pub fn run_image<D: Device, S: ObjectStore<D>, R: Read, W: Write, V: Write>(
 ) -> u8
     ensures { (outcome : Result (Unit {0}) Fault) × (result ≡ status_of outcome)
         × IsTold outcome (V.contents errors.old) (V.contents errors.new)
-        × RunsImage D.disk S.view S.parts device (R.remaining reader.old)
-        (R.remaining reader.new) (W.contents writer.old) (W.contents writer.new) outcome }
+        × RunsImage D.disk S.view S.parts device (R.unread reader.old)
+        (R.unread reader.new) (W.contents writer.old) (W.contents writer.new) outcome }
 {
     let outcome = open_and_run::<D, S, R, W>(alloc, device, setting, reader, writer);
     status(outcome, errors)

@@ -1,6 +1,6 @@
 -- Turns of a run, one after another, and what they write.
 use Rattle.std.proofs.Common.{◌≡◌, ℕ, List, [], ◌∷◌, ◌++◌, Option, None, Some, refl, sym, ap, ◌∙◌, append_assoc, append-nil}
-use Rattle.std.specs.Io.KnownBytes.{Appends}
+use Rattle.std.specs.Io.KnownBytes.{Appends, Keeps}
 use Rattle.std.proofs.lemmas.List.Concat.{flat_map-append}
 use Rattle.model.specs.declared.geometry.Geometry.{Geometry}
 use Rattle.model.specs.Machine.{Machine}
@@ -30,3 +30,9 @@ appends_more (Some xs) (Some ys) (Some zs) x y p q = q ∙ ap (λ (l : List ℕ)
 pub appends_none : (old : Option (List ℕ)) → Appends old old []
 appends_none None = tt
 appends_none (Some xs) = sym (append-nil xs)
+
+pub appends_kept : (a b c : Option (List ℕ)) (x : List ℕ) → Appends a b x → Keeps b c → Appends a c x
+appends_kept None b c x p q = tt
+appends_kept (Some xs) None c x p q = absurd p
+appends_kept (Some xs) (Some ys) None x p q = absurd q
+appends_kept (Some xs) (Some ys) (Some zs) x p q = q ∙ p

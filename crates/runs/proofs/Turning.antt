@@ -2,7 +2,7 @@
 use Rattle.std.proofs.Common.{◌≡◌, ◌⊎◌, ℕ, ◌<◌, suc, take, drop, length, Bool, true, false, List, [], ◌∷◌, ◌++◌, Option, None, Some, Ok, Err, refl, sym, ap, ◌∙◌, subst, ⊎_elim, inl, inr, append_assoc, append-nil, arith}
 use Rattle.std.specs.Prelude.{◌↔◌, slice_index_or, IfErr, IsTrue, OnErr, OnOk, Result}
 use Rattle.std.proofs.KnownBytes.{Consumes-trans}
-use Rattle.std.specs.Io.KnownBytes.{Appends, Consumes, IsAtEnd}
+use Rattle.std.specs.Io.KnownBytes.{Appends, Consumes, IsAtEnd, Keeps}
 use Rattle.model.specs.declared.answer.Answer.{Answer}
 use Rattle.model.specs.declared.answer.Answer.TheVariants as answer
 use Rattle.model.specs.declared.answer.Refusal.TheVariants as refusal
@@ -31,7 +31,7 @@ use Rattle.script.specs.Writing.{AppendsFront, Writes}
 use Rattle.runs.specs.KernelRuns.{AreLines, AreTurnsOf, BeginsWith, Does, IsCutShort, IsLeftIn, IsRunOf, IsToldBy, IsTurnOf, RunsOver, lines_in, tells_fault}
 use Rattle.runs.specs.Taking.{Ended, SoFar, Stopped, TakesTurn}
 use Rattle.runs.proofs.ScriptLines.{begins_with, bytes_more, line_more, line_taken, lines_whole, lines_with_rest, no_lines}
-use Rattle.runs.proofs.TurnLists.{appends_more, appends_none, lines_more, output_more, run_more}
+use Rattle.runs.proofs.TurnLists.{appends_kept, appends_more, appends_none, lines_more, output_more, run_more}
 
 -- ---- what a crash leaves
 
@@ -327,6 +327,18 @@ module _ {D S : Type 0} (disk : D → Disk) (view : S → View D) (parts : S →
   HasRead old new line input input_left output output_left =
       (text : List ℕ) × Consumes input input_left text × RunsSoFar old new text line output output_left
 
+  -- what was written stays so
+  kept_so_far : (g : Geometry) (m : Machine) (old new : Power D S) (text : List ℕ) (line : LineBuffer) (output written kept : Option (List ℕ)) → Keeps written kept →
+      SoFar disk view parts g m old new text line output written → SoFar disk view parts g m old new text line output kept
+  kept_so_far g m old new text line output written kept keeps so_far = record {
+    turns = so_far.turns;
+    rest = so_far.rest;
+    run = so_far.run;
+    lines = so_far.lines;
+    held = so_far.held;
+    written = appends_kept output written kept (output_of so_far.turns) so_far.written keeps;
+  }
+
   pub nothing_read : (k : Power D S) (line : LineBuffer) (input output : Option (List ℕ)) → Holds line [] → HasRead k k line input input output output
   nothing_read k line input output empty = ([], no_text input, λ g m stands. begun g m k line output empty stands)
 
@@ -334,6 +346,20 @@ module _ {D S : Type 0} (disk : D → Disk) (view : S → View D) (parts : S →
     -- a read gave nothing
     pub still_read : Consumes read left [] → HasRead old mid line input left output written
     still_read nothing = (so_far.0, subst (Consumes input left) (append-nil so_far.0) (Consumes-trans input read left so_far.0 [] so_far.1 nothing), so_far.2)
+
+    -- what was written was passed on, or wasn't
+    module _ (passed : Option (List ℕ)) (kept : Keeps written passed) where
+      pub passed_on : HasRead old mid line input read output passed
+      passed_on = (so_far.0, so_far.1, λ g m stands. kept_so_far g m old mid so_far.0 line output written passed kept (so_far.2 g m stands))
+
+      pub not_passed_on : (e : RunFault) → e ≡ fault.Write → RunsOver disk view parts old mid input read output passed (Err e)
+      not_passed_on e write g m stands =
+          let s = so_far.2 g m stands in (
+            s.turns,
+            s.run,
+            subst (λ (d : RunFault). Does s.turns input read output passed (Err d)) (sym write)
+                (so_far.0, so_far.1, inr (inl (s.rest, s.lines), appends_kept output written passed (output_of s.turns) s.written kept)),
+          )
 
     module _ (bytes : List ℕ) (new : Power D S) (wrote : Option (List ℕ)) (more : Consumes read left bytes) where
       pub piece_on : (next : LineBuffer) → ((g : Geometry) (m : Machine) (start : Power D S) (text : List ℕ) (out : Option (List ℕ)) →
@@ -349,7 +375,7 @@ module _ {D S : Type 0} (disk : D → Disk) (view : S → View D) (parts : S →
           RunsOver disk view parts old new input left output wrote (Err e)
       piece_stops stops e write g m stands =
           let s = stops g m old so_far.0 output (so_far.2 g m stands) in
-          (s.turns, s.run, subst (λ (d : RunFault). Does s.turns input left output wrote (Err d)) (sym write) (so_far.0 ++ bytes, Consumes-trans input read left so_far.0 bytes so_far.1 more, inl s.lines, s.cut))
+          (s.turns, s.run, subst (λ (d : RunFault). Does s.turns input left output wrote (Err d)) (sym write) (so_far.0 ++ bytes, Consumes-trans input read left so_far.0 bytes so_far.1 more, inl (inl s.lines, s.cut)))
 
     -- the input is at its end
     module _ (new : Power D S) (wrote : Option (List ℕ)) (none : Consumes read left []) (end : IsAtEnd left) where
@@ -367,7 +393,22 @@ module _ {D S : Type 0} (disk : D → Disk) (view : S → View D) (parts : S →
           (e.turns, e.run, (so_far.0, all_read, end, e.lines, e.written))
       rest_taken (Err e) ends stops write g m stands =
           let s = stops g m old so_far.0 output (so_far.2 g m stands) in
-          (s.turns, s.run, subst (λ (d : RunFault). Does s.turns input left output wrote (Err d)) (sym write) (so_far.0, all_read, inr (end, s.lines), s.cut))
+          (s.turns, s.run, subst (λ (d : RunFault). Does s.turns input left output wrote (Err d)) (sym write) (so_far.0, all_read, inl (inr (end, s.lines), s.cut)))
+
+      -- and the answers were passed on, or weren't
+      pub end_passed_on : (passed : Option (List ℕ)) → Keeps wrote passed → ((g : Geometry) (m : Machine) (start : Power D S) (text : List ℕ) (out : Option (List ℕ)) →
+          SoFar disk view parts g m start mid text line out written → Ended disk view parts g m start new text out wrote) →
+          (result : Result (Unit {0}) RunFault) → IfErr result (λ e. e ≡ fault.Write) → RunsOver disk view parts old new input left output passed result
+      end_passed_on passed kept ends (Ok a) write g m stands =
+          let e = ends g m old so_far.0 output (so_far.2 g m stands) in
+          (e.turns, e.run, (so_far.0, all_read, end, e.lines, appends_kept output wrote passed (output_of e.turns) e.written kept))
+      end_passed_on passed kept ends (Err d) write g m stands =
+          let e = ends g m old so_far.0 output (so_far.2 g m stands) in (
+            e.turns,
+            e.run,
+            subst (λ (d : RunFault). Does e.turns input left output passed (Err d)) (sym write)
+                (so_far.0, all_read, inr (inr (end, e.lines), appends_kept output wrote passed (output_of e.turns) e.written kept)),
+          )
 
   -- ---- the rest at the end
 

@@ -51,6 +51,14 @@ pub record BeginsWith (text : List ℕ) (lines : List (List ℕ)) : Type 0 where
   pub whole : text ≡ flat_map line_of lines ++ more
   pub each : All IsOneLine lines
 
+-- these are the first lines of a text, or all lines of an input at its end
+abbrev pub AreFirst : List ℕ → Option (List ℕ) → List (List ℕ) → Type 0
+AreFirst text input_left lines = BeginsWith text lines ⊎ (IsAtEnd input_left × (lines_of text ≡ lines))
+
+-- these are all lines of a text that are whole, or all lines of an input at its end
+abbrev pub AreAll : List ℕ → Option (List ℕ) → List (List ℕ) → Type 0
+AreAll text input_left lines = ((rest : List ℕ) × AreLines text lines rest) ⊎ (IsAtEnd input_left × (lines_of text ≡ lines))
+
 -- only the answer to the last of the turns may be cut short
 pub record IsCutShort (turns : List Turn) (output output_left : Option (List ℕ)) : Type 0 where
   pub front : List Turn
@@ -64,15 +72,16 @@ pub record IsCutShort (turns : List Turn) (output output_left : Option (List ℕ
 -- What a run with these turns read and wrote. At Ok all of the input was read, and each line of it is a turn whose
 -- answer was written. Where the reader failed the same holds of the lines read whole. Where the writer failed the
 -- turns are the first of the lines read whole, or all lines of an input at its end, and only the answer to the last
--- may be cut short.
+-- may be cut short; or it took the answers to all of these lines, and didn't pass them on.
 abbrev pub Does : List Turn → Option (List ℕ) → Option (List ℕ) → Option (List ℕ) → Option (List ℕ) → Result (Unit {0}) RunFault → Type 0
 Does turns input input_left output output_left (Ok a) =
     (text : List ℕ) × Consumes input input_left text × IsAtEnd input_left × (lines_of text ≡ lines_in turns) × Appends output output_left (output_of turns)
 Does turns input input_left output output_left (Err fault.Read) =
     (text : List ℕ) × (rest : List ℕ) × Consumes input input_left text × AreLines text (lines_in turns) rest × Appends output output_left (output_of turns)
 Does turns input input_left output output_left (Err fault.Write) =
-    (text : List ℕ) × Consumes input input_left text × (BeginsWith text (lines_in turns) ⊎ (IsAtEnd input_left × (lines_of text ≡ lines_in turns)))
-    × IsCutShort turns output output_left
+    (text : List ℕ) × Consumes input input_left text
+    × ((AreFirst text input_left (lines_in turns) × IsCutShort turns output output_left)
+    ⊎ (AreAll text input_left (lines_in turns) × Appends output output_left (output_of turns)))
 
 -- the device failed exactly where that was answered
 pub record IsToldBy (old new : Disk) (reply : Reply) : Type 0 where

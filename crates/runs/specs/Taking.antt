@@ -20,8 +20,8 @@ use Rattle.script.specs.declared.fault.RunFault.TheVariants as fault
 use Rattle.script.specs.declared.lines.LineBuffer.{LineBuffer}
 use Rattle.script.specs.Lines.{Holds}
 use Rattle.script.specs.Writing.{Writes}
-use Rattle.runs.specs.declared.running.Piece.{Piece}
-use Rattle.runs.specs.declared.running.Piece.TheVariants as piece
+use Rattle.runs.specs.declared.script_pieces.Piece.{Piece}
+use Rattle.runs.specs.declared.script_pieces.Piece.TheVariants as piece
 use Rattle.runs.specs.KernelRuns.{AreLines, IsCutShort, IsRunOf, IsToldBy, lines_in}
 
 -- bytes were read, or none

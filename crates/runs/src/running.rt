@@ -1,5 +1,5 @@
 // Runs of scripts over a kernel.
-ghost use Rattle.std.specs.Prelude.{◌≡◌, ◌<◌, ◌++◌, ℕ, List, Option, length, slice_index_or, take, OnOk, OnErr, IfErr, IfNone, IfSome};
+ghost use Rattle.std.specs.Prelude.{◌≡◌, ◌<◌, ◌++◌, ℕ, List, [], Option, length, slice_index_or, take, OnOk, OnErr, IfErr, IfNone, IfSome};
 ghost use Rattle.model.specs.declared.geometry.Geometry.{Geometry};
 ghost use Rattle.model.specs.Machine.{Machine};
 ghost use Rattle.model.specs.Run.{lines_of};
@@ -7,8 +7,10 @@ ghost use Rattle.kernel.specs.declared.power.Power.{Power};
 ghost use Rattle.kernel.specs.Standing.{Stands};
 ghost use Rattle.script.specs.Lines.{IsOneLine};
 ghost use Rattle.runs.specs.KernelRuns.{BeginsWith, RunsOver};
-ghost use Rattle.runs.specs.Taking.{Ended, ReadsPiece, SoFar, Stopped, TakesTurn};
+ghost use Rattle.runs.specs.Taking.{Ended, SoFar, Stopped, TakesTurn};
 
+use crate::output::Output;
+use crate::script_pieces::{Piece, Script};
 use device::Device;
 use kernel::Kernel;
 use memchr::memchr;
@@ -16,39 +18,10 @@ use model::Line;
 use object_cache::ObjectStore;
 use script::{LineBuffer, RunFault, print_answer, print_bad_line};
 use std::alloc::Global;
-use std::io::{ErrorKind, Read, Write};
+use std::io::Write;
 
 // How many bytes a reader is asked for at a time.
 const PIECE_SIZE: usize = 4096;
-
-// What one read gave.
-enum Piece {
-    /// So many bytes.
-    Bytes(usize),
-    /// The input is at its end.
-    End,
-    /// Nothing: it was interrupted.
-    Nothing,
-}
-
-// Reads a piece of the script.
-fn read_piece<R: Read>(reader: &mut R, piece: &mut [u8]) -> Result<Piece, RunFault>
-    requires { 0 < length piece.old }
-    ensures bytes { ReadsPiece (R.remaining reader.old) (R.remaining reader.new) piece.new result }
-    ensures size { length piece.new ≡ length piece.old }
-{
-    match reader.read(piece) {
-        Ok(0) => Ok(Piece::End),
-        Ok(count) => Ok(Piece::Bytes(count)),
-        Err(error) => {
-            if error.kind() == ErrorKind::Interrupted {
-                Ok(Piece::Nothing)
-            } else {
-                Err(RunFault::Read)
-            }
-        }
-    }
-}
 
 // Does what a line says, and writes the answer.
 #[inline(never)]
@@ -130,7 +103,7 @@ fn take_rest<D: Device, S: ObjectStore<D>, W: Write>(
 /// Runs a script over a kernel: reads it in pieces of 4096 bytes, which may end anywhere, serves
 /// the lines that end in a piece before it reads the next, and writes the answer to each line that
 /// isn't skipped before it takes the next line. A line that isn't of the grammar is answered `bad
-/// line`.
+/// line`. What was written is passed on before each read, and at the end of the input.
 ///
 /// What is written is the printed answers of a run of the machine on the commands that the lines
 /// name, from whichever machine the kernel stands for; power cuts and failures of the device are
@@ -141,25 +114,31 @@ fn take_rest<D: Device, S: ObjectStore<D>, W: Write>(
 /// `RunFault::Read` where the reader fails: then each line whose newline was read was answered.
 /// `RunFault::Write` where the writer fails or takes nothing: then the lines taken are the first of
 /// those read whole, or all of an input at its end, and only the answer to the last may be cut
-/// short. The kernel then stands where the lines taken left it. A read that was interrupted is
-/// tried again. The lines and answers take no memory.
-pub fn run<D: Device, S: ObjectStore<D>, R: Read, W: Write>(
+/// short; where it fails to pass on what it took, all of those lines were answered. The kernel then
+/// stands where the lines taken left it. A read that was interrupted is tried again. The lines and
+/// answers take no memory.
+pub fn run<D: Device, S: ObjectStore<D>, R: Script, W: Output>(
     alloc: Global,
     kernel: &mut Kernel<D, S>,
     reader: &mut R,
     writer: &mut W,
 ) -> Result<(), RunFault>
-    ensures { RunsOver D.disk S.view S.parts kernel.old kernel.new (R.remaining reader.old)
-        (R.remaining reader.new) (W.contents writer.old) (W.contents writer.new) result }
+    ensures runs { RunsOver D.disk S.view S.parts kernel.old kernel.new (R.unread reader.old)
+        (R.unread reader.new) (W.contents writer.old) (W.contents writer.new) result }
+    ensures none_waits { OnOk result (W.waiting writer.new ≡ []) }
 {
     let mut piece = [0; PIECE_SIZE];
     let mut line = LineBuffer::new();
     for _ in 0..u64::MAX {
-        match read_piece(reader, &mut piece)? {
+        writer.pass_on()?;
+        match reader.read_piece(writer, &mut piece)? {
             Piece::Bytes(count) => {
                 take_piece(alloc, kernel, &mut line, &piece[..count], writer)?;
             }
-            Piece::End => return take_rest(alloc, kernel, &mut line, writer),
+            Piece::End => {
+                take_rest(alloc, kernel, &mut line, writer)?;
+                return writer.pass_on();
+            }
             Piece::Nothing => {}
         }
     }

@@ -7,10 +7,9 @@ use capability::Plain;
 use device::Device;
 use memory_device::{Memory, Outcome};
 use kernel_tests::{opened, written};
-use runs::run;
+use runs::{Output, Script, run};
 use script::RunFault;
 use std::alloc::Global;
-use std::io::{Read, Write};
 use std::test::Fail;
 
 /// A device in memory that holds a world.
@@ -22,7 +21,7 @@ pub fn device_of(alloc: Global, plain: &Plain) -> Result<Memory, Fail>
 }
 
 /// How a run over a device ends.
-pub fn run_over<D: Device, R: Read, W: Write>(
+pub fn run_over<D: Device, R: Script, W: Output>(
     alloc: Global,
     device: D,
     reader: &mut R,

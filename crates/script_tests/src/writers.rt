@@ -1,4 +1,5 @@
 // Answers to writers that take little, are interrupted, or fail.
+ghost use Rattle.std.specs.Prelude.{[]};
 ghost use Rattle.model.specs.Keepable.{AreKeepable};
 ghost use Rattle.capability.specs.Parts.{frames_of};
 ghost use Rattle.capability.specs.Plain.{parts_of};
@@ -7,10 +8,11 @@ use crate::worlds::{device_of, run_over};
 use capability::Plain;
 use kernel_tests::first_world;
 use model::{Answer, Content, Object, Words};
+use runs::Output;
 use script::{RunFault, print_answer};
 use std::alloc::Global;
 use std::io;
-use std::io::{ErrorKind, Write};
+use std::io::{BufWriter, ErrorKind, Write};
 use std::process::Abort;
 use std::test::Fail;
 
@@ -53,6 +55,14 @@ impl Write for Narrow {
     }
 
     fn flush(&mut self) -> io::Result<()> {
+        Ok(())
+    }
+}
+
+impl Output for Narrow {
+    ghost waiting = { λ _. [] };
+
+    fn pass_on(&mut self) -> Result<(), RunFault> {
         Ok(())
     }
 }
@@ -139,6 +149,21 @@ fn a_failing_writer_ends_the_run(rt: HostRuntime) -> Result<(), Fail> {
     let expected = b"node 5 owner 0\nend\nbad line\npage 16 owner 0\nend\n";
     for room in 0..=expected.len() {
         is_answered(&rt, rt.alloc(), &plain, script, expected, room)?;
+    }
+    Ok(())
+}
+
+// What was answered is passed on, or the run fails.
+#[test]
+fn what_is_not_passed_on_ends_the_run(rt: HostRuntime) -> Result<(), Fail> {
+    let alloc = rt.alloc();
+    let plain = first_world(alloc)?;
+    for (room, ends) in [(19, Ok(())), (18, Err(RunFault::Write))] {
+        let mut writer = BufWriter::new(alloc, Narrow::new(alloc, 4096, room, true))?;
+        let mut reader = b"show 5\n".as_slice();
+        let outcome = run_over(alloc, device_of(alloc, &plain)?, &mut reader, &mut writer)?;
+        assert_eq!(rt; outcome, ends);
+        assert_eq!(rt; writer.get_ref().taken.len(), room);
     }
     Ok(())
 }

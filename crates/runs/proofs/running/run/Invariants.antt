@@ -6,5 +6,5 @@ abbrev pub invariant-loop : goal.invariant-loop
 invariant-loop g l = record {
   sized : length l.piece ≡ 4096;
   read : HasRead g.D.Device.disk g.S.ObjectStore.view g.S.PresentFrames.parts g.met.D.Device.only_now l.fn.kernel l.kernel l.line
-      (g.R.Read.remaining l.fn.reader) (g.R.Read.remaining l.reader) (g.W.Write.contents l.fn.writer) (g.W.Write.contents l.writer);
+      (g.R.Script.unread l.fn.reader) (g.R.Script.unread l.reader) (g.W.Write.contents l.fn.writer) (g.W.Write.contents l.writer);
 }
