@@ -1,7 +1,7 @@
 // Devices that are too small, and that stop.
 use device::Device;
-use memory_device::{Fuse, Memory, Outcome};
 use image_builder::build;
+use memory_device::{Fuse, Memory, Outcome};
 use std::alloc::Global;
 use std::test::Fail;
 

@@ -2,8 +2,8 @@
 use crate::images::{second_world, written};
 use crate::kernels::opened;
 use device::Device;
-use memory_device::{Fuse, Memory, Outcome};
 use kernel::Kernel;
+use memory_device::{Fuse, Memory, Outcome};
 use migrator::{Checkpoint, OpenFault, OpenRefused};
 use object_cache::PlainStore;
 use runs::run;

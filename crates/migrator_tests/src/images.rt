@@ -3,11 +3,11 @@ use crate::frames::frame;
 use crate::rig::Rig;
 use crate::steps::{Step, Values, take_from};
 use device::{Device, Failed, SECTOR_SIZE};
-use memory_device::{Memory, Outcome};
 use home_ranges::Home;
 use layout::{
     CheckpointHeader, Gate, HomeRange, Superblock, encode_gate, encode_header, encode_superblock,
 };
+use memory_device::{Memory, Outcome};
 use model::Geometry;
 use std::alloc::Global;
 use std::process::Abort;

@@ -5,8 +5,8 @@ ghost use Rattle.capability.specs.Plain.{parts_of};
 
 use capability::Plain;
 use device::Device;
-use memory_device::{Memory, Outcome};
 use kernel_tests::{opened, written};
+use memory_device::{Memory, Outcome};
 use runs::{Output, Script, run};
 use script::RunFault;
 use std::alloc::Global;
