@@ -69,8 +69,8 @@ FreshFits _ = Unit {0}
 abbrev pub HaveTheirRoles : List Frame → Type 0
 HaveTheirRoles fs = (n : ℕ) → (frame_at fs n).header.role ≡ role_of (frame_at fs n).content
 
--- A change of present frames that gives no object up: what lies beside them goes on as it was, the counts of
--- allocations too, and what was fetched and announced stays so. The parameters are the ghost members of a store of present frames.
+-- A change of present frames that gives no object up: counts of allocations and what lies beside them go on as they were,
+-- and what was fetched and announced stays so. The parameters are the ghost members of a store of present frames.
 pub record KeepsAside {S : Type 0} (parts : S → Parts) (Fetched Announced : S → ℕ → Type 0) (Leads : S → S → Type 0) (old new : S) : Type 0 where
   pub count : length (parts new).headers ≡ length (parts old).headers
   pub allocations : (n : ℕ) → (header_at (parts new).headers n).allocations ≡ (header_at (parts old).headers n).allocations

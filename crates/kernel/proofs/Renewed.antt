@@ -27,6 +27,18 @@ allocations_at fs n = (frame_at fs n).header.allocations
 header_in : (hs : List ObjectHeader) (cs : List (Content Cap)) (n : ℕ) → (frame_at (frames_in hs cs) n).header ≡ header_at hs n
 header_in hs cs n = sym (get_or-map (λ (f : Frame). f.header) (frames_in hs cs) n blank_frame) ∙ ap (λ (ks : List ObjectHeader). header_at ks n) (headers_in hs cs)
 
+-- whether a number was renewed since
+abbrev has_risen : List Frame → List Frame → ℕ → Bool
+has_risen base fs n = not (allocations_at fs n == allocations_at base n)
+
+pub renewed_at : (base fs : List Frame) (n : ℕ) → n < length base → slice_index_or (renewed_since base fs) n false ≡ not (allocations_at fs n == allocations_at base n)
+unfolding renewed_since
+renewed_at base fs n inside = get_or-map-range_with_len (has_risen base fs) 0 (length base) n n false inside (omega arith)
+
+renewed_length : (base fs : List Frame) → length (renewed_since base fs) ≡ length base
+unfolding renewed_since
+renewed_length base fs = length-map-range_with_len (has_risen base fs) 0 (length base)
+
 -- a count differs where it did before, or rises now
 differs : (gone : Bool) (base old new : ℕ) → base ≤ old → new ≡ old + (if gone then 1 else 0) → (not (old == base) || gone) ≡ not (new == base)
 differs true base old new le is =
@@ -58,40 +70,33 @@ module _ (base : List Frame) (p q : Parts) (renews : Renews p q) (risen : (n : �
   pub risen_on : (n : ℕ) → allocations_at base n ≤ allocations_at (frames_of q) n
   risen_on n = omega (arith, risen n, rises n)
 
-  abbrev was : ℕ → Bool
-  was n = not (allocations_at (frames_of p) n == allocations_at base n)
-
-  abbrev now : ℕ → Bool
-  now n = not (allocations_at (frames_of q) n == allocations_at base n)
-
   pub renewed_on : renewing (renewed_since base (frames_of p)) (objects_of (frames_of p)) (objects_of (frames_of q)) ≡ renewed_since base (frames_of q)
-  unfolding renewing renewed_since
+  unfolding renewing
   renewed_on =
-      let before = map was (range_with_len 0 (length base)) in
+      let before = renewed_since base (frames_of p) in
+      let after = renewed_since base (frames_of q) in
       let test : ℕ → Bool = λ n. slice_index_or before n false || gone n in
       let count = length-map-range_with_len test 0 (length before) in
-      let size = length-map-range_with_len was 0 (length base) in
-      ext_get_or false (map test (range_with_len 0 (length before))) (map now (range_with_len 0 (length base)))
-      (count ∙ (size ∙ sym (length-map-range_with_len now 0 (length base))))
+      let size = renewed_length base (frames_of p) in
+      ext_get_or false (map test (range_with_len 0 (length before))) after (count ∙ (size ∙ sym (renewed_length base (frames_of q))))
       (λ n inside.
       let within : n < length before = omega (arith, inside, count) in
       let known : n < length base = omega (arith, within, size) in
       get_or-map-range_with_len test 0 (length before) n n false within (omega arith)
-      ∙ (ap (λ (b : Bool). b || gone n) (get_or-map-range_with_len was 0 (length base) n n false known (omega arith))
+      ∙ (ap (λ (b : Bool). b || gone n) (renewed_at base (frames_of p) n known)
       ∙ (differs (gone n) (allocations_at base n) (allocations_at (frames_of p) n) (allocations_at (frames_of q) n) (risen n) (rises n)
-      ∙ sym (get_or-map-range_with_len now 0 (length base) n n false known (omega arith)))))
+      ∙ sym (renewed_at base (frames_of q) n known))))
 
 -- as it begins no number is renewed
 pub none_renewed : (g : Geometry) (fs : List Frame) → length fs ≡ g.nodes + g.pages → renewed_since fs fs ≡ untouched g
-unfolding renewed_since untouched
+unfolding untouched
 none_renewed g fs count =
-    let test : ℕ → Bool = λ n. not (allocations_at fs n == allocations_at fs n) in
-    let size = length-map-range_with_len test 0 (length fs) in
-    ext_get_or false (map test (range_with_len 0 (length fs))) (replicate (g.nodes + g.pages) false)
+    let size = renewed_length fs fs in
+    ext_get_or false (renewed_since fs fs) (replicate (g.nodes + g.pages) false)
     (size ∙ (count ∙ sym (length-replicate {A = Bool} (g.nodes + g.pages) false)))
     (λ n inside.
     let known : n < length fs = omega (arith, inside, size) in
-    get_or-map-range_with_len test 0 (length fs) n n false known (omega arith)
+    renewed_at fs fs n known
     ∙ (ap (λ (b : Bool). not b) (eq-eqb (allocations_at fs n) (allocations_at fs n) refl)
     ∙ sym (get_or-replicate (g.nodes + g.pages) n false false (omega (arith, known, count)))))
 
