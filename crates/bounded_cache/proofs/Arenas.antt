@@ -36,7 +36,7 @@ found_in n (Some f) e is =
 pub found : (items : List Entry) (ps : List ℕ) (n : ℕ) (e : Entry) → entry_of items ps n ≡ Some e → (slice_get items (slice_index ps n) ≡ Some e) × (e.number ≡ n)
 found items ps n e is = found_in n (slice_get items (slice_index ps n)) e is
 
-some_of : (o : Option Entry) → IsSome o → (e : Entry) × (o ≡ Some e)
+pub some_of : (o : Option Entry) → IsSome o → (e : Entry) × (o ≡ Some e)
 some_of None is = absurd (true≢false (sym is))
 some_of (Some e) is = (e, refl)
 

@@ -1,5 +1,8 @@
 mod Lists
 mod Arenas
 mod Orders
+mod Outcomes
 mod Changing
 mod Objects
+mod Seating
+mod Puts

@@ -187,11 +187,11 @@ some_room : (o : Option Entry) → IsSome (option_map room_of o) → IsSome o
 some_room None some = some
 some_room (Some e) some = refl
 
-seat_in : (es : List (Option Entry)) (n : ℕ) → seat_at (seats_in es) n ≡ option_map room_of (entry_at es n)
+pub seat_in : (es : List (Option Entry)) (n : ℕ) → seat_at (seats_in es) n ≡ option_map room_of (entry_at es n)
 unfolding seats_in
 seat_in es n = get_or-map (option_map room_of) es n None
 
-present_is : (o : Option Entry) (c : Content Cap) (r : Role) (newest : Content Cap) → option_map present_of o ≡ Some c → present_body o r newest ≡ c
+pub present_is : (o : Option Entry) (c : Content Cap) (r : Role) (newest : Content Cap) → option_map present_of o ≡ Some c → present_body o r newest ≡ c
 present_is None c r newest is = absurd (none-some c is)
 present_is (Some e) c r newest is = same_Some e.present c is
 

@@ -1,9 +1,10 @@
 -- The object store that holds so many objects in memory.
-use Rattle.std.specs.Prelude.{◌≡◌, ◌⊎◌, ℕ, ◌<◌, ◌≤◌, Bool, true, false, Option, Some, None, IsSome, option_map, count_by, List, length, map, slice_index_or, slice_set, ◌||◌}
+use Rattle.std.specs.Prelude.{◌≡◌, ◌⊎◌, ℕ, ◌<◌, ◌≤◌, Bool, true, false, Option, Some, None, IsSome, option_map, count_by, List, ◌∷◌, length, map, slice_index_or, slice_set, ◌||◌}
 use Rattle.std.specs.List.{range_with_len}
 use Rattle.model.specs.declared.capability.Cap.{Cap}
 use Rattle.model.specs.declared.frame.ObjectHeader.{ObjectHeader}
 use Rattle.model.specs.declared.object.Content.{Content}
+use Rattle.model.specs.declared.object.Content.TheVariants as content
 use Rattle.model.specs.declared.object.Role.TheVariants as role
 use Rattle.model.specs.Frame.{header_at}
 use Rattle.model.specs.Keepable.{AreKeepable}
@@ -19,7 +20,7 @@ use Rattle.object_cache.specs.Store.{FrozenFrames, Aside, View}
 use Rattle.bounded_cache.specs.declared.entry.Entry.{Entry}
 use Rattle.bounded_cache.specs.declared.held.Held.{Held}
 use Rattle.bounded_cache.specs.Entries.{entry_at, room_of}
-use Rattle.bounded_cache.specs.Memory.{Memory, Owed, mark_at, present_at, frozen_at, contents_in, frozen_in, owed_in}
+use Rattle.bounded_cache.specs.Memory.{Memory, Owed, Nothing, owed_body, mark_at, present_at, frozen_at, contents_in, frozen_in, owed_in}
 
 -- ---- what is seen of it
 
@@ -33,6 +34,7 @@ pub record CacheState (D : Type 0) : Type 0 where
   pub contents : List (Content Cap)
   pub touched : List Bool
   pub dirty : List Bool
+  pub pending : List Bool
   pub seats : List (Option (Content Cap))
   pub owed : List Owed
   pub frozen : Option FrozenFrames
@@ -51,6 +53,7 @@ module _ {D : Type 0} (disk : D → Disk) where
     contents = contents_in (stored_of disk d) m;
     touched = m.touched;
     dirty = m.dirty;
+    pending = m.pending;
     seats = seats_in m.entries;
     owed = owed_in m;
     frozen = frozen_seen (stored_of disk d) m left;
@@ -85,6 +88,22 @@ module _ {D : Type 0} (disk : D → Disk) where
 
 abbrev pub seat_at : List (Option (Content Cap)) → ℕ → Option (Content Cap)
 seat_at seats n = slice_index_or seats n None
+
+abbrev pub owed_at : List Owed → ℕ → Owed
+owed_at owed n = slice_index_or owed n Nothing
+
+-- what a new entry has of the frozen frame: the object is as it was frozen if it wasn't written since
+abbrev pub newly_owed : Bool → Bool → Owed
+newly_owed false touched = Nothing
+newly_owed true touched = owed_body None touched
+
+-- a number that had no entry has one, which was used last
+abbrev pub with_seat : {D : Type 0} → ℕ → CacheState D → CacheState D
+with_seat n s = record s {
+  seats = slice_set s.seats n (Some content.Free);
+  owed = slice_set s.owed n (newly_owed (mark_at s.pending n) (mark_at s.touched n));
+  order = n ∷ s.order;
+}
 
 -- a number is fetched where it has an entry
 pub record IsFetchedIn {D : Type 0} (s : CacheState D) (n : ℕ) : Type 0 where

@@ -1,20 +1,25 @@
 // The object store that holds so many objects in memory.
-ghost use Rattle.std.specs.Prelude.{◌≡◌, ◌<◌, ◌≤◌, slice_set};
+ghost use Rattle.std.specs.Prelude.{◌≡◌, ◌<◌, ◌≤◌, None, false, true, length, slice_set, OnOk, OnErr};
 ghost use Rattle.std.specs.Borrow.{Lends, sem};
 ghost use Rattle.model.specs.contracts.object.Content.{the_row as content_row};
 ghost use Rattle.model.specs.contracts.capability.Cap.{the_row as cap_row};
 ghost use Rattle.model.specs.Frame.{header_at, held_at, given_up, owned_by, called};
+ghost use Rattle.model.specs.Keepable.{IsKeepable};
+ghost use Rattle.device.specs.Calls.{Counts};
+ghost use Rattle.migrator.specs.Put.{most};
 ghost use Rattle.model.specs.Machine.{touched_count};
 ghost use Rattle.migrator.specs.Durable.{stored_of};
 
 use crate::entries::Entries;
+use crate::entry::Entry;
 use crate::held::Held;
 use capability::ObjectTable;
-use device::Device;
+use device::{Device, Failed};
 use layout::Room;
 use migrator::Durable;
 use model::{Cap, Content, Geometry};
 use number_set::NumberSet;
+use std::alloc::AllocError;
 use std::marker::Model;
 
 /// An object store that holds no more than so many objects in memory. The others lie on the device.
@@ -60,7 +65,9 @@ impl<D: Device> Model for BoundedCache<D> {
 }
 
 impl<D: Device> BoundedCache<D> {
-    ghost use Rattle.bounded_cache.specs.Cache.{IsFetchedIn, IsAnnouncedIn, with_content_in};
+    ghost use Rattle.bounded_cache.specs.Memory.{Nothing, mark_at, masked};
+    ghost use Rattle.bounded_cache.specs.Cache.{GoesOnIn, IsFetchedIn, IsAnnouncedIn, owed_at, seat_at, with_content_in, with_seat};
+    ghost use Rattle.bounded_cache.specs.Order.{without};
     ghost use Rattle.bounded_cache.specs.contracts.cache.BoundedCache.{the_row};
 
     /// How much there is room for.
@@ -132,5 +139,60 @@ impl<D: Device> BoundedCache<D> {
     {
         self.entries.free(number);
         self.table.rescind(number);
+    }
+
+    // Makes what an object without an entry holds, which was read, an entry. Fails only where memory
+    // runs out, and then all is as it was.
+    pub(crate) fn seat(&mut self, number: u64, content: Content<Cap>) -> Result<(), AllocError>
+        requires known { number < length self.old.headers }
+        requires unseated { seat_at self.old.seats number ≡ None }
+        requires room { length self.old.order < self.old.most }
+        requires read { content ≡ held_at self.old.contents number }
+        ensures seated { OnOk result (self.new ≡ with_seat number self.old) }
+        ensures unchanged { OnErr result (self.new ≡ self.old) }
+    {
+        self.entries.insert(Entry {
+            number,
+            present: content,
+            kept: None,
+            room: Content::Free,
+        })
+    }
+
+    // Drops the entry of an object that is on the device as it is, and of which no frozen body is in
+    // the entry.
+    pub(crate) fn drop_entry(&mut self, number: u64)
+        requires fetched { IsFetchedIn self.old number }
+        requires clean { mark_at self.old.dirty number ≡ false }
+        requires owed { owed_at self.old.owed number ≡ Nothing }
+        requires masked { masked (header_at self.old.headers number).role (held_at self.old.contents number)
+            ≡ held_at self.old.contents number }
+        ensures { self.new ≡ record self.old {
+          seats = slice_set self.old.seats number None;
+          order = without number self.old.order;
+        } }
+    {
+        drop(self.entries.remove(number));
+    }
+
+    // Puts what an object in an entry holds that is to be put. At `Failed` it still is.
+    pub(crate) fn put_present(&mut self, number: u64) -> Result<(), Failed>
+        requires fetched { IsFetchedIn self.old number }
+        requires dirty { mark_at self.old.dirty number ≡ true }
+        requires keepable { IsKeepable (stored_of D.disk self.old.durable).saved.geometry most number
+            (record { header = header_at self.old.headers number; content = held_at self.old.contents number }) }
+        ensures put { OnOk result (self.new ≡ record self.old {
+          durable = self.new.durable;
+          dirty = slice_set self.old.dirty number false;
+        }) }
+        ensures unput { OnErr result (self.new ≡ record self.old { durable = self.new.durable }) }
+        ensures leads { GoesOnIn D.disk self.old self.new }
+        ensures cause { Counts (D.disk self.old.durable.beneath) (D.disk self.new.durable.beneath) result }
+    {
+        let header = self.table.header(number);
+        self.durable
+            .put_working(number, header, self.entries.present(number))?;
+        self.dirty.set(number as usize, false);
+        Ok(())
     }
 }

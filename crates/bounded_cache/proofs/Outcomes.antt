@@ -1,0 +1,16 @@
+-- What a call that may fail leaves, told for each outcome.
+use Rattle.std.proofs.Common.{◌≡◌, Result, Ok, Err, sym, subst}
+use Rattle.std.specs.Prelude.{OnOk, OnErr}
+
+-- what holds of both
+pub either_way : {T E X : Type 0} (r : Result T E) (P : X → Type 0) (x a b : X) → OnOk r (x ≡ a) → OnErr r (x ≡ b) → P a → P b → P x
+either_way (Ok t) P x a b ok err on_ok on_err = subst P (sym ok) on_ok
+either_way (Err e) P x a b ok err on_ok on_err = subst P (sym err) on_err
+
+pub ok_then : {T E P Q : Type 0} (r : Result T E) → OnOk r P → (P → Q) → OnOk r Q
+ok_then (Ok t) ok next = next ok
+ok_then (Err e) ok next = ok
+
+pub on_err : {T E P : Type 0} (r : Result T E) → P → OnErr r P
+on_err (Ok t) holds = tt
+on_err (Err e) holds = holds
