@@ -1,5 +1,5 @@
 -- What the commands that open an image come to.
-use Rattle.std.proofs.Common.{◌≡◌, ℕ, List, Option, Ok, Err, sym, ap, ◌∙◌, subst}
+use Rattle.std.proofs.Common.{◌≡◌, ℕ, List, Option, Result, Ok, Err, sym, ap, ◌∙◌, subst}
 use Rattle.std.specs.Prelude.{None, Some}
 use Rattle.std.specs.Io.KnownBytes.{Appends}
 use Rattle.model.specs.Machine.{Running, Saved}
@@ -7,24 +7,35 @@ use Rattle.model.specs.Text.{line_of}
 use Rattle.device.specs.Disk.{Disk}
 use Rattle.capability.specs.Parts.{Parts}
 use Rattle.migrator.specs.declared.durable.access.Checkpoint.{Checkpoint}
+use Rattle.migrator.specs.Opened.{Looks}
 use Rattle.object_cache.specs.Store.{View}
 use Rattle.kernel.specs.declared.power.Power.{Power}
 use Rattle.kernel.specs.declared.power.Power.TheVariants as power
 use Rattle.kernel.specs.Opening.{Opens}
-use Rattle.kernel.specs.Standing.{IsTold}
+use Rattle.kernel.specs.Standing.{IsDeviceOf, IsTold}
 use Rattle.script.specs.declared.fault.RunFault.{RunFault}
 use Rattle.script.specs.declared.fault.RunFault.TheVariants as run
 use Rattle.script.specs.Writing.{AppendsFront}
 use Rattle.jobs.specs.declared.fault.Fault.{Fault}
 use Rattle.jobs.specs.declared.fault.Fault.TheVariants as fault
-use Rattle.jobs.specs.Faults.{run_fault}
+use Rattle.jobs.specs.Faults.{run_outcome}
 use Rattle.jobs.specs.Images.{ChecksImage, OpensAndRuns, RunsImage, checked_text}
 
 module _ {D S : Type 0} (disk : D → Disk) (view : S → View D) (parts : S → Parts) (device : D) where
-  pub run_failed : (input input_left output output_left : Option (List ℕ)) (f : RunFault) (e : Fault) → e ≡ run_fault f →
-      OpensAndRuns disk view parts device input input_left output output_left (Err f) → RunsImage disk view parts device input input_left output output_left (Err e)
-  run_failed input input_left output output_left run.Read e is ran = subst (λ (d : Fault). RunsImage disk view parts device input input_left output output_left (Err d)) (sym is) ran
-  run_failed input input_left output output_left run.Write e is ran = subst (λ (d : Fault). RunsImage disk view parts device input input_left output output_left (Err d)) (sym is) ran
+  pub ran_to : (back : D) (input input_left output output_left : Option (List ℕ)) (outcome : Result (Unit {0}) RunFault) (told : Result (Unit {0}) Fault) → told ≡ run_outcome outcome →
+      OpensAndRuns disk view parts device back input input_left output output_left outcome → RunsImage disk view parts device back input input_left output output_left told
+  ran_to back input input_left output output_left (Ok a) told is ran =
+      subst (λ (t : Result (Unit {0}) Fault). RunsImage disk view parts device back input input_left output output_left t) (sym is) ran
+  ran_to back input input_left output output_left (Err run.Read) told is ran =
+      subst (λ (t : Result (Unit {0}) Fault). RunsImage disk view parts device back input input_left output output_left t) (sym is) ran
+  ran_to back input input_left output output_left (Err run.Write) told is ran =
+      subst (λ (t : Result (Unit {0}) Fault). RunsImage disk view parts device back input input_left output output_left t) (sym is) ran
+
+  -- nothing was written to the device beneath a kernel that was just opened
+  looked_at : (back : D) (p : Power D S) → Opens disk view parts device p → IsDeviceOf disk view parts p back → Looks (disk device) (disk back)
+  looked_at back (power.Up l) opens is = subst (λ (d : D). Looks (disk device) (disk d)) (sym is) opens.looks
+  looked_at back (power.Down d) opens is = subst (λ (e : D). Looks (disk device) (disk e)) (sym is) opens.looks
+  looked_at back power.Between opens is = absurd is
 
   -- what a kernel tells that was just opened is what is saved on the device
   text_told : (p : Power D S) (told : Checkpoint) (opens : Opens disk view parts device p) → IsTold disk view parts p (Some told) →
@@ -37,12 +48,13 @@ module _ {D S : Type 0} (disk : D → Disk) (view : S → View D) (parts : S →
   text_told (power.Down d) told opens is = absurd opens.stands
   text_told power.Between told opens is = absurd opens.stands
 
-  module _ (p : Power D S) (told : Checkpoint) (opens : Opens disk view parts device p) (is : IsTold disk view parts p (Some told)) (output output_left : Option (List ℕ)) where
-    pub checked : Appends output output_left (line_of (checked_text told.generation told.age told.entries)) → ChecksImage disk device output output_left (Ok tt)
-    checked written = (opens.geometry, opens.saved, opens.denoted, subst (λ (t : List ℕ). Appends output output_left (line_of t)) (text_told p told opens is) written)
+  module _ (back : D) (p : Power D S) (told : Checkpoint) (opens : Opens disk view parts device p) (is : IsTold disk view parts p (Some told)) (beneath : IsDeviceOf disk view parts p back)
+      (output output_left : Option (List ℕ)) where
+    pub checked : Appends output output_left (line_of (checked_text told.generation told.age told.entries)) → ChecksImage disk device back output output_left (Ok tt)
+    checked written = (opens.geometry, opens.saved, opens.denoted, subst (λ (t : List ℕ). Appends output output_left (line_of t)) (text_told p told opens is) written, looked_at back p opens beneath)
 
-    pub checked_untold : AppendsFront output output_left (line_of (checked_text told.generation told.age told.entries)) → ChecksImage disk device output output_left (Err fault.CannotWriteOutput)
-    checked_untold written = (opens.geometry, opens.saved, opens.denoted, subst (λ (t : List ℕ). AppendsFront output output_left (line_of t)) (text_told p told opens is) written)
+    pub checked_untold : AppendsFront output output_left (line_of (checked_text told.generation told.age told.entries)) → ChecksImage disk device back output output_left (Err fault.CannotWriteOutput)
+    checked_untold written = (opens.geometry, opens.saved, opens.denoted, subst (λ (t : List ℕ). AppendsFront output output_left (line_of t)) (text_told p told opens is) written, looked_at back p opens beneath)
 
   pub nothing_told : (p : Power D S) → Opens disk view parts device p → IsTold disk view parts p None → ⊥
   nothing_told (power.Up l) opens is = is

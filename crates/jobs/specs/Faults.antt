@@ -54,6 +54,11 @@ abbrev pub run_fault : RunFault → Fault
 run_fault run.Read = fault.CannotReadScript
 run_fault run.Write = fault.CannotWriteOutput
 
+-- and its end
+abbrev pub run_outcome : Result (Unit {0}) RunFault → Result (Unit {0}) Fault
+run_outcome (Ok a) = Ok a
+run_outcome (Err f) = Err (run_fault f)
+
 -- the status of a command
 abbrev pub status_of : Result (Unit {0}) Fault → ℕ
 status_of (Ok a) = 0

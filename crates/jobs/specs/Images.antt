@@ -6,12 +6,13 @@ use Rattle.model.specs.declared.geometry.Geometry.{Geometry}
 use Rattle.model.specs.Machine.{Saved}
 use Rattle.model.specs.Text.{line_of, spaced}
 use Rattle.device.specs.Disk.{Disk}
-use Rattle.migrator.specs.declared.open_fault.OpenFault.{OpenFault}
+use Rattle.migrator.specs.Opened.{Looks}
 use Rattle.capability.specs.Parts.{Parts}
 use Rattle.object_cache.specs.Store.{View}
 use Rattle.kernel.specs.declared.power.Power.{Power}
 use Rattle.kernel.specs.Opening.{Opens, RefusesToOpen}
 use Rattle.kernel.specs.Denotes.{Denotes}
+use Rattle.kernel.specs.Standing.{IsDeviceOf}
 use Rattle.description.specs.declared.entry.Description.{Description}
 use Rattle.description.specs.Reading.{IsDescription}
 use Rattle.image_builder.specs.declared.fault.BuildFault.TheVariants as build
@@ -43,32 +44,32 @@ BuildsImage disk ms old new output output_left (Err (fault.Build why)) =
     Refuses ms (disk old).sectors why × (why ≢ build.Failed → new ≡ old) × ((why ≡ build.Failed) ↔ ((disk old).failures < (disk new).failures)) × (output_left ≡ output)
 BuildsImage disk ms old new output output_left (Err _) = ⊥
 
--- a device isn't opened, and nothing is read or written
-abbrev pub StaysShut : {D : Type 0} → (D → Disk) → D → OpenFault → Type 0
-StaysShut disk device why = (back : _) × RefusesToOpen disk device back why
-
 -- The parameters are ghost members of a device and of an object store.
 module _ {D S : Type 0} (disk : D → Disk) (view : S → View D) (parts : S → Parts) where
-  -- a kernel was opened, and a script run over it with this outcome
-  abbrev pub OpensAndRuns : D → Option (List ℕ) → Option (List ℕ) → Option (List ℕ) → Option (List ℕ) → Result (Unit {0}) RunFault → Type 0
-  OpensAndRuns device input input_left output output_left outcome =
+  -- a kernel was opened, and a script run over it with this outcome; the device that is given back is that of the
+  -- kernel after the run
+  abbrev pub OpensAndRuns : D → D → Option (List ℕ) → Option (List ℕ) → Option (List ℕ) → Option (List ℕ) → Result (Unit {0}) RunFault → Type 0
+  OpensAndRuns device back input input_left output output_left outcome =
       (first : Power D S) × (last : Power D S) × Opens disk view parts device first × RunsOver disk view parts first last input input_left output output_left outcome
+      × IsDeviceOf disk view parts last back
 
-  -- so it was; or the device wasn't opened, and nothing was read or written
-  abbrev pub RunsImage : D → Option (List ℕ) → Option (List ℕ) → Option (List ℕ) → Option (List ℕ) → Result (Unit {0}) Fault → Type 0
-  RunsImage device input input_left output output_left (Ok a) = OpensAndRuns device input input_left output output_left (Ok tt)
-  RunsImage device input input_left output output_left (Err fault.CannotReadScript) = OpensAndRuns device input input_left output output_left (Err run.Read)
-  RunsImage device input input_left output output_left (Err fault.CannotWriteOutput) = OpensAndRuns device input input_left output output_left (Err run.Write)
-  RunsImage device input input_left output output_left (Err (fault.Open why)) = StaysShut disk device why × (input_left ≡ input) × (output_left ≡ output)
-  RunsImage device input input_left output output_left (Err _) = ⊥
+  -- so it was; or the device wasn't opened, and nothing was read or written, there either
+  abbrev pub RunsImage : D → D → Option (List ℕ) → Option (List ℕ) → Option (List ℕ) → Option (List ℕ) → Result (Unit {0}) Fault → Type 0
+  RunsImage device back input input_left output output_left (Ok a) = OpensAndRuns device back input input_left output output_left (Ok a)
+  RunsImage device back input input_left output output_left (Err fault.CannotReadScript) = OpensAndRuns device back input input_left output output_left (Err run.Read)
+  RunsImage device back input input_left output output_left (Err fault.CannotWriteOutput) = OpensAndRuns device back input input_left output output_left (Err run.Write)
+  RunsImage device back input input_left output output_left (Err (fault.Open why)) = RefusesToOpen disk device back why × (input_left ≡ input) × (output_left ≡ output)
+  RunsImage device back input input_left output output_left (Err _) = ⊥
 
--- a device was opened, and what is saved on it told; or that couldn't be written whole; or it wasn't opened
-abbrev pub TellsSaved : {D : Type 0} → (D → Disk) → D → (List ℕ → Type 0) → Type 0
-TellsSaved disk device Told =
+-- a device was opened and nothing written to it, at no moment, and what is saved on it told
+abbrev pub TellsSaved : {D : Type 0} → (D → Disk) → D → D → (List ℕ → Type 0) → Type 0
+TellsSaved disk device back Told =
     (geometry : Geometry) × (saved : Saved) × Denotes geometry (disk device).sectors (disk device).seen saved × Told (line_of (checked_text saved.generation saved.world.age saved.entries))
+    × Looks (disk device) (disk back)
 
-abbrev pub ChecksImage : {D : Type 0} → (D → Disk) → D → Option (List ℕ) → Option (List ℕ) → Result (Unit {0}) Fault → Type 0
-ChecksImage disk device output output_left (Ok a) = TellsSaved disk device (Appends output output_left)
-ChecksImage disk device output output_left (Err fault.CannotWriteOutput) = TellsSaved disk device (AppendsFront output output_left)
-ChecksImage disk device output output_left (Err (fault.Open why)) = StaysShut disk device why × (output_left ≡ output)
-ChecksImage disk device output output_left (Err _) = ⊥
+-- so it was; or that couldn't be written whole; or the device wasn't opened
+abbrev pub ChecksImage : {D : Type 0} → (D → Disk) → D → D → Option (List ℕ) → Option (List ℕ) → Result (Unit {0}) Fault → Type 0
+ChecksImage disk device back output output_left (Ok a) = TellsSaved disk device back (Appends output output_left)
+ChecksImage disk device back output output_left (Err fault.CannotWriteOutput) = TellsSaved disk device back (AppendsFront output output_left)
+ChecksImage disk device back output output_left (Err (fault.Open why)) = RefusesToOpen disk device back why × (output_left ≡ output)
+ChecksImage disk device back output output_left (Err _) = ⊥

@@ -3,6 +3,7 @@ ghost use Rattle.std.specs.Prelude.{◌≡◌, ◌≤◌, Result, length};
 ghost use Rattle.jobs.specs.Faults.{IsTold, status_of};
 ghost use Rattle.jobs.specs.Images.{ChecksImage, checked_text};
 
+use crate::done::Done;
 use crate::fault::{Fault, status};
 use device::Device;
 use kernel::Kernel;
@@ -23,20 +24,26 @@ fn checked_line(saved: Checkpoint) -> LineText
     line
 }
 
-// Opens a device, and tells what checkpoint it holds.
-fn open_and_tell<D: Device, W: Write>(alloc: Global, device: D, writer: &mut W) -> Result<(), Fault>
-    ensures { ChecksImage D.disk device (W.contents writer.old) (W.contents writer.new) result }
+// Opens a device, tells what checkpoint it holds, and gives it back.
+fn open_and_tell<D: Device, W: Write>(
+    alloc: Global,
+    device: D,
+    writer: &mut W,
+) -> (Result<(), Fault>, D)
+    ensures { ChecksImage D.disk device result.1 (W.contents writer.old) (W.contents writer.new) result.0 }
 {
     let kernel = match Kernel::<D, PlainStore<D>>::open(alloc, device, ()) {
         Ok(kernel) => kernel,
-        Err(refused) => return Err(Fault::Open(refused.fault)),
+        Err(refused) => return (Err(Fault::Open(refused.fault)), refused.device),
     };
-    match kernel.saved() {
-        Some(saved) => match checked_line(saved).write_to(writer) {
-            Ok(()) => Ok(()),
-            Err(_) => Err(Fault::CannotWriteOutput),
-        },
+    let saved = match kernel.saved() {
+        Some(saved) => saved,
         None => unreachable!(),
+    };
+    let device = kernel.into_device();
+    match checked_line(saved).write_to(writer) {
+        Ok(()) => (Ok(()), device),
+        Err(_) => (Err(Fault::CannotWriteOutput), device),
     }
 }
 
@@ -44,16 +51,21 @@ fn open_and_tell<D: Device, W: Write>(alloc: Global, device: D, writer: &mut W) 
 /// that it holds; then the status is 0. After a fault one line is written to `errors`, and the
 /// status is 1: `bad image` with a number from 1 to 10, `device failed` or `no memory` where the
 /// device isn't opened, and `cannot write output` where the writer fails.
+///
+/// The device is given back, and nothing was written to it, at no moment.
 pub fn check_image<D: Device, W: Write, V: Write>(
     alloc: Global,
     device: D,
     writer: &mut W,
     errors: &mut V,
-) -> u8
-    ensures { (outcome : Result (Unit {0}) Fault) × (result ≡ status_of outcome)
+) -> Done<D>
+    ensures { (outcome : Result (Unit {0}) Fault) × (result.status ≡ status_of outcome)
         × IsTold outcome (V.contents errors.old) (V.contents errors.new)
-        × ChecksImage D.disk device (W.contents writer.old) (W.contents writer.new) outcome }
+        × ChecksImage D.disk device result.device (W.contents writer.old) (W.contents writer.new) outcome }
 {
-    let outcome = open_and_tell(alloc, device, writer);
-    status(outcome, errors)
+    let (outcome, device) = open_and_tell(alloc, device, writer);
+    Done {
+        status: status(outcome, errors),
+        device,
+    }
 }

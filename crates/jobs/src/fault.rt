@@ -2,7 +2,7 @@
 ghost use Rattle.std.specs.Prelude.{◌≡◌, ◌≤◌, length};
 ghost use Rattle.model.specs.Text.{line_of};
 ghost use Rattle.script.specs.Writing.{Writes};
-ghost use Rattle.jobs.specs.Faults.{IsTold, build_text, fault_text, open_text, reason_number, run_fault, status_of};
+ghost use Rattle.jobs.specs.Faults.{IsTold, build_text, fault_text, open_text, reason_number, run_outcome, status_of};
 
 use image_builder::BuildFault;
 use layout::BadImage;
@@ -33,15 +33,14 @@ pub enum Fault {
     Open(OpenFault),
 }
 
-impl Fault {
-    /// What a run's failure is to the program.
-    pub(crate) fn of_run(fault: RunFault) -> Fault
-        ensures { result ≡ run_fault fault }
-    {
-        match fault {
-            RunFault::Read => Fault::CannotReadScript,
-            RunFault::Write => Fault::CannotWriteOutput,
-        }
+/// What the end of a run is to the program.
+pub(crate) fn of_run(outcome: Result<(), RunFault>) -> Result<(), Fault>
+    ensures { result ≡ run_outcome outcome }
+{
+    match outcome {
+        Ok(()) => Ok(()),
+        Err(RunFault::Read) => Err(Fault::CannotReadScript),
+        Err(RunFault::Write) => Err(Fault::CannotWriteOutput),
     }
 }
 

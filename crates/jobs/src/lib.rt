@@ -3,6 +3,7 @@
 
 mod building;
 mod checking;
+mod done;
 mod fault;
 pub mod laws;
 mod output;
@@ -10,6 +11,7 @@ mod running;
 
 pub use building::build_image;
 pub use checking::check_image;
+pub use done::Done;
 pub use fault::Fault;
 pub use output::finish;
 pub use running::run_image;

@@ -100,7 +100,7 @@ fn build(rt: &HostRuntime, description: &str, image: &str) -> Result<u8, Fault> 
 // Runs a script over the image on a device, and gives the status.
 fn run_on<R: Read>(rt: &HostRuntime, device: FileDevice, script: &mut R) -> Result<u8, Fault> {
     let (mut writer, mut errors) = (output(rt)?, rt.stderr());
-    let status = run_image::<FileDevice, PlainStore<FileDevice>, _, _, _>(
+    let done = run_image::<FileDevice, PlainStore<FileDevice>, _, _, _>(
         rt.alloc(),
         device,
         (),
@@ -108,7 +108,7 @@ fn run_on<R: Read>(rt: &HostRuntime, device: FileDevice, script: &mut R) -> Resu
         &mut writer,
         &mut errors,
     );
-    Ok(finish(&mut writer, status, &mut errors))
+    Ok(finish(&mut writer, done.status, &mut errors))
 }
 
 // Runs a script over an image, and gives the status.
@@ -133,8 +133,8 @@ fn check(rt: &HostRuntime, image: &str) -> Result<u8, Fault> {
         Fault::CannotOpenImage,
     ))?;
     let (mut writer, mut errors) = (output(rt)?, rt.stderr());
-    let status = check_image(rt.alloc(), device, &mut writer, &mut errors);
-    Ok(finish(&mut writer, status, &mut errors))
+    let done = check_image(rt.alloc(), device, &mut writer, &mut errors);
+    Ok(finish(&mut writer, done.status, &mut errors))
 }
 
 // Does a job, and gives the status.
