@@ -23,7 +23,8 @@ use std::alloc::Global;
 /// What is invoked and sent is read first. Through a gate, a start or resume capability, it is
 /// delivered to another process; a resume capability works once, and is void from then on wherever
 /// it is held. Any other capability is a kernel object, whose order is carried out and, where it
-/// was called, answered. What is counted of banks beside the objects stays what there is.
+/// was called, answered. What is counted of banks beside the objects stays what there is, and the
+/// count of allocations of a number rises by one where its object is given up, and else stays.
 ///
 /// An error changes nothing: `Stalled` exactly where the process that would be started isn't
 /// available, `LogFull` exactly where the numbers written since the last checkpoint with those that
