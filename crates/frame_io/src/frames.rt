@@ -170,9 +170,9 @@ pub fn write_page<D: Device>(
     ensures writes { WritesAt at 9 (D.disk device.old) (D.disk device.new) }
     ensures cause { Counts (D.disk device.old) (D.disk device.new) result }
 {
-    let mut page = [0; PAGE_FRAME_BYTES];
-    encode_page(header, words, &mut page);
-    write_sectors(device, at, 9, &page)
+    let mut bytes = [0; PAGE_FRAME_BYTES];
+    encode_page(header, words, &mut bytes);
+    write_sectors(device, at, 9, &bytes)
 }
 
 /// Writes the frame of an object into the sectors from `at` on, 2 for a node and 9 for a page, and
