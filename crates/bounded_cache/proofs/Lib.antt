@@ -6,3 +6,5 @@ mod Changing
 mod Objects
 mod Seating
 mod Puts
+mod Claims
+mod Apart

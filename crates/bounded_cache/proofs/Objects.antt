@@ -100,7 +100,7 @@ module _ {D : Type 0} (disk : D → Disk) (d : DurableState D) (m : Memory) (lef
   old = cache_of disk d m left order most_entries
 
   -- all that is seen but for headers, contents and rooms
-  seen_changed : (hs : List ObjectHeader) (es : List (Option Entry)) (n : ℕ) → Changes m hs es n → mark_at m.touched n ≡ true →
+  pub seen_changed : (hs : List ObjectHeader) (es : List (Option Entry)) (n : ℕ) → Changes m hs es n → mark_at m.touched n ≡ true →
       cache_of disk d (with_objects m hs es) left order most_entries ≡ record old { headers = hs; contents = contents_in (stored_of disk d) (with_objects m hs es); seats = seats_in es }
   seen_changed hs es n change touched =
       let s = stored_of disk d in

@@ -1,9 +1,11 @@
 // The object store that holds so many objects in memory.
-ghost use Rattle.std.specs.Prelude.{◌≡◌, ◌<◌, ◌≤◌, None, false, true, length, slice_set, OnOk, OnErr};
+ghost use Rattle.std.specs.Prelude.{◌≡◌, ◌<◌, ◌≤◌, None, Some, false, true, length, slice_set, OnOk, OnErr};
 ghost use Rattle.std.specs.Borrow.{Lends, sem};
 ghost use Rattle.model.specs.contracts.object.Content.{the_row as content_row};
 ghost use Rattle.model.specs.contracts.capability.Cap.{the_row as cap_row};
-ghost use Rattle.model.specs.Frame.{header_at, held_at, given_up, owned_by, called};
+ghost use Rattle.model.specs.Frame.{header_at, held_at, given_up, owned_by, called, claimed, void_held};
+ghost use Rattle.model.specs.Object.{role_of};
+ghost use Rattle.capability.specs.Parts.{fresh_content, IsFreshAt};
 ghost use Rattle.model.specs.Keepable.{IsKeepable};
 ghost use Rattle.device.specs.Calls.{Counts};
 ghost use Rattle.migrator.specs.Put.{most};
@@ -13,13 +15,14 @@ ghost use Rattle.migrator.specs.Durable.{stored_of};
 use crate::entries::Entries;
 use crate::entry::Entry;
 use crate::held::Held;
-use capability::ObjectTable;
+use capability::plain::rooms::filled;
+use capability::{Fresh, ObjectTable};
 use device::{Device, Failed};
 use layout::Room;
 use migrator::Durable;
-use model::{Cap, Content, Geometry};
+use model::{Cap, Content, Geometry, Role};
 use number_set::NumberSet;
-use std::alloc::AllocError;
+use std::alloc::{AllocError, Global};
 use std::marker::Model;
 
 /// An object store that holds no more than so many objects in memory. The others lie on the device.
@@ -65,7 +68,7 @@ impl<D: Device> Model for BoundedCache<D> {
 }
 
 impl<D: Device> BoundedCache<D> {
-    ghost use Rattle.bounded_cache.specs.Memory.{Nothing, mark_at, masked};
+    ghost use Rattle.bounded_cache.specs.Memory.{Nothing, Shared, Apart, mark_at, masked};
     ghost use Rattle.bounded_cache.specs.Cache.{GoesOnIn, IsFetchedIn, IsAnnouncedIn, owed_at, seat_at, with_content_in, with_seat};
     ghost use Rattle.bounded_cache.specs.Order.{without};
     ghost use Rattle.bounded_cache.specs.contracts.cache.BoundedCache.{the_row};
@@ -127,6 +130,25 @@ impl<D: Device> BoundedCache<D> {
         self.table.consume(root);
     }
 
+    /// Makes a free number an object, in the room that was put aside for it. Its counts stay.
+    pub fn claim(&mut self, number: u64, fresh: Fresh, owner: u64)
+        requires fetched { IsFetchedIn self.old number }
+        requires announced { IsAnnouncedIn D.disk self.old number }
+        requires free { (header_at self.old.headers number).role ≡ Role.Free }
+        requires place { IsFreshAt (stored_of D.disk self.old.durable).saved.geometry number fresh }
+        ensures { self.new ≡ record self.old {
+          headers = slice_set self.old.headers number (claimed
+              (role_of (fresh_content void_held fresh)) owner (header_at self.old.headers number));
+          contents = slice_set self.old.contents number (fresh_content void_held fresh);
+          seats = slice_set self.old.seats number (Some Content.Free);
+        } }
+    {
+        let room = self.entries.replace_room(number, Content::Free);
+        let content = filled(room, fresh);
+        self.table.claim(number, content.role(), owner);
+        *self.entries.present_mut(number) = content;
+    }
+
     /// Gives an object up: it is free, and both of its counts are one more.
     pub fn reset(&mut self, number: u64)
         requires announced { IsAnnouncedIn D.disk self.old number }
@@ -157,6 +179,20 @@ impl<D: Device> BoundedCache<D> {
             kept: None,
             room: Content::Free,
         })
+    }
+
+    // Copies what an object holds that is also what it was frozen as, so that it can be changed.
+    // Fails only where memory runs out, and then all is as it was.
+    pub(crate) fn keep_apart(&mut self, alloc: Global, number: u64) -> Result<(), AllocError>
+        requires fetched { IsFetchedIn self.old number }
+        requires shared { owed_at self.old.owed number ≡ Shared }
+        ensures apart { OnOk result (self.new
+            ≡ record self.old { owed = slice_set self.old.owed number Apart }) }
+        ensures unchanged { OnErr result (self.new ≡ self.old) }
+    {
+        let copy = self.entries.present(number).copy(alloc)?;
+        self.entries.set_kept(number, Some(copy));
+        Ok(())
     }
 
     // Drops the entry of an object that is on the device as it is, and of which no frozen body is in
