@@ -1,5 +1,5 @@
 // The object store that holds so many objects in memory.
-ghost use Rattle.std.specs.Prelude.{◌≡◌, ◌<◌, ◌≤◌, None, Some, false, true, length, slice_set, OnOk, OnErr};
+ghost use Rattle.std.specs.Prelude.{◌∷◌, ◌≡◌, ◌<◌, ◌≤◌, None, Some, false, true, length, slice_set, OnOk, OnErr};
 ghost use Rattle.std.specs.Borrow.{Lends, sem};
 ghost use Rattle.model.specs.contracts.object.Content.{the_row as content_row};
 ghost use Rattle.model.specs.contracts.capability.Cap.{the_row as cap_row};
@@ -179,6 +179,14 @@ impl<D: Device> BoundedCache<D> {
             kept: None,
             room: Content::Free,
         })
+    }
+
+    // Says that an object with an entry was used last.
+    pub(crate) fn use_now(&mut self, number: u64)
+        requires { IsFetchedIn self.old number }
+        ensures { self.new ≡ record self.old { order = number ∷ without number self.old.order } }
+    {
+        self.entries.promote(number);
     }
 
     // Copies what an object holds that is also what it was frozen as, so that it can be changed.
