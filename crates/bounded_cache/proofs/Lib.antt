@@ -8,3 +8,4 @@ mod Seating
 mod Puts
 mod Claims
 mod Apart
+mod FrozenPuts
