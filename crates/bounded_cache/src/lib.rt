@@ -1,4 +1,4 @@
-//! The object store that holds so many objects in memory, of which the others lie on the device.
+//! Layers of an object store that holds few objects in memory, of which the others lie on the device.
 #![tactic(auto)]
 
 mod arena;
