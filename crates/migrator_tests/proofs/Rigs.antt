@@ -1,5 +1,5 @@
 -- What is kept beside a store tells of it after each call.
-use Rattle.std.proofs.Common.{◌≡◌, ℕ, ◌+◌, ◌<◌, Bool, true, false, Result, Ok, Err, Some, List, sym, subst, ◌∙◌}
+use Rattle.std.proofs.Common.{◌≡◌, ℕ, ◌+◌, ◌<◌, Bool, true, false, Result, Ok, Err, Some, List, refl, sym, ap, subst, ◌∙◌}
 use Rattle.std.specs.Prelude.{◌≤◌, OnOk, OnErr, length, replicate}
 use Rattle.std.specs.Result.{is_ok}
 use Rattle.model.specs.declared.frame.Frame.{Frame}
@@ -11,9 +11,9 @@ use Rattle.layout.specs.Image.{SavedState}
 use Rattle.layout.specs.Superblock.{Plan}
 use Rattle.migrator.specs.Put.{Put, Absent, Broken, Kept}
 use Rattle.migrator.specs.Saved.{SavedFrames, Holds}
-use Rattle.migrator.specs.Durable.{DurableState, Frozen, Stored, stored_of, is_sound, with_working, with_frozen, freezing, next_saved, committed, moved, GoesOn, ReadsStore}
+use Rattle.migrator.specs.Durable.{DurableState, Frozen, Stored, stored_of, is_sound, with_working, with_frozen, freezing, next_saved, committed, journaled, moved, saved_state, GoesOn, ReadsStore}
 use Rattle.migrator.specs.Opened.{Opens}
-use Rattle.migrator_tests.specs.Rig.{IsLight, IsLoad, IsRig}
+use Rattle.migrator_tests.specs.Rig.{IsLight, IsLightFor, IsLoad, IsRig}
 use Rattle.migrator_tests.proofs.Loads.{none_light, none_frozen, working_kept, working_broken, frozen_kept, frozen_broken, frozen_now, next_keepable, committed_now, moved_now, moved_some}
 
 -- ---- a device is opened
@@ -85,6 +85,20 @@ module _ {D : Type 0} (disk : D → Disk) (goes_on : Bool) (slots frozen_slots s
       → stored_of disk new ≡ committed age f (stored_of disk old) → new.books.plan ≡ old.books.plan → is_sound disk new → IsRig disk goes_on slots 0 k new
   rig_committed new age f k some later is plan sound =
       rig_by new goes_on slots 0 k (committed age f (stored_of disk old)) plan (λ still. sound) is (committed_now old.books.plan.geometry slots frozen_slots size (stored_of disk old) rig.load age f some later k)
+
+  pub rig_journaled : (new : DurableState D) (age n : ℕ) (words : List ℕ) → stored_of disk new ≡ journaled age n words (stored_of disk old) → new.books.plan ≡ old.books.plan → is_sound disk new
+      → (disk new.beneath).may_leave (disk new.beneath).seen → IsRig disk goes_on slots frozen_slots size new
+  rig_journaled new age n words is plan sound left = record {
+    sound = λ _. sound;
+    load = record {
+      saved = saved_keepable (disk new.beneath).sectors (disk new.beneath).seen (stored_of disk new).saved (saved_state (disk new.beneath).seen new.books, sound (disk new.beneath).seen left, refl);
+      working = subst (λ (p : Plan). IsLight p.geometry slots (stored_of disk new).working) (sym plan) (subst (IsLight old.books.plan.geometry slots) (sym (ap (λ (s : Stored). s.working) is)) rig.load.working);
+      frozen = λ f some. subst (λ (p : Plan). IsLightFor p.geometry frozen_slots size f) (sym plan) (rig.load.frozen f (sym (ap (λ (s : Stored). s.frozen) is) ∙ some));
+    };
+  }
+
+  pub rig_refused : (new : DurableState D) (still : Bool) → stored_of disk new ≡ stored_of disk old → new.books.plan ≡ old.books.plan → (still ≡ true → is_sound disk new) → IsRig disk still slots frozen_slots size new
+  rig_refused new still is plan sound = rig_by new still slots frozen_slots size (stored_of disk old) plan sound is rig.load
 
   rig_stopped : (new : DurableState D) (k : ℕ) → stored_of disk new ≡ record (stored_of disk old) { to_move = k } → new.books.plan ≡ old.books.plan → IsRig disk false slots frozen_slots size new
   rig_stopped new k is plan =

@@ -1,21 +1,24 @@
 // A store that is called only as its contracts ask.
+ghost use Rattle.std.specs.Prelude.{◌≡◌, true, None};
+ghost use Rattle.migrator.specs.Durable.{stored_of, MayJournal};
+
 use crate::frames::{frame, value_of};
 use device::{Device, Failed};
 use layout::Room;
 use migrator::{Checkpoint, CheckpointFault, Durable, OpenFault, OpenRefused, Opened};
-use model::MAX_AGE;
+use model::{MAX_AGE, Role};
 use std::alloc::Global;
 use std::marker::Model;
 
 /// A store that is called only as its contracts ask. The frame of a node is a bank with a value as
 /// its limit, that of a page has a value as its first word. A call that the store can't be called
 /// for fails: for an object that isn't there, for more frames than there is room for, at an age
-/// that isn't later, or after a commit or a migration that failed.
+/// that isn't later, or after a commit, a journaling or a migration that failed.
 #[derive(Drop)]
 pub(crate) struct Rig<D: Device> {
     store: Durable<D>,
     room: Room,
-    /// Whether no commit and no migration failed.
+    /// Whether no commit, no journal and no migration failed.
     sound: bool,
     /// How many slots are used at most by what was put since the last checkpoint began, and by
     /// what was put for the one on its way, which writes so many objects.
@@ -142,5 +145,45 @@ impl<D: Device> Rig<D> {
         let left = self.store.migrate(count);
         self.sound = left.is_ok();
         left
+    }
+
+    // Whether the store may be called to journal a page at an age: it refuses, or a page is saved.
+    fn may_journal(&mut self, number: u64, age: u64) -> bool
+        ensures { result ≡ true → (stored_of D.disk self.new).frozen ≡ None
+            → (stored_of D.disk self.new).saved.entries ≡ 0
+            → MayJournal age number (stored_of D.disk self.new).saved }
+    {
+        let before = self.store.saved();
+        if self.store.left().is_some() || before.entries != 0 {
+            return true;
+        }
+        let geometry = self.store.geometry();
+        if age <= before.age || age > MAX_AGE || number >= geometry.nodes + geometry.pages {
+            return false;
+        }
+        match self.store.saved_header(number) {
+            Ok(header) => header.role == Role::Page,
+            Err(Failed) => false,
+        }
+    }
+
+    /// Saves a page with a value at an age, and answers its generation.
+    pub(crate) fn journal(
+        &mut self,
+        number: u64,
+        value: u64,
+        age: u64,
+    ) -> Result<u64, CheckpointFault> {
+        if !self.may_journal(number, age) || !self.sound {
+            return Err(CheckpointFault::Failed);
+        }
+        self.room.words.set(0, value);
+        match self.store.journal(number, &self.room.words, age) {
+            Ok(generation) => Ok(generation),
+            Err(refusal) => {
+                self.sound = refusal != CheckpointFault::Failed;
+                Err(refusal)
+            }
+        }
     }
 }

@@ -30,6 +30,8 @@ pub(crate) enum Step<'a> {
     Freeze(u64, Result<(), CheckpointFault>),
     /// The checkpoint is committed at an age, as a generation.
     Commit(u64, Result<u64, CheckpointFault>),
+    /// A page is journaled with a value at an age, as a generation.
+    Journal(u64, u64, u64, Result<u64, CheckpointFault>),
     /// So many objects are copied home, and so many are left.
     Migrate(u64, Result<u64, Failed>),
     /// So many are copied and so many are left, one time after another, of three that stay readable.
@@ -107,6 +109,7 @@ fn is_answered<D: Device>(alloc: Global, rig: &mut Rig<D>, step: Step) -> bool {
         Step::Hold(values) => hold(rig, values) == Ok(true),
         Step::Freeze(size, answer) => rig.freeze(size) == answer,
         Step::Commit(age, answer) => rig.commit(age) == answer,
+        Step::Journal(page, value, age, answer) => rig.journal(page, value, age) == answer,
         Step::Migrate(count, answer) => rig.migrate(count) == answer,
         Step::Copy(copies) => copy(rig, copies) == Ok(true),
         Step::Saved(generation, age, entries) => saved_of(rig) == (generation, age, entries),

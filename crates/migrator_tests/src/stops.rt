@@ -143,6 +143,31 @@ fn a_stop_leaves_the_old_or_the_new(rt: HostRuntime) -> Result<(), Fail> {
     Ok(())
 }
 
+// How many calls are made up to the end of opening and journaling: the saved header is read twice,
+// the page and the directory are written, and a header is published.
+const JOURNALED: u64 = OPENING + 10;
+
+#[test]
+fn a_stop_leaves_the_page_or_not(rt: HostRuntime) -> Result<(), Fail> {
+    for (outcome, opened) in OUTCOMES {
+        for calls in OPENING..JOURNALED + 2 {
+            let device = image(&rt, rt.alloc(), outcome, AT_HOME)?;
+            let steps = [Step::Journal(17, 317, 3, Ok(2))];
+            let (done, device) = stopped(rt.alloc(), device, &steps, calls);
+            assert_eq!(rt; done, Some(if calls < JOURNALED { 1 } else { 2 }));
+            let is_saved = is_committed(JOURNALED, calls, opened);
+            let saved = if is_saved {
+                Step::Saved(2, 3, 1)
+            } else {
+                Step::Saved(0, 0, 0)
+            };
+            let values = if is_saved { ONE } else { [NONE, NONE, NONE] };
+            take_from(&rt, rt.alloc(), device, &[saved, Step::Hold(&values)], 0)?;
+        }
+    }
+    Ok(())
+}
+
 // The commit writes no directory. It syncs, reads the other gate, writes it closed, and is stopped
 // at the sync behind that: the cut leaves the gate open over the first header, which is less.
 #[test]
