@@ -19,9 +19,10 @@ pub fn runs_are_confined<D: Device, S: ObjectStore<D>>()
     ensures { RunsAreConfined D.disk S.view S.parts }
 {}
 
-/// The headline, in one sentence: at every moment since a run began a crash leaves what denotes the
-/// checkpoint that is committed then, or the one that a line of the run is to commit; and a device that
-/// holds it is opened at that one, unless it fails or memory is wanting.
+/// The headline, in one sentence: at every moment since a run began a crash leaves what denotes a
+/// checkpoint that is committed in its course, or one that a line of it is to commit; and a device that
+/// holds it is opened at that one, unless it fails or memory is wanting. Which of them it is at which
+/// moment, the run says of each of its turns.
 pub fn crashes_are_survived<D: Device, S: ObjectStore<D>>()
     ensures { CrashesAreSurvived D.disk S.view S.parts }
 {}
