@@ -11,15 +11,15 @@ use Rattle.model.specs.Keepable.{AreKeepable, IsSoundFrames}
 use Rattle.model.specs.Object.{is_page}
 use Rattle.model.specs.Sound.{MayBeHeld}
 use Rattle.model.specs.World.{content_at}
-use Rattle.capability.specs.Parts.{Parts, frames_of}
+use Rattle.capability.specs.Parts.{Parts, frames_of, objects_in}
 use Rattle.capability.proofs.Frames.{known_used, node_used, page_used}
 use Rattle.capability.proofs.Keeping.{keepable_later}
 
-pub space_known : (p : Parts) (n h : ℕ) (a : Access) → MayBeHeld (objects_of (frames_of p)) (Space n h a) → n < length p.headers
-space_known p n h a held = known_used p n (node_used (content_at (objects_of (frames_of p)) n) held.1)
+pub space_known : (p : Parts) (n h : ℕ) (a : Access) → MayBeHeld (objects_in p) (Space n h a) → n < length p.headers
+space_known p n h a held = known_used p n (node_used (content_at (objects_in p) n) held.1)
 
-pub page_known : (p : Parts) (n : ℕ) → IsTrue (is_page (content_at (objects_of (frames_of p)) n)) → n < length p.headers
-page_known p n is = known_used p n (page_used (content_at (objects_of (frames_of p)) n) is)
+pub page_known : (p : Parts) (n : ℕ) → IsTrue (is_page (content_at (objects_in p) n)) → n < length p.headers
+page_known p n is = known_used p n (page_used (content_at (objects_in p) n) is)
 
 -- sound frames can be kept at any age
 pub sound_keepable : (g : Geometry) (age : ℕ) (fs : List Frame) → IsSoundFrames g age fs → AreKeepable g (2 ^ 64 - 1) fs
@@ -30,7 +30,7 @@ module _ (p q : Parts) (headers : q.headers ≡ p.headers) (contents : q.content
   pub frames_same : frames_of q ≡ frames_of p
   frames_same = ap (λ (hs : List ObjectHeader). frames_in hs q.contents) headers ∙ ap (frames_in p.headers) contents
 
-  pub page_still_known : (n : ℕ) → IsTrue (is_page (content_at (objects_of (frames_of p)) n)) → n < length q.headers
+  pub page_still_known : (n : ℕ) → IsTrue (is_page (content_at (objects_in p) n)) → n < length q.headers
   page_still_known n is = page_known q n (ap (λ (fs : List Frame). is_page (content_at (objects_of fs) n)) frames_same ∙ is)
 
   pub sound_onward : q.geometry ≡ p.geometry → (fs : List Frame) →

@@ -4,15 +4,9 @@ use Rattle.model.specs.declared.access.Access.{Access}
 use Rattle.model.specs.declared.answer.MemoryFault.{MemoryFault}
 use Rattle.model.specs.declared.answer.MemoryFault.TheVariants.{ReadOnly}
 use Rattle.model.specs.declared.object.Object.{Object}
-use Rattle.model.specs.Frame.{objects_of}
 use Rattle.model.specs.Object.{is_page}
 use Rattle.model.specs.World.{content_at}
-use Rattle.capability.specs.Parts.{Parts, frames_of}
 use Rattle.address_space.specs.declared.walking.Reached.{Reached}
-
--- the objects that the frames of a store stand for
-abbrev pub objects_in : Parts → List Object
-objects_in p = objects_of (frames_of p)
 
 -- the page reached and its access, or the fault
 abbrev pub told : Result Reached MemoryFault → Result (ℕ × Access) MemoryFault

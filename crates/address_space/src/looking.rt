@@ -2,8 +2,7 @@
 ghost use Rattle.std.specs.Prelude.{◌≡◌, ◌<◌, length, IfOk, OnOk, IsTrue};
 ghost use Rattle.model.specs.Sound.{MayBeHeld};
 ghost use Rattle.model.specs.World.{is_process, root_at};
-ghost use Rattle.capability.specs.Parts.{AreSound, Looks};
-ghost use Rattle.address_space.specs.Reaches.{objects_in};
+ghost use Rattle.capability.specs.Parts.{AreSound, Looks, objects_in};
 
 use capability::{Capability, PrepareFault, PresentFrames, objects, roots};
 use std::alloc::Global;

@@ -4,8 +4,8 @@ ghost use Rattle.model.specs.Machine.{touched_count, touching};
 ghost use Rattle.model.specs.Object.{is_page};
 ghost use Rattle.model.specs.Step.{reached};
 ghost use Rattle.model.specs.World.{content_at, is_running_process, with_word};
-ghost use Rattle.capability.specs.Parts.{AreSound, IsUnchanged, Looks};
-ghost use Rattle.address_space.specs.Reaches.{ReachesPage, allowed, objects_in, told};
+ghost use Rattle.capability.specs.Parts.{AreSound, IsUnchanged, Looks, objects_in};
+ghost use Rattle.address_space.specs.Reaches.{ReachesPage, allowed, told};
 ghost use Rattle.address_space.specs.References.{IsLoaded, IsStored, KeepsSound, OverfillsStore};
 
 use crate::looking::{look, space_of};

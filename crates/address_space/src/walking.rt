@@ -4,8 +4,8 @@ ghost use Rattle.model.specs.Capability.{union};
 ghost use Rattle.model.specs.Sound.{MayBeHeld};
 ghost use Rattle.model.specs.Walk.{path, walk as walked, walk_along};
 ghost use Rattle.model.specs.World.{slot_at};
-ghost use Rattle.capability.specs.Parts.{AreSound, Looks};
-ghost use Rattle.address_space.specs.Reaches.{ReachesPage, allowed, objects_in, told};
+ghost use Rattle.capability.specs.Parts.{AreSound, Looks, objects_in};
+ghost use Rattle.address_space.specs.Reaches.{ReachesPage, allowed, told};
 
 use crate::looking::look;
 use bitflags::Flags;

@@ -12,7 +12,7 @@ use Rattle.model.specs.declared.object.Content.{Content}
 use Rattle.model.specs.Frame.{frame_at, header_at}
 use Rattle.model.specs.Keepable.{AreKeepable}
 use Rattle.migrator.specs.Put.{Put, Absent, Broken, Kept, put_at, put_or, most}
-use Rattle.migrator.specs.Durable.{Frozen, Stored, below_at, frozen_put, with_frozen, with_put}
+use Rattle.migrator.specs.Durable.{FrozenPuts, Stored, below_at, frozen_put, with_frozen, with_put}
 use Rattle.migrator.proofs.Kept.{maps_same}
 use Rattle.bounded_cache.specs.declared.entry.Entry.{Entry}
 use Rattle.bounded_cache.specs.declared.held.Held.{Held}
@@ -32,7 +32,7 @@ fewer_marked (t ∷ ts) (suc n) =
     omega (arith, a, b, rest)
 
 module _ (s : Stored) (m : Memory) (left count : ℕ) (is : IsCache s m left count) (n : ℕ) (within : n < length m.headers) (e : Entry) (at : entry_at m.entries n ≡ Some e)
-    (f : Frozen) (f_is : s.frozen ≡ Some f) (pending : mark_at m.pending n ≡ true)
+    (f : FrozenPuts) (f_is : s.frozen ≡ Some f) (pending : mark_at m.pending n ≡ true)
     (hand : Option Held) (released : (c : Content Cap) → in_hand hand n c ≡ c) (others_hand : (k : ℕ) (c : Content Cap) → k ≢ n → in_hand hand k c ≡ in_hand m.hand k c)
     (no_other : (h : Held) → hand ≡ Some h → (h.number ≢ n) × (mark_at m.pending h.number ≡ true)) where
   abbrev frame : Frame
@@ -57,10 +57,10 @@ module _ (s : Stored) (m : Memory) (left count : ℕ) (is : IsCache s m left cou
   in_pending = omega (arith, within, is.headers, is.pending_marks)
 
   put_here : frozen_put after.frozen n ≡ Kept frame
-  put_here = ap (λ (o : Option Frozen). frozen_put o n) frozen_now ∙ get_or-set_same f.put n (Kept frame) Absent in_puts
+  put_here = ap (λ (o : Option FrozenPuts). frozen_put o n) frozen_now ∙ get_or-set_same f.put n (Kept frame) Absent in_puts
 
   put_elsewhere : (k : ℕ) → k ≢ n → frozen_put after.frozen k ≡ frozen_put s.frozen k
-  put_elsewhere k other = ap (λ (o : Option Frozen). frozen_put o k) frozen_now ∙ get_or-set_other f.put n k (Kept frame) Absent other ∙ sym (ap (λ (o : Option Frozen). frozen_put o k) f_is)
+  put_elsewhere k other = ap (λ (o : Option FrozenPuts). frozen_put o k) frozen_now ∙ get_or-set_other f.put n k (Kept frame) Absent other ∙ sym (ap (λ (o : Option FrozenPuts). frozen_put o k) f_is)
 
   below_here : below_at after n ≡ frame
   below_here = ap (λ (p : Put). put_or p (frame_at s.saved.frames n)) put_here
@@ -169,7 +169,7 @@ module _ (s : Stored) (m : Memory) (left count : ℕ) (is : IsCache s m left cou
     unput = is.unput;
     unwritten = λ k below untouched. present_stays k ∙ is.unwritten k below untouched ∙ sym (frozen_stays k);
     idle = λ none. absurd (none-some (with_put n (Kept frame) f) (sym none ∙ frozen_now));
-    running = λ g g_is. subst (λ (h : Frozen). AreFrozen h memory.pending left) (same_Some (with_put n (Kept frame) f) g (sym frozen_now ∙ g_is)) still_frozen;
+    running = λ g g_is. subst (λ (h : FrozenPuts). AreFrozen h memory.pending left) (same_Some (with_put n (Kept frame) f) g (sym frozen_now ∙ g_is)) still_frozen;
     keepable = λ g g_is. subst (AreKeepable s.saved.geometry most) (sym frozen_same) (is.keepable f f_is);
     held = λ h h_is. pending_elsewhere h.number (no_other h h_is).0 ∙ (no_other h h_is).1;
     apart = λ k g g_is. elim (cases_eq k n) [

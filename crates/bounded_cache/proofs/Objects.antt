@@ -13,7 +13,7 @@ use Rattle.model.specs.declared.object.Role.{Role}
 use Rattle.model.specs.declared.object.Role.TheVariants as role
 use Rattle.model.specs.Frame.{blank_header, header_at, held_at}
 use Rattle.device.specs.Disk.{Disk}
-use Rattle.migrator.specs.Durable.{DurableState, Frozen, Stored, stored_of}
+use Rattle.migrator.specs.Durable.{DurableState, FrozenPuts, Stored, stored_of}
 use Rattle.bounded_cache.specs.declared.entry.Entry.{Entry}
 use Rattle.bounded_cache.specs.Entries.{entry_at, with_entry, holding, present_of, room_of}
 use Rattle.bounded_cache.specs.Memory.{Memory, Owed, mark_at, present_body, content_at, newest_body, contents_in, owed_in}
@@ -110,7 +110,7 @@ module _ {D : Type 0} (disk : D → Disk) (d : DurableState D) (m : Memory) (lef
         contents = contents_in s t;
         seats = seats_in es;
         owed = owed_in t;
-        frozen = option_map (λ (f : Frozen). record { frames = fs; size = f.size; left = left }) s.frozen;
+        frozen = option_map (λ (f : FrozenPuts). record { frames = fs; size = f.size; left = left }) s.frozen;
       }) (frozen_same s m hs es n change touched)
       ∙ ap (λ (os : List Owed). record old { headers = hs; contents = contents_in s t; seats = seats_in es; owed = os }) (owed_same s m hs es n change touched)
 

@@ -14,7 +14,7 @@ use Rattle.model.specs.Frame.{header_at, held_at}
 use Rattle.model.specs.Keepable.{AreKeepable}
 use Rattle.device.specs.Disk.{Disk}
 use Rattle.migrator.specs.Put.{Put, Kept, put_at, most}
-use Rattle.migrator.specs.Durable.{DurableState, Frozen, Stored, below_at, stored_of}
+use Rattle.migrator.specs.Durable.{DurableState, FrozenPuts, Stored, below_at, stored_of}
 use Rattle.migrator.proofs.Kept.{maps_same, map_set}
 use Rattle.bounded_cache.specs.declared.entry.Entry.{Entry}
 use Rattle.bounded_cache.specs.declared.held.Held.{Held}
@@ -203,7 +203,7 @@ module _ {D : Type 0} (disk : D → Disk) (d : DurableState D) (m : Memory) (lef
         contents = contents_in s t;
         seats = seats_in es;
         owed = owed_in t;
-        frozen = option_map (λ (f : Frozen). record { frames = fs; size = f.size; left = left }) s.frozen;
+        frozen = option_map (λ (f : FrozenPuts). record { frames = fs; size = f.size; left = left }) s.frozen;
       }) (frozen_stay s m es n change)
       ∙ ap (λ (cs : List (Content Cap)). record old { contents = cs; seats = seats_in es; owed = owed_in t }) (contents_stay s m es n change)
       ∙ ap (λ (os : List Owed). record old { seats = seats_in es; owed = os }) owed

@@ -13,7 +13,7 @@ use Rattle.model.specs.Sound.{object_count}
 use Rattle.device.specs.Disk.{Disk}
 use Rattle.device.specs.Moments.{Peeks}
 use Rattle.migrator.specs.Put.{Put, Absent, Broken, Kept, put_at, most}
-use Rattle.migrator.specs.Durable.{DurableState, Frozen, Stored, GoesOn, stored_of, is_sound}
+use Rattle.migrator.specs.Durable.{DurableState, FrozenPuts, Stored, GoesOn, stored_of, is_sound}
 use Rattle.capability.specs.Parts.{Parts}
 use Rattle.capability.specs.Plain.{room_at}
 use Rattle.object_cache.specs.Store.{FrozenFrames, Aside, View}
@@ -43,7 +43,7 @@ pub record CacheState (D : Type 0) : Type 0 where
 
 -- the frozen frames of a checkpoint on its way, of which so many are said to be left
 abbrev pub frozen_seen : Stored → Memory → ℕ → Option FrozenFrames
-frozen_seen s m left = option_map (λ (f : Frozen). record { frames = frozen_in s m; size = f.size; left = left }) s.frozen
+frozen_seen s m left = option_map (λ (f : FrozenPuts). record { frames = frozen_in s m; size = f.size; left = left }) s.frozen
 
 module _ {D : Type 0} (disk : D → Disk) where
   abbrev pub cache_of : DurableState D → Memory → ℕ → List ℕ → ℕ → CacheState D
@@ -130,7 +130,7 @@ is_kept (Kept f) = true
 
 -- the frames of a checkpoint on its way: each of those that it writes is pending or was put, a slot that was torn is of a
 -- pending one, and so many are said to be left
-pub record AreFrozen (f : Frozen) (pending : List Bool) (left : ℕ) : Type 0 where
+pub record AreFrozen (f : FrozenPuts) (pending : List Bool) (left : ℕ) : Type 0 where
   pub each : length f.put ≡ length pending
   pub size : count_by (λ b. b) (map (λ n. mark_at pending n || is_kept (put_at f.put n)) (range_with_len 0 (length pending))) ≡ f.size
   pub torn : (n : ℕ) → put_at f.put n ≡ Broken → mark_at pending n ≡ true
@@ -156,8 +156,8 @@ pub record IsCache (s : Stored) (m : Memory) (left count : ℕ) : Type 0 where
   pub unwritten : (n : ℕ) → n < length m.headers → mark_at m.touched n ≡ false → present_at s m n ≡ frozen_at s m n
   -- frozen frames
   pub idle : s.frozen ≡ None → (n : ℕ) → mark_at m.pending n ≡ false
-  pub running : (f : Frozen) → s.frozen ≡ Some f → AreFrozen f m.pending left
-  pub keepable : (f : Frozen) → s.frozen ≡ Some f → AreKeepable s.saved.geometry most (frozen_in s m)
+  pub running : (f : FrozenPuts) → s.frozen ≡ Some f → AreFrozen f m.pending left
+  pub keepable : (f : FrozenPuts) → s.frozen ≡ Some f → AreKeepable s.saved.geometry most (frozen_in s m)
   pub held : (h : Held) → m.hand ≡ Some h → mark_at m.pending h.number ≡ true
   pub apart : (n : ℕ) (e : Entry) → entry_at m.entries n ≡ Some e → (e.kept ≡ None) ⊎ (mark_at m.pending n ≡ true)
   -- a body on the device that is frozen as free isn't wanted

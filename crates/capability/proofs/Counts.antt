@@ -18,7 +18,7 @@ use Rattle.model.specs.Keepable.{AreCurrent, AreKeepable, IsCurrent, IsKeepable,
 use Rattle.model.specs.Object.{free, map_content}
 use Rattle.model.specs.Revoke.{consume, is_member, names_member, rescind, resumes, void_where, without}
 use Rattle.model.specs.World.{object_at}
-use Rattle.capability.specs.Parts.{AreGivenUp, Parts, frames_of, with_header}
+use Rattle.capability.specs.Parts.{AreGivenUp, Parts, frames_of, with_header, objects_in}
 use Rattle.capability.proofs.Edits.{content_agree, current_from, current_held, field_same}
 use Rattle.capability.proofs.Frames.{length_objects, object_in, objects_by}
 use Rattle.capability.proofs.Keeping.{frame_later, keepable_at, keepable_count, keepable_from}
@@ -150,9 +150,9 @@ module _ (set : List ℕ) (p q : Parts) (given : AreGivenUp set p q) where
   length_rescinded os = length-map (enumerate_from 0 os) (λ e. if is_member set e.0 then free else without (names_member set) e.1) ∙ length-enumerate_from 0 os
 
   -- raising both counts of the members and freeing them is rescinding them
-  pub objects_given_up : AreCurrent (frames_of p) → objects_of (frames_of q) ≡ rescind set (objects_of (frames_of p))
+  pub objects_given_up : AreCurrent (frames_of p) → objects_in q ≡ rescind set (objects_in p)
   objects_given_up current =
-      let os = objects_of (frames_of p) in
+      let os = objects_in p in
       let count : length os ≡ length p.headers = length_objects p.headers p.contents in
       objects_by q.headers q.contents (rescind set os) (length_rescinded os ∙ count ∙ sym given.header_count)
       (λ n known.
@@ -209,9 +209,9 @@ module _ (r : ℕ) (p q : Parts) (known : r < length p.headers) (is : q ≡ with
   unfolding consume
   length_consumed os = length-map os (without (resumes r))
 
-  consumed_objects : AreCurrent (frames_of p) → objects_of (frames_in next p.contents) ≡ consume r (objects_of (frames_of p))
+  consumed_objects : AreCurrent (frames_of p) → objects_of (frames_in next p.contents) ≡ consume r (objects_in p)
   consumed_objects current =
-      let os = objects_of (frames_of p) in
+      let os = objects_in p in
       let count : length os ≡ length p.headers = length_objects p.headers p.contents in
       let same : length next ≡ length p.headers = length-set p.headers r (called (header_at p.headers r)) in
       objects_by next p.contents (consume r os) (length_consumed os ∙ count ∙ sym same)
@@ -225,8 +225,8 @@ module _ (r : ℕ) (p q : Parts) (known : r < length p.headers) (is : q ≡ with
       ∙ sym (consumed_at os n inside ∙ ap (without (resumes r)) (object_in p.headers p.contents n old)))
 
   -- raising a call count is consuming the capabilities that resume the process
-  pub objects_called : AreCurrent (frames_of p) → objects_of (frames_of q) ≡ consume r (objects_of (frames_of p))
-  objects_called current = ap (λ (k : Parts). objects_of (frames_of k)) is ∙ consumed_objects current
+  pub objects_called : AreCurrent (frames_of p) → objects_in q ≡ consume r (objects_in p)
+  objects_called current = ap (λ (k : Parts). objects_in k) is ∙ consumed_objects current
 
   pub current_called : AreCurrent (frames_of p) → AreCurrent (frames_of q)
   current_called current =

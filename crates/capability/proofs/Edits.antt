@@ -23,7 +23,7 @@ use Rattle.model.specs.World.{content_at, is_process, with_content, with_root, w
 use Rattle.capability.specs.declared.present.Fresh.{Fresh}
 use Rattle.capability.specs.declared.present.Fresh.TheVariants as fresh
 use Rattle.capability.specs.Objects.{with_message, with_message_in}
-use Rattle.capability.specs.Parts.{Parts, frames_of, fresh_content, with_both, with_header, with_held}
+use Rattle.capability.specs.Parts.{Parts, frames_of, fresh_content, with_both, with_header, with_held, objects_in}
 use Rattle.capability.proofs.Frames.{at_set, content_there, frame_in, frame_past, headers_in, owner_in, set_in}
 
 -- functions that agree on what a content holds make the same of it
@@ -98,8 +98,8 @@ current_from p each n = elim (cases_lt n (length p.headers)) [
 
 -- An edit at a number that leaves both counts: the objects change there alone.
 module _ (p : Parts) (n : ℕ) (h : ObjectHeader) (c : Content Cap) (inside : n < length p.contents) (same : HasCounts h (header_at p.headers n)) where
-  pub objects_set : objects_of (frames_of (with_both p n h c))
-      ≡ slice_set (objects_of (frames_of p)) n (record { owner = h.owner; content = map_content (conveyed p.headers) c })
+  pub objects_set : objects_in (with_both p n h c)
+      ≡ slice_set (objects_in p) n (record { owner = h.owner; content = map_content (conveyed p.headers) c })
   unfolding objects_of
   objects_set =
       let hs = slice_set p.headers n h in
@@ -127,12 +127,12 @@ module _ (p : Parts) (n : ℕ) (h : ObjectHeader) (c : Content Cap) (inside : n 
 
 -- a content alone is another
 module _ (p : Parts) (n : ℕ) (c : Content Cap) (known : n < length p.headers) (inside : n < length p.contents) where
-  pub held_objects : objects_of (frames_of (with_held p n c)) ≡ with_content (objects_of (frames_of p)) n (map_content (conveyed p.headers) c)
+  pub held_objects : objects_in (with_held p n c) ≡ with_content (objects_in p) n (map_content (conveyed p.headers) c)
   unfolding with_content
   held_objects =
-      ap (λ (q : Parts). objects_of (frames_of q)) (header_kept p n c)
+      ap (λ (q : Parts). objects_in q) (header_kept p n c)
       ∙ objects_set p n (header_at p.headers n) c inside (refl, refl)
-      ∙ ap (λ (owner : ℕ). slice_set (objects_of (frames_of p)) n (record { owner = owner; content = map_content (conveyed p.headers) c })) (sym (owner_in p.headers p.contents n))
+      ∙ ap (λ (owner : ℕ). slice_set (objects_in p) n (record { owner = owner; content = map_content (conveyed p.headers) c })) (sym (owner_in p.headers p.contents n))
 
   pub held_current : All (IsCurrent p.headers) (caps_in c) → AreCurrent (frames_of p) → AreCurrent (frames_of (with_held p n c))
   held_current new current =
@@ -215,14 +215,14 @@ message_put p q n words key now new back set value = back ∙ ap (with_held p n)
 -- The helpers' edits. The new parts are q.
 module _ (p q : Parts) (n : ℕ) (known : n < length p.headers) (inside : n < length p.contents) where
   pub slot_objects : (i : ℕ) (w : Capability) → q ≡ with_held p n (with_slot_in (held_at p.contents n) i (record { what = w; count = current_count p.headers w })) →
-      objects_of (frames_of q) ≡ with_slot (objects_of (frames_of p)) n i w
+      objects_in q ≡ with_slot (objects_in p) n i w
   unfolding with_slot
   slot_objects i w is =
       let held : Cap = record { what = w; count = current_count p.headers w } in
       let c = held_at p.contents n in
-      ap (λ (r : Parts). objects_of (frames_of r)) is
+      ap (λ (r : Parts). objects_in r) is
       ∙ held_objects p n (with_slot_in c i held) known inside
-      ∙ ap (with_content (objects_of (frames_of p)) n)
+      ∙ ap (with_content (objects_in p) n)
       (slot_through_map (conveyed p.headers) c i held
       ∙ ap (with_slot_in (map_content (conveyed p.headers) c) i) (live p.headers w)
       ∙ ap (λ (d : Content Capability). with_slot_in d i w) (sym (content_there p n known c refl)))
@@ -236,13 +236,13 @@ module _ (p q : Parts) (n : ℕ) (known : n < length p.headers) (inside : n < le
       subst (λ (r : Parts). AreCurrent (frames_of r)) (sym is) (held_current p n (with_slot_in c i held) known inside new current)
 
   pub word_objects : (i word : ℕ) → q ≡ with_held p n (with_word_in (held_at p.contents n) i word) →
-      objects_of (frames_of q) ≡ with_word (objects_of (frames_of p)) n i word
+      objects_in q ≡ with_word (objects_in p) n i word
   unfolding with_word
   word_objects i word is =
       let c = held_at p.contents n in
-      ap (λ (r : Parts). objects_of (frames_of r)) is
+      ap (λ (r : Parts). objects_in r) is
       ∙ held_objects p n (with_word_in c i word) known inside
-      ∙ ap (with_content (objects_of (frames_of p)) n)
+      ∙ ap (with_content (objects_in p) n)
       (word_through_map (conveyed p.headers) c i word
       ∙ ap (λ (d : Content Capability). with_word_in d i word) (sym (content_there p n known c refl)))
 
@@ -252,15 +252,15 @@ module _ (p q : Parts) (n : ℕ) (known : n < length p.headers) (inside : n < le
       subst (λ (r : Parts). AreCurrent (frames_of r)) (sym is)
       (held_current p n (with_word_in c i word) known inside (word_current p.headers c i word (current_held p current n known)) current)
 
-  pub message_objects : (words : List ℕ) (key : ℕ) → is_process (objects_of (frames_of p)) n ≡ true → q ≡ with_held p n (with_message_in (held_at p.contents n) words key) →
-      objects_of (frames_of q) ≡ with_message (objects_of (frames_of p)) n words key
+  pub message_objects : (words : List ℕ) (key : ℕ) → is_process (objects_in p) n ≡ true → q ≡ with_held p n (with_message_in (held_at p.contents n) words key) →
+      objects_in q ≡ with_message (objects_in p) n words key
   unfolding with_message with_root
   message_objects words key process is =
       let c = held_at p.contents n in
       let there = content_there p n known c refl in
-      ap (λ (r : Parts). objects_of (frames_of r)) is
+      ap (λ (r : Parts). objects_in r) is
       ∙ held_objects p n (with_message_in c words key) known inside
-      ∙ ap (with_content (objects_of (frames_of p)) n)
+      ∙ ap (with_content (objects_in p) n)
       (message_through_map (conveyed p.headers) c words key (sym (ap is_root there) ∙ process)
       ∙ ap (λ (d : Content Capability). content.Root (record (root_in d) { state = Running; words = words; key = key })) (sym there))
 
@@ -271,12 +271,12 @@ module _ (p q : Parts) (n : ℕ) (known : n < length p.headers) (inside : n < le
       (held_current p n (with_message_in c words key) known inside (message_current p.headers c words key (current_held p current n known)) current)
 
   pub owner_objects : (bank : ℕ) → q ≡ with_header p n (owned_by bank (header_at p.headers n)) →
-      objects_of (frames_of q) ≡ slice_set (objects_of (frames_of p)) n (record { owner = bank; content = content_at (objects_of (frames_of p)) n })
+      objects_in q ≡ slice_set (objects_in p) n (record { owner = bank; content = content_at (objects_in p) n })
   owner_objects bank is =
       let h = owned_by bank (header_at p.headers n) in
-      ap (λ (r : Parts). objects_of (frames_of r)) (is ∙ content_kept p n h)
+      ap (λ (r : Parts). objects_in r) (is ∙ content_kept p n h)
       ∙ objects_set p n h (held_at p.contents n) inside (refl, refl)
-      ∙ ap (λ (d : Content Capability). slice_set (objects_of (frames_of p)) n (record { owner = bank; content = d })) (sym (content_there p n known (held_at p.contents n) refl))
+      ∙ ap (λ (d : Content Capability). slice_set (objects_in p) n (record { owner = bank; content = d })) (sym (content_there p n known (held_at p.contents n) refl))
 
   pub owner_stays_current : (bank : ℕ) → q ≡ with_header p n (owned_by bank (header_at p.headers n)) → AreCurrent (frames_of p) → AreCurrent (frames_of q)
   owner_stays_current bank is current =
@@ -306,12 +306,12 @@ fresh_current hs (fresh.Bank limit) = λ k d inside. absurd (omega arith)
 
 module _ (p q : Parts) (n : ℕ) (inside : n < length p.contents) (f : Fresh) (owner : ℕ)
     (is : q ≡ with_both p n (claimed (role_of (fresh_content void_held f)) owner (header_at p.headers n)) (fresh_content void_held f)) where
-  pub claim_objects : objects_of (frames_of q) ≡ slice_set (objects_of (frames_of p)) n (record { owner = owner; content = fresh_content Void f })
+  pub claim_objects : objects_in q ≡ slice_set (objects_in p) n (record { owner = owner; content = fresh_content Void f })
   claim_objects =
       let h = claimed (role_of (fresh_content void_held f)) owner (header_at p.headers n) in
-      ap (λ (r : Parts). objects_of (frames_of r)) is
+      ap (λ (r : Parts). objects_in r) is
       ∙ objects_set p n h (fresh_content void_held f) inside (refl, refl)
-      ∙ ap (λ (d : Content Capability). slice_set (objects_of (frames_of p)) n (record { owner = owner; content = d })) (fresh_conveyed p.headers f)
+      ∙ ap (λ (d : Content Capability). slice_set (objects_in p) n (record { owner = owner; content = d })) (fresh_conveyed p.headers f)
 
   pub claim_stays_current : AreCurrent (frames_of p) → AreCurrent (frames_of q)
   claim_stays_current current =

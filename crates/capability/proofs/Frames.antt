@@ -18,7 +18,7 @@ use Rattle.model.specs.declared.object.Root.{Root}
 use Rattle.model.specs.Frame.{blank_frame, blank_header, conveyed, frame_at, frames_in, header_at, headers, held_at, object_of, objects_of}
 use Rattle.model.specs.Object.{free, is_annex, is_bank, is_free, is_node, is_page, is_root, map_content, root_in, slots_in, words_in}
 use Rattle.model.specs.World.{content_at, is_process, object_at, owner_at, slot_at, word_at}
-use Rattle.capability.specs.Parts.{Parts, frames_of}
+use Rattle.capability.specs.Parts.{Parts, objects_in}
 
 -- what holds of the new item at its place and of an old item at another holds after a set
 pub at_set : {X : Type 0} (P : ℕ → X → Type 0) (xs : List X) (n m : ℕ) (x d : X) → P n x → P m (slice_index_or xs m d) → P m (slice_index_or (slice_set xs n x) m d)
@@ -95,7 +95,7 @@ pub object_past : (hs : List ObjectHeader) (cs : List (Content Cap)) (n : ℕ) �
 object_past hs cs n past = get_or_past (objects_of (frames_in hs cs)) n free (rw length_objects past)
 
 -- and so is each number from there on
-pub free_past : (p : Parts) (n : ℕ) → length p.headers ≤ n → is_free (content_at (objects_of (frames_of p)) n) ≡ true
+pub free_past : (p : Parts) (n : ℕ) → length p.headers ≤ n → is_free (content_at (objects_in p) n) ≡ true
 free_past p n past = ap (λ (o : Object). is_free o.content) (object_past p.headers p.contents n past)
 
 -- the owner of what stands at a number is its header's
@@ -106,12 +106,12 @@ owner_in hs cs n = elim (cases_lt n (length hs)) [
 ]
 
 -- what the table of headers tells of an owner
-pub owner_read : (p : Parts) (hs : List ObjectHeader) (h : ObjectHeader) (n : ℕ) → hs ≡ p.headers → h ≡ header_at hs n → h.owner ≡ owner_at (objects_of (frames_of p)) n
+pub owner_read : (p : Parts) (hs : List ObjectHeader) (h : ObjectHeader) (n : ℕ) → hs ≡ p.headers → h ≡ header_at hs n → h.owner ≡ owner_at (objects_in p) n
 owner_read p hs h n table is =
     ap (λ (k : ObjectHeader). k.owner) (is ∙ ap (λ (ks : List ObjectHeader). header_at ks n) table) ∙ sym (owner_in p.headers p.contents n)
 
 -- what isn't free has a header
-pub known_used : (p : Parts) (n : ℕ) → is_free (content_at (objects_of (frames_of p)) n) ≡ false → n < length p.headers
+pub known_used : (p : Parts) (n : ℕ) → is_free (content_at (objects_in p) n) ≡ false → n < length p.headers
 known_used p n used = ⊎_elim (λ (within : n < length p.headers). within) (λ past. let none = free_past p n past in cc) (cases_lt n (length p.headers))
 
 -- a content of a kind isn't free
@@ -156,8 +156,8 @@ bank_used (content.Annex registers) is = refl
 bank_used (content.Bank limit) is = refl
 
 -- a process has a header
-pub process_known : (p : Parts) (n : ℕ) → IsTrue (is_process (objects_of (frames_of p)) n) → n < length p.headers
-process_known p n is = known_used p n (root_used (content_at (objects_of (frames_of p)) n) is)
+pub process_known : (p : Parts) (n : ℕ) → IsTrue (is_process (objects_in p) n) → n < length p.headers
+process_known p n is = known_used p n (root_used (content_at (objects_in p) n) is)
 
 -- the parts of a content with each capability in it changed
 slots_in_map : (f : Cap → Capability) (c : Content Cap) → slots_in (map_content f c) ≡ map f (slots_in c)
@@ -235,12 +235,12 @@ blank_annex f (content.Bank limit) root = refl
 
 -- what stands at a number with that content
 module _ (p : Parts) (n : ℕ) (known : n < length p.headers) (c : Content Cap) (is : held_at p.contents n ≡ c) where
-  pub content_there : content_at (objects_of (frames_of p)) n ≡ map_content (conveyed p.headers) c
+  pub content_there : content_at (objects_in p) n ≡ map_content (conveyed p.headers) c
   content_there =
       ap (λ (o : Object). o.content) (object_in p.headers p.contents n known)
       ∙ ap (map_content (conveyed p.headers)) is
 
-  pub slot_there : (i : ℕ) (held : Cap) → slice_get (slots_in c) i ≡ Some held → slot_at (objects_of (frames_of p)) n i ≡ conveyed p.headers held
+  pub slot_there : (i : ℕ) (held : Cap) → slice_get (slots_in c) i ≡ Some held → slot_at (objects_in p) n i ≡ conveyed p.headers held
   slot_there i held at =
       ap (λ (d : Content Capability). slice_index_or (slots_in d) i Void) content_there
       ∙ ap (λ (cs : List Capability). slice_index_or cs i Void) (slots_in_map (conveyed p.headers) c)
@@ -248,33 +248,33 @@ module _ (p : Parts) (n : ℕ) (known : n < length p.headers) (c : Content Cap) 
       (slice_get-map (conveyed p.headers) (slots_in c) i ∙ ap (option_map (conveyed p.headers)) at)
 
   pub no_slot_there : (i : ℕ) → ((x : List Cap) → c ≡ content.Node x → ⊥) → ((x : List Cap) → c ≡ content.Annex x → ⊥) →
-      slot_at (objects_of (frames_of p)) n i ≡ Void
+      slot_at (objects_in p) n i ≡ Void
   no_slot_there i node annex =
       ap (λ (d : Content Capability). slice_index_or (slots_in d) i Void) content_there
       ∙ ap (λ (cs : List Capability). slice_index_or cs i Void) (slots_in_map (conveyed p.headers) c)
       ∙ ap (λ (cs : List Cap). slice_index_or (map (conveyed p.headers) cs) i Void) (no_slots c node annex)
 
-  pub word_there : (i : ℕ) → word_at (objects_of (frames_of p)) n i ≡ slice_index (words_in c) i
+  pub word_there : (i : ℕ) → word_at (objects_in p) n i ≡ slice_index (words_in c) i
   word_there i =
       ap (λ (d : Content Capability). slice_index (words_in d) i) content_there
       ∙ ap (λ (ws : List ℕ). slice_index ws i) (words_in_map (conveyed p.headers) c)
 
-  pub no_word_there : (i : ℕ) → ((x : List ℕ) → c ≡ content.Page x → ⊥) → word_at (objects_of (frames_of p)) n i ≡ 0
+  pub no_word_there : (i : ℕ) → ((x : List ℕ) → c ≡ content.Page x → ⊥) → word_at (objects_in p) n i ≡ 0
   no_word_there i page = word_there i ∙ ap (λ (ws : List ℕ). slice_index ws i) (no_words c page)
 
-  pub no_root_there : ((x : Root Cap) → c ≡ content.Root x → ⊥) → is_process (objects_of (frames_of p)) n ≡ false
+  pub no_root_there : ((x : Root Cap) → c ≡ content.Root x → ⊥) → is_process (objects_in p) n ≡ false
   no_root_there root = ap is_root content_there ∙ is_root_map (conveyed p.headers) c ∙ no_root c root
 
-  pub no_process_annex : ((x : Root Cap) → c ≡ content.Root x → ⊥) → (root_in (content_at (objects_of (frames_of p)) n)).annex ≡ 0
+  pub no_process_annex : ((x : Root Cap) → c ≡ content.Root x → ⊥) → (root_in (content_at (objects_in p) n)).annex ≡ 0
   no_process_annex root = ap (λ (d : Content Capability). (root_in d).annex) content_there ∙ blank_annex (conveyed p.headers) c root
 
-  pub no_annex_there : ((x : List Cap) → c ≡ content.Annex x → ⊥) → is_annex (content_at (objects_of (frames_of p)) n) ≡ false
+  pub no_annex_there : ((x : List Cap) → c ≡ content.Annex x → ⊥) → is_annex (content_at (objects_in p) n) ≡ false
   no_annex_there annex = ap is_annex content_there ∙ is_annex_map (conveyed p.headers) c ∙ no_annex c annex
 
 -- the object that its header and what it holds make
 pub object_there : (p : Parts) (n : ℕ) → n < length p.headers → (hs ks : List ObjectHeader) (h : ObjectHeader) (now : Content Cap) (shown : Content Capability) →
     hs ≡ p.headers → ks ≡ p.headers → h ≡ header_at hs n → now ≡ held_at p.contents n → shown ≡ map_content (conveyed ks) now →
-    record { owner = h.owner; content = shown } ≡ object_at (objects_of (frames_of p)) n
+    record { owner = h.owner; content = shown } ≡ object_at (objects_in p) n
 object_there p n known hs ks h now shown first second is held made =
     ap (λ (owner : ℕ). let o : Object = record { owner = owner; content = shown } in o)
     (ap (λ (k : ObjectHeader). k.owner) (is ∙ ap (λ (t : List ObjectHeader). header_at t n) first))

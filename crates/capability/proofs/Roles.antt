@@ -15,7 +15,7 @@ use Rattle.model.specs.declared.object.Role.TheVariants as role
 use Rattle.model.specs.Frame.{blank_frame, blank_header, conveyed, frame_at, header_at, headers, held_at, object_of, objects_of}
 use Rattle.model.specs.Object.{is_bank, is_free, is_root, map_content, role_of}
 use Rattle.model.specs.World.{content_at, is_process}
-use Rattle.capability.specs.Parts.{HaveTheirRoles, Parts, frames_of}
+use Rattle.capability.specs.Parts.{HaveTheirRoles, Parts, frames_of, objects_in}
 use Rattle.capability.proofs.Frames.{frame_in, headers_in, is_root_map, object_in, object_past}
 
 abbrev pub is_root_role : Role → Bool
@@ -40,7 +40,7 @@ header_there p n =
     ∙ get_or-map (λ (f : Frame). f.header) (frames_of p) n blank_frame
 
 -- a number is that of a process exactly where its role is that of a root
-pub process_by_role : (p : Parts) (n : ℕ) → HaveTheirRoles (frames_of p) → is_process (objects_of (frames_of p)) n ≡ is_root_role (header_at p.headers n).role
+pub process_by_role : (p : Parts) (n : ℕ) → HaveTheirRoles (frames_of p) → is_process (objects_in p) n ≡ is_root_role (header_at p.headers n).role
 process_by_role p n roles =
     ap is_root (content_there (frames_of p) n)
     ∙ is_root_map (conveyed (headers (frames_of p))) (frame_at (frames_of p) n).content
@@ -69,7 +69,7 @@ role_of_map f (content.Annex registers) = refl
 role_of_map f (content.Bank limit) = refl
 
 pub role_read : (p : Parts) (hs : List ObjectHeader) (h : ObjectHeader) (n : ℕ) → HaveTheirRoles (frames_of p) → hs ≡ p.headers → h ≡ header_at hs n →
-    h.role ≡ role_of (content_at (objects_of (frames_of p)) n)
+    h.role ≡ role_of (content_at (objects_in p) n)
 role_read p hs h n roles table is =
     ap (λ (k : ObjectHeader). k.role) (is ∙ ap (λ (ks : List ObjectHeader). header_at ks n) table)
     ∙ ⊎_elim

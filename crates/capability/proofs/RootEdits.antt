@@ -12,14 +12,14 @@ use Rattle.model.specs.declared.object.Content.TheVariants as content
 use Rattle.model.specs.declared.object.Object.{Object}
 use Rattle.model.specs.declared.object.Root.{Root}
 use Rattle.model.specs.declared.object.State.{State}
-use Rattle.model.specs.Frame.{conveyed, current_count, header_at, held_at, objects_of}
+use Rattle.model.specs.Frame.{conveyed, current_count, header_at, held_at}
 use Rattle.model.specs.Keepable.{AreCurrent, AreKeepable, AreKeptWords, IsCurrent, IsKeepable, IsKeptCap, MayBeKept, caps_in}
 use Rattle.model.specs.Order.{with_space}
 use Rattle.model.specs.Sound.{IsSpace}
 use Rattle.model.specs.Object.{is_root, map_content, root_in}
 use Rattle.model.specs.World.{is_process, root_at, with_content, with_root, with_state}
 use Rattle.capability.specs.Objects.{with_root_in}
-use Rattle.capability.specs.Parts.{Parts, frames_of, with_held}
+use Rattle.capability.specs.Parts.{Parts, frames_of, with_held, objects_in}
 use Rattle.capability.proofs.Edits.{current_held, header_kept, held_current, held_objects, live}
 use Rattle.capability.proofs.Frames.{content_there}
 use Rattle.capability.proofs.Keeping.{keepable_at, one_keepable, refilled}
@@ -67,15 +67,15 @@ root_keeps g age n h change stays (content.Bank limit) k = k
 
 module _ (p q : Parts) (n : ℕ) (known : n < length p.headers) (inside : n < length p.contents) (change : Root Cap → Root Cap)
     (is : q ≡ with_held p n (with_root_in change (held_at p.contents n))) where
-  pub root_objects : (after : Root Capability → Root Capability) → GoesThrough change after (conveyed p.headers) → is_process (objects_of (frames_of p)) n ≡ true →
-      objects_of (frames_of q) ≡ with_root (objects_of (frames_of p)) n (after (root_at (objects_of (frames_of p)) n))
+  pub root_objects : (after : Root Capability → Root Capability) → GoesThrough change after (conveyed p.headers) → is_process (objects_in p) n ≡ true →
+      objects_in q ≡ with_root (objects_in p) n (after (root_at (objects_in p) n))
   unfolding with_root
   root_objects after through process =
       let c = held_at p.contents n in
       let there = content_there p n known c refl in
-      ap (λ (r : Parts). objects_of (frames_of r)) is
+      ap (λ (r : Parts). objects_in r) is
       ∙ held_objects p n (with_root_in change c) known inside
-      ∙ ap (with_content (objects_of (frames_of p)) n)
+      ∙ ap (with_content (objects_in p) n)
       (through_map change after (conveyed p.headers) through c (sym (ap is_root there) ∙ process)
       ∙ ap (λ (d : Content Capability). content.Root (after (root_in d))) (sym there))
 

@@ -1,35 +1,35 @@
 -- Counts against the definitions of rescinding and consuming.
 use Rattle.std.specs.Prelude.{◌≡◌, ℕ, ◌+◌, ◌<◌, List, length}
 use Rattle.model.specs.declared.geometry.Geometry.{Geometry}
-use Rattle.model.specs.Frame.{called, header_at, objects_of}
+use Rattle.model.specs.Frame.{called, header_at}
 use Rattle.model.specs.Keepable.{AreCurrent, IsSoundFrames}
 use Rattle.model.specs.Revoke.{consume, rescind}
 use Rattle.model.specs.Sound.{IsSound}
-use Rattle.capability.specs.Parts.{AreGivenUp, Parts, frames_of, with_header}
+use Rattle.capability.specs.Parts.{AreGivenUp, Parts, frames_of, with_header, objects_in}
 
 -- to raise both counts of the members of a set and free them is to rescind them
 abbrev pub GivenUpIsRescinded : Type 0
 GivenUpIsRescinded =
     (set : List ℕ) (old new : Parts) → AreCurrent (frames_of old) → AreGivenUp set old new →
-    objects_of (frames_of new) ≡ rescind set (objects_of (frames_of old))
+    objects_in new ≡ rescind set (objects_in old)
 
 -- to raise the call count of a process is to consume the capabilities that resume it
 abbrev pub CalledIsConsumed : Type 0
 CalledIsConsumed = (p : ℕ) (old new : Parts) → AreCurrent (frames_of old) → p < length old.headers →
     new ≡ with_header old p (called (header_at old.headers p)) →
-    objects_of (frames_of new) ≡ consume p (objects_of (frames_of old))
+    objects_in new ≡ consume p (objects_in old)
 
 -- frames stay sound where their world does, at the next age
 abbrev pub RescindKeepsSoundFrames : Type 0
 RescindKeepsSoundFrames =
     (g : Geometry) (age : ℕ) (set : List ℕ) (old new : Parts) →
     IsSoundFrames g age (frames_of old) → AreGivenUp set old new →
-    IsSound g (record { objects = rescind set (objects_of (frames_of old)); age = age + 1 }) →
+    IsSound g (record { objects = rescind set (objects_in old); age = age + 1 }) →
     IsSoundFrames g (age + 1) (frames_of new)
 
 abbrev pub ConsumeKeepsSoundFrames : Type 0
 ConsumeKeepsSoundFrames =
     (g : Geometry) (age p : ℕ) (old new : Parts) → IsSoundFrames g age (frames_of old) →
     p < length old.headers → new ≡ with_header old p (called (header_at old.headers p)) →
-    IsSound g (record { objects = consume p (objects_of (frames_of old)); age = age + 1 }) →
+    IsSound g (record { objects = consume p (objects_in old); age = age + 1 }) →
     IsSoundFrames g (age + 1) (frames_of new)

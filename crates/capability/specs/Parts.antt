@@ -7,6 +7,7 @@ use Rattle.model.specs.declared.geometry.Geometry.{Geometry}
 use Rattle.model.specs.declared.object.Content.{Content}
 use Rattle.model.specs.declared.object.Content.TheVariants as content
 use Rattle.model.specs.declared.object.State.TheVariants.{Available}
+use Rattle.model.specs.declared.object.Object.{Object}
 use Rattle.model.specs.Frame.{frame_at, frames_in, header_at, held_at, given_up, objects_of}
 use Rattle.model.specs.Keepable.{IsSoundFrames}
 use Rattle.model.specs.Object.{all_slots, role_of, zero_words}
@@ -28,6 +29,10 @@ pub record Parts : Type 0 where
 -- its frames
 abbrev pub frames_of : Parts → List Frame
 frames_of p = frames_in p.headers p.contents
+
+-- the objects that they stand for
+abbrev pub objects_in : Parts → List Object
+objects_in p = objects_of (frames_of p)
 
 -- they are sound, at some age
 abbrev pub AreSound : Parts → Type 0
@@ -120,4 +125,4 @@ pub record AreGivenUp (set : List ℕ) (old new : Parts) : Type 0 where
 -- the count of allocations of a number rises by one where its object is given up, and else stays
 pub record Renews (old new : Parts) : Type 0 where
   pub each : (n : ℕ) → (header_at new.headers n).allocations
-      ≡ (header_at old.headers n).allocations + (if is_given_up (objects_of (frames_of old)) (objects_of (frames_of new)) n then 1 else 0)
+      ≡ (header_at old.headers n).allocations + (if is_given_up (objects_in old) (objects_in new) n then 1 else 0)

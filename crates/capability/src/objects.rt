@@ -1,13 +1,13 @@
 // Present frames, read and changed as the objects that they stand for.
 ghost use Rattle.std.specs.Prelude.{◌≡◌, ◌↔◌, ℕ, ◌+◌, ◌<◌, ◌≤◌, ◌^◌, false, length, slice_set, IsTrue, IsSome, IfSome, OnOk, IsErrOf};
 ghost use Rattle.std.specs.List.{All, Contains};
-ghost use Rattle.model.specs.Frame.{current_count, header_at, held_at, objects_of};
+ghost use Rattle.model.specs.Frame.{current_count, header_at, held_at};
 ghost use Rattle.model.specs.Keepable.{AreCurrent, AreKeepable, AreKeptWords, IsKeptCap};
 ghost use Rattle.model.specs.Object.{is_annex, with_slot_in, with_word_in};
 ghost use Rattle.model.specs.Revoke.{consume as consumed, is_member, rescind as rescinded};
 ghost use Rattle.model.specs.World.{word_at, slot_at, root_at, annex_at, content_at, is_process, with_word, with_slot};
 ghost use Rattle.capability.specs.Objects.{with_message, with_message_in};
-ghost use Rattle.capability.specs.Parts.{AreGivenUp, FreshFits, IsFreshAt, IsOnce, KeepsAside, LooksUp, frames_of, fresh_content};
+ghost use Rattle.capability.specs.Parts.{AreGivenUp, FreshFits, IsFreshAt, IsOnce, KeepsAside, LooksUp, frames_of, fresh_content, objects_in};
 
 use crate::present::{Fresh, MAX_FETCHED, PrepareFault, PresentFrames};
 use model::{Cap, Capability, Content, Role, State};
@@ -17,7 +17,7 @@ use std::alloc::Global;
 pub fn word<F: PresentFrames>(store: &F, number: u64, index: usize) -> u64
     requires fetched { F.IsFetched store.now number }
     requires within { index < 512 }
-    ensures { result ≡ word_at (objects_of (frames_of (F.parts store.now))) number index }
+    ensures { result ≡ word_at (objects_in (F.parts store.now)) number index }
 {
     match store.frame(number) {
         Content::Page(words) => words.get(index),
@@ -29,9 +29,9 @@ pub fn word<F: PresentFrames>(store: &F, number: u64, index: usize) -> u64
 pub fn state<F: PresentFrames>(store: &F, process: u64) -> Option<State>
     requires fetched { F.IsFetched store.now process }
     ensures process { IsSome result
-        ↔ IsTrue (is_process (objects_of (frames_of (F.parts store.now))) process) }
+        ↔ IsTrue (is_process (objects_in (F.parts store.now)) process) }
     ensures state { IfSome result
-        (λ s. s ≡ (root_at (objects_of (frames_of (F.parts store.now))) process).state) }
+        (λ s. s ≡ (root_at (objects_in (F.parts store.now)) process).state) }
 {
     match store.frame(process) {
         Content::Root(root) => Some(root.state),
@@ -42,7 +42,7 @@ pub fn state<F: PresentFrames>(store: &F, process: u64) -> Option<State>
 /// The annex of a process whose root is fetched, or 0 where it is no root.
 pub fn annex<F: PresentFrames>(store: &F, process: u64) -> u64
     requires fetched { F.IsFetched store.now process }
-    ensures { result ≡ annex_at (objects_of (frames_of (F.parts store.now))) process }
+    ensures { result ≡ annex_at (objects_in (F.parts store.now)) process }
 {
     match store.frame(process) {
         Content::Root(root) => root.annex,
@@ -55,7 +55,7 @@ pub fn annex<F: PresentFrames>(store: &F, process: u64) -> u64
 pub fn slot<F: PresentFrames>(store: &F, number: u64, slot: usize) -> Capability
     requires fetched { F.IsFetched store.now number }
     requires within { slot < 32 }
-    ensures { result ≡ slot_at (objects_of (frames_of (F.parts store.now))) number slot }
+    ensures { result ≡ slot_at (objects_in (F.parts store.now)) number slot }
 {
     match store.frame(number) {
         Content::Node(slots) | Content::Annex(slots) => store.table().conveyed(slots.get(slot)),
@@ -68,8 +68,8 @@ pub fn set_word<F: PresentFrames>(store: &mut F, number: u64, index: usize, word
     requires fetched { F.IsFetched store.old number }
     requires announced { F.IsAnnounced store.old number }
     requires within { index < 512 }
-    ensures objects { objects_of (frames_of (F.parts store.new))
-        ≡ with_word (objects_of (frames_of (F.parts store.old))) number index word }
+    ensures objects { objects_in (F.parts store.new)
+        ≡ with_word (objects_in (F.parts store.old)) number index word }
     ensures headers { (F.parts store.new).headers ≡ (F.parts store.old).headers }
     ensures current { AreCurrent (frames_of (F.parts store.old))
         → AreCurrent (frames_of (F.parts store.new)) }
@@ -87,8 +87,8 @@ pub fn set_slot<F: PresentFrames>(store: &mut F, number: u64, slot: usize, capab
     requires fetched { F.IsFetched store.old number }
     requires announced { F.IsAnnounced store.old number }
     requires within { slot < 32 }
-    ensures objects { objects_of (frames_of (F.parts store.new))
-        ≡ with_slot (objects_of (frames_of (F.parts store.old))) number slot capability }
+    ensures objects { objects_in (F.parts store.new)
+        ≡ with_slot (objects_in (F.parts store.old)) number slot capability }
     ensures headers { (F.parts store.new).headers ≡ (F.parts store.old).headers }
     ensures current { AreCurrent (frames_of (F.parts store.old))
         → AreCurrent (frames_of (F.parts store.new)) }
@@ -112,9 +112,9 @@ pub fn set_slot<F: PresentFrames>(store: &mut F, number: u64, slot: usize, capab
 pub fn set_message<F: PresentFrames>(store: &mut F, process: u64, words: [u64; 4], key: u16)
     requires fetched { F.IsFetched store.old process }
     requires announced { F.IsAnnounced store.old process }
-    requires process { IsTrue (is_process (objects_of (frames_of (F.parts store.old))) process) }
-    ensures objects { objects_of (frames_of (F.parts store.new))
-        ≡ with_message (objects_of (frames_of (F.parts store.old))) process words key }
+    requires process { IsTrue (is_process (objects_in (F.parts store.old)) process) }
+    ensures objects { objects_in (F.parts store.new)
+        ≡ with_message (objects_in (F.parts store.old)) process words key }
     ensures headers { (F.parts store.new).headers ≡ (F.parts store.old).headers }
     ensures current { AreCurrent (frames_of (F.parts store.old))
         → AreCurrent (frames_of (F.parts store.new)) }
@@ -133,8 +133,8 @@ pub fn claim<F: PresentFrames>(store: &mut F, number: u64, fresh: Fresh, owner: 
     requires announced { F.IsAnnounced store.old number }
     requires free { (header_at (F.parts store.old).headers number).role ≡ Role.Free }
     requires place { IsFreshAt (F.parts store.old).geometry number fresh }
-    ensures objects { objects_of (frames_of (F.parts store.new))
-        ≡ slice_set (objects_of (frames_of (F.parts store.old))) number
+    ensures objects { objects_in (F.parts store.new)
+        ≡ slice_set (objects_in (F.parts store.old)) number
         (record { owner = owner; content = fresh_content Capability.Void fresh }) }
     ensures current { AreCurrent (frames_of (F.parts store.old))
         → AreCurrent (frames_of (F.parts store.new)) }
@@ -149,8 +149,8 @@ pub fn claim<F: PresentFrames>(store: &mut F, number: u64, fresh: Fresh, owner: 
 /// Gives an object that is announced another bank as its owner.
 pub fn set_owner<F: PresentFrames>(store: &mut F, number: u64, bank: u64)
     requires announced { F.IsAnnounced store.old number }
-    ensures objects { let objects = objects_of (frames_of (F.parts store.old)) in
-        objects_of (frames_of (F.parts store.new))
+    ensures objects { let objects = objects_in (F.parts store.old) in
+        objects_in (F.parts store.new)
         ≡ slice_set objects number (record { owner = bank; content = content_at objects number }) }
     ensures current { AreCurrent (frames_of (F.parts store.old))
         → AreCurrent (frames_of (F.parts store.new)) }
@@ -169,8 +169,8 @@ pub fn consume<F: PresentFrames>(store: &mut F, process: u64)
     requires announced { F.IsAnnounced store.old process }
     requires calls { (header_at (F.parts store.old).headers process).calls < u64.MAX }
     requires current { AreCurrent (frames_of (F.parts store.old)) }
-    ensures objects { objects_of (frames_of (F.parts store.new))
-        ≡ consumed process (objects_of (frames_of (F.parts store.old))) }
+    ensures objects { objects_in (F.parts store.new)
+        ≡ consumed process (objects_in (F.parts store.old)) }
     ensures current { AreCurrent (frames_of (F.parts store.new)) }
     ensures keepable { (age : ℕ) → age + 1 < 2 ^ 64
         → AreKeepable (F.parts store.old).geometry age (frames_of (F.parts store.old))
@@ -190,8 +190,8 @@ pub fn rescind<F: PresentFrames>(store: &mut F, numbers: &[u64])
     requires calls { All
         (λ n. (header_at (F.parts store.old).headers n).calls < u64.MAX) numbers.now }
     requires current { AreCurrent (frames_of (F.parts store.old)) }
-    ensures objects { objects_of (frames_of (F.parts store.new))
-        ≡ rescinded numbers.now (objects_of (frames_of (F.parts store.old))) }
+    ensures objects { objects_in (F.parts store.new)
+        ≡ rescinded numbers.now (objects_in (F.parts store.old)) }
     ensures current { AreCurrent (frames_of (F.parts store.new)) }
     ensures keepable { (age : ℕ) → age + 1 < 2 ^ 64
         → AreKeepable (F.parts store.old).geometry age (frames_of (F.parts store.old))

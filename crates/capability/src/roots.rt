@@ -1,12 +1,12 @@
 // The roots of processes, read and changed as the definitions see them.
 ghost use Rattle.std.specs.Prelude.{◌≡◌, ◌<◌, ℕ, IsTrue, slice_index, slice_set};
-ghost use Rattle.model.specs.Frame.{current_count, objects_of};
+ghost use Rattle.model.specs.Frame.{current_count};
 ghost use Rattle.model.specs.Keepable.{AreCurrent, AreKeepable, IsKeptCap};
 ghost use Rattle.model.specs.Order.{with_root_word, with_space};
 ghost use Rattle.model.specs.Sound.{IsSpace};
 ghost use Rattle.model.specs.World.{root_at, is_process, with_root, with_state};
 ghost use Rattle.capability.specs.Objects.{with_root_in};
-ghost use Rattle.capability.specs.Parts.{HaveTheirRoles, KeepsAside, frames_of};
+ghost use Rattle.capability.specs.Parts.{HaveTheirRoles, KeepsAside, frames_of, objects_in};
 
 use crate::present::PresentFrames;
 use model::{Cap, Capability, Content, Role, State};
@@ -14,7 +14,7 @@ use model::{Cap, Capability, Content, Role, State};
 /// Whether a number is that of a process, by its role in the table: it needn't be fetched.
 pub fn is_process<F: PresentFrames>(store: &F, number: u64) -> bool
     requires { HaveTheirRoles (frames_of (F.parts store.now)) }
-    ensures { result ≡ is_process (objects_of (frames_of (F.parts store.now))) number }
+    ensures { result ≡ is_process (objects_in (F.parts store.now)) number }
 {
     matches!(store.table().header(number).role, Role::Root)
 }
@@ -22,10 +22,10 @@ pub fn is_process<F: PresentFrames>(store: &F, number: u64) -> bool
 /// A word that a process was last delivered. Its root is fetched.
 pub fn word<F: PresentFrames>(store: &F, process: u64, index: usize) -> u64
     requires fetched { F.IsFetched store.now process }
-    requires process { IsTrue (is_process (objects_of (frames_of (F.parts store.now))) process) }
+    requires process { IsTrue (is_process (objects_in (F.parts store.now)) process) }
     requires within { index < 4 }
     ensures { result ≡ slice_index (root_at
-        (objects_of (frames_of (F.parts store.now))) process).words index }
+        (objects_in (F.parts store.now)) process).words index }
 {
     match store.frame(process) {
         Content::Root(root) => root.words[index],
@@ -36,8 +36,8 @@ pub fn word<F: PresentFrames>(store: &F, process: u64, index: usize) -> u64
 /// The key that a process was last delivered. Its root is fetched.
 pub fn key<F: PresentFrames>(store: &F, process: u64) -> u16
     requires fetched { F.IsFetched store.now process }
-    requires process { IsTrue (is_process (objects_of (frames_of (F.parts store.now))) process) }
-    ensures { result ≡ (root_at (objects_of (frames_of (F.parts store.now))) process).key }
+    requires process { IsTrue (is_process (objects_in (F.parts store.now)) process) }
+    ensures { result ≡ (root_at (objects_in (F.parts store.now)) process).key }
 {
     match store.frame(process) {
         Content::Root(root) => root.key,
@@ -48,8 +48,8 @@ pub fn key<F: PresentFrames>(store: &F, process: u64) -> u16
 /// The state of a process. Its root is fetched.
 pub fn state<F: PresentFrames>(store: &F, process: u64) -> State
     requires fetched { F.IsFetched store.now process }
-    requires process { IsTrue (is_process (objects_of (frames_of (F.parts store.now))) process) }
-    ensures { result ≡ (root_at (objects_of (frames_of (F.parts store.now))) process).state }
+    requires process { IsTrue (is_process (objects_in (F.parts store.now)) process) }
+    ensures { result ≡ (root_at (objects_in (F.parts store.now)) process).state }
 {
     match store.frame(process) {
         Content::Root(root) => root.state,
@@ -60,8 +60,8 @@ pub fn state<F: PresentFrames>(store: &F, process: u64) -> State
 /// The address space of a process: void where it is stale. Its root is fetched.
 pub fn space<F: PresentFrames>(store: &F, process: u64) -> Capability
     requires fetched { F.IsFetched store.now process }
-    requires process { IsTrue (is_process (objects_of (frames_of (F.parts store.now))) process) }
-    ensures { result ≡ (root_at (objects_of (frames_of (F.parts store.now))) process).space }
+    requires process { IsTrue (is_process (objects_in (F.parts store.now)) process) }
+    ensures { result ≡ (root_at (objects_in (F.parts store.now)) process).space }
 {
     match store.frame(process) {
         Content::Root(root) => store.table().conveyed(root.space),
@@ -73,10 +73,10 @@ pub fn space<F: PresentFrames>(store: &F, process: u64) -> Capability
 pub fn set_word<F: PresentFrames>(store: &mut F, process: u64, index: usize, word: u64)
     requires fetched { F.IsFetched store.old process }
     requires announced { F.IsAnnounced store.old process }
-    requires process { IsTrue (is_process (objects_of (frames_of (F.parts store.old))) process) }
+    requires process { IsTrue (is_process (objects_in (F.parts store.old)) process) }
     requires within { index < 4 }
-    ensures objects { objects_of (frames_of (F.parts store.new))
-        ≡ with_root (objects_of (frames_of (F.parts store.old))) process (with_root_word (root_at (objects_of (frames_of (F.parts store.old))) process) index word) }
+    ensures objects { objects_in (F.parts store.new)
+        ≡ with_root (objects_in (F.parts store.old)) process (with_root_word (root_at (objects_in (F.parts store.old)) process) index word) }
     ensures current { AreCurrent (frames_of (F.parts store.old))
         → AreCurrent (frames_of (F.parts store.new)) }
     ensures keepable { (age : ℕ)
@@ -91,9 +91,9 @@ pub fn set_word<F: PresentFrames>(store: &mut F, process: u64, index: usize, wor
 pub fn set_state<F: PresentFrames>(store: &mut F, process: u64, state: State)
     requires fetched { F.IsFetched store.old process }
     requires announced { F.IsAnnounced store.old process }
-    requires process { IsTrue (is_process (objects_of (frames_of (F.parts store.old))) process) }
-    ensures objects { objects_of (frames_of (F.parts store.new))
-        ≡ with_state (objects_of (frames_of (F.parts store.old))) process state }
+    requires process { IsTrue (is_process (objects_in (F.parts store.old)) process) }
+    ensures objects { objects_in (F.parts store.new)
+        ≡ with_state (objects_in (F.parts store.old)) process state }
     ensures headers { (F.parts store.new).headers ≡ (F.parts store.old).headers }
     ensures current { AreCurrent (frames_of (F.parts store.old))
         → AreCurrent (frames_of (F.parts store.new)) }
@@ -109,9 +109,9 @@ pub fn set_state<F: PresentFrames>(store: &mut F, process: u64, state: State)
 pub fn set_space<F: PresentFrames>(store: &mut F, process: u64, capability: Capability)
     requires fetched { F.IsFetched store.old process }
     requires announced { F.IsAnnounced store.old process }
-    requires process { IsTrue (is_process (objects_of (frames_of (F.parts store.old))) process) }
-    ensures objects { objects_of (frames_of (F.parts store.new))
-        ≡ with_root (objects_of (frames_of (F.parts store.old))) process (with_space (root_at (objects_of (frames_of (F.parts store.old))) process) capability) }
+    requires process { IsTrue (is_process (objects_in (F.parts store.old)) process) }
+    ensures objects { objects_in (F.parts store.new)
+        ≡ with_root (objects_in (F.parts store.old)) process (with_space (root_at (objects_in (F.parts store.old)) process) capability) }
     ensures current { AreCurrent (frames_of (F.parts store.old))
         → AreCurrent (frames_of (F.parts store.new)) }
     ensures keepable { (age : ℕ)

@@ -1,9 +1,9 @@
 // Objects as values that can be shown.
 ghost use Rattle.std.specs.Prelude.{◌≡◌, map, IfOk, IsTrue};
-ghost use Rattle.model.specs.Frame.{conveyed, objects_of};
+ghost use Rattle.model.specs.Frame.{conveyed};
 ghost use Rattle.model.specs.Object.{is_annex, map_content, slots_in};
 ghost use Rattle.model.specs.World.{content_at, object_at};
-ghost use Rattle.capability.specs.Parts.{frames_of};
+ghost use Rattle.capability.specs.Parts.{objects_in};
 
 use crate::present::PresentFrames;
 use crate::table::ObjectTable;
@@ -54,7 +54,7 @@ fn conveyed_content(
 pub fn object<F: PresentFrames>(alloc: Global, store: &F, number: u64) -> Result<Object, AllocError>
     requires { F.IsFetched store.now number }
     ensures { IfOk result (λ object.
-        object ≡ object_at (objects_of (frames_of (F.parts store.now))) number) }
+        object ≡ object_at (objects_in (F.parts store.now)) number) }
 {
     Ok(Object {
         owner: store.table().header(number).owner,
@@ -71,9 +71,9 @@ pub fn registers<F: PresentFrames>(
 ) -> Result<Slots<Capability>, AllocError>
     requires fetched { F.IsFetched store.now annex }
     requires annex { IsTrue
-        (is_annex (content_at (objects_of (frames_of (F.parts store.now))) annex)) }
+        (is_annex (content_at (objects_in (F.parts store.now)) annex)) }
     ensures { IfOk result (λ registers.
-        registers ≡ slots_in (content_at (objects_of (frames_of (F.parts store.now))) annex)) }
+        registers ≡ slots_in (content_at (objects_in (F.parts store.now)) annex)) }
 {
     match store.frame(annex) {
         Content::Annex(registers) => conveyed_slots(alloc, store.table(), registers),

@@ -5,7 +5,7 @@ use Rattle.device.specs.Calls.{Elsewhere}
 use Rattle.layout.specs.declared.header.CheckpointHeader.{CheckpointHeader}
 use Rattle.layout.specs.Frame.{IsFrameOf}
 use Rattle.layout.specs.Superblock.{Plan}
-use Rattle.layout.specs.Image.{SavedState, Denotes, half_sector, home_sector, slot_in, slot_sector, sector_or}
+use Rattle.layout.specs.Image.{SavedState, Encodes, half_sector, home_sector, slot_in, slot_sector, sector_or}
 use Rattle.model.specs.Frame.{frame_at}
 use Rattle.ckpt_log.specs.Commit.{header_sector}
 use Rattle.ckpt_log.specs.CommitLaws.{HomesAreBehind, FramesAreBehind, IsReady, NewIsDenoted, OldIsDenoted}
@@ -33,7 +33,7 @@ ready_stays old new size s h homes e is = record {
       (sym (spare_frames old new h s.plan s.header.generation s.directory object (frames_behind s.plan s.header.generation s.directory object is.plan.fits (homes object lt)) e)) (is.each object lt);
 }
 
-ready_of : (image : Image) (size : ℕ) (s : SavedState) → Denotes image size s → IsReady image size s
+ready_of : (image : Image) (size : ℕ) (s : SavedState) → Encodes image size s → IsReady image size s
 ready_of image size s is = record { plan = is.plan; header = is.header.fits; directory = is.directory; count = is.count; each = is.each }
 
 pub new_denoted : NewIsDenoted

@@ -6,7 +6,7 @@ use Rattle.layout.specs.declared.directory.Entry.{Entry}
 use Rattle.layout.specs.Header.{IsHeader}
 use Rattle.layout.specs.Frame.{IsFrameOf}
 use Rattle.layout.specs.Superblock.{Plan, IsPlan}
-use Rattle.layout.specs.Image.{HasPlan, HasDirectory, SavedState, Denotes, frame_in, frame_sector, home_sector, committed_bytes}
+use Rattle.layout.specs.Image.{HasPlan, HasDirectory, SavedState, Encodes, frame_in, frame_sector, home_sector, committed_bytes}
 use Rattle.frame_io.specs.Frames.{IsObject}
 use Rattle.model.specs.Frame.{frame_at}
 use Rattle.layout.specs.declared.header.CheckpointHeader.{CheckpointHeader}
@@ -31,9 +31,9 @@ pub record IsReady (image : Image) (size : ℕ) (s : SavedState) : Type 0 where
 
 -- once its header is committed, the image denotes the state
 abbrev pub NewIsDenoted : Type 0
-NewIsDenoted = (old new : Image) (size : ℕ) (s : SavedState) → HomesAreBehind s.plan → IsReady old size s → HasNew s.header old new → Denotes new size s
+NewIsDenoted = (old new : Image) (size : ℕ) (s : SavedState) → HomesAreBehind s.plan → IsReady old size s → HasNew s.header old new → Encodes new size s
 
 -- until then, a crash leaves the state from before: its image is one before it but for the slot of a header, with the committed header that is seen
 abbrev pub OldIsDenoted : Type 0
-OldIsDenoted = (seen before c : Image) (size : ℕ) (s : SavedState) (h : CheckpointHeader) → HomesAreBehind s.plan → Denotes seen size s → Denotes before size s
-    → Elsewhere (header_sector h) 2 before c → committed_bytes c ≡ committed_bytes seen → Denotes c size s
+OldIsDenoted = (seen before c : Image) (size : ℕ) (s : SavedState) (h : CheckpointHeader) → HomesAreBehind s.plan → Encodes seen size s → Encodes before size s
+    → Elsewhere (header_sector h) 2 before c → committed_bytes c ≡ committed_bytes seen → Encodes c size s

@@ -4,7 +4,7 @@ use Rattle.layout.specs.declared.directory.Entry.{Entry}
 use Rattle.layout.specs.declared.header.CheckpointHeader.{CheckpointHeader}
 use Rattle.device.specs.Disk.{Image}
 use Rattle.layout.specs.Frame.{frame_length}
-use Rattle.layout.specs.Image.{HasDirectory, frame_in, frame_sector, directory_sector, directory_length, SavedState, Denotes, committed_slot, committed_bytes}
+use Rattle.layout.specs.Image.{HasDirectory, frame_in, frame_sector, directory_sector, directory_length, SavedState, Encodes, committed_slot, committed_bytes}
 use Rattle.layout.specs.Superblock.{Plan}
 
 -- the same bytes in n sectors from one on
@@ -33,4 +33,4 @@ SameFrames = (old new : Image) (p : Plan) (h : CheckpointHeader) (es : List Entr
 
 -- and denote the same saved state, where the superblock is the same too
 abbrev pub SameSaved : Type 0
-SameSaved = (old new : Image) (size : ℕ) (s : SavedState) → SameFrom 0 1 old new → SameWhereRead s.plan s.header s.directory old new → Denotes old size s → Denotes new size s
+SameSaved = (old new : Image) (size : ℕ) (s : SavedState) → SameFrom 0 1 old new → SameWhereRead s.plan s.header s.directory old new → Encodes old size s → Encodes new size s

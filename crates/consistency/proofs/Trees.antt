@@ -15,7 +15,7 @@ use Rattle.model.specs.Keepable.{AreKeepable}
 use Rattle.model.specs.Object.{is_bank, limit_in}
 use Rattle.model.specs.World.{content_at}
 use Rattle.model_laws.proofs.BankTree.{IsTree}
-use Rattle.capability.specs.Parts.{HaveTheirRoles, Parts, frames_of}
+use Rattle.capability.specs.Parts.{HaveTheirRoles, Parts, frames_of, objects_in}
 use Rattle.capability.proofs.Keeping.{keepable_roles}
 use Rattle.consistency.specs.Consistency.{AreLimited, AreOwned, owner_of, role_at}
 use Rattle.consistency.proofs.Sound.{kept_at}
@@ -48,7 +48,7 @@ module _ (p : Parts) (hs : List ObjectHeader) (count n : ℕ) (table : hs ≡ p.
 
   pub owned_whole : (role_at (frames_of p) 0 ≡ role.Bank) × (owner_of (frames_of p) 0 ≡ 0) →
       ((m : ℕ) → m < n → role_at (frames_of p) m ≢ role.Free → role_at (frames_of p) (owner_of (frames_of p) m) ≡ role.Bank) →
-      ((b : ℕ) → b < n → role_at (frames_of p) b ≡ role.Bank → Contains (chain (objects_of (frames_of p)) b) 0) → AreOwned (frames_of p)
+      ((b : ℕ) → b < n → role_at (frames_of p) b ≡ role.Bank → Contains (chain (objects_in p) b) 0) → AreOwned (frames_of p)
   owned_whole prime owners chains = record {
     prime = prime;
     owners = λ m used. owners m (known_before m used) used;
@@ -73,18 +73,18 @@ module _ (g : Geometry) (age : ℕ) (p : Parts) (k : AreKeepable g age (frames_o
   pub count_all : count ≡ length p.headers
   count_all = all ∙ ap (λ (ks : List ObjectHeader). length ks) table
 
-  pub bank_counted : (b : ℕ) → IsTrue (is_bank (content_at (objects_of (frames_of p)) b)) → b < count
+  pub bank_counted : (b : ℕ) → IsTrue (is_bank (content_at (objects_in p) b)) → b < count
   bank_counted b bank = omega (arith, bank_known p b (bank_role (frames_of p) (keepable_roles g age (frames_of p) k) b bank), count_all)
 
-  module _ (usages limits : List ℕ) (used : (b : ℕ) → IsTrue (is_bank (content_at (objects_of (frames_of p)) b)) → slice_index usages b ≡ usage (objects_of (frames_of p)) b)
-      (are : limits ≡ map (λ n. limit_in (content_at (objects_of (frames_of p)) n)) (range_with_len 0 count)) where
+  module _ (usages limits : List ℕ) (used : (b : ℕ) → IsTrue (is_bank (content_at (objects_in p) b)) → slice_index usages b ≡ usage (objects_in p) b)
+      (are : limits ≡ map (λ n. limit_in (content_at (objects_in p) n)) (range_with_len 0 count)) where
     pub limits_count : length limits ≡ count
-    limits_count = ap (λ (xs : List ℕ). length xs) are ∙ length-map-range_with_len (λ n. limit_in (content_at (objects_of (frames_of p)) n)) 0 count
+    limits_count = ap (λ (xs : List ℕ). length xs) are ∙ length-map-range_with_len (λ n. limit_in (content_at (objects_in p) n)) 0 count
 
     limit_there : (b : ℕ) → b < count → slice_index limits b ≡ limit_in (frame_at (frames_of p) b).content
     limit_there b inside =
         ap (λ (xs : List ℕ). slice_index xs b) are
-        ∙ get_or-map-range_with_len (λ n. limit_in (content_at (objects_of (frames_of p)) n)) 0 count b b 0 inside (zero-add b)
+        ∙ get_or-map-range_with_len (λ n. limit_in (content_at (objects_in p) n)) 0 count b b 0 inside (zero-add b)
         ∙ limit_is (frames_of p) b
 
     pub limited : (t : Bool) → (IsTrue t ↔ ((b : ℕ) → role_at (frames_of p) b ≡ role.Bank → slice_index usages b ≤ slice_index limits b)) →
@@ -96,6 +96,6 @@ module _ (g : Geometry) (age : ℕ) (p : Parts) (k : AreKeepable g age (frames_o
           omega (arith, low, used b is, limit_there b (bank_counted b is)),
       λ below. tells.1 (λ b bank.
           let is = role_bank (frames_of p) (keepable_roles g age (frames_of p) k) b bank in
-          let low : usage (objects_of (frames_of p)) b ≤ limit_in (frame_at (frames_of p) b).content = below b bank in
+          let low : usage (objects_in p) b ≤ limit_in (frame_at (frames_of p) b).content = below b bank in
           omega (arith, low, used b is, limit_there b (bank_counted b is))),
     )

@@ -15,7 +15,6 @@ use Rattle.model.specs.declared.order.Arguments.{Arguments}
 use Rattle.model.specs.declared.order.BankOrder.{BankOrder}
 use Rattle.model.specs.declared.order.ResultCode.TheVariants as code
 use Rattle.model.specs.Banking.{on_bank}
-use Rattle.model.specs.Frame.{objects_of}
 use Rattle.model.specs.Invoke.{Effect, invoke, on_kernel_object, ordered}
 use Rattle.model.specs.Object.{is_bank}
 use Rattle.model.specs.Order.{bank_order, order}
@@ -29,7 +28,7 @@ use Rattle.model_laws.proofs.InvocationFrame.{state_frame}
 use Rattle.model_laws.proofs.SoundGates.{held_sent, ordered_keeps}
 use Rattle.model_laws.proofs.SoundOrders.{IsNow, IsOutcome}
 use Rattle.model_laws.proofs.SoundParts.{held_to, nearly_to}
-use Rattle.capability.specs.Parts.{AreSound, Parts, frames_of}
+use Rattle.capability.specs.Parts.{AreSound, Parts, objects_in}
 use Rattle.space_bank.specs.Banks.{AreCounted, BanksState, IsPlanned, MayAsk}
 use Rattle.space_bank.specs.declared.plan.BankPlan.{BankPlan}
 use Rattle.gate.specs.Banking.{AsksBank, answered, arguments_of, banked, ordered_at, outcome_at, state_before, writer_count, writers}
@@ -140,29 +139,29 @@ module _ (g : Geometry) (os : List Object) (i : Invocation) (call : BankCall) (a
         (held_to (ordered_at g os call).objects (ordered_at g os call).capability outcome_here.held))
 
 -- a bank that is invoked over sound frames may be asked
-module _ (p : Parts) (sound : AreSound p) (i : Invocation) (call : BankCall) (asks : AsksBank (objects_of (frames_of p)) i call) where
-  pub invoked_asks : (s : BanksState) → AreCounted p.geometry (objects_of (frames_of p)) s → MayAsk p s call.bank call.arguments
+module _ (p : Parts) (sound : AreSound p) (i : Invocation) (call : BankCall) (asks : AsksBank (objects_in p) i call) where
+  pub invoked_asks : (s : BanksState) → AreCounted p.geometry (objects_in p) s → MayAsk p s call.bank call.arguments
   invoked_asks s counted = record {
     sound = sound;
     counted = counted;
-    bank = subst (NamesItsKind (objects_of (frames_of p))) asks.invoked (sound.1.sound.slots (annex_at (objects_of (frames_of p)) i.process) i.register).1;
-    sent = subst (λ (a : Arguments). MayBeHeld (objects_of (frames_of p)) a.capability) (sym asks.arguments)
-        (held_to (objects_of (frames_of p)) _ (held_sent p.geometry (objects_of (frames_of p)) i 0 (now_sound p sound)));
+    bank = subst (NamesItsKind (objects_in p)) asks.invoked (sound.1.sound.slots (annex_at (objects_in p) i.process) i.register).1;
+    sent = subst (λ (a : Arguments). MayBeHeld (objects_in p) a.capability) (sym asks.arguments)
+        (held_to (objects_in p) _ (held_sent p.geometry (objects_in p) i 0 (now_sound p sound)));
   }
 
   -- a process that is sent is one of the objects
   pub sent_known : (q : ℕ) → call.arguments.capability ≡ Process q → q < length p.headers
   sent_known q is =
-      process_known p q (subst (NamesItsKind (objects_of (frames_of p))) is
-      (subst (λ (a : Arguments). MayBeHeld (objects_of (frames_of p)) a.capability) (sym asks.arguments)
-      (held_to (objects_of (frames_of p)) _ (held_sent p.geometry (objects_of (frames_of p)) i 0 (now_sound p sound)))).1)
+      process_known p q (subst (NamesItsKind (objects_in p)) is
+      (subst (λ (a : Arguments). MayBeHeld (objects_in p) a.capability) (sym asks.arguments)
+      (held_to (objects_in p) _ (held_sent p.geometry (objects_in p) i 0 (now_sound p sound)))).1)
 
-  pub written_known : All (λ n. n < length (objects_of (frames_of p))) (outcome_at p.geometry (objects_of (frames_of p)) call).written
+  pub written_known : All (λ n. n < length (objects_in p)) (outcome_at p.geometry (objects_in p) call).written
   written_known =
-      written_within p.geometry (objects_of (frames_of p)) call.bank call.order call.arguments (now_sound p sound)
-      (subst (NamesItsKind (objects_of (frames_of p))) asks.invoked (sound.1.sound.slots (annex_at (objects_of (frames_of p)) i.process) i.register).1)
-      (subst (λ (a : Arguments). MayBeHeld (objects_of (frames_of p)) a.capability) (sym asks.arguments)
-      (held_to (objects_of (frames_of p)) _ (held_sent p.geometry (objects_of (frames_of p)) i 0 (now_sound p sound)))).1
+      written_within p.geometry (objects_in p) call.bank call.order call.arguments (now_sound p sound)
+      (subst (NamesItsKind (objects_in p)) asks.invoked (sound.1.sound.slots (annex_at (objects_in p) i.process) i.register).1)
+      (subst (λ (a : Arguments). MayBeHeld (objects_in p) a.capability) (sym asks.arguments)
+      (held_to (objects_in p) _ (held_sent p.geometry (objects_in p) i 0 (now_sound p sound)))).1
 
 counted_listed : (g : Geometry) (os : List Object) (s : BanksState) (list : List ℕ) → AreCounted g os s → AreCounted g os (record s { listed = list })
 counted_listed g os s list h = record {
@@ -183,36 +182,36 @@ asks_looked old now s t b args looks kept asks =
     let same = looked_objects old now looks in
     record {
       sound = looked_sound old now looks asks.sound;
-      counted = subst (λ (g : Geometry). AreCounted g (objects_of (frames_of now)) t) (sym looks.geometry)
+      counted = subst (λ (g : Geometry). AreCounted g (objects_in now) t) (sym looks.geometry)
           (subst (λ (us : List Object). AreCounted old.geometry us t) (sym same)
-          (subst (AreCounted old.geometry (objects_of (frames_of old))) (sym kept) (counted_listed old.geometry (objects_of (frames_of old)) s t.listed asks.counted)));
+          (subst (AreCounted old.geometry (objects_in old)) (sym kept) (counted_listed old.geometry (objects_in old) s t.listed asks.counted)));
       bank = subst (λ (us : List Object). IsTrue (is_bank (content_at us b))) (sym same) asks.bank;
       sent = subst (λ (us : List Object). MayBeHeld us args.capability) (sym same) asks.sent;
     }
 
 -- after a look the same is planned and comes of it
 module _ (old now : Parts) (call : BankCall) (looks : LooksAs old now) where
-  outcome_looked : outcome_at now.geometry (objects_of (frames_of now)) call ≡ outcome_at old.geometry (objects_of (frames_of old)) call
+  outcome_looked : outcome_at now.geometry (objects_in now) call ≡ outcome_at old.geometry (objects_in old) call
   outcome_looked =
-      ap (λ (g : Geometry). outcome_at g (objects_of (frames_of now)) call) looks.geometry
+      ap (λ (g : Geometry). outcome_at g (objects_in now) call) looks.geometry
       ∙ ap (λ (us : List Object). outcome_at old.geometry us call) (looked_objects old now looks)
 
-  pub banked_looked : banked now.geometry (objects_of (frames_of now)) call ≡ banked old.geometry (objects_of (frames_of old)) call
+  pub banked_looked : banked now.geometry (objects_in now) call ≡ banked old.geometry (objects_in old) call
   banked_looked =
-      ap (λ (g : Geometry). banked g (objects_of (frames_of now)) call) looks.geometry
+      ap (λ (g : Geometry). banked g (objects_in now) call) looks.geometry
       ∙ ap (λ (us : List Object). banked old.geometry us call) (looked_objects old now looks)
 
   pub capability_after : (plan : BankPlan) (list first : List ℕ) → IsPlanned now call.bank call.order call.arguments first plan list →
-      plan.capability ≡ (outcome_at old.geometry (objects_of (frames_of old)) call).capability
+      plan.capability ≡ (outcome_at old.geometry (objects_in old) call).capability
   capability_after plan list first planned = planned.capability ∙ ap (λ (o : OrderOutcome). o.capability) outcome_looked
 
-  pub ordered_looked : (let w : World = record { objects = (ordered_at old.geometry (objects_of (frames_of old)) call).objects; age = 0 } in IsSound old.geometry w) →
-      (let w : World = record { objects = (ordered_at now.geometry (objects_of (frames_of now)) call).objects; age = 0 } in IsSound now.geometry w)
+  pub ordered_looked : (let w : World = record { objects = (ordered_at old.geometry (objects_in old) call).objects; age = 0 } in IsSound old.geometry w) →
+      (let w : World = record { objects = (ordered_at now.geometry (objects_in now) call).objects; age = 0 } in IsSound now.geometry w)
   ordered_looked sound =
-      subst (λ (g : Geometry). let w : World = record { objects = (ordered_at g (objects_of (frames_of now)) call).objects; age = 0 } in IsSound g w) (sym looks.geometry)
+      subst (λ (g : Geometry). let w : World = record { objects = (ordered_at g (objects_in now) call).objects; age = 0 } in IsSound g w) (sym looks.geometry)
       (subst (λ (us : List Object). let w : World = record { objects = (ordered_at old.geometry us call).objects; age = 0 } in IsSound old.geometry w) (sym (looked_objects old now looks)) sound)
 
   pub listed_after : (plan : BankPlan) (list told : List ℕ) → told ≡ list → IsPlanned now call.bank call.order call.arguments (writers call.operation call.process call.annex) plan list →
-      told ≡ writers call.operation call.process call.annex ++ (outcome_at old.geometry (objects_of (frames_of old)) call).written
+      told ≡ writers call.operation call.process call.annex ++ (outcome_at old.geometry (objects_in old) call).written
   listed_after plan list told is planned =
       is ∙ planned.listed ∙ ap (λ (o : OrderOutcome). writers call.operation call.process call.annex ++ o.written) outcome_looked

@@ -27,7 +27,7 @@ use Rattle.model_laws.proofs.SoundGates.{IsAfter, after_state}
 use Rattle.model_laws.proofs.SoundOrders.{IsNow}
 use Rattle.model_laws.proofs.SoundParts.{Waits, held_from, held_on, held_to, nearly_from}
 use Rattle.model_laws.proofs.Usage.{SameFrame, frame_refl, tests_at, usage_same}
-use Rattle.capability.specs.Parts.{AreSound, IsUnchanged, Parts, frames_of}
+use Rattle.capability.specs.Parts.{AreSound, IsUnchanged, Parts, frames_of, objects_in}
 use Rattle.space_bank.specs.Banks.{AreCounted, BanksState, MayAsk}
 use Rattle.gate.specs.Banking.{answered, ordered_at, outcome_at, state_before, writers}
 use Rattle.gate.specs.declared.banking.BankCall.{BankCall}
@@ -60,14 +60,14 @@ process_runs os p runs = go (is_process os p) runs
 
 -- a bank may be asked after a running process became available
 module _ (old mid : Parts) (s : BanksState) (b : ℕ) (args : Arguments) (p : ℕ) (asks : MayAsk old s b args)
-    (runs : IsTrue (is_running_process (objects_of (frames_of old)) p))
-    (is : objects_of (frames_of mid) ≡ with_state (objects_of (frames_of old)) p Available) (geometry : mid.geometry ≡ old.geometry)
+    (runs : IsTrue (is_running_process (objects_in old) p))
+    (is : objects_in mid ≡ with_state (objects_in old) p Available) (geometry : mid.geometry ≡ old.geometry)
     (current : AreCurrent (frames_of mid)) (keepable : AreKeepable old.geometry asks.sound.0 (frames_of mid)) where
-  now_before : IsNow old.geometry (objects_of (frames_of old))
+  now_before : IsNow old.geometry (objects_in old)
   now_before = nearly_from old.geometry (world_at asks.sound.0 (frames_of old)) asks.sound.1.sound
 
-  became : IsAfter old.geometry (objects_of (frames_of old)) (with_state (objects_of (frames_of old)) p Available)
-  became = after_state old.geometry (objects_of (frames_of old)) p Available now_before runs
+  became : IsAfter old.geometry (objects_in old) (with_state (objects_in old) p Available)
+  became = after_state old.geometry (objects_in old) p Available now_before runs
 
   pub after_asks : MayAsk mid s b args
   after_asks = record {
@@ -77,19 +77,19 @@ module _ (old mid : Parts) (s : BanksState) (b : ℕ) (args : Arguments) (p : �
         keepable = keepable;
         current = current;
         sound = subst (λ (us : List Object). let w : World = record { objects = us; age = asks.sound.0 } in IsSound old.geometry w) (sym is)
-            (state_sound old.geometry (objects_of (frames_of old)) p asks.sound.0 asks.sound.1.sound (running_process (objects_of (frames_of old)) p runs)
-            (process_runs (objects_of (frames_of old)) p runs));
+            (state_sound old.geometry (objects_in old) p asks.sound.0 asks.sound.1.sound (running_process (objects_in old) p runs)
+            (process_runs (objects_in old) p runs));
       }),
     );
-    counted = subst (λ (g : Geometry). AreCounted g (objects_of (frames_of mid)) s) (sym geometry)
+    counted = subst (λ (g : Geometry). AreCounted g (objects_in mid) s) (sym geometry)
         (subst (λ (us : List Object). AreCounted old.geometry us s) (sym is)
-        (counted_on old.geometry (objects_of (frames_of old)) (with_state (objects_of (frames_of old)) p Available) s became.frame asks.counted));
+        (counted_on old.geometry (objects_in old) (with_state (objects_in old) p Available) s became.frame asks.counted));
     bank = subst (λ (us : List Object). IsTrue (is_bank (content_at us b))) (sym is)
-        ((tests_at (objects_of (frames_of old)) (with_state (objects_of (frames_of old)) p Available) became.frame b).bank ∙ asks.bank);
+        ((tests_at (objects_in old) (with_state (objects_in old) p Available) became.frame b).bank ∙ asks.bank);
     sent = subst (λ (us : List Object). MayBeHeld us args.capability) (sym is)
-        (held_to (with_state (objects_of (frames_of old)) p Available) args.capability
-        (held_on (objects_of (frames_of old)) (with_state (objects_of (frames_of old)) p Available) (Waits (objects_of (frames_of old)))
-        (Waits (with_state (objects_of (frames_of old)) p Available)) args.capability became.frame became.waits (held_from (objects_of (frames_of old)) args.capability asks.sent)));
+        (held_to (with_state (objects_in old) p Available) args.capability
+        (held_on (objects_in old) (with_state (objects_in old) p Available) (Waits (objects_in old))
+        (Waits (with_state (objects_in old) p Available)) args.capability became.frame became.waits (held_from (objects_in old) args.capability asks.sent)));
   }
 
 -- a reply changes no frame
@@ -121,36 +121,36 @@ banked_by g os call o is =
     ap (λ (x : Operation). answered x call.process (outcome_at g (state_before x os call.process) call).objects (outcome_at g (state_before x os call.process) call)) is
 
 -- what is counted stays after a look
-pub counted_looked : (old mid : Parts) (s : BanksState) → LooksAs old mid → AreCounted old.geometry (objects_of (frames_of old)) s → AreCounted mid.geometry (objects_of (frames_of mid)) s
+pub counted_looked : (old mid : Parts) (s : BanksState) → LooksAs old mid → AreCounted old.geometry (objects_in old) s → AreCounted mid.geometry (objects_in mid) s
 counted_looked old mid s looks counted =
-    subst (λ (g : Geometry). AreCounted g (objects_of (frames_of mid)) s) (sym looks.geometry)
+    subst (λ (g : Geometry). AreCounted g (objects_in mid) s) (sym looks.geometry)
     (subst (λ (us : List Object). AreCounted old.geometry us s) (sym (looked_objects old mid looks)) counted)
 
 -- what asks no bank leaves what is counted as it is, after a look too
 module _ (old mid new : Parts) (i : Invocation) (s : BanksState) (sound : AreSound old) (looks : LooksAs old mid)
-    (fits : Fits (command.Invoke i)) (runs : IsTrue (is_running_process (objects_of (frames_of old)) i.process))
-    (other : IsNoBankOrder (register_at (objects_of (frames_of old)) i.process i.register) (slice_index i.words 0))
-    (counted : AreCounted old.geometry (objects_of (frames_of old)) s) (geometry : new.geometry ≡ mid.geometry) where
-  counted_mid : AreCounted mid.geometry (objects_of (frames_of mid)) s
+    (fits : Fits (command.Invoke i)) (runs : IsTrue (is_running_process (objects_in old) i.process))
+    (other : IsNoBankOrder (register_at (objects_in old) i.process i.register) (slice_index i.words 0))
+    (counted : AreCounted old.geometry (objects_in old) s) (geometry : new.geometry ≡ mid.geometry) where
+  counted_mid : AreCounted mid.geometry (objects_in mid) s
   counted_mid = counted_looked old mid s looks counted
 
-  counted_done : Invokes mid.geometry i (objects_of (frames_of mid)) mid.touched (objects_of (frames_of new)) new.touched → AreCounted new.geometry (objects_of (frames_of new)) s
+  counted_done : Invokes mid.geometry i (objects_in mid) mid.touched (objects_in new) new.touched → AreCounted new.geometry (objects_in new) s
   counted_done invokes =
       let same = looked_objects old mid looks in
-      let frame = invocation_frame mid.geometry (objects_of (frames_of mid)) i invokes.0 (now_sound mid (looked_sound old mid looks sound)) fits
+      let frame = invocation_frame mid.geometry (objects_in mid) i invokes.0 (now_sound mid (looked_sound old mid looks sound)) fits
       (subst (λ (us : List Object). IsTrue (is_running_process us i.process)) (sym same) runs)
       (subst (λ (us : List Object). IsNoBankOrder (register_at us i.process i.register) (slice_index i.words 0)) (sym same) other) invokes.1 in
-      subst (λ (g : Geometry). AreCounted g (objects_of (frames_of new)) s) (sym geometry)
+      subst (λ (g : Geometry). AreCounted g (objects_in new) s) (sym geometry)
       (subst (λ (us : List Object). AreCounted mid.geometry us s) (sym invokes.2)
-      (counted_on mid.geometry (objects_of (frames_of mid)) invokes.0.objects s frame counted_mid))
+      (counted_on mid.geometry (objects_in mid) invokes.0.objects s frame counted_mid))
 
-  counted_same : IsUnchanged mid new → AreCounted new.geometry (objects_of (frames_of new)) s
+  counted_same : IsUnchanged mid new → AreCounted new.geometry (objects_in new) s
   counted_same unchanged =
-      subst (λ (g : Geometry). AreCounted g (objects_of (frames_of new)) s) (sym geometry)
+      subst (λ (g : Geometry). AreCounted g (objects_in new) s) (sym geometry)
       (subst (λ (us : List Object). AreCounted mid.geometry us s) (ap (λ (fs : List Frame). objects_of fs) (sym (same_frames mid new unchanged.headers unchanged.contents))) counted_mid)
 
-  pub counted_after : {T E : Type 0} (r : Result T E) → OnOk r (Invokes mid.geometry i (objects_of (frames_of mid)) mid.touched (objects_of (frames_of new)) new.touched) →
-      OnErr r (IsUnchanged mid new) → AreCounted new.geometry (objects_of (frames_of new)) s
+  pub counted_after : {T E : Type 0} (r : Result T E) → OnOk r (Invokes mid.geometry i (objects_in mid) mid.touched (objects_in new) new.touched) →
+      OnErr r (IsUnchanged mid new) → AreCounted new.geometry (objects_in new) s
   counted_after (Ok x) done unchanged = counted_done done
   counted_after (Err e) done unchanged = counted_same unchanged
 

@@ -11,12 +11,12 @@ use Rattle.model.specs.declared.geometry.Geometry.{Geometry}
 use Rattle.model.specs.declared.object.Content.{Content}
 use Rattle.model.specs.declared.object.Content.TheVariants as content
 use Rattle.model.specs.declared.object.Object.{Object}
-use Rattle.model.specs.Frame.{blank_frame, conveyed, current_count, frame_at, header_at, headers, held_at, objects_of}
+use Rattle.model.specs.Frame.{blank_frame, conveyed, current_count, frame_at, header_at, headers, held_at}
 use Rattle.model.specs.Keepable.{AreKeepable, IsCount, IsKeptCap, IsNodeNumber}
 use Rattle.model.specs.Object.{is_annex, is_node, is_root, map_content}
 use Rattle.model.specs.Sound.{IsOfKind, MayBeHeld, object_count}
 use Rattle.model.specs.World.{content_at}
-use Rattle.capability.specs.Parts.{Parts, frames_of}
+use Rattle.capability.specs.Parts.{Parts, frames_of, objects_in}
 use Rattle.capability.proofs.Frames.{content_there, headers_in, known_used, node_used}
 use Rattle.capability.proofs.Keeping.{keepable_count}
 use Rattle.capability.proofs.KindNumbers.{bank_number, node_number, page_number, root_number}
@@ -89,9 +89,9 @@ no_annex_map f (content.Root r) node annex = cc
 no_annex_map f (content.Annex registers) node annex = cc
 no_annex_map f (content.Bank limit) node annex = cc
 
-pub node_is_no_annex : (p : Parts) (n : ℕ) → IsTrue (is_node (content_at (objects_of (frames_of p)) n)) → IsTrue (is_annex (held_at p.contents n)) → ⊥
+pub node_is_no_annex : (p : Parts) (n : ℕ) → IsTrue (is_node (content_at (objects_in p) n)) → IsTrue (is_annex (held_at p.contents n)) → ⊥
 node_is_no_annex p n node annex =
-    let known = known_used p n (node_used (content_at (objects_of (frames_of p)) n) node) in
+    let known = known_used p n (node_used (content_at (objects_in p) n) node) in
     no_annex_map (conveyed p.headers) (held_at p.contents n)
     (subst (λ (c : Content Capability). is_node c ≡ true) (content_there p n known (held_at p.contents n) refl) node) annex
 

@@ -12,11 +12,11 @@ use Rattle.model.specs.Frame.{frames_in, objects_of}
 use Rattle.model.specs.Object.{is_annex, is_free}
 use Rattle.model.specs.Sound.{NamesItsKind}
 use Rattle.model.specs.World.{annex_at, content_at, is_process, is_running_process}
-use Rattle.capability.specs.Parts.{Parts, frames_of}
+use Rattle.capability.specs.Parts.{Parts, frames_of, objects_in}
 use Rattle.capability.proofs.Frames.{annex_used, bank_used, known_used, node_used, page_used, process_known, root_used}
 
-pub annex_known : (p : Parts) (n : ℕ) → IsTrue (is_annex (content_at (objects_of (frames_of p)) n)) → n < length p.headers
-annex_known p n is = known_used p n (annex_used (content_at (objects_of (frames_of p)) n) is)
+pub annex_known : (p : Parts) (n : ℕ) → IsTrue (is_annex (content_at (objects_in p) n)) → n < length p.headers
+annex_known p n is = known_used p n (annex_used (content_at (objects_in p) n) is)
 
 -- what a capability names that may be held isn't free
 module _ (os : List Object) where
@@ -32,8 +32,8 @@ module _ (os : List Object) where
   named_used (Bank o) kind n is = let e : o ≡ n = cc in subst (λ (m : ℕ). is_free (content_at os m) ≡ false) e (bank_used (content_at os o) kind)
   named_used Discrim kind n is = cc
 
-pub named_known : (p : Parts) (c : Capability) → NamesItsKind (objects_of (frames_of p)) c → (n : ℕ) → named c ≡ Some n → n < length p.headers
-named_known p c kind n is = known_used p n (named_used (objects_of (frames_of p)) c kind n is)
+pub named_known : (p : Parts) (c : Capability) → NamesItsKind (objects_in p) c → (n : ℕ) → named c ≡ Some n → n < length p.headers
+named_known p c kind n is = known_used p n (named_used (objects_in p) c kind n is)
 
 -- a running process is a process
 pub running_process : (os : List Object) (p : ℕ) → IsTrue (is_running_process os p) → IsTrue (is_process os p)
@@ -51,15 +51,15 @@ pub same_frames : (before now : Parts) → now.headers ≡ before.headers → no
 same_frames before now hs cs = ap (λ (ks : List ObjectHeader). frames_in ks now.contents) hs ∙ ap (frames_in before.headers) cs
 
 -- a process and its annex have objects, also after a look at others
-pub looked_annex : (before now : Parts) (p a : ℕ) → LooksSame before now → a ≡ annex_at (objects_of (frames_of now)) p →
-    IsTrue (is_annex (content_at (objects_of (frames_of before)) (annex_at (objects_of (frames_of before)) p))) → a < length now.headers
+pub looked_annex : (before now : Parts) (p a : ℕ) → LooksSame before now → a ≡ annex_at (objects_in now) p →
+    IsTrue (is_annex (content_at (objects_in before) (annex_at (objects_in before) p))) → a < length now.headers
 looked_annex before now p a same is annex =
     let fs = same_frames before now same.0 same.1 in
-    let here : a ≡ annex_at (objects_of (frames_of before)) p = is ∙ ap (λ (gs : List Frame). annex_at (objects_of gs) p) fs in
+    let here : a ≡ annex_at (objects_in before) p = is ∙ ap (λ (gs : List Frame). annex_at (objects_of gs) p) fs in
     subst (λ (hs : List ObjectHeader). a < length hs) (sym same.0)
-    (subst (λ (n : ℕ). n < length before.headers) (sym here) (annex_known before (annex_at (objects_of (frames_of before)) p) annex))
+    (subst (λ (n : ℕ). n < length before.headers) (sym here) (annex_known before (annex_at (objects_in before) p) annex))
 
-pub looked_process : (before now : Parts) (p : ℕ) → LooksSame before now → IsTrue (is_process (objects_of (frames_of before)) p) → p < length now.headers
+pub looked_process : (before now : Parts) (p : ℕ) → LooksSame before now → IsTrue (is_process (objects_in before) p) → p < length now.headers
 looked_process before now p same is = subst (λ (hs : List ObjectHeader). p < length hs) (sym same.0) (process_known before p is)
 
 -- one and two numbers that exist

@@ -12,7 +12,7 @@ use Rattle.model.specs.Sound.{NamesItsKind, object_count}
 use Rattle.model.specs.World.{annex_at, content_at, is_process, register_at}
 use Rattle.model_laws.proofs.SoundOrders.{IsNow}
 use Rattle.model_laws.proofs.SoundParts.{nearly_from}
-use Rattle.capability.specs.Parts.{AreSound, Parts, frames_of}
+use Rattle.capability.specs.Parts.{AreSound, Parts, frames_of, objects_in}
 use Rattle.capability.proofs.Frames.{length_objects}
 use Rattle.capability.proofs.Keeping.{keepable_count, keepable_later}
 use Rattle.gate.specs.Invoke.{KeepsSoundFrames}
@@ -23,16 +23,16 @@ module _ (p : Parts) (sound : AreSound p) where
   pub keepable_most : AreKeepable p.geometry (2 ^ 64 - 1) (frames_of p)
   keepable_most = keepable_later p.geometry sound.0 (2 ^ 64 - 1) (frames_of p) (omega (arith, sound.1.sound.age)) sound.1.keepable
 
-  pub now_sound : IsNow p.geometry (objects_of (frames_of p))
+  pub now_sound : IsNow p.geometry (objects_in p)
   now_sound = nearly_from p.geometry (world_at sound.0 (frames_of p)) sound.1.sound
 
   pub few_objects : length p.headers < 2 ^ 64 → object_count p.geometry < 2 ^ 64
   few_objects few = subst (λ (n : ℕ). n < 2 ^ 64) (keepable_count p.geometry sound.0 p sound.1.keepable) few
 
-  pub register_kind : (q r : ℕ) (c : Capability) → c ≡ register_at (objects_of (frames_of p)) q r → NamesItsKind (objects_of (frames_of p)) c
-  register_kind q r c is = subst (NamesItsKind (objects_of (frames_of p))) (sym is) (sound.1.sound.slots (annex_at (objects_of (frames_of p)) q) r).1
+  pub register_kind : (q r : ℕ) (c : Capability) → c ≡ register_at (objects_in p) q r → NamesItsKind (objects_in p) c
+  register_kind q r c is = subst (NamesItsKind (objects_in p)) (sym is) (sound.1.sound.slots (annex_at (objects_in p) q) r).1
 
-  pub annex_there : (q : ℕ) → IsTrue (is_process (objects_of (frames_of p)) q) → IsTrue (is_annex (content_at (objects_of (frames_of p)) (annex_at (objects_of (frames_of p)) q)))
+  pub annex_there : (q : ℕ) → IsTrue (is_process (objects_in p) q) → IsTrue (is_annex (content_at (objects_in p) (annex_at (objects_in p) q)))
   annex_there q is = (sound.1.sound.annexes q is).0
 
   -- no call count is at its greatest
@@ -49,7 +49,7 @@ module _ (old now : Parts) (looks : LooksAs old now) where
   pub looked_frames : frames_of now ≡ frames_of old
   looked_frames = same_frames old now looks.headers looks.contents
 
-  pub looked_objects : objects_of (frames_of now) ≡ objects_of (frames_of old)
+  pub looked_objects : objects_in now ≡ objects_in old
   looked_objects = ap (λ (fs : List Frame). objects_of fs) looked_frames
 
   pub looked_sound : AreSound old → AreSound now
@@ -72,11 +72,11 @@ pub looks_again : (old mid now : Parts) → LooksAs old mid → LooksAs mid now 
 looks_again old mid now a b = record { headers = b.headers ∙ a.headers; contents = b.contents ∙ a.contents; geometry = b.geometry ∙ a.geometry }
 
 -- what is among the objects has a header
-pub inside_known : (p : Parts) (n : ℕ) → n < length (objects_of (frames_of p)) → n < length p.headers
+pub inside_known : (p : Parts) (n : ℕ) → n < length (objects_in p) → n < length p.headers
 inside_known p n inside = subst (λ (m : ℕ). n < m) (length_objects p.headers p.contents) inside
 
-pub asked_annex : (p : Parts) (sound : AreSound p) (q a : ℕ) → IsTrue (is_process (objects_of (frames_of p)) q) → a ≡ annex_at (objects_of (frames_of p)) q → a < length p.headers
-asked_annex p sound q a is same = subst (λ (n : ℕ). n < length p.headers) (sym same) (annex_known p (annex_at (objects_of (frames_of p)) q) (annex_there p sound q is))
+pub asked_annex : (p : Parts) (sound : AreSound p) (q a : ℕ) → IsTrue (is_process (objects_in p) q) → a ≡ annex_at (objects_in p) q → a < length p.headers
+asked_annex p sound q a is same = subst (λ (n : ℕ). n < length p.headers) (sym same) (annex_known p (annex_at (objects_in p) q) (annex_there p sound q is))
 
 -- what keeps frames sound after a look keeps those before it
 pub keeps_looked : (old mid new : Parts) → LooksAs old mid → KeepsSoundFrames mid new → KeepsSoundFrames old new

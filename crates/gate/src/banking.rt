@@ -3,14 +3,13 @@ ghost use Rattle.std.specs.Prelude.{◌≡◌, ◌↔◌, ◌+◌, ◌<◌, ◌�
 ghost use Rattle.std.specs.List.{All, Contains};
 ghost use Rattle.model.specs.declared.command.Command.TheVariants as command;
 ghost use Rattle.model.specs.OrderOutcome.{OrderOutcome};
-ghost use Rattle.model.specs.Frame.{objects_of};
 ghost use Rattle.model.specs.Keepable.{AreCurrent, AreKeepable};
 ghost use Rattle.model.specs.Machine.{touching, touched_count};
 ghost use Rattle.model.specs.Order.{bank_order};
 ghost use Rattle.model.specs.Sound.{IsSound};
 ghost use Rattle.model.specs.Text.{Fits};
 ghost use Rattle.model.specs.World.{annex_at, is_process, is_running_process};
-ghost use Rattle.capability.specs.Parts.{AreSound, KeepsAside, HaveTheirRoles, IsUnchanged, Looks, Renews, frames_of};
+ghost use Rattle.capability.specs.Parts.{AreSound, KeepsAside, HaveTheirRoles, IsUnchanged, Looks, Renews, frames_of, objects_in};
 ghost use Rattle.space_bank.specs.Banks.{AreCounted, IsPlanned, KeepsObjects, MayAsk, is_new};
 ghost use Rattle.gate.specs.Banking.{answered, banked, ordered_at, outcome_at, writer_count, writers, AsksBank, GoesOnBeside};
 ghost use Rattle.gate.specs.Invoke.{Invokes, KeepsSoundFrames, Overfills};
@@ -173,17 +172,17 @@ fn carry_out<F: PresentFrames>(
 )
     requires asks { MayAsk (F.parts store.old) banks.old call.bank call.arguments }
     requires code { code ≡ (outcome_at (F.parts store.old).geometry
-        (objects_of (frames_of (F.parts store.old))) call).code }
+        (objects_in (F.parts store.old)) call).code }
     requires listed { drop skip banks.old.listed ≡ (outcome_at (F.parts store.old).geometry
-        (objects_of (frames_of (F.parts store.old))) call).written }
+        (objects_in (F.parts store.old)) call).written }
     requires announced { All (F.IsAnnounced store.old) (drop skip banks.old.listed) }
     requires fetched { is_new call.order ≡ true
         → All (F.IsFetched store.old) (drop skip banks.old.listed) }
-    ensures objects { objects_of (frames_of (F.parts store.new))
+    ensures objects { objects_in (F.parts store.new)
         ≡ (outcome_at (F.parts store.old).geometry
-        (objects_of (frames_of (F.parts store.old))) call).objects }
+        (objects_in (F.parts store.old)) call).objects }
     ensures counted { AreCounted (F.parts store.old).geometry
-        (objects_of (frames_of (F.parts store.new))) banks.new }
+        (objects_in (F.parts store.new)) banks.new }
     ensures current { AreCurrent (frames_of (F.parts store.new)) }
     ensures keepable { (age : ℕ) → age + 1 < 2 ^ 64
         → AreKeepable (F.parts store.old).geometry age (frames_of (F.parts store.old))
@@ -198,15 +197,15 @@ fn carry_out<F: PresentFrames>(
 // Gives a process that called the reply of a bank, where it is still a process and runs.
 fn answer<F: PresentFrames>(store: &mut F, process: u64, plan: BankPlan)
     requires roles { HaveTheirRoles (frames_of (F.parts store.old)) }
-    requires root_fetched { IsTrue (is_process (objects_of (frames_of (F.parts store.old))) process)
+    requires root_fetched { IsTrue (is_process (objects_in (F.parts store.old)) process)
         → F.IsFetched store.old process × F.IsAnnounced store.old process }
-    requires annex_fetched { IsTrue (is_process (objects_of (frames_of (F.parts store.old))) process)
-        → F.IsFetched store.old (annex_at (objects_of (frames_of (F.parts store.old))) process)
-        × F.IsAnnounced store.old (annex_at (objects_of (frames_of (F.parts store.old))) process) }
+    requires annex_fetched { IsTrue (is_process (objects_in (F.parts store.old)) process)
+        → F.IsFetched store.old (annex_at (objects_in (F.parts store.old)) process)
+        × F.IsAnnounced store.old (annex_at (objects_in (F.parts store.old)) process) }
     ensures objects { (outcome : OrderOutcome) → plan.code ≡ outcome.code → plan.words ≡ outcome.words
         → plan.capability ≡ outcome.capability
-        → objects_of (frames_of (F.parts store.new)) ≡ answered Operation.Call process
-        (objects_of (frames_of (F.parts store.old))) outcome }
+        → objects_in (F.parts store.new) ≡ answered Operation.Call process
+        (objects_in (F.parts store.old)) outcome }
     ensures current { AreCurrent (frames_of (F.parts store.old))
         → AreCurrent (frames_of (F.parts store.new)) }
     ensures keepable { (age : ℕ) → FitsCap (F.parts store.old).geometry plan.capability
@@ -231,8 +230,8 @@ fn answer<F: PresentFrames>(store: &mut F, process: u64, plan: BankPlan)
 fn finish_call<F: PresentFrames>(store: &mut F, banks: &mut Banks, call: BankCall, plan: BankPlan)
     requires asks { MayAsk (F.parts store.old) banks.old call.bank call.arguments }
     requires running { IsTrue (is_running_process
-        (objects_of (frames_of (F.parts store.old))) call.process) }
-    requires annex { call.annex ≡ annex_at (objects_of (frames_of (F.parts store.old))) call.process }
+        (objects_in (F.parts store.old)) call.process) }
+    requires annex { call.annex ≡ annex_at (objects_in (F.parts store.old)) call.process }
     requires planned { IsPlanned (F.parts store.old) call.bank call.order call.arguments
         (writers call.operation call.process call.annex) plan banks.old.listed }
     requires announced { All (F.IsAnnounced store.old) banks.old.listed }
@@ -241,14 +240,14 @@ fn finish_call<F: PresentFrames>(store: &mut F, banks: &mut Banks, call: BankCal
         (drop (writer_count call.operation) banks.old.listed)) }
     requires after { (age : ℕ) × IsSound (F.parts store.old).geometry (record {
       objects = (ordered_at (F.parts store.old).geometry
-          (objects_of (frames_of (F.parts store.old))) call).objects;
+          (objects_in (F.parts store.old)) call).objects;
       age = age;
     }) }
-    ensures objects { objects_of (frames_of (F.parts store.new))
-        ≡ banked (F.parts store.old).geometry (objects_of (frames_of (F.parts store.old))) call }
+    ensures objects { objects_in (F.parts store.new)
+        ≡ banked (F.parts store.old).geometry (objects_in (F.parts store.old)) call }
     ensures current { AreCurrent (frames_of (F.parts store.new)) }
     ensures counted { AreCounted (F.parts store.old).geometry
-        (objects_of (frames_of (F.parts store.new))) banks.new }
+        (objects_in (F.parts store.new)) banks.new }
     ensures keepable { (age : ℕ) → age + 1 < 2 ^ 64
         → FitsCap (F.parts store.old).geometry plan.capability
         → AreKeepable (F.parts store.old).geometry age (frames_of (F.parts store.old))
@@ -279,23 +278,23 @@ pub fn invoke_bank<F: PresentFrames>(
 ) -> Result<(), InvokeFault>
     requires sound { AreSound (F.parts store.old) }
     requires running { IsTrue (is_running_process
-        (objects_of (frames_of (F.parts store.old))) invocation.now.process) }
+        (objects_in (F.parts store.old)) invocation.now.process) }
     requires fits { Fits (command.Invoke invocation.now) }
     requires few { length (F.parts store.old).headers < 2 ^ 64 }
-    requires asked { AsksBank (objects_of (frames_of (F.parts store.old))) invocation.now call }
+    requires asked { AsksBank (objects_in (F.parts store.old)) invocation.now call }
     requires counted { AreCounted (F.parts store.old).geometry
-        (objects_of (frames_of (F.parts store.old))) banks.old }
+        (objects_in (F.parts store.old)) banks.old }
     ensures done { OnOk result (Invokes (F.parts store.old).geometry invocation.now
-        (objects_of (frames_of (F.parts store.old))) (F.parts store.old).touched
-        (objects_of (frames_of (F.parts store.new))) (F.parts store.new).touched) }
+        (objects_in (F.parts store.old)) (F.parts store.old).touched
+        (objects_in (F.parts store.new)) (F.parts store.new).touched) }
     ensures stalled { IsErrOf result InvokeFault.Stalled → ⊥ }
     ensures full { IsErrOf result InvokeFault.LogFull
         → Overfills (F.parts store.old).geometry invocation.now
-        (objects_of (frames_of (F.parts store.old))) (F.parts store.old).touched }
+        (objects_in (F.parts store.old)) (F.parts store.old).touched }
     ensures sound { OnOk result (KeepsSoundFrames (F.parts store.old) (F.parts store.new)) }
     ensures renews { OnOk result (Renews (F.parts store.old) (F.parts store.new)) }
     ensures counted { AreCounted (F.parts store.old).geometry
-        (objects_of (frames_of (F.parts store.new))) banks.new }
+        (objects_in (F.parts store.new)) banks.new }
     ensures unchanged { OnErr result (IsUnchanged (F.parts store.old) (F.parts store.new)) }
     ensures cause { IsErrOf result InvokeFault.Failed
         ↔ ((F.parts store.old).failures < (F.parts store.new).failures) }

@@ -1,8 +1,8 @@
 // The changes that orders make.
 ghost use Rattle.std.specs.Prelude.{◌≡◌, ◌+◌, ◌<◌, ◌^◌, ℕ, Some};
-ghost use Rattle.model.specs.Frame.{header_at, objects_of};
+ghost use Rattle.model.specs.Frame.{header_at};
 ghost use Rattle.model.specs.Keepable.{AreCurrent, AreKeepable};
-ghost use Rattle.capability.specs.Parts.{KeepsAside, frames_of};
+ghost use Rattle.capability.specs.Parts.{KeepsAside, frames_of, objects_in};
 ghost use Rattle.gate.specs.Plan.{changed, target_of, IsWithinObject, IsOfProcess, MayHold};
 
 use crate::plan::Change;
@@ -12,17 +12,17 @@ use capability::{PresentFrames, objects, roots};
 #[inline(always)]
 pub fn make<F: PresentFrames>(store: &mut F, change: Change)
     requires within { IsWithinObject change }
-    requires process { IsOfProcess (objects_of (frames_of (F.parts store.old))) change }
+    requires process { IsOfProcess (objects_in (F.parts store.old)) change }
     requires calls { (p : ℕ) → target_of change ≡ Some p
         → (header_at (F.parts store.old).headers p).calls < u64.MAX }
     requires current { AreCurrent (frames_of (F.parts store.old)) }
     requires fetched { (n : ℕ) → target_of change ≡ Some n → F.IsFetched store.old n }
     requires announced { (n : ℕ) → target_of change ≡ Some n → F.IsAnnounced store.old n }
-    ensures objects { objects_of (frames_of (F.parts store.new))
-        ≡ changed (objects_of (frames_of (F.parts store.old))) change }
+    ensures objects { objects_in (F.parts store.new)
+        ≡ changed (objects_in (F.parts store.old)) change }
     ensures current { AreCurrent (frames_of (F.parts store.new)) }
     ensures keepable { (age : ℕ) → age + 1 < 2 ^ 64
-        → MayHold (F.parts store.old).geometry (objects_of (frames_of (F.parts store.old))) change
+        → MayHold (F.parts store.old).geometry (objects_in (F.parts store.old)) change
         → AreKeepable (F.parts store.old).geometry age (frames_of (F.parts store.old))
         → AreKeepable (F.parts store.old).geometry (age + 1) (frames_of (F.parts store.new)) }
     ensures aside { KeepsAside F.parts F.IsFetched F.IsAnnounced F.LeadsTo store.old store.new }

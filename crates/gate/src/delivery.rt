@@ -1,11 +1,10 @@
 // Messages on their way to a process.
 ghost use Rattle.std.specs.Prelude.{◌≡◌, ℕ, IsTrue};
 ghost use Rattle.std.specs.List.{All};
-ghost use Rattle.model.specs.Frame.{objects_of};
 ghost use Rattle.model.specs.Invoke.{deliver};
 ghost use Rattle.model.specs.Keepable.{AreCurrent, AreKeepable};
 ghost use Rattle.model.specs.World.{annex_at, is_process};
-ghost use Rattle.capability.specs.Parts.{KeepsAside, frames_of};
+ghost use Rattle.capability.specs.Parts.{KeepsAside, frames_of, objects_in};
 ghost use Rattle.gate.specs.Plan.{FitsCap};
 
 use capability::{PresentFrames, objects};
@@ -18,15 +17,15 @@ const FIRST_REGISTER: usize = 28;
 /// and capabilities to its last four registers. The process is running from then on.
 #[inline(always)]
 pub fn deliver<F: PresentFrames>(store: &mut F, process: u64, message: Message)
-    requires process { IsTrue (is_process (objects_of (frames_of (F.parts store.old))) process) }
+    requires process { IsTrue (is_process (objects_in (F.parts store.old)) process) }
     requires root_fetched { F.IsFetched store.old process }
     requires root_announced { F.IsAnnounced store.old process }
     requires annex_fetched { F.IsFetched store.old
-        (annex_at (objects_of (frames_of (F.parts store.old))) process) }
+        (annex_at (objects_in (F.parts store.old)) process) }
     requires annex_announced { F.IsAnnounced store.old
-        (annex_at (objects_of (frames_of (F.parts store.old))) process) }
-    ensures objects { objects_of (frames_of (F.parts store.new))
-        ≡ deliver (objects_of (frames_of (F.parts store.old))) process message }
+        (annex_at (objects_in (F.parts store.old)) process) }
+    ensures objects { objects_in (F.parts store.new)
+        ≡ deliver (objects_in (F.parts store.old)) process message }
     ensures headers { (F.parts store.new).headers ≡ (F.parts store.old).headers }
     ensures current { AreCurrent (frames_of (F.parts store.old))
         → AreCurrent (frames_of (F.parts store.new)) }

@@ -1,13 +1,13 @@
 // Invocations through gates: start and resume capabilities.
 ghost use Rattle.std.specs.Prelude.{◌≡◌, ◌↔◌, ◌+◌, ◌<◌, ◌≤◌, ◌^◌, ℕ, length, None, true, ◌||◌, OnOk, OnErr, IsErrOf, IsTrue};
 ghost use Rattle.model.specs.declared.command.Command.TheVariants as command;
-ghost use Rattle.model.specs.Frame.{header_at, objects_of};
+ghost use Rattle.model.specs.Frame.{header_at};
 ghost use Rattle.model.specs.Invoke.{after_gate, can_start, invoke};
 ghost use Rattle.model.specs.Keepable.{AreCurrent, AreKeepable};
 ghost use Rattle.model.specs.Machine.{touching, touched_count};
 ghost use Rattle.model.specs.Text.{Fits};
 ghost use Rattle.model.specs.World.{annex_at, is_process, is_running_process};
-ghost use Rattle.capability.specs.Parts.{AreSound, IsUnchanged, KeepsAside, Renews, frames_of};
+ghost use Rattle.capability.specs.Parts.{AreSound, IsUnchanged, KeepsAside, Renews, frames_of, objects_in};
 ghost use Rattle.std.specs.List.{All};
 ghost use Rattle.gate.specs.Invoke.{entered, gate_capability, received, written_through, Invokes, IsAsked, KeepsSoundFrames, Overfills};
 ghost use Rattle.gate.specs.Plan.{FitsCap};
@@ -93,12 +93,12 @@ fn announce<F: PresentFrames>(
 // available.
 fn leave<F: PresentFrames>(store: &mut F, invocation: &Invocation)
     requires process { IsTrue (is_process
-        (objects_of (frames_of (F.parts store.old))) invocation.now.process) }
+        (objects_in (F.parts store.old)) invocation.now.process) }
     requires fetched { F.IsFetched store.old invocation.now.process }
     requires announced { (invocation.now.operation ≡ Operation.Send → ⊥)
         → F.IsAnnounced store.old invocation.now.process }
-    ensures objects { objects_of (frames_of (F.parts store.new))
-        ≡ after_gate (objects_of (frames_of (F.parts store.old))) invocation.now }
+    ensures objects { objects_in (F.parts store.new)
+        ≡ after_gate (objects_in (F.parts store.old)) invocation.now }
     ensures current { AreCurrent (frames_of (F.parts store.old))
         → AreCurrent (frames_of (F.parts store.new)) }
     ensures keepable { (age : ℕ)
@@ -124,10 +124,10 @@ fn enter<F: PresentFrames>(
     sent: [Capability; 4],
 )
     requires process { IsTrue (is_process
-        (objects_of (frames_of (F.parts store.old))) invocation.now.process) }
+        (objects_in (F.parts store.old)) invocation.now.process) }
     requires receiver { IsTrue (is_process
-        (objects_of (frames_of (F.parts store.old))) gate.process) }
-    requires annex { annex ≡ annex_at (objects_of (frames_of (F.parts store.old))) gate.process }
+        (objects_in (F.parts store.old)) gate.process) }
+    requires annex { annex ≡ annex_at (objects_in (F.parts store.old)) gate.process }
     requires calls { (header_at (F.parts store.old).headers gate.process).calls < u64.MAX }
     requires current { AreCurrent (frames_of (F.parts store.old)) }
     requires fetched { F.IsFetched store.old invocation.now.process
@@ -135,8 +135,8 @@ fn enter<F: PresentFrames>(
     requires announced { F.IsAnnounced store.old gate.process × F.IsAnnounced store.old annex
         × ((invocation.now.operation ≡ Operation.Send → ⊥)
         → F.IsAnnounced store.old invocation.now.process) }
-    ensures objects { objects_of (frames_of (F.parts store.new))
-        ≡ entered (objects_of (frames_of (F.parts store.old))) invocation.now gate sent }
+    ensures objects { objects_in (F.parts store.new)
+        ≡ entered (objects_in (F.parts store.old)) invocation.now gate sent }
     ensures current { AreCurrent (frames_of (F.parts store.new)) }
     ensures keepable { (age : ℕ) → age + 1 < 2 ^ 64
         → All (FitsCap (F.parts store.old).geometry) (received invocation.now sent)
@@ -157,9 +157,9 @@ fn enter<F: PresentFrames>(
 fn can_enter<F: PresentFrames>(store: &F, invocation: &Invocation, gate: Gate) -> bool
     requires fetched { F.IsFetched store.now gate.process }
     requires process { IsTrue (is_process
-        (objects_of (frames_of (F.parts store.now))) gate.process) }
+        (objects_in (F.parts store.now)) gate.process) }
     ensures { result ≡ (gate.is_resume || can_start
-        (objects_of (frames_of (F.parts store.now))) invocation.now gate.process) }
+        (objects_in (F.parts store.now)) invocation.now gate.process) }
 {
     let is_available = roots::state(store, gate.process) == State::Available;
     let is_return = invocation.operation == Operation::Return;
@@ -178,21 +178,21 @@ pub fn invoke_gate<F: PresentFrames>(
 ) -> Result<(), InvokeFault>
     requires sound { AreSound (F.parts store.old) }
     requires running { IsTrue (is_running_process
-        (objects_of (frames_of (F.parts store.old))) invocation.now.process) }
+        (objects_in (F.parts store.old)) invocation.now.process) }
     requires fits { Fits (command.Invoke invocation.now) }
     requires few { length (F.parts store.old).headers < 2 ^ 64 }
-    requires asked { IsAsked (objects_of (frames_of (F.parts store.old))) invocation.now asked }
+    requires asked { IsAsked (objects_in (F.parts store.old)) invocation.now asked }
     requires fetched { F.IsFetched store.old asked.annex }
     requires gate { asked.invoked ≡ gate_capability gate }
     requires key { gate.is_resume ≡ true → gate.key ≡ 0 }
     ensures done { OnOk result (Invokes (F.parts store.old).geometry invocation.now
-        (objects_of (frames_of (F.parts store.old))) (F.parts store.old).touched
-        (objects_of (frames_of (F.parts store.new))) (F.parts store.new).touched) }
+        (objects_in (F.parts store.old)) (F.parts store.old).touched
+        (objects_in (F.parts store.new)) (F.parts store.new).touched) }
     ensures stalled { IsErrOf result InvokeFault.Stalled
-        → invoke (F.parts store.old).geometry (objects_of (frames_of (F.parts store.old))) invocation.now ≡ None }
+        → invoke (F.parts store.old).geometry (objects_in (F.parts store.old)) invocation.now ≡ None }
     ensures full { IsErrOf result InvokeFault.LogFull
         → Overfills (F.parts store.old).geometry invocation.now
-        (objects_of (frames_of (F.parts store.old))) (F.parts store.old).touched }
+        (objects_in (F.parts store.old)) (F.parts store.old).touched }
     ensures sound { OnOk result (KeepsSoundFrames (F.parts store.old) (F.parts store.new)) }
     ensures renews { OnOk result (Renews (F.parts store.old) (F.parts store.new)) }
     ensures unchanged { OnErr result (IsUnchanged (F.parts store.old) (F.parts store.new)) }

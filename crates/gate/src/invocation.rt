@@ -1,9 +1,8 @@
 // Invocations.
 ghost use Rattle.std.specs.Prelude.{◌≡◌, ◌↔◌, ◌<◌, ◌≤◌, None, OnOk, OnErr, IsErrOf, IsTrue};
-ghost use Rattle.model.specs.Frame.{objects_of};
 ghost use Rattle.model.specs.Invoke.{invoke};
 ghost use Rattle.model.specs.World.{is_running_process};
-ghost use Rattle.capability.specs.Parts.{AreSound, IsUnchanged, Renews, frames_of};
+ghost use Rattle.capability.specs.Parts.{AreSound, IsUnchanged, Renews, objects_in};
 ghost use Rattle.space_bank.specs.Banks.{AreCounted};
 ghost use Rattle.gate.specs.Invoke.{Invokes, KeepsSoundFrames, Overfills};
 
@@ -38,22 +37,22 @@ pub fn invoke<F: PresentFrames>(
 ) -> Result<(), InvokeFault>
     requires sound { AreSound (F.parts store.old) }
     requires process { IsTrue (is_running_process
-        (objects_of (frames_of (F.parts store.old))) invocation.process) }
+        (objects_in (F.parts store.old)) invocation.process) }
     requires counted { AreCounted (F.parts store.old).geometry
-        (objects_of (frames_of (F.parts store.old))) banks.old }
+        (objects_in (F.parts store.old)) banks.old }
 
     ensures done { OnOk result (Invokes (F.parts store.old).geometry invocation
-        (objects_of (frames_of (F.parts store.old))) (F.parts store.old).touched
-        (objects_of (frames_of (F.parts store.new))) (F.parts store.new).touched) }
+        (objects_in (F.parts store.old)) (F.parts store.old).touched
+        (objects_in (F.parts store.new)) (F.parts store.new).touched) }
     ensures stalled { IsErrOf result InvokeFault.Stalled
-        → invoke (F.parts store.old).geometry (objects_of (frames_of (F.parts store.old))) invocation ≡ None }
+        → invoke (F.parts store.old).geometry (objects_in (F.parts store.old)) invocation ≡ None }
     ensures full { IsErrOf result InvokeFault.LogFull
         → Overfills (F.parts store.old).geometry invocation
-        (objects_of (frames_of (F.parts store.old))) (F.parts store.old).touched }
+        (objects_in (F.parts store.old)) (F.parts store.old).touched }
     ensures sound { OnOk result (KeepsSoundFrames (F.parts store.old) (F.parts store.new)) }
     ensures renews { OnOk result (Renews (F.parts store.old) (F.parts store.new)) }
     ensures counted { AreCounted (F.parts store.new).geometry
-        (objects_of (frames_of (F.parts store.new))) banks.new }
+        (objects_in (F.parts store.new)) banks.new }
     ensures unchanged { OnErr result (IsUnchanged (F.parts store.old) (F.parts store.new)) }
     ensures cause { IsErrOf result InvokeFault.Failed
         ↔ ((F.parts store.old).failures < (F.parts store.new).failures) }

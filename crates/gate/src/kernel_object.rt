@@ -1,14 +1,14 @@
 // Invocations of kernel objects.
 ghost use Rattle.std.specs.Prelude.{◌≡◌, ◌↔◌, ◌+◌, ◌<◌, ◌≤◌, ◌^◌, ℕ, [], length, slice_index, Some, IfOk, OnOk, OnErr, IsErrOf, IsTrue};
 ghost use Rattle.model.specs.declared.command.Command.TheVariants as command;
-ghost use Rattle.model.specs.Frame.{header_at, objects_of};
+ghost use Rattle.model.specs.Frame.{header_at};
 ghost use Rattle.model.specs.Invoke.{deliver};
 ghost use Rattle.model.specs.Keepable.{AreCurrent, AreKeepable};
 ghost use Rattle.model.specs.Machine.{touching, touched_count};
 ghost use Rattle.model.specs.Order.{IsNoBankOrder};
 ghost use Rattle.model.specs.Text.{Fits};
 ghost use Rattle.model.specs.World.{annex_at, is_process, is_running_process};
-ghost use Rattle.capability.specs.Parts.{AreSound, IsUnchanged, KeepsAside, Looks, Renews, frames_of};
+ghost use Rattle.capability.specs.Parts.{AreSound, IsUnchanged, KeepsAside, Looks, Renews, frames_of, objects_in};
 ghost use Rattle.gate.specs.Invoke.{finished, replied_to, written_by, AreAnnounced, Invokes, IsAsked, IsKernelObject, IsPlanned, KeepsSoundFrames, Overfills};
 ghost use Rattle.gate.specs.Plan.{target_of, FitsCap, IsOfProcess, IsWithinObject, MayHold};
 
@@ -77,11 +77,11 @@ pub fn reply<F: PresentFrames>(store: &mut F, process: u64, plan: OrderPlan)
     requires root_fetched { F.IsFetched store.old process }
     requires root_announced { F.IsAnnounced store.old process }
     requires annex_fetched { F.IsFetched store.old
-        (annex_at (objects_of (frames_of (F.parts store.old))) process) }
+        (annex_at (objects_in (F.parts store.old)) process) }
     requires annex_announced { F.IsAnnounced store.old
-        (annex_at (objects_of (frames_of (F.parts store.old))) process) }
-    ensures objects { objects_of (frames_of (F.parts store.new))
-        ≡ replied_to (objects_of (frames_of (F.parts store.old))) process plan }
+        (annex_at (objects_in (F.parts store.old)) process) }
+    ensures objects { objects_in (F.parts store.new)
+        ≡ replied_to (objects_in (F.parts store.old)) process plan }
     ensures current { AreCurrent (frames_of (F.parts store.old))
         → AreCurrent (frames_of (F.parts store.new)) }
     ensures keepable { (age : ℕ) → FitsCap (F.parts store.old).geometry plan.capability
@@ -115,21 +115,21 @@ fn finish<F: PresentFrames>(
     annex: u64,
     plan: OrderPlan,
 )
-    requires invoker { IsTrue (is_process (objects_of (frames_of (F.parts store.old))) process) }
-    requires annex { annex ≡ annex_at (objects_of (frames_of (F.parts store.old))) process }
+    requires invoker { IsTrue (is_process (objects_in (F.parts store.old)) process) }
+    requires annex { annex ≡ annex_at (objects_in (F.parts store.old)) process }
     requires within { IsWithinObject plan.change }
-    requires process { IsOfProcess (objects_of (frames_of (F.parts store.old))) plan.change }
+    requires process { IsOfProcess (objects_in (F.parts store.old)) plan.change }
     requires calls { (p : ℕ) → target_of plan.change ≡ Some p
         → (header_at (F.parts store.old).headers p).calls < u64.MAX }
     requires current { AreCurrent (frames_of (F.parts store.old)) }
     requires fetched { F.IsFetched store.old process × F.IsFetched store.old annex
         × ((n : ℕ) → target_of plan.change ≡ Some n → F.IsFetched store.old n) }
     requires announced { AreAnnounced F.IsAnnounced store.old operation process annex plan.change }
-    ensures objects { objects_of (frames_of (F.parts store.new))
-        ≡ finished (objects_of (frames_of (F.parts store.old))) operation process plan }
+    ensures objects { objects_in (F.parts store.new)
+        ≡ finished (objects_in (F.parts store.old)) operation process plan }
     ensures current { AreCurrent (frames_of (F.parts store.new)) }
     ensures keepable { (age : ℕ) → age + 1 < 2 ^ 64
-        → MayHold (F.parts store.old).geometry (objects_of (frames_of (F.parts store.old))) plan.change
+        → MayHold (F.parts store.old).geometry (objects_in (F.parts store.old)) plan.change
         → FitsCap (F.parts store.old).geometry plan.capability
         → AreKeepable (F.parts store.old).geometry age (frames_of (F.parts store.old))
         → AreKeepable (F.parts store.old).geometry (age + 1) (frames_of (F.parts store.new)) }
@@ -158,10 +158,10 @@ fn plan_order<F: PresentFrames>(
     requires sound { AreSound (F.parts store.old) }
     requires fits { Fits (command.Invoke invocation.now) }
     requires few { length (F.parts store.old).headers < 2 ^ 64 }
-    requires asked { IsAsked (objects_of (frames_of (F.parts store.old))) invocation.now asked }
+    requires asked { IsAsked (objects_in (F.parts store.old)) invocation.now asked }
     requires fetched { F.IsFetched store.old asked.annex }
     requires order { IsNoBankOrder asked.invoked (slice_index invocation.now.words 0) }
-    ensures planned { IfOk result (λ plan. IsPlanned (F.parts store.old).geometry (objects_of (frames_of (F.parts store.old))) invocation.now plan) }
+    ensures planned { IfOk result (λ plan. IsPlanned (F.parts store.old).geometry (objects_in (F.parts store.old)) invocation.now plan) }
     ensures looks { Looks F.parts F.LeadsTo store.old store.new result }
 {
     let arguments = order_arguments(store, invocation, asked.annex);
@@ -180,20 +180,20 @@ pub fn invoke_object<F: PresentFrames>(
 ) -> Result<(), InvokeFault>
     requires sound { AreSound (F.parts store.old) }
     requires running { IsTrue (is_running_process
-        (objects_of (frames_of (F.parts store.old))) invocation.now.process) }
+        (objects_in (F.parts store.old)) invocation.now.process) }
     requires fits { Fits (command.Invoke invocation.now) }
     requires few { length (F.parts store.old).headers < 2 ^ 64 }
-    requires asked { IsAsked (objects_of (frames_of (F.parts store.old))) invocation.now asked }
+    requires asked { IsAsked (objects_in (F.parts store.old)) invocation.now asked }
     requires fetched { F.IsFetched store.old asked.annex }
     requires object { IsKernelObject asked.invoked }
     requires order { IsNoBankOrder asked.invoked (slice_index invocation.now.words 0) }
     ensures done { OnOk result (Invokes (F.parts store.old).geometry invocation.now
-        (objects_of (frames_of (F.parts store.old))) (F.parts store.old).touched
-        (objects_of (frames_of (F.parts store.new))) (F.parts store.new).touched) }
+        (objects_in (F.parts store.old)) (F.parts store.old).touched
+        (objects_in (F.parts store.new)) (F.parts store.new).touched) }
     ensures stalled { IsErrOf result InvokeFault.Stalled → ⊥ }
     ensures full { IsErrOf result InvokeFault.LogFull
         → Overfills (F.parts store.old).geometry invocation.now
-        (objects_of (frames_of (F.parts store.old))) (F.parts store.old).touched }
+        (objects_in (F.parts store.old)) (F.parts store.old).touched }
     ensures sound { OnOk result (KeepsSoundFrames (F.parts store.old) (F.parts store.new)) }
     ensures renews { OnOk result (Renews (F.parts store.old) (F.parts store.new)) }
     ensures unchanged { OnErr result (IsUnchanged (F.parts store.old) (F.parts store.new)) }

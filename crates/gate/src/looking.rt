@@ -1,7 +1,6 @@
 // What an invocation reads before anything changes.
 ghost use Rattle.std.specs.Prelude.{◌≡◌, ℕ, ◌<◌, ◌^◌, List, length, slice_index, Some, IfOk, OnOk, IsTrue};
 ghost use Rattle.model.specs.Capability.{named};
-ghost use Rattle.model.specs.Frame.{objects_of};
 ghost use Rattle.model.specs.Invoke.{sent_by};
 ghost use Rattle.model.specs.Keepable.{AreKeepable};
 ghost use Rattle.model.specs.declared.object.Object.{Object};
@@ -9,7 +8,7 @@ ghost use Rattle.model.specs.Object.{is_annex};
 ghost use Rattle.model.specs.Order.{bank_order};
 ghost use Rattle.model.specs.Sound.{NamesItsKind};
 ghost use Rattle.model.specs.World.{annex_at, content_at, is_process};
-ghost use Rattle.capability.specs.Parts.{Looks, frames_of};
+ghost use Rattle.capability.specs.Parts.{Looks, frames_of, objects_in};
 ghost use Rattle.gate.specs.Banking.{arguments_of, AsksBank};
 ghost use Rattle.gate.specs.Invoke.{IsAsked};
 ghost use Rattle.gate.specs.Plan.{process_named};
@@ -72,12 +71,12 @@ pub fn look_at_process<F: PresentFrames>(
 ) -> Result<u64, PrepareFault>
     requires keepable { AreKeepable (F.parts store.old).geometry u64.MAX
         (frames_of (F.parts store.old)) }
-    requires process { IsTrue (is_process (objects_of (frames_of (F.parts store.old))) process) }
+    requires process { IsTrue (is_process (objects_in (F.parts store.old)) process) }
     requires annex { IsTrue (is_annex
-        (content_at (objects_of (frames_of (F.parts store.old)))
-        (annex_at (objects_of (frames_of (F.parts store.old))) process))) }
+        (content_at (objects_in (F.parts store.old))
+        (annex_at (objects_in (F.parts store.old)) process))) }
     ensures root { OnOk result (F.IsFetched store.new process) }
-    ensures annex { IfOk result (λ annex. (annex ≡ annex_at (objects_of (frames_of (F.parts store.old))) process) × F.IsFetched store.new annex) }
+    ensures annex { IfOk result (λ annex. (annex ≡ annex_at (objects_in (F.parts store.old)) process) × F.IsFetched store.new annex) }
     ensures looks { Looks F.parts F.LeadsTo store.old store.new result }
 {
     look(alloc, store, process)?;
@@ -95,12 +94,12 @@ pub fn look_at_named<F: PresentFrames>(
 ) -> Result<(), PrepareFault>
     requires keepable { AreKeepable (F.parts store.old).geometry u64.MAX
         (frames_of (F.parts store.old)) }
-    requires kind { NamesItsKind (objects_of (frames_of (F.parts store.old))) capability }
+    requires kind { NamesItsKind (objects_in (F.parts store.old)) capability }
     requires annex { (p : ℕ) → process_named capability ≡ Some p
-        → IsTrue (is_annex (content_at (objects_of (frames_of (F.parts store.old))) (annex_at (objects_of (frames_of (F.parts store.old))) p))) }
+        → IsTrue (is_annex (content_at (objects_in (F.parts store.old)) (annex_at (objects_in (F.parts store.old)) p))) }
     ensures object { OnOk result ((n : ℕ) → named capability ≡ Some n → F.IsFetched store.new n) }
     ensures annex { OnOk result ((p : ℕ) → process_named capability ≡ Some p
-        → F.IsFetched store.new (annex_at (objects_of (frames_of (F.parts store.old))) p)) }
+        → F.IsFetched store.new (annex_at (objects_in (F.parts store.old)) p)) }
     ensures looks { Looks F.parts F.LeadsTo store.old store.new result }
 {
     if let Capability::Process(process) = capability {
@@ -122,11 +121,11 @@ pub fn ask<F: PresentFrames>(
     requires keepable { AreKeepable (F.parts store.old).geometry u64.MAX
         (frames_of (F.parts store.old)) }
     requires process { IsTrue (is_process
-        (objects_of (frames_of (F.parts store.old))) invocation.now.process) }
+        (objects_in (F.parts store.old)) invocation.now.process) }
     requires annex { IsTrue (is_annex
-        (content_at (objects_of (frames_of (F.parts store.old)))
-        (annex_at (objects_of (frames_of (F.parts store.old))) invocation.now.process))) }
-    ensures asked { IfOk result (λ asked. IsAsked (objects_of (frames_of (F.parts store.old))) invocation.now asked) }
+        (content_at (objects_in (F.parts store.old))
+        (annex_at (objects_in (F.parts store.old)) invocation.now.process))) }
+    ensures asked { IfOk result (λ asked. IsAsked (objects_in (F.parts store.old)) invocation.now asked) }
     ensures fetched { IfOk result (λ asked. F.IsFetched store.new asked.annex) }
     ensures looks { Looks F.parts F.LeadsTo store.old store.new result }
 {
@@ -146,8 +145,8 @@ pub fn order_arguments<F: PresentFrames>(
 ) -> Arguments
     requires fetched { F.IsFetched store.now annex }
     requires annex { annex
-        ≡ annex_at (objects_of (frames_of (F.parts store.now))) invocation.now.process }
-    ensures { result ≡ arguments_of (objects_of (frames_of (F.parts store.now))) invocation.now }
+        ≡ annex_at (objects_in (F.parts store.now)) invocation.now.process }
+    ensures { result ≡ arguments_of (objects_in (F.parts store.now)) invocation.now }
 {
     Arguments {
         first: invocation.words[1],
@@ -160,8 +159,8 @@ pub fn order_arguments<F: PresentFrames>(
 pub fn all_sent<F: PresentFrames>(store: &F, invocation: &Invocation, annex: u64) -> [Capability; 4]
     requires fetched { F.IsFetched store.now annex }
     requires annex { annex
-        ≡ annex_at (objects_of (frames_of (F.parts store.now))) invocation.now.process }
-    ensures { result ≡ sent_by (objects_of (frames_of (F.parts store.now))) invocation.now }
+        ≡ annex_at (objects_in (F.parts store.now)) invocation.now.process }
+    ensures { result ≡ sent_by (objects_in (F.parts store.now)) invocation.now }
 {
     [
         objects::slot(store, annex, invocation.sent[0].index()),

@@ -1,10 +1,9 @@
 // Orders on nodes.
 ghost use Rattle.std.specs.Prelude.{◌≡◌, ◌⊎◌, List};
 ghost use Rattle.model.specs.declared.object.Object.{Object};
-ghost use Rattle.model.specs.Frame.{objects_of};
 ghost use Rattle.model.specs.Capability.{diminished};
 ghost use Rattle.model.specs.Order.{fetched, node_order, on_node, stored};
-ghost use Rattle.capability.specs.Parts.{frames_of};
+ghost use Rattle.capability.specs.Parts.{objects_in};
 ghost use Rattle.gate.specs.Plan.{outcome_of, ChangesAs, IsFor};
 
 use crate::page::reduction;
@@ -76,10 +75,10 @@ pub fn on_node<F: PresentFrames>(
     arguments: Arguments,
 ) -> OrderPlan
     requires { F.IsFetched store.now object }
-    ensures only { IsFor (objects_of (frames_of (F.parts store.now)))
+    ensures only { IsFor (objects_in (F.parts store.now))
         (Capability.Node object access) arguments result.change }
-    ensures outcome { outcome_of (objects_of (frames_of (F.parts store.now))) result
-        ≡ on_node (objects_of (frames_of (F.parts store.now))) object access order arguments }
+    ensures outcome { outcome_of (objects_in (F.parts store.now)) result
+        ≡ on_node (objects_in (F.parts store.now)) object access order arguments }
     ensures change { (os : List Object)
         → ChangesAs os result (on_node os object access order arguments) }
 {

@@ -6,7 +6,7 @@ ghost use Rattle.model.specs.Capability.{access_bits, named, tag_of};
 ghost use Rattle.model.specs.Frame.{objects_of};
 ghost use Rattle.model.specs.Order.{order, IsNoBankOrder};
 ghost use Rattle.model.specs.World.{annex_at, is_process};
-ghost use Rattle.capability.specs.Parts.{frames_of};
+ghost use Rattle.capability.specs.Parts.{frames_of, objects_in};
 ghost use Rattle.gate.specs.Plan.{outcome_of, process_named, ChangesAs, HaveAnnexesOf, IsFor, IsPlain};
 
 use crate::node::{node_order, on_node};
@@ -111,16 +111,16 @@ pub fn plan<F: PresentFrames>(
 ) -> OrderPlan
     requires fetched { (n : ℕ) → named capability ≡ Some n → F.IsFetched store.now n }
     requires process { (p : ℕ) → process_named capability ≡ Some p
-        → IsTrue (is_process (objects_of (frames_of (F.parts store.now))) p) }
+        → IsTrue (is_process (objects_in (F.parts store.now)) p) }
     requires known { IsNoBankOrder capability word }
     requires annex { (p : ℕ) → process_named capability ≡ Some p
-        → F.IsFetched store.now (annex_at (objects_of (frames_of (F.parts store.now))) p) }
+        → F.IsFetched store.now (annex_at (objects_in (F.parts store.now)) p) }
     ensures only { IsFor (objects_of
         (frames_of (F.parts store.now))) capability arguments result.change }
-    ensures outcome { (g : Geometry) → outcome_of (objects_of (frames_of (F.parts store.now))) result
-        ≡ order g (objects_of (frames_of (F.parts store.now))) capability word arguments }
+    ensures outcome { (g : Geometry) → outcome_of (objects_in (F.parts store.now)) result
+        ≡ order g (objects_in (F.parts store.now)) capability word arguments }
     ensures change { (g : Geometry) (os : List Object)
-        → HaveAnnexesOf (objects_of (frames_of (F.parts store.now))) os
+        → HaveAnnexesOf (objects_in (F.parts store.now)) os
         → ChangesAs os result (order g os capability word arguments) }
 {
     match capability {

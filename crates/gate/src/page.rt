@@ -1,10 +1,9 @@
 // Orders on pages.
 ghost use Rattle.std.specs.Prelude.{◌≡◌, if◌then◌else◌, List};
 ghost use Rattle.model.specs.declared.object.Object.{Object};
-ghost use Rattle.model.specs.Frame.{objects_of};
 ghost use Rattle.model.specs.Order.{on_page, page_order, reduces};
 ghost use Rattle.model.specs.Capability.{union};
-ghost use Rattle.capability.specs.Parts.{frames_of};
+ghost use Rattle.capability.specs.Parts.{objects_in};
 ghost use Rattle.gate.specs.Plan.{outcome_of, ChangesAs, IsFor};
 
 use crate::plan::{Change, OrderPlan};
@@ -45,10 +44,10 @@ pub fn on_page<F: PresentFrames>(
     arguments: Arguments,
 ) -> OrderPlan
     requires { F.IsFetched store.now object }
-    ensures only { IsFor (objects_of (frames_of (F.parts store.now)))
+    ensures only { IsFor (objects_in (F.parts store.now))
         (Capability.Page object access) arguments result.change }
-    ensures outcome { outcome_of (objects_of (frames_of (F.parts store.now))) result
-        ≡ on_page (objects_of (frames_of (F.parts store.now))) object access order arguments }
+    ensures outcome { outcome_of (objects_in (F.parts store.now)) result
+        ≡ on_page (objects_in (F.parts store.now)) object access order arguments }
     ensures change { (os : List Object)
         → ChangesAs os result (on_page os object access order arguments) }
 {

@@ -1,10 +1,9 @@
 // Orders on processes.
 ghost use Rattle.std.specs.Prelude.{◌≡◌, List, IsTrue};
 ghost use Rattle.model.specs.declared.object.Object.{Object};
-ghost use Rattle.model.specs.Frame.{objects_of};
 ghost use Rattle.model.specs.Order.{on_process, process_order};
 ghost use Rattle.model.specs.World.{annex_at, is_process};
-ghost use Rattle.capability.specs.Parts.{frames_of};
+ghost use Rattle.capability.specs.Parts.{objects_in};
 ghost use Rattle.gate.specs.Plan.{outcome_of, ChangesAs, HaveAnnexesOf, IsFor};
 
 use crate::plan::{Change, OrderPlan};
@@ -83,14 +82,14 @@ pub fn on_process<F: PresentFrames>(
 ) -> OrderPlan
     requires root { F.IsFetched store.now process }
     requires annex { F.IsFetched store.now
-        (annex_at (objects_of (frames_of (F.parts store.now))) process) }
-    requires process { IsTrue (is_process (objects_of (frames_of (F.parts store.now))) process) }
-    ensures only { IsFor (objects_of (frames_of (F.parts store.now)))
+        (annex_at (objects_in (F.parts store.now)) process) }
+    requires process { IsTrue (is_process (objects_in (F.parts store.now)) process) }
+    ensures only { IsFor (objects_in (F.parts store.now))
         (Capability.Process process) arguments result.change }
-    ensures outcome { outcome_of (objects_of (frames_of (F.parts store.now))) result
-        ≡ on_process (objects_of (frames_of (F.parts store.now))) process order arguments }
+    ensures outcome { outcome_of (objects_in (F.parts store.now)) result
+        ≡ on_process (objects_in (F.parts store.now)) process order arguments }
     ensures change { (os : List Object)
-        → HaveAnnexesOf (objects_of (frames_of (F.parts store.now))) os
+        → HaveAnnexesOf (objects_in (F.parts store.now)) os
         → ChangesAs os result (on_process os process order arguments) }
 {
     let first = arguments.first;

@@ -8,7 +8,7 @@ use Rattle.model.specs.Frame.{frames_in}
 use Rattle.model.specs.Keepable.{AreKeepable, IsSoundFrames}
 use Rattle.device.specs.Disk.{Disk, Image}
 use Rattle.device.specs.Calls.{Elsewhere}
-use Rattle.layout.specs.Image.{Denotes}
+use Rattle.layout.specs.Image.{Encodes}
 use Rattle.layout.specs.Superblock.{Plan}
 use Rattle.migrator.specs.Saved.{Holds}
 use Rattle.image_writer.specs.Written.{first_saved, first_state}
@@ -24,7 +24,7 @@ module _ (d : Description) (hs : List ObjectHeader) (cs : List (Content Cap)) (l
 
   module _ (limits : IsWithinLimits d) (s : IsSoundDescription d) (old new : Disk) where
     pub builds : (p : Plan) → p ≡ plan_for d → p.total ≤ old.sectors →
-        Denotes new.seen new.sectors (first_state p d.age (frames_in hs cs)) →
+        Encodes new.seen new.sectors (first_state p d.age (frames_in hs cs)) →
         ((c : Image) → new.may_leave c → Holds new.sectors c (first_saved p.geometry d.age (frames_in hs cs))) →
         Elsewhere 0 p.total old.seen new.seen → Builds d old new
     builds p is inside denotes crash elsewhere = record {
@@ -32,7 +32,7 @@ module _ (d : Description) (hs : List ObjectHeader) (cs : List (Content Cap)) (l
       frames = frames_in hs cs;
       described = laid.described;
       sound = subst (λ (fs : List Frame). IsSoundFrames d.geometry d.age fs) (described_once d s.frames (frames_in hs cs) s.described laid.described) s.sound;
-      denotes = subst (λ (q : Plan). Denotes new.seen new.sectors (first_state q d.age (frames_in hs cs))) is denotes;
+      denotes = subst (λ (q : Plan). Encodes new.seen new.sectors (first_state q d.age (frames_in hs cs))) is denotes;
       crash = λ c left. subst (λ (q : Plan). Holds new.sectors c (first_saved q.geometry d.age (frames_in hs cs))) is (crash c left);
       elsewhere = subst (λ (q : Plan). Elsewhere 0 q.total old.seen new.seen) is elsewhere;
     }

@@ -5,7 +5,7 @@ use Rattle.model.specs.declared.frame.Frame.{Frame}
 use Rattle.model.specs.Keepable.{IsSoundFrames}
 use Rattle.device.specs.Disk.{Disk, Image}
 use Rattle.device.specs.Calls.{Elsewhere}
-use Rattle.layout.specs.Image.{Denotes}
+use Rattle.layout.specs.Image.{Encodes}
 use Rattle.layout.specs.Superblock.{Plan}
 use Rattle.migrator.specs.Saved.{Holds}
 use Rattle.image_writer.specs.Laid.{MayBeLaid, plan_from}
@@ -83,7 +83,7 @@ pub record Builds (d : Description) (old new : Disk) : Type 0 where
   pub frames : List Frame
   pub described : IsDescribed d frames
   pub sound : IsSoundFrames d.geometry d.age frames
-  pub denotes : Denotes new.seen new.sectors (first_state (plan_for d) d.age frames)
+  pub denotes : Encodes new.seen new.sectors (first_state (plan_for d) d.age frames)
   pub crash : (c : Image) → new.may_leave c → Holds new.sectors c (first_saved d.geometry d.age frames)
   pub elsewhere : Elsewhere 0 (plan_for d).total old.seen new.seen
 

@@ -12,7 +12,7 @@ use Rattle.layout.specs.Directory.{directory_bytes}
 use Rattle.layout.specs.Frame.{frame_length}
 use Rattle.layout.specs.Gate.{gate_bytes, is_open}
 use Rattle.layout.specs.Header.{IsHeader, header_bytes}
-use Rattle.layout.specs.Image.{Denotes, HasDirectory, committed_of, committed_bytes, does_count, option_at, sequence_in}
+use Rattle.layout.specs.Image.{Encodes, HasDirectory, committed_of, committed_bytes, does_count, option_at, sequence_in}
 use Rattle.layout.specs.Superblock.{Plan, IsPlan}
 use Rattle.layout.proofs.Halves.{half_within}
 use Rattle.layout.proofs.Sectors.{same_sectors}
@@ -69,7 +69,7 @@ module _ (p : Plan) (age : ℕ) (frames : List Frame) (old new : Image) (is : Is
       let within = places_within p a is.plan lt in
       same_sectors (home_place p a) (frame_length p.geometry a) old new (λ i few. change.after (home_place p a + i) (omega (arith, within.0)))
 
-  pub denotes : (size : ℕ) → age ≤ 2 ^ 62 → p.total ≤ size → AreKeepable p.geometry age frames → Denotes new size (first_state p age frames)
+  pub denotes : (size : ℕ) → age ≤ 2 ^ 62 → p.total ≤ size → AreKeepable p.geometry age frames → Encodes new size (first_state p age frames)
   denotes size most whole keepable = record {
     plan = record { least = omega (arith, whole, five p is.plan); whole = whole; fits = is.plan; spelt = change.before 0 (omega arith) ∙ is.front.superblock };
     header = record { fits = header_fits p.geometry.log age most; spelt = committed };

@@ -2,7 +2,7 @@
 ghost use Rattle.std.specs.Prelude.{◌≡◌, ◌^◌, ◌≤◌, length, OnOk};
 ghost use Rattle.device.specs.Disk.{Image};
 ghost use Rattle.device.specs.Calls.{Counts, Elsewhere};
-ghost use Rattle.layout.specs.Image.{Denotes};
+ghost use Rattle.layout.specs.Image.{Encodes};
 ghost use Rattle.migrator.specs.Saved.{Holds};
 ghost use Rattle.model.specs.Frame.{frames_in};
 ghost use Rattle.model.specs.Keepable.{AreKeepable};
@@ -64,7 +64,7 @@ pub fn write_image<D: Device>(
     requires contents { length contents.now ≡ length headers.now }
     requires keepable { AreKeepable superblock.now.geometry age
         (frames_in headers.now contents.now) }
-    ensures denotes { OnOk result (Denotes (D.disk device.new).seen (D.disk device.new).sectors
+    ensures denotes { OnOk result (Encodes (D.disk device.new).seen (D.disk device.new).sectors
         (first_state superblock.now age (frames_in headers.now contents.now))) }
     ensures holds { OnOk result (Holds (D.disk device.new).sectors (D.disk device.new).seen
         (first_saved superblock.now.geometry age (frames_in headers.now contents.now))) }

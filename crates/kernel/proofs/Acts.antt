@@ -19,17 +19,17 @@ use Rattle.migrator.specs.declared.checkpoint_fault.CheckpointFault.{CheckpointF
 use Rattle.migrator.specs.declared.checkpoint_fault.CheckpointFault.TheVariants as fault
 use Rattle.migrator.specs.Refused.{IsCommitAnswer, IsFreezeAnswer, IsRefused}
 use Rattle.migrator.specs.Saved.{Holds, LeavesSaved, LeavesEither}
-use Rattle.capability.specs.Parts.{Parts, frames_of}
+use Rattle.capability.specs.Parts.{Parts, frames_of, objects_in}
 use Rattle.capability.proofs.Keeping.{keepable_count}
 use Rattle.object_cache.specs.Store.{Aside, FrozenFrames, IsStabilizeAnswer, Leads, MayCommit, View, freezing, left_in, moved_saved, next_saved, stabilized}
 use Rattle.object_cache.specs.Store as store
 use Rattle.space_bank.specs.Banks.{AreCounted, BanksState}
-use Rattle.processes.specs.Machine.{Serves, answer_of}
+use Rattle.processes.specs.Machine.{Performs, answer_of}
 use Rattle.processes.proofs.Serving.{AreSame}
 use Rattle.processes.proofs.Steps.{refused_step}
 use Rattle.kernel.specs.declared.power.Live.{Live}
 use Rattle.kernel.specs.Denotes.{saved_of, LeavesOne}
-use Rattle.kernel.specs.Standing.{AreSound, IsCaused, IsUp, ServesUp, base_of, disk_at, frozen_of, refusal_by, renewed_since, running, running_of}
+use Rattle.kernel.specs.Standing.{AreSoundTogether, IsCaused, IsUp, ServesUp, base_of, disk_at, frozen_of, refusal_by, renewed_since, running, running_of}
 use Rattle.kernel.proofs.Crashes.{leaves_along, leaves_either, leaves_here, leaves_home, leaves_saved}
 use Rattle.kernel.proofs.Renewed.{base_frozen, base_moved, none_renewed, renewed_on}
 use Rattle.kernel.proofs.Stages.{acts_sound, begun_sound, committed_sound, frames_again, frozen_none, frozen_some, moved_sound, next_sound, none_there, same_running, saved_moved, some_left, some_there, stabilized_sound, stays_sound}
@@ -48,7 +48,7 @@ module _ {D S : Type 0} (disk : D → Disk) (view : S → View D) (parts : S →
     (only_now : (d : D) (c : Image) → (disk d).left_since (disk d).moment c → (disk d).may_leave c)
     (sound_holds : (s : S) (c : Image) → (view s).is_sound → (disk (view s).beneath).may_leave c → Holds (disk (view s).beneath).sectors c (view s).aside.saved) where
   -- a store that is sound serves
-  is_up : (g : Geometry) (l : Live S) → (view l.store).is_sound → AreSound g (parts l.store) (view l.store).aside l.banks l.age l.frozen_age → IsUp disk view parts g l
+  is_up : (g : Geometry) (l : Live S) → (view l.store).is_sound → AreSoundTogether g (parts l.store) (view l.store).aside l.banks l.age l.frozen_age → IsUp disk view parts g l
   is_up g l store sound = record {
     store = store;
     sound = sound;
@@ -85,8 +85,8 @@ module _ {D S : Type 0} (disk : D → Disk) (view : S → View D) (parts : S →
         leaves_along g (disk_at disk view parts l) (disk (view s).beneath) (view l.store).aside.saved (second (Up (running disk view parts l)) c) up.sound.saved leads.size (leads.any_moment up.store)
 
     -- processes act, at an age that doesn't fall
-    pub acted : (banks : BanksState) (age : ℕ) (c : Command) (a : Answer) → l.age ≤ age → Serves l.age (parts l.store) c a age (parts s) →
-        AreCounted (parts s).geometry (objects_of (frames_of (parts s))) banks →
+    pub acted : (banks : BanksState) (age : ℕ) (c : Command) (a : Answer) → l.age ≤ age → Performs l.age (parts l.store) c a age (parts s) →
+        AreCounted (parts s).geometry (objects_in (parts s)) banks →
         ServesUp disk view parts l c a (record { store = s; banks = banks; age = age; frozen_age = l.frozen_age })
     acted banks age c a later serves counted g up =
         let geometry : (parts s).geometry ≡ g = serves.geometry ∙ up.sound.geometry in
@@ -102,7 +102,7 @@ module _ {D S : Type 0} (disk : D → Disk) (view : S → View D) (parts : S →
           up = λ other. is_up g (record { store = s; banks = banks; age = age; frozen_age = l.frozen_age }) (leads.sound up.store)
               (acts_sound g (parts l.store) (parts s) (view l.store).aside (view s).aside l.banks banks l.age age l.frozen_age leads.aside later geometry serves.renews
               (subst (λ (h : Geometry). IsSoundFrames h age (frames_of (parts s))) geometry serves.sound)
-              (subst (λ (h : Geometry). AreCounted h (objects_of (frames_of (parts s))) banks) geometry counted) up.sound);
+              (subst (λ (h : Geometry). AreCounted h (objects_in (parts s)) banks) geometry counted) up.sound);
           leaves = leads_along g c up;
         }
 
@@ -157,7 +157,7 @@ module _ {D S : Type 0} (disk : D → Disk) (view : S → View D) (parts : S →
             (sym (none_renewed g (frames_of p) up.sound.now.keepable.count))
             (checkpoint_step g before young (frozen_none a.frozen l.frozen_age none) home)))));
         up = λ other. is_up g (record { store = s; banks = l.banks; age = l.age + 1; frozen_age = l.age + 1 }) (sound up.store)
-            (subst (λ (x : Aside). AreSound g (parts s) x l.banks (l.age + 1) (l.age + 1)) (sym beside)
+            (subst (λ (x : Aside). AreSoundTogether g (parts s) x l.banks (l.age + 1) (l.age + 1)) (sym beside)
             (begun_sound g p a l.banks l.age l.frozen_age up.sound (parts s) k geometry frames young));
         leaves = subst (λ (d : D). LeavesOne g (disk_at disk view parts l) (disk d) (saved_of a.saved ∷ [])) (sym beneath)
             (leaves_here g (disk_at disk view parts l) (saved_of a.saved ∷ []) [] (only_now (view l.store).beneath) up.leaves);
@@ -166,7 +166,7 @@ module _ {D S : Type 0} (disk : D → Disk) (view : S → View D) (parts : S →
   -- a stage that writes: what it leaves of the present objects, and what a crash leaves
   module _ (l : Live S) (s : S) (same : AreSame (parts l.store) (parts s)) (size : (disk (view s).beneath).sectors ≡ (disk (view l.store).beneath).sectors) where
     -- it came to another state beside the objects
-    came : (g : Geometry) (b : Aside) → (view s).aside ≡ b → (view s).is_sound → AreSound g (parts l.store) b l.banks l.age l.frozen_age → IsUp disk view parts g (with_store l s)
+    came : (g : Geometry) (b : Aside) → (view s).aside ≡ b → (view s).is_sound → AreSoundTogether g (parts l.store) b l.banks l.age l.frozen_age → IsUp disk view parts g (with_store l s)
     came g b beside store sound = is_up g (with_store l s) store (stays_sound g (parts l.store) (parts s) same b (view s).aside beside l.banks l.age l.frozen_age sound)
 
     stepped : (g : Geometry) (b : Aside) (c : Command) (a : Answer) → (view s).aside ≡ b → Step g (Up (running disk view parts l)) c a (Up (running_of (parts l.store) b l.age l.frozen_age)) →
@@ -216,18 +216,18 @@ module _ {D S : Type 0} (disk : D → Disk) (view : S → View D) (parts : S →
             (leaves_either g (disk_at disk view parts l) (disk (view s).beneath) (view l.store).aside.saved (next_saved l.frozen_age f (view l.store).aside.saved) up.sound.saved
             (next_sound g (parts l.store) (view l.store).aside l.banks l.age l.frozen_age up.sound f frozen) size moments)
 
-        pub commit_went : (generation : ℕ) → generation ≡ (view l.store).aside.saved.generation + 1 → (view s).aside ≡ store.committed l.frozen_age f (view l.store).aside → (view s).is_sound →
+        pub commit_went : (generation : ℕ) → generation ≡ (view l.store).aside.saved.generation + 1 → (view s).aside ≡ store.aside_after_commit l.frozen_age f (view l.store).aside → (view s).is_sound →
             ServesUp disk view parts l command.Commit (answer.Committed generation) (with_store l s)
         unfolding now_frozen
         commit_went generation told beside sound g up = record {
           step = λ other.
-              stepped g (store.committed l.frozen_age f (view l.store).aside) command.Commit (answer.Committed generation) beside
-              (subst (λ (k : ℕ). Step g (Up (running disk view parts l)) command.Commit (answer.Committed k) (Up (running_of (parts l.store) (store.committed l.frozen_age f (view l.store).aside) l.age l.frozen_age))) (sym told)
+              stepped g (store.aside_after_commit l.frozen_age f (view l.store).aside) command.Commit (answer.Committed generation) beside
+              (subst (λ (k : ℕ). Step g (Up (running disk view parts l)) command.Commit (answer.Committed k) (Up (running_of (parts l.store) (store.aside_after_commit l.frozen_age f (view l.store).aside) l.age l.frozen_age))) (sym told)
               (subst (λ (base : List Frame). Step g (Up (running disk view parts l)) command.Commit (answer.Committed ((view l.store).aside.saved.generation + 1))
-              (Up (record (running_of (parts l.store) (store.committed l.frozen_age f (view l.store).aside) l.age l.frozen_age) { renewed = renewed_since base (frames_of (parts l.store)) })))
+              (Up (record (running_of (parts l.store) (store.aside_after_commit l.frozen_age f (view l.store).aside) l.age l.frozen_age) { renewed = renewed_since base (frames_of (parts l.store)) })))
               (base_frozen (view l.store).aside f frozen)
               (commit_step g (running disk view parts l) now_frozen is_frozen stable)));
-          up = λ other. came g (store.committed l.frozen_age f (view l.store).aside) beside sound (committed_sound g (parts l.store) (view l.store).aside l.banks l.age l.frozen_age up.sound f frozen);
+          up = λ other. came g (store.aside_after_commit l.frozen_age f (view l.store).aside) beside sound (committed_sound g (parts l.store) (view l.store).aside l.banks l.age l.frozen_age up.sound f frozen);
           leaves = commit_along g up;
         }
 
@@ -370,7 +370,7 @@ err_answer Q (Ok a) failed = absurd failed
 err_answer Q (Err e) failed = refl
 
 -- who failed is told by the device
-pub caused : (p q : Parts) (old new : Disk) (c : Command) (age later : ℕ) (a : Answer) → p.failures ≡ old.failures → q.failures ≡ new.failures → Serves age p c a later q → IsCaused old new a
+pub caused : (p q : Parts) (old new : Disk) (c : Command) (age later : ℕ) (a : Answer) → p.failures ≡ old.failures → q.failures ≡ new.failures → Performs age p c a later q → IsCaused old new a
 caused p q old new c age later a before after serves = record {
   later = subst (λ (n : ℕ). n ≤ new.failures) before (subst (λ (n : ℕ). p.failures ≤ n) after serves.later);
   exact = subst (λ (n : ℕ). (a ≡ answer.Refused refusal.Fault) ↔ (n < new.failures)) before (subst (λ (n : ℕ). (a ≡ answer.Refused refusal.Fault) ↔ (p.failures < n)) after serves.cause);
@@ -378,13 +378,13 @@ caused p q old new c age later a before after serves = record {
 
 -- what is counted of banks stays, where the objects do
 pub still_counted : (p q : Parts) (banks : BanksState) → q.headers ≡ p.headers → q.contents ≡ p.contents → q.geometry ≡ p.geometry →
-    AreCounted p.geometry (objects_of (frames_of p)) banks → AreCounted q.geometry (objects_of (frames_of q)) banks
+    AreCounted p.geometry (objects_in p) banks → AreCounted q.geometry (objects_in q) banks
 still_counted p q banks headers contents geometry counted =
-    subst (λ (g : Geometry). AreCounted g (objects_of (frames_of q)) banks) (sym geometry)
+    subst (λ (g : Geometry). AreCounted g (objects_in q) banks) (sym geometry)
     (subst (λ (fs : List Frame). AreCounted p.geometry (objects_of fs) banks) (sym (frames_again p q headers contents)) counted)
 
 -- what is counted of the banks of a store that is up
 pub up_counted : {D S : Type 0} (disk : D → Disk) (view : S → View D) (parts : S → Parts) (l : Live S) → ((g : Geometry) × IsUp disk view parts g l) →
-    AreCounted (parts l.store).geometry (objects_of (frames_of (parts l.store))) l.banks
+    AreCounted (parts l.store).geometry (objects_in (parts l.store)) l.banks
 up_counted disk view parts l up =
-    subst (λ (g : Geometry). AreCounted g (objects_of (frames_of (parts l.store))) l.banks) (sym up.1.sound.geometry) up.1.sound.counted
+    subst (λ (g : Geometry). AreCounted g (objects_in (parts l.store)) l.banks) (sym up.1.sound.geometry) up.1.sound.counted

@@ -15,14 +15,14 @@ use Rattle.migrator.specs.declared.open_fault.OpenFault.{OpenFault}
 use Rattle.migrator.specs.declared.open_fault.OpenFault.TheVariants as fault
 use Rattle.migrator.specs.Opened.{Looks}
 use Rattle.migrator.specs.Saved.{Holds}
-use Rattle.capability.specs.Parts.{Parts, frames_of}
-use Rattle.object_cache.specs.Store.{Aside, FrozenFrames, Leads, Opens, View}
+use Rattle.capability.specs.Parts.{Parts, frames_of, objects_in}
+use Rattle.object_cache.specs.Store.{Aside, FrozenFrames, Leads, OpensStore, View}
 use Rattle.space_bank.specs.Banks.{AreCounted, BanksState}
 use Rattle.processes.proofs.Serving.{AreSame, same_frames, unfailed}
 use Rattle.kernel.specs.declared.power.Live.{Live}
 use Rattle.kernel.specs.Denotes.{saved_of, IsSoundSaved}
 use Rattle.kernel.specs.Opening.{IsUnfit, IsWhy, RefusesToOpen, Wakes}
-use Rattle.kernel.specs.Standing.{AreSound, base_of, frozen_of, renewed_since, running}
+use Rattle.kernel.specs.Standing.{AreSoundTogether, base_of, frozen_of, renewed_since, running}
 use Rattle.kernel.proofs.Crashes.{leaves_saved}
 use Rattle.kernel.proofs.Renewed.{allocations_at, base_saved, none_renewed}
 use Rattle.kernel.proofs.Stages.{frozen_none}
@@ -58,7 +58,7 @@ module _ {D S : Type 0} (disk : D → Disk) (view : S → View D) (parts : S →
     (seen_left : (d : D) → (disk d).may_leave (disk d).seen)
     (sound_holds : (s : S) (c : Image) → (view s).is_sound → (disk (view s).beneath).may_leave c → Holds (disk (view s).beneath).sectors c (view s).aside.saved)
     (geometry_is : (s : S) → (parts s).geometry ≡ (view s).aside.saved.geometry)
-    (device : D) (s t : S) (opens : Opens disk device (parts s) (view s)) (same : AreSame (parts s) (parts t)) (leads : Leads disk (view s) (view t))
+    (device : D) (s t : S) (opens : OpensStore disk device (parts s) (view s)) (same : AreSame (parts s) (parts t)) (leads : Leads disk (view s) (view t))
     (peeks : touched_count (parts t).touched ≡ 0 → (view s).aside.frozen ≡ None → Peeks (disk (view s).beneath) (disk (view t).beneath)) where
   still_untouched : touched_count (parts t).touched ≡ 0
   still_untouched = ap touched_count (same.touched ∙ opens.touched) ∙ untouched_count (view s).aside.saved.geometry
@@ -87,7 +87,7 @@ module _ {D S : Type 0} (disk : D → Disk) (view : S → View D) (parts : S →
 
   -- it was opened
   module _ (banks : BanksState) (age : ℕ) (age_is : age ≡ (view s).aside.saved.age) (failures : (disk (view t).beneath).failures ≡ (disk (view s).beneath).failures)
-      (sound : IsSoundFrames (parts s).geometry age (frames_of (parts s))) (counted : AreCounted (parts s).geometry (objects_of (frames_of (parts s))) banks) where
+      (sound : IsSoundFrames (parts s).geometry age (frames_of (parts s))) (counted : AreCounted (parts s).geometry (objects_in (parts s)) banks) where
     live : Live S
     live = record { store = t; banks = banks; age = age; frozen_age = age }
 
@@ -118,11 +118,11 @@ module _ {D S : Type 0} (disk : D → Disk) (view : S → View D) (parts : S →
     base_is : base_of (view t).aside ≡ frames_of (parts t)
     base_is = base_saved (view t).aside frozen ∙ sym frames
 
-    is_sound : AreSound (view t).aside.saved.geometry (parts t) (view t).aside banks age age
+    is_sound : AreSoundTogether (view t).aside.saved.geometry (parts t) (view t).aside banks age age
     is_sound = record {
       geometry = geometry_is t;
       now = now_sound;
-      counted = subst (λ (g : Geometry). AreCounted g (objects_of (frames_of (parts t))) banks) geometry
+      counted = subst (λ (g : Geometry). AreCounted g (objects_in (parts t)) banks) geometry
           (subst (λ (fs : List Frame). AreCounted (parts s).geometry (objects_of fs) banks) (sym (same_frames (parts s) (parts t) same)) counted);
       frozen = λ f is. absurd (never f (sym frozen ∙ is));
       saved = saved_sound;

@@ -11,10 +11,10 @@ use Rattle.model.specs.declared.frame.Frame.{Frame}
 use Rattle.model.specs.declared.frame.ObjectHeader.{ObjectHeader}
 use Rattle.model.specs.declared.geometry.Geometry.{Geometry}
 use Rattle.model.specs.declared.object.Content.{Content}
-use Rattle.model.specs.Frame.{blank_frame, frame_at, frames_in, header_at, objects_of}
+use Rattle.model.specs.Frame.{blank_frame, frame_at, frames_in, header_at}
 use Rattle.model.specs.Machine.{renewing, untouched}
 use Rattle.model.specs.Revoke.{is_given_up}
-use Rattle.capability.specs.Parts.{Parts, Renews, frames_of}
+use Rattle.capability.specs.Parts.{Parts, Renews, frames_of, objects_in}
 use Rattle.capability.proofs.Frames.{headers_in}
 use Rattle.migrator.specs.Saved.{SavedFrames, home_saved}
 use Rattle.object_cache.specs.Store.{Aside, FrozenFrames, moved, moved_saved}
@@ -59,7 +59,7 @@ differs false base old new le is =
 -- counts through an invocation
 module _ (base : List Frame) (p q : Parts) (renews : Renews p q) (risen : (n : ℕ) → allocations_at base n ≤ allocations_at (frames_of p) n) where
   abbrev gone : ℕ → Bool
-  gone n = is_given_up (objects_of (frames_of p)) (objects_of (frames_of q)) n
+  gone n = is_given_up (objects_in p) (objects_in q) n
 
   rises : (n : ℕ) → allocations_at (frames_of q) n ≡ allocations_at (frames_of p) n + (if gone n then 1 else 0)
   rises n =
@@ -70,7 +70,7 @@ module _ (base : List Frame) (p q : Parts) (renews : Renews p q) (risen : (n : �
   pub risen_on : (n : ℕ) → allocations_at base n ≤ allocations_at (frames_of q) n
   risen_on n = omega (arith, risen n, rises n)
 
-  pub renewed_on : renewing (renewed_since base (frames_of p)) (objects_of (frames_of p)) (objects_of (frames_of q)) ≡ renewed_since base (frames_of q)
+  pub renewed_on : renewing (renewed_since base (frames_of p)) (objects_in p) (objects_in q) ≡ renewed_since base (frames_of q)
   unfolding renewing
   renewed_on =
       let before = renewed_since base (frames_of p) in

@@ -8,7 +8,7 @@ use Rattle.model.specs.Keepable.{AreKeepable, IsSoundFrames, world_at}
 use Rattle.model.specs.Machine.{Running}
 use Rattle.model.specs.Sound.{IsSound}
 use Rattle.model.specs.Step.{at_home, moved}
-use Rattle.capability.specs.Parts.{Parts, Renews, frames_of}
+use Rattle.capability.specs.Parts.{Parts, Renews, frames_of, objects_in}
 use Rattle.capability.proofs.Keeping.{keepable_later}
 use Rattle.migrator.specs.Put.{most}
 use Rattle.migrator.specs.Saved.{SavedFrames, home_saved}
@@ -17,7 +17,7 @@ use Rattle.object_cache.specs.Store as store
 use Rattle.space_bank.specs.Banks.{AreCounted, BanksState}
 use Rattle.processes.proofs.Serving.{AreSame, same_frames}
 use Rattle.kernel.specs.Denotes.{saved_of, IsSoundSaved}
-use Rattle.kernel.specs.Standing.{AreSound, IsSoundFrozen, base_of, frozen_of, renewed_since, running_of}
+use Rattle.kernel.specs.Standing.{AreSoundTogether, IsSoundFrozen, base_of, frozen_of, renewed_since, running_of}
 use Rattle.kernel.proofs.Renewed.{allocations_at, base_frozen, base_moved, risen_on}
 
 -- ---- frames at a later age
@@ -67,8 +67,8 @@ module _ (g : Geometry) (p q : Parts) (same : AreSame p q) (a b : Aside) (beside
       ∙ ap (λ (fs : List Frame). let r : Running = record { now = world_at age fs; touched = q.touched; renewed = renewed_since (base_of a) fs; frozen = frozen_of frozen_age a.frozen; saved = saved_of a.saved; to_move = a.to_move } in r) (same_frames p q same)
       ∙ ap (λ (ts : List Bool). let r : Running = record { now = world_at age (frames_of p); touched = ts; renewed = renewed_since (base_of a) (frames_of p); frozen = frozen_of frozen_age a.frozen; saved = saved_of a.saved; to_move = a.to_move } in r) same.touched
 
-  pub stays_sound : (banks : BanksState) (age frozen_age : ℕ) → AreSound g p a banks age frozen_age → AreSound g q b banks age frozen_age
-  stays_sound banks age frozen_age s = subst (λ (x : Aside). AreSound g q x banks age frozen_age) (sym beside) (record {
+  pub stays_sound : (banks : BanksState) (age frozen_age : ℕ) → AreSoundTogether g p a banks age frozen_age → AreSoundTogether g q b banks age frozen_age
+  stays_sound banks age frozen_age s = subst (λ (x : Aside). AreSoundTogether g q x banks age frozen_age) (sym beside) (record {
     geometry = same.geometry ∙ s.geometry;
     now = subst (λ (fs : List Frame). IsSoundFrames g age fs) (sym (same_frames p q same)) s.now;
     counted = subst (λ (fs : List Frame). AreCounted g (objects_of fs) banks) (sym (same_frames p q same)) s.counted;
@@ -80,8 +80,8 @@ module _ (g : Geometry) (p q : Parts) (same : AreSame p q) (a b : Aside) (beside
 
 -- other objects, at an age that didn't fall
 pub acts_sound : (g : Geometry) (p q : Parts) (a b : Aside) (old_banks banks : BanksState) (old_age age frozen_age : ℕ) → b ≡ a → old_age ≤ age → q.geometry ≡ g → Renews p q → IsSoundFrames g age (frames_of q) →
-    AreCounted g (objects_of (frames_of q)) banks → AreSound g p a old_banks old_age frozen_age → AreSound g q b banks age frozen_age
-acts_sound g p q a b old_banks banks old_age age frozen_age beside later geometry renews now counted s = subst (λ (x : Aside). AreSound g q x banks age frozen_age) (sym beside) (record {
+    AreCounted g (objects_in q) banks → AreSoundTogether g p a old_banks old_age frozen_age → AreSoundTogether g q b banks age frozen_age
+acts_sound g p q a b old_banks banks old_age age frozen_age beside later geometry renews now counted s = subst (λ (x : Aside). AreSoundTogether g q x banks age frozen_age) (sym beside) (record {
   geometry = geometry;
   now = now;
   counted = counted;
@@ -93,9 +93,9 @@ acts_sound g p q a b old_banks banks old_age age frozen_age beside later geometr
 
 -- ---- stages
 
-module _ (g : Geometry) (p : Parts) (a : Aside) (banks : BanksState) (age frozen_age : ℕ) (s : AreSound g p a banks age frozen_age) where
+module _ (g : Geometry) (p : Parts) (a : Aside) (banks : BanksState) (age frozen_age : ℕ) (s : AreSoundTogether g p a banks age frozen_age) where
   -- all is frozen, one age later
-  pub begun_sound : (q : Parts) (n : ℕ) → q.geometry ≡ p.geometry → frames_of q ≡ frames_of p → age < 2 ^ 62 → AreSound g q (freezing (frames_of p) n a) banks (age + 1) (age + 1)
+  pub begun_sound : (q : Parts) (n : ℕ) → q.geometry ≡ p.geometry → frames_of q ≡ frames_of p → age < 2 ^ 62 → AreSoundTogether g q (freezing (frames_of p) n a) banks (age + 1) (age + 1)
   begun_sound q n geometry frames young =
       let now : IsSoundFrames g (age + 1) (frames_of p) = frames_later g age (age + 1) (frames_of p) (omega arith) (omega (arith, young)) s.now in
       record {
@@ -119,7 +119,7 @@ module _ (g : Geometry) (p : Parts) (a : Aside) (banks : BanksState) (age frozen
   risen_frozen f is n = subst (λ (fs : List Frame). allocations_at fs n ≤ allocations_at (frames_of p) n) (base_frozen a f is) (s.risen n)
 
   -- some more of it is in the log
-  pub stabilized_sound : (n : ℕ) (f : FrozenFrames) → a.frozen ≡ Some f → AreSound g p (stabilized n f a) banks age frozen_age
+  pub stabilized_sound : (n : ℕ) (f : FrozenFrames) → a.frozen ≡ Some f → AreSoundTogether g p (stabilized n f a) banks age frozen_age
   stabilized_sound n f is = record {
     geometry = s.geometry;
     now = s.now;
@@ -141,7 +141,7 @@ module _ (g : Geometry) (p : Parts) (a : Aside) (banks : BanksState) (age frozen
   pub next_sound : (f : FrozenFrames) → a.frozen ≡ Some f → IsSoundSaved g (next_saved frozen_age f a.saved)
   next_sound f is = record { geometry = s.saved.geometry; sound = (s.frozen f is).sound }
 
-  pub committed_sound : (f : FrozenFrames) → a.frozen ≡ Some f → AreSound g p (store.committed frozen_age f a) banks age frozen_age
+  pub committed_sound : (f : FrozenFrames) → a.frozen ≡ Some f → AreSoundTogether g p (store.aside_after_commit frozen_age f a) banks age frozen_age
   committed_sound f is = record {
     geometry = s.geometry;
     now = s.now;
@@ -167,7 +167,7 @@ module _ (g : Geometry) (p : Parts) (a : Aside) (banks : BanksState) (age frozen
   pub moved_saved_sound : (n : ℕ) → IsSoundSaved g (moved_saved n a)
   moved_saved_sound n = home_or_not (a.to_move - n == 0)
 
-  pub moved_sound : (n : ℕ) → AreSound g p (store.moved n a) banks age frozen_age
+  pub moved_sound : (n : ℕ) → AreSoundTogether g p (store.moved n a) banks age frozen_age
   moved_sound n =
       let same : (moved_saved n a).age ≡ a.saved.age = age_or_not (a.to_move - n == 0) in
       record {

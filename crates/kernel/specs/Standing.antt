@@ -8,12 +8,12 @@ use Rattle.model.specs.declared.answer.Refusal.TheVariants as refusal
 use Rattle.model.specs.declared.command.Command.{Command}
 use Rattle.model.specs.declared.frame.Frame.{Frame}
 use Rattle.model.specs.declared.geometry.Geometry.{Geometry}
-use Rattle.model.specs.Frame.{frame_at, objects_of}
+use Rattle.model.specs.Frame.{frame_at}
 use Rattle.model.specs.Keepable.{IsSoundFrames, world_at}
 use Rattle.model.specs.Machine.{Frozen, Running, Machine, Up, Down, candidates}
 use Rattle.model.specs.Step.{Step, second}
 use Rattle.device.specs.Disk.{Disk}
-use Rattle.capability.specs.Parts.{Parts, frames_of}
+use Rattle.capability.specs.Parts.{Parts, frames_of, objects_in}
 use Rattle.migrator.specs.declared.checkpoint_fault.CheckpointFault.{CheckpointFault}
 use Rattle.migrator.specs.declared.checkpoint_fault.CheckpointFault.TheVariants as fault
 use Rattle.migrator.specs.declared.durable.access.Checkpoint.{Checkpoint}
@@ -55,10 +55,10 @@ pub record IsSoundFrozen (g : Geometry) (saved_age frozen_age age : ℕ) (f : Fr
   pub sound : IsSoundFrames g frozen_age f.frames
 
 -- all that a kernel keeps is sound, what is counted of banks is what there is, and no count of allocations has fallen
-pub record AreSound (g : Geometry) (p : Parts) (aside : Aside) (banks : BanksState) (age frozen_age : ℕ) : Type 0 where
+pub record AreSoundTogether (g : Geometry) (p : Parts) (aside : Aside) (banks : BanksState) (age frozen_age : ℕ) : Type 0 where
   pub geometry : p.geometry ≡ g
   pub now : IsSoundFrames g age (frames_of p)
-  pub counted : AreCounted g (objects_of (frames_of p)) banks
+  pub counted : AreCounted g (objects_in p) banks
   pub frozen : (f : FrozenFrames) → aside.frozen ≡ Some f → IsSoundFrozen g aside.saved.age frozen_age age f
   pub saved : IsSoundSaved g aside.saved
   pub order : aside.saved.age ≤ age
@@ -93,7 +93,7 @@ module _ {D S : Type 0} (disk : D → Disk) (view : S → View D) (parts : S →
   -- a store that serves: a crash leaves what is saved
   pub record IsUp (g : Geometry) (l : Live S) : Type 0 where
     pub store : (view l.store).is_sound
-    pub sound : AreSound g (parts l.store) (view l.store).aside l.banks l.age l.frozen_age
+    pub sound : AreSoundTogether g (parts l.store) (view l.store).aside l.banks l.age l.frozen_age
     pub leaves : Leaves g (disk_at l) (saved_of (view l.store).aside.saved ∷ [])
 
   abbrev pub IsSomeUp : Live S → Type 0

@@ -1,8 +1,7 @@
 // A store made of a device.
 ghost use Rattle.std.specs.Prelude.{◌≡◌, ◌↔◌, ◌<◌, ◌≤◌, ◌^◌, IfOk, IfErr, OnOk, IsErrOf};
-ghost use Rattle.model.specs.Frame.{objects_of};
 ghost use Rattle.model.specs.Keepable.{AreKeepable, IsSoundFrames};
-ghost use Rattle.capability.specs.Parts.{LooksUp, frames_of};
+ghost use Rattle.capability.specs.Parts.{LooksUp, frames_of, objects_in};
 ghost use Rattle.space_bank.specs.Banks.{AreCounted};
 ghost use Rattle.kernel.specs.Opening.{IsUnfit, RefusesToOpen, Wakes, fault_of};
 
@@ -41,7 +40,7 @@ fn examine<F: PresentFrames>(alloc: Global, store: &mut F, age: u64) -> Result<B
     ensures sound { OnOk result (IsSoundFrames (F.parts store.old).geometry age
         (frames_of (F.parts store.old))) }
     ensures counted { IfOk result (AreCounted (F.parts store.old).geometry
-        (objects_of (frames_of (F.parts store.old)))) }
+        (objects_in (F.parts store.old))) }
     ensures bad { IfErr result (IsUnfit (frames_of (F.parts store.old))) }
     ensures aside { LooksUp F.parts F.LeadsTo store.old store.new }
     ensures later { (F.parts store.old).failures ≤ (F.parts store.new).failures }

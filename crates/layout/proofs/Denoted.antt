@@ -10,7 +10,7 @@ use Rattle.layout.specs.declared.directory.Entry.{Entry}
 use Rattle.layout.specs.declared.header.CheckpointHeader.{CheckpointHeader}
 use Rattle.layout.specs.Bytes.{number, zeros}
 use Rattle.layout.specs.Header.{header_bytes}
-use Rattle.layout.specs.Image.{SavedState, Denotes, IsBadBy, HasHeader, HasDirectory, HasNoHeader, IsTooSmall, option_at, total_in}
+use Rattle.layout.specs.Image.{SavedState, Encodes, IsBadBy, HasHeader, HasDirectory, HasNoHeader, IsTooSmall, option_at, total_in}
 use Rattle.layout.specs.Superblock.{Plan, IsPlan, HasMark, superblock_bytes, ranges_bytes}
 use Rattle.layout.proofs.Numbers.{stream}
 use Rattle.layout.proofs.FrameReaders.{passed, passed_on}
@@ -42,7 +42,7 @@ marked p is =
 abbrev state : Plan → CheckpointHeader → List Entry → List Frame → SavedState
 state p h es fs = record { plan = p; header = h; directory = es; frames = fs }
 
-module _ (c : Image) (size : ℕ) (s : SavedState) (denoted : Denotes c size s) where
+module _ (c : Image) (size : ℕ) (s : SavedState) (denoted : Encodes c size s) where
   big_enough : IsTooSmall c size → ⊥
   big_enough small = ⊎_elim
       (λ few. omega (arith, few, denoted.plan.least))
@@ -74,11 +74,11 @@ module _ (c : Image) (size : ℕ) (s : SavedState) (denoted : Denotes c size s) 
       why.4 s.directory directory.fits directory.count directory.spelt
   frames_not_bad bad.BadFrame why =
       let same : s.plan ≡ why.0 = same_plan c size s.plan why.0 denoted.plan why.3 in
-      let d1 : Denotes c size (state why.0 s.header s.directory s.frames) = subst (λ (p : Plan). Denotes c size (state p s.header s.directory s.frames)) same denoted in
+      let d1 : Encodes c size (state why.0 s.header s.directory s.frames) = subst (λ (p : Plan). Encodes c size (state p s.header s.directory s.frames)) same denoted in
       let same_h : s.header ≡ why.1 = same_header c why.0 s.header why.1 d1.header why.4 in
-      let d2 : Denotes c size (state why.0 why.1 s.directory s.frames) = subst (λ (h : CheckpointHeader). Denotes c size (state why.0 h s.directory s.frames)) same_h d1 in
+      let d2 : Encodes c size (state why.0 why.1 s.directory s.frames) = subst (λ (h : CheckpointHeader). Encodes c size (state why.0 h s.directory s.frames)) same_h d1 in
       let same_d : s.directory ≡ why.2 = same_directory c why.0 why.1 s.directory why.2 d2.directory why.5 in
-      let d3 : Denotes c size (state why.0 why.1 why.2 s.frames) = subst (λ (es : List Entry). Denotes c size (state why.0 why.1 es s.frames)) same_d d2 in
+      let d3 : Encodes c size (state why.0 why.1 why.2 s.frames) = subst (λ (es : List Entry). Encodes c size (state why.0 why.1 es s.frames)) same_d d2 in
       let n = why.6 in
       n.2 (frame_at s.frames n.0) (d3.each n.0 n.1)
   frames_not_bad _ why = absurd why

@@ -11,7 +11,7 @@ use Rattle.layout.specs.Header.{header_bytes}
 use Rattle.layout.specs.Superblock.{Plan}
 use Rattle.device.specs.Disk.{Image}
 use Rattle.layout.specs.Frame.{IsFrameOf}
-use Rattle.layout.specs.Image.{HasPlan, HasHeader, HasDirectory, frame_in, SavedState, Denotes}
+use Rattle.layout.specs.Image.{HasPlan, HasHeader, HasDirectory, frame_in, SavedState, Encodes}
 use Rattle.layout.proofs.Headers.{one_header}
 use Rattle.layout.proofs.Directories.{one_directory, directory_fits}
 use Rattle.layout.proofs.Frames.{one_node_frame}
@@ -59,17 +59,17 @@ same_frames image p h es fs gs lf lg ef eg = same_lists fs gs (lf ∙ sym lg) (�
 abbrev state : Plan → CheckpointHeader → List Entry → List Frame → SavedState
 state p h es fs = record { plan = p; header = h; directory = es; frames = fs }
 
-frames_equal : (image : Image) (size : ℕ) (p : Plan) (h : CheckpointHeader) (es : List Entry) (fs gs : List Frame) → Denotes image size (state p h es fs) → Denotes image size (state p h es gs) → state p h es fs ≡ state p h es gs
+frames_equal : (image : Image) (size : ℕ) (p : Plan) (h : CheckpointHeader) (es : List Entry) (fs gs : List Frame) → Encodes image size (state p h es fs) → Encodes image size (state p h es gs) → state p h es fs ≡ state p h es gs
 frames_equal image size p h es fs gs s t = ap (state p h es) (same_frames image p h es fs gs s.count t.count s.each t.each)
 
-pub one_state : (image : Image) (size : ℕ) (s t : SavedState) → Denotes image size s → Denotes image size t → s ≡ t
+pub one_state : (image : Image) (size : ℕ) (s t : SavedState) → Encodes image size s → Encodes image size t → s ≡ t
 one_state image size s t ds dt =
     let ep : t.plan ≡ s.plan = same_plan image size t.plan s.plan dt.plan ds.plan in
-    let dt1 : Denotes image size (state s.plan t.header t.directory t.frames) = subst (λ (p : Plan). Denotes image size (state p t.header t.directory t.frames)) ep dt in
+    let dt1 : Encodes image size (state s.plan t.header t.directory t.frames) = subst (λ (p : Plan). Encodes image size (state p t.header t.directory t.frames)) ep dt in
     let eh : t.header ≡ s.header = same_header image s.plan t.header s.header dt1.header ds.header in
-    let dt2 : Denotes image size (state s.plan s.header t.directory t.frames) = subst (λ (h : CheckpointHeader). Denotes image size (state s.plan h t.directory t.frames)) eh dt1 in
+    let dt2 : Encodes image size (state s.plan s.header t.directory t.frames) = subst (λ (h : CheckpointHeader). Encodes image size (state s.plan h t.directory t.frames)) eh dt1 in
     let ed : t.directory ≡ s.directory = same_directory image s.plan s.header t.directory s.directory dt2.directory ds.directory in
-    let dt3 : Denotes image size (state s.plan s.header s.directory t.frames) = subst (λ (es : List Entry). Denotes image size (state s.plan s.header es t.frames)) ed dt2 in
+    let dt3 : Encodes image size (state s.plan s.header s.directory t.frames) = subst (λ (es : List Entry). Encodes image size (state s.plan s.header es t.frames)) ed dt2 in
     frames_equal image size s.plan s.header s.directory s.frames t.frames ds dt3
     ∙ ap (λ (p : Plan). state p s.header s.directory t.frames) (sym ep)
     ∙ ap (λ (h : CheckpointHeader). state t.plan h s.directory t.frames) (sym eh)

@@ -13,7 +13,7 @@ use Rattle.layout.specs.declared.directory.Entry.{Entry}
 use Rattle.layout.specs.declared.header.CheckpointHeader.{CheckpointHeader}
 use Rattle.layout.specs.Frame.{IsFrameOf, frame_bytes}
 use Rattle.layout.specs.FrameReader.{frame_from}
-use Rattle.layout.specs.Image.{frame_in, HasPlan, HasHeader, HasDirectory, Denotes}
+use Rattle.layout.specs.Image.{frame_in, HasPlan, HasHeader, HasDirectory, Encodes}
 use Rattle.layout.specs.Spelt.{count_of, frame_read, frames_read, IsSpelt, AreSpelt, state_in}
 use Rattle.layout.specs.Superblock.{Plan}
 use Rattle.layout.proofs.FrameReaders.{frame_again}
@@ -62,7 +62,7 @@ spelt_at image p first second generation es n is keepable = (keepable, is.1)
 
 -- an image denotes the state that is read of it, where all is spelt
 pub denotes : (image : Image) (size : ℕ) (p : Plan) (h : CheckpointHeader) (es : List Entry) → HasPlan image size p → HasHeader image p h → HasDirectory image p h es → AreSpelt image p h.age h.generation es
-    → Denotes image size (state_in image p h es)
+    → Encodes image size (state_in image p h es)
 denotes image size p h es plan header directory spelt = record {
   plan = plan;
   header = header;

@@ -159,7 +159,7 @@ pub record SavedState : Type 0 where
   pub frames : List Frame
 
 -- an image denotes a saved state of frames where none of reasons 1 to 7 holds
-pub record Denotes (image : Image) (size : ℕ) (s : SavedState) : Type 0 where
+pub record Encodes (image : Image) (size : ℕ) (s : SavedState) : Type 0 where
   pub plan : HasPlan image size s.plan
   pub header : HasHeader image s.plan s.header
   pub directory : HasDirectory image s.plan s.header s.directory

@@ -15,7 +15,7 @@ use Rattle.layout.specs.Frame.{IsFrameOf}
 use Rattle.layout.specs.FrameReader.{frame_from}
 use Rattle.layout.specs.Superblock.{Plan, superblock_bytes, IsPlan}
 use Rattle.device.specs.Disk.{Image}
-use Rattle.layout.specs.Image.{SavedState, Denotes}
+use Rattle.layout.specs.Image.{SavedState, Encodes}
 
 abbrev pub SpellOneCapability : Type 0
 SpellOneCapability = (g : Geometry) (age : ℕ) (b c : Cap) → IsKeptCap g age b → IsKeptCap g age c → capability_bytes b ≡ capability_bytes c → b ≡ c
@@ -36,7 +36,7 @@ abbrev pub SpellOneSuperblock : Type 0
 SpellOneSuperblock = (p q : Plan) → IsPlan p → IsPlan q → superblock_bytes p ≡ superblock_bytes q → p ≡ q
 
 abbrev pub DenoteOneState : Type 0
-DenoteOneState = (image : Image) (size : ℕ) (s t : SavedState) → Denotes image size s → Denotes image size t → s ≡ t
+DenoteOneState = (image : Image) (size : ℕ) (s t : SavedState) → Encodes image size s → Encodes image size t → s ≡ t
 
 -- what spells a frame is read as that frame
 abbrev pub SpeltIsRead : Type 0

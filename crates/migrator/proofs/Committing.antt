@@ -16,7 +16,7 @@ use Rattle.layout.specs.Directory.{IsDirectory, entry_at}
 use Rattle.layout.specs.Frame.{IsFrameOf}
 use Rattle.layout.specs.FrameReader.{frame_from}
 use Rattle.layout.specs.Header.{IsHeader}
-use Rattle.layout.specs.Image.{Denotes, frame_in, slot_in, half_sector}
+use Rattle.layout.specs.Image.{Encodes, frame_in, slot_in, half_sector}
 use Rattle.layout.specs.Spelt.{count_of, frame_read, frames_read, IsSpelt, AreSpelt, state_in}
 use Rattle.layout.specs.Superblock.{Plan, IsApart, IsInside, half_extent}
 use Rattle.layout.proofs.Halves.{itself, apart_inside, half_within}
@@ -32,7 +32,7 @@ use Rattle.migrator.specs.Table.{place_at, slot_of, taken_count, whole_count, ha
 use Rattle.migrator.specs.Put.{Put, Absent, put_at, put_or, overlaid, most, slot_bytes, put_of, puts_in, ArePut}
 use Rattle.migrator.specs.Saved.{SavedFrames, kept_of, Holds, LeavesEither}
 use Rattle.migrator.proofs.GoingOn.{holds}
-use Rattle.migrator.specs.Durable.{Books, frozen_generation, working_generation, generation_after, Stored, saved_state, frozen_of, stored_in, IsRunning, IsKept, LeavesState, next_header, next_saved, committed, books_of}
+use Rattle.migrator.specs.Durable.{Books, frozen_generation, working_generation, generation_after, Stored, saved_state, frozen_of, stored_in, IsRunning, IsKept, LeavesState, next_header, next_saved, stored_after_commit, books_of}
 use Rattle.migrator.specs.Saving.{MaySave, SavesOnly}
 use Rattle.migrator.specs.Spared.{SparesFrames, Spares}
 use Rattle.migrator.proofs.Tables.{all_whole, whole_taken, entries_directory, length_entries, slot_entries, blank_at, blank_table, tally-blank}
@@ -283,7 +283,7 @@ module _ (disk : Disk) (b : Books) (k : ℕ) (kept : IsKept disk.sectors disk.se
       to_move = entries - 0;
     }
 
-    committed_stored : stored_in disk.seen (committed_books age b ps) ≡ committed age (frozen_of disk.seen b k) (stored_in disk.seen b)
+    committed_stored : stored_in disk.seen (committed_books age b ps) ≡ stored_after_commit age (frozen_of disk.seen b k) (stored_in disk.seen b)
     committed_stored =
         ap (λ (g : ℕ). stored_as (taken_count b.frozen) (puts_in disk.seen b.plan g b.working) (frames_read disk.seen b.plan (frozen_generation b) (entries_of b.frozen))) (sym generation_is)
         ∙ ap (λ (fs : List Frame). stored_as (taken_count b.frozen) (puts_in disk.seen b.plan (working_generation b) b.working) fs) (frames_next disk.sectors disk.seen b k kept running stable)
@@ -298,7 +298,7 @@ module _ (disk : Disk) (b : Books) (k : ℕ) (kept : IsKept disk.sectors disk.se
       pub done_kept : IsKept disk.sectors new (committed_books age b ps)
       done_kept = kept_saves disk.sectors (committed_books age b ps) (next_header age b) disk.seen new committed_kept only committed_spares
 
-      pub done_stored : stored_in new (committed_books age b ps) ≡ committed age (frozen_of disk.seen b k) (stored_in disk.seen b)
+      pub done_stored : stored_in new (committed_books age b ps) ≡ stored_after_commit age (frozen_of disk.seen b k) (stored_in disk.seen b)
       done_stored = stored_saves disk.sectors (committed_books age b ps) (next_header age b) disk.seen new committed_kept only committed_spares ∙ committed_stored
 
       pub done_state : saved_state new (committed_books age b ps) ≡ state_in disk.seen b.plan (next_header age b) (entries_of b.frozen)
@@ -321,10 +321,10 @@ module _ (disk : Disk) (b : Books) (k : ℕ) (kept : IsKept disk.sectors disk.se
       ap (λ (fs : List Frame). saved_as (taken_count b.frozen) fs) (frames_next disk.sectors disk.seen b k kept running stable)
       ∙ ap (λ (n : ℕ). saved_as n (overlaid (puts_in disk.seen b.plan (frozen_generation b) b.frozen) (frames_read disk.seen b.plan b.header.generation b.directory))) (taken_all disk.sectors disk.seen b k kept running stable)
 
-  pub commit_moments : (new : Disk) → LeavesOnly disk new (λ c. Denotes c disk.sectors (saved_state disk.seen b) ⊎ Denotes c disk.sectors (state_in disk.seen b.plan (next_header age b) (entries_of b.frozen)))
+  pub commit_moments : (new : Disk) → LeavesOnly disk new (λ c. Encodes c disk.sectors (saved_state disk.seen b) ⊎ Encodes c disk.sectors (state_in disk.seen b.plan (next_header age b) (entries_of b.frozen)))
       → LeavesEither disk new (stored_in disk.seen b).saved (next_saved age (frozen_of disk.seen b k) (stored_in disk.seen b).saved)
   commit_moments new run =
-      leaves_weaker {old = disk} {new = new} {P = λ c. Denotes c disk.sectors (saved_state disk.seen b) ⊎ Denotes c disk.sectors (state_in disk.seen b.plan (next_header age b) (entries_of b.frozen))}
+      leaves_weaker {old = disk} {new = new} {P = λ c. Encodes c disk.sectors (saved_state disk.seen b) ⊎ Encodes c disk.sectors (state_in disk.seen b.plan (next_header age b) (entries_of b.frozen))}
       (λ c. Holds disk.sectors c (stored_in disk.seen b).saved ⊎ Holds disk.sectors c (next_saved age (frozen_of disk.seen b k) (stored_in disk.seen b).saved))
       (λ c. ⊎_elim (λ is. inl (holds disk.sectors c (saved_state disk.seen b) is))
       (λ is. inr (subst (Holds disk.sectors c) next_kept (holds disk.sectors c (state_in disk.seen b.plan (next_header age b) (entries_of b.frozen)) is)))) run

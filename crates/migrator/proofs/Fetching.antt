@@ -16,7 +16,7 @@ use Rattle.device.specs.Calls.{Agrees}
 use Rattle.device.proofs.Images.{agrees_is}
 use Rattle.device.proofs.Moments.{leaves_weaker}
 use Rattle.layout.specs.Frame.{IsFrameOf}
-use Rattle.layout.specs.Image.{Denotes}
+use Rattle.layout.specs.Image.{Encodes}
 use Rattle.layout.proofs.Images.{one_frame}
 use Rattle.frame_io.specs.Calls.{ReadsOnly}
 use Rattle.frame_io.specs.Frames.{IsRefused}
@@ -49,7 +49,7 @@ module _ (old new : Disk) (b : Books) (reads : ReadsOnly old new) where
   fetched_goes_on = record {
     plan = refl;
     size = reads.size;
-    sound = λ sound. subst (λ (i : Image). LeavesState new (saved_state i b)) (sym seen) (λ x may. subst (λ (k : ℕ). Denotes x k (saved_state old.seen b)) (sym reads.size) (sound x (reads.crash x may)));
+    sound = λ sound. subst (λ (i : Image). LeavesState new (saved_state i b)) (sym seen) (λ x may. subst (λ (k : ℕ). Encodes x k (saved_state old.seen b)) (sym reads.size) (sound x (reads.crash x may)));
     any_moment = λ sound. leaves_weaker {old = old} {new = new} {P = old.may_leave} (λ x. Holds old.sectors x (stored_in old.seen b).saved) (λ x left. holds old.sectors x (saved_state old.seen b) (sound x left)) reads.any_moment;
   }
 

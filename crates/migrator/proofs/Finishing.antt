@@ -10,7 +10,7 @@ use Rattle.layout.specs.declared.extent.Extent.{Extent}
 use Rattle.layout.specs.declared.header.CheckpointHeader.{CheckpointHeader}
 use Rattle.layout.specs.Directory.{IsDirectory}
 use Rattle.layout.specs.Header.{IsHeader}
-use Rattle.layout.specs.Image.{Denotes, frame_in, slot_in, half_sector}
+use Rattle.layout.specs.Image.{Encodes, frame_in, slot_in, half_sector}
 use Rattle.layout.specs.Spelt.{count_of, AreSpelt, frames_read, state_in}
 use Rattle.layout.specs.Superblock.{Plan, IsApart, IsInside, half_extent}
 use Rattle.layout.proofs.Halves.{half_within, within_inside}
@@ -171,10 +171,10 @@ module _ (disk : Disk) (b : Books) (kept : IsKept disk.sectors disk.seen b) (som
   home_kept_of : kept_of (state_in disk.seen b.plan (home_header b.header) []) ≡ home_saved (stored_in disk.seen b).saved
   home_kept_of = ap (λ (fs : List Frame). (stored_as fs 0).saved) frames_home
 
-  pub finish_moments : (new : Disk) → LeavesOnly disk new (λ c. Denotes c disk.sectors (saved_state disk.seen b) ⊎ Denotes c disk.sectors (state_in disk.seen b.plan (home_header b.header) []))
+  pub finish_moments : (new : Disk) → LeavesOnly disk new (λ c. Encodes c disk.sectors (saved_state disk.seen b) ⊎ Encodes c disk.sectors (state_in disk.seen b.plan (home_header b.header) []))
       → LeavesEither disk new (stored_in disk.seen b).saved (home_saved (stored_in disk.seen b).saved)
   finish_moments new run =
-      leaves_weaker {old = disk} {new = new} {P = λ c. Denotes c disk.sectors (saved_state disk.seen b) ⊎ Denotes c disk.sectors (state_in disk.seen b.plan (home_header b.header) [])}
+      leaves_weaker {old = disk} {new = new} {P = λ c. Encodes c disk.sectors (saved_state disk.seen b) ⊎ Encodes c disk.sectors (state_in disk.seen b.plan (home_header b.header) [])}
       (λ c. Holds disk.sectors c (stored_in disk.seen b).saved ⊎ Holds disk.sectors c (home_saved (stored_in disk.seen b).saved))
       (λ c. ⊎_elim (λ is. inl (holds disk.sectors c (saved_state disk.seen b) is))
       (λ is. inr (subst (Holds disk.sectors c) home_kept_of (holds disk.sectors c (state_in disk.seen b.plan (home_header b.header) []) is)))) run

@@ -9,7 +9,7 @@ use Rattle.device.specs.Calls.{Only}
 use Rattle.device.proofs.Images.{agrees_is}
 use Rattle.layout.specs.declared.directory.Entry.{Entry}
 use Rattle.layout.specs.declared.header.CheckpointHeader.{CheckpointHeader}
-use Rattle.layout.specs.Image.{HasPlan, Denotes}
+use Rattle.layout.specs.Image.{HasPlan, Encodes}
 use Rattle.layout.specs.Spelt.{count_of, frames_read, state_in}
 use Rattle.layout.specs.Superblock.{Plan}
 use Rattle.layout.proofs.Spelling.{denotes, length_read}
@@ -62,9 +62,9 @@ module _ (old new : Disk) (p : Plan) (h : CheckpointHeader) (es : List Entry) (h
     working = none_put new.seen p (h.generation + 1) ws working;
   }
 
-  first_state : Denotes old.seen old.sectors (saved_state new.seen (first_books p h es fs ws))
+  first_state : Encodes old.seen old.sectors (saved_state new.seen (first_books p h es fs ws))
   first_state =
-      subst (λ (i : Image). Denotes old.seen old.sectors (state_in i p h (take h.entries es))) same
+      subst (λ (i : Image). Encodes old.seen old.sectors (state_in i p h (take h.entries es))) same
       (denotes old.seen old.sectors p h (take h.entries es) plan read.header read.directory read.spelt)
 
   pub first_sound : Only new.seen new → IsSoundOn new (first_books p h es fs ws)

@@ -16,7 +16,7 @@ use Rattle.migrator.specs.declared.table.Place.{Place}
 use Rattle.migrator.specs.declared.table.Place.TheVariants.{Torn, Whole}
 use Rattle.migrator.specs.Table.{taken_count, slot_for}
 use Rattle.migrator.specs.Put.{Put, Broken, Kept, most, slot_bytes, slot_frame, puts_in, ArePut}
-use Rattle.migrator.specs.Durable.{Books, frozen_generation, working_generation, generation_after, Frozen, Stored, GoesOnDisk, stored_in, frozen_of, with_put, IsRunning, IsKept, with_frozen, with_frozen}
+use Rattle.migrator.specs.Durable.{Books, frozen_generation, working_generation, generation_after, FrozenPuts, Stored, GoesOnDisk, stored_in, frozen_of, with_put, IsRunning, IsKept, with_frozen, with_frozen}
 use Rattle.migrator.specs.Spared.{Spares}
 use Rattle.migrator.proofs.Kept.{SparesKept, stored_stays, kept_on}
 use Rattle.migrator.proofs.PlacesApart.{place_inside, spares_other}
@@ -44,7 +44,7 @@ kept_frozen size image b ps k is kept are few = record {
   working = kept.working;
 }
 
-abbrev frozen_with : List Put → ℕ → Frozen
+abbrev frozen_with : List Put → ℕ → FrozenPuts
 frozen_with puts size = record { put = puts; size = size }
 
 put_by : (image : Image) (b : Books) (o : Option ℕ) (ps : List Place) (n : ℕ) (x : Put) → puts_in image b.plan (frozen_generation b) ps ≡ set (puts_in image b.plan (frozen_generation b) b.frozen) n x
@@ -55,14 +55,14 @@ put_by image b (Some k) ps n x same = ap (λ (puts : List Put). Some (frozen_wit
 -- what was put of one object is all that differs
 stored_put : (image : Image) (b : Books) (ps : List Place) (n : ℕ) (x : Put) → puts_in image b.plan (frozen_generation b) ps ≡ set (puts_in image b.plan (frozen_generation b) b.frozen) n x
     → stored_in image (with_places b ps) ≡ with_frozen n x (stored_in image b)
-stored_put image b ps n x same = ap (λ (f : Option Frozen). record (stored_in image b) { frozen = f }) (put_by image b b.size ps n x same)
+stored_put image b ps n x same = ap (λ (f : Option FrozenPuts). record (stored_in image b) { frozen = f }) (put_by image b b.size ps n x same)
 
-twice_by : (o : Option Frozen) (n : ℕ) (x y : Put) → option_map (with_put n y) (option_map (with_put n x) o) ≡ option_map (with_put n y) o
+twice_by : (o : Option FrozenPuts) (n : ℕ) (x y : Put) → option_map (with_put n y) (option_map (with_put n x) o) ≡ option_map (with_put n y) o
 twice_by None n x y = refl
 twice_by (Some f) n x y = ap (λ (puts : List Put). Some (frozen_with puts f.size)) (set_twice f.put n x y)
 
 put_twice : (s : Stored) (n : ℕ) (x y : Put) → with_frozen n y (with_frozen n x s) ≡ with_frozen n y s
-put_twice s n x y = ap (λ (f : Option Frozen). record s { frozen = f }) (twice_by s.frozen n x y)
+put_twice s n x y = ap (λ (f : Option FrozenPuts). record s { frozen = f }) (twice_by s.frozen n x y)
 
 -- a frame is written into its slot
 module _ (old new : Disk) (b : Books) (n : ℕ) (f : Frame) (kept : IsKept old.sectors old.seen b) (lt : n < count_of b.plan) (k : ℕ) (size_is : b.size ≡ Some k) (low : slot_for b.frozen n < k)

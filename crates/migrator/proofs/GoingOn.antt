@@ -3,14 +3,14 @@ use Rattle.std.proofs.Common.{◌≡◌, ℕ, refl, subst}
 use Rattle.device.specs.Disk.{Image, Disk}
 use Rattle.device.proofs.Moments.{leaves_weaker}
 use Rattle.layout.specs.declared.extent.Extent.{Extent}
-use Rattle.layout.specs.Image.{Denotes, SavedState}
+use Rattle.layout.specs.Image.{Encodes, SavedState}
 use Rattle.migrator.specs.Durable.{Books, saved_state, LeavesState, GoesOnDisk}
 use Rattle.migrator.specs.Saved.{kept_of, Holds}
 use Rattle.migrator.specs.Spared.{Spares, Touches}
 use Rattle.migrator.proofs.Spared.{sound_spared, moments_spared}
 
 -- what denotes a saved state holds its frames
-pub holds : (size : ℕ) (c : Image) (s : SavedState) → Denotes c size s → Holds size c (kept_of s)
+pub holds : (size : ℕ) (c : Image) (s : SavedState) → Encodes c size s → Holds size c (kept_of s)
 holds size c s is = (s, is, refl)
 
 same_state : (image : Image) (b c : Books) → c.plan ≡ b.plan → c.header ≡ b.header → c.directory ≡ b.directory → saved_state image b ≡ saved_state image c
@@ -21,6 +21,6 @@ goes_spared old new b c e plan header directory spares writes = record {
   plan = plan;
   size = writes.size;
   sound = λ sound. subst (LeavesState new) (same_state new.seen b c plan header directory) (sound_spared old new b.plan b.header b.directory e spares writes sound);
-  any_moment = λ sound. leaves_weaker {old = old} {new = new} {P = λ x. Denotes x old.sectors (saved_state old.seen b)} (λ x. Holds old.sectors x (kept_of (saved_state old.seen b)))
+  any_moment = λ sound. leaves_weaker {old = old} {new = new} {P = λ x. Encodes x old.sectors (saved_state old.seen b)} (λ x. Holds old.sectors x (kept_of (saved_state old.seen b)))
       (λ x is. holds old.sectors x (saved_state old.seen b) is) (moments_spared old new b.plan b.header b.directory e spares writes sound);
 }

@@ -29,7 +29,7 @@ use Rattle.layout.specs.Frame.{IsFrameOf, page_frame_bytes, node_frame_bytes}
 use Rattle.layout.specs.FrameReader.{frame_from}
 use Rattle.layout.specs.Half.{half_of}
 use Rattle.layout.specs.Header.{IsHeader}
-use Rattle.layout.specs.Image.{Denotes, frame_in, slot_in, slot_sector, half_sector, sectors_from}
+use Rattle.layout.specs.Image.{Encodes, frame_in, slot_in, slot_sector, half_sector, sectors_from}
 use Rattle.layout.specs.Spelt.{count_of, frame_read, frames_read, IsSpelt, AreSpelt, state_in}
 use Rattle.layout.specs.Superblock.{Plan, IsPlan, IsInside, half_extent, half_start}
 use Rattle.layout.proofs.SlotsOf.{slot_here, slot_behind}
@@ -44,7 +44,7 @@ use Rattle.migrator.specs.declared.table.Place.TheVariants.{Nowhere, Torn, Whole
 use Rattle.migrator.specs.Table.{place_at}
 use Rattle.migrator.specs.Put.{Put, Kept, most, slot_bytes, put_of, puts_in, ArePut}
 use Rattle.migrator.specs.Saved.{SavedFrames, kept_of, Holds, LeavesSaved, LeavesEither}
-use Rattle.migrator.specs.Durable.{Books, books_of, DurableState, frozen_generation, working_generation, generation_after, Frozen, Stored, saved_state, frozen_of, stored_in, stored_of, IsRunning, IsKept, LeavesState, GoesOnDisk, replaced_saved, replaced, with_words, replaced_header, journaled, journaled_saved, first_bytes, first_frame}
+use Rattle.migrator.specs.Durable.{Books, books_of, DurableState, frozen_generation, working_generation, generation_after, FrozenPuts, Stored, saved_state, frozen_of, stored_in, stored_of, IsRunning, IsKept, LeavesState, GoesOnDisk, replaced_saved, replaced, with_words, replaced_header, journaled, journaled_saved, first_bytes, first_frame}
 use Rattle.migrator.specs.Saving.{MaySave, SavesOnly}
 use Rattle.migrator.specs.Spared.{SparesFrames}
 use Rattle.migrator.proofs.Spared.{touches}
@@ -251,7 +251,7 @@ after_half : (g : ℕ) (o : Option ℕ) → half_of (generation_after (g + 2) o)
 after_half g None = half_same (g + 2 + 1) (g + 1) (omega arith)
 after_half g (Some k) = half_same (g + 2 + 1 + 1) (g + 1 + 1) (omega arith)
 
-none_frozen : (f g : ℕ → Frozen) (o : Option ℕ) → o ≡ None → option_map f o ≡ option_map g o
+none_frozen : (f g : ℕ → FrozenPuts) (o : Option ℕ) → o ≡ None → option_map f o ≡ option_map g o
 none_frozen f g None is = refl
 none_frozen f g (Some k) is = absurd cc
 
@@ -355,7 +355,7 @@ module _ (disk : Disk) (b : Books) (kept : IsKept disk.sectors disk.seen b) (fre
     working = half_spares b.plan (working_generation (replaced_books age n b)) again b.working extent kept.plan then_half kept.working.table kept.working.few inside_half;
   }
 
-  abbrev stored_as : List Put → Option Frozen → List Frame → Stored
+  abbrev stored_as : List Put → Option FrozenPuts → List Frame → Stored
   stored_as working frozen frames = record {
     working = working;
     frozen = frozen;
@@ -367,7 +367,7 @@ module _ (disk : Disk) (b : Books) (kept : IsKept disk.sectors disk.seen b) (fre
   replaced_stored =
       ap (λ (puts : List Put). stored_as puts (option_map (frozen_of disk.seen (replaced_books age n b)) b.size) (frames_read disk.seen b.plan again (one_entry n)))
       (puts_same disk.seen b.plan (working_generation (replaced_books age n b)) (working_generation b) (after_half b.header.generation b.size) b.working)
-      ∙ ap (λ (frozen : Option Frozen). stored_as (puts_in disk.seen b.plan (working_generation b) b.working) frozen (frames_read disk.seen b.plan again (one_entry n)))
+      ∙ ap (λ (frozen : Option FrozenPuts). stored_as (puts_in disk.seen b.plan (working_generation b) b.working) frozen (frames_read disk.seen b.plan again (one_entry n)))
       (none_frozen (frozen_of disk.seen (replaced_books age n b)) (frozen_of disk.seen b) b.size free)
       ∙ ap (λ (fs : List Frame). stored_as (puts_in disk.seen b.plan (working_generation b) b.working) (option_map (frozen_of disk.seen b) b.size) fs) frames_next
 
@@ -394,10 +394,10 @@ module _ (disk : Disk) (b : Books) (kept : IsKept disk.sectors disk.seen b) (fre
   next_kept : kept_of (state_in disk.seen b.plan (replaced_header age b) (one_entry n)) ≡ replaced_saved age n (first_frame disk.seen b n) (stored_in disk.seen b).saved
   next_kept = ap (λ (fs : List Frame). (stored_as [] None fs).saved) frames_next
 
-  pub replace_moments : (new : Disk) → LeavesOnly disk new (λ c. Denotes c disk.sectors (saved_state disk.seen b) ⊎ Denotes c disk.sectors (state_in disk.seen b.plan (replaced_header age b) (one_entry n)))
+  pub replace_moments : (new : Disk) → LeavesOnly disk new (λ c. Encodes c disk.sectors (saved_state disk.seen b) ⊎ Encodes c disk.sectors (state_in disk.seen b.plan (replaced_header age b) (one_entry n)))
       → LeavesEither disk new (stored_in disk.seen b).saved (replaced_saved age n (first_frame disk.seen b n) (stored_in disk.seen b).saved)
   replace_moments new run =
-      leaves_weaker {old = disk} {new = new} {P = λ c. Denotes c disk.sectors (saved_state disk.seen b) ⊎ Denotes c disk.sectors (state_in disk.seen b.plan (replaced_header age b) (one_entry n))}
+      leaves_weaker {old = disk} {new = new} {P = λ c. Encodes c disk.sectors (saved_state disk.seen b) ⊎ Encodes c disk.sectors (state_in disk.seen b.plan (replaced_header age b) (one_entry n))}
       (λ c. Holds disk.sectors c (stored_in disk.seen b).saved ⊎ Holds disk.sectors c (replaced_saved age n (first_frame disk.seen b n) (stored_in disk.seen b).saved))
       (λ c. ⊎_elim (λ is. inl (holds disk.sectors c (saved_state disk.seen b) is))
       (λ is. inr (subst (Holds disk.sectors c) next_kept (holds disk.sectors c (state_in disk.seen b.plan (replaced_header age b) (one_entry n)) is)))) run

@@ -21,7 +21,7 @@ use Rattle.migrator.specs.declared.table.Place.{Place}
 use Rattle.migrator.specs.declared.table.Place.TheVariants.{Nowhere, Torn, Whole}
 use Rattle.migrator.specs.Table.{place_at}
 use Rattle.migrator.specs.Put.{Put, Kept, most, slot_bytes, put_of, puts_in, ArePut}
-use Rattle.migrator.specs.Durable.{Books, frozen_generation, working_generation, Frozen, Stored, saved_state, frozen_of, stored_in, IsHome, IsKept}
+use Rattle.migrator.specs.Durable.{Books, frozen_generation, working_generation, FrozenPuts, Stored, saved_state, frozen_of, stored_in, IsHome, IsKept}
 use Rattle.migrator.specs.Saved.{SavedFrames, kept_of}
 use Rattle.migrator.specs.Spared.{SparesFrames}
 use Rattle.migrator.proofs.Spared.{frame_stays, state_stays, bytes_stay}
@@ -86,7 +86,7 @@ pub record SparesKept (b : Books) (e : Extent) : Type 0 where
   pub frozen : SparesPuts b.plan (frozen_generation b) b.frozen e
   pub working : SparesPuts b.plan (working_generation b) b.working e
 
-abbrev stored_of : List Put → Option Frozen → SavedFrames → ℕ → Stored
+abbrev stored_of : List Put → Option FrozenPuts → SavedFrames → ℕ → Stored
 stored_of working frozen saved to_move = record { working = working; frozen = frozen; saved = saved; to_move = to_move }
 
 frozen_same : (new old : Image) (b : Books) (size : Option ℕ) → puts_in new b.plan (frozen_generation b) b.frozen ≡ puts_in old b.plan (frozen_generation b) b.frozen
@@ -98,7 +98,7 @@ pub stored_same : (new old : Image) (b : Books) → puts_in new b.plan (working_
     → puts_in new b.plan (frozen_generation b) b.frozen ≡ puts_in old b.plan (frozen_generation b) b.frozen → saved_state new b ≡ saved_state old b → stored_in new b ≡ stored_in old b
 stored_same new old b working frozen saved =
     ap (λ (x : List Put). stored_of x (option_map (frozen_of new b) b.size) (kept_of (saved_state new b)) (b.header.entries - b.moved)) working
-    ∙ ap (λ (x : Option Frozen). stored_of (puts_in old b.plan (working_generation b) b.working) x (kept_of (saved_state new b)) (b.header.entries - b.moved)) (frozen_same new old b b.size frozen)
+    ∙ ap (λ (x : Option FrozenPuts). stored_of (puts_in old b.plan (working_generation b) b.working) x (kept_of (saved_state new b)) (b.header.entries - b.moved)) (frozen_same new old b b.size frozen)
     ∙ ap (λ (x : SavedState). stored_of (puts_in old b.plan (working_generation b) b.working) (option_map (frozen_of old b) b.size) (kept_of x) (b.header.entries - b.moved)) saved
 
 module _ (size : ℕ) (b : Books) (e : Extent) (old new : Image) (spares : SparesKept b e) (change : Elsewhere e.sector e.length old new) where

@@ -17,7 +17,7 @@ use Rattle.layout.specs.declared.directory.Entry.{Entry}
 use Rattle.layout.specs.declared.header.CheckpointHeader.{CheckpointHeader}
 use Rattle.layout.specs.declared.bad_image.BadImage.{BadImage}
 use Rattle.layout.specs.declared.bad_image.BadImage.TheVariants as bad
-use Rattle.layout.specs.Image.{HasPlan, HasHeader, HasDirectory, Denotes, IsBadBy}
+use Rattle.layout.specs.Image.{HasPlan, HasHeader, HasDirectory, Encodes, IsBadBy}
 use Rattle.layout.specs.Spelt.{count_of, IsSpelt, AreSpelt, frame_read, frames_read, state_in}
 use Rattle.layout.specs.Superblock.{Plan}
 use Rattle.layout.proofs.Spelling.{denotes}
@@ -117,7 +117,7 @@ bad_frame image size p h es n (refusal.Bad reason) plan header directory lt is =
 pub opened_sound : (disk : Disk) (p : Plan) (h : CheckpointHeader) (es : List Entry) → Only disk.seen disk → HasPlan disk.seen disk.sectors p → HasHeader disk.seen p h → HasDirectory disk.seen p h es → AreSpelt disk.seen p h.age h.generation es
     → LeavesState disk (state_in disk.seen p h es)
 opened_sound disk p h es only plan header directory spelt c left =
-    subst (λ (i : Image). Denotes i disk.sectors (state_in disk.seen p h es)) (sym (agrees_is c disk.seen (only c left))) (denotes disk.seen disk.sectors p h es plan header directory spelt)
+    subst (λ (i : Image). Encodes i disk.sectors (state_in disk.seen p h es)) (sym (agrees_is c disk.seen (only c left))) (denotes disk.seen disk.sectors p h es plan header directory spelt)
 
 -- two facts of what is answered make a third
 pub if_both : {T E : Type 0} {P Q R : T → Type 0} (r : Result T E) → ((x : T) → P x → Q x → R x) → IfOk r P → IfOk r Q → IfOk r R

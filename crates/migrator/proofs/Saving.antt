@@ -11,7 +11,7 @@ use Rattle.layout.specs.declared.header.CheckpointHeader.{CheckpointHeader}
 use Rattle.layout.specs.Directory.{directory_bytes}
 use Rattle.layout.specs.Frame.{IsFrameOf}
 use Rattle.layout.specs.Header.{IsHeader}
-use Rattle.layout.specs.Image.{Denotes, SavedState, frame_in, directory_in, directory_sector, directory_length}
+use Rattle.layout.specs.Image.{Encodes, SavedState, frame_in, directory_in, directory_sector, directory_length}
 use Rattle.layout.specs.Spelt.{AreSpelt, state_in}
 use Rattle.layout.specs.Superblock.{Plan}
 use Rattle.layout.proofs.Spelling.{length_read, read_at, spelt_same}
@@ -28,7 +28,7 @@ use Rattle.migrator.proofs.PlacesApart.{homes_behind}
 
 -- what is known before: each crash leaves one committed header, and the next may follow it
 module _ (disk : Disk) (p : Plan) (h : CheckpointHeader) (es : List Entry) (left : disk.may_leave disk.seen) (sound : LeavesState disk (state_in disk.seen p h es)) where
-  pub seen_denotes : Denotes disk.seen disk.sectors (state_in disk.seen p h es)
+  pub seen_denotes : Encodes disk.seen disk.sectors (state_in disk.seen p h es)
   seen_denotes = sound disk.seen left
 
   pub commits_one : CommitsOne disk
@@ -53,17 +53,17 @@ module _ (old mid : Disk) (p : Plan) (h : CheckpointHeader) (es : List Entry) (n
   next_spelt n lt =
       spelt_same mid.seen old.seen p next.age next.generation next.generation fs fs n (frame_stays p next.generation fs (directory_extent p next.generation next.entries) old.seen mid.seen may.spares_next writes.elsewhere n lt) (may.spelt n lt)
 
-  first_run : LeavesOnly old mid (λ c. Denotes c old.sectors (state_in old.seen p h es))
+  first_run : LeavesOnly old mid (λ c. Encodes c old.sectors (state_in old.seen p h es))
   first_run = moments_spared old mid p h es (directory_extent p next.generation next.entries) may.spares (touches (directory_sector p next.generation) (directory_length next.entries) old mid writes) may.sound
 
   -- where the write failed
-  pub either_first : LeavesOnly old mid (λ c. Denotes c old.sectors (state_in old.seen p h es) ⊎ Denotes c old.sectors (state_in old.seen p next fs))
+  pub either_first : LeavesOnly old mid (λ c. Encodes c old.sectors (state_in old.seen p h es) ⊎ Encodes c old.sectors (state_in old.seen p next fs))
   either_first =
-      leaves_weaker {old = old} {new = mid} {P = λ c. Denotes c old.sectors (state_in old.seen p h es)} (λ c. Denotes c old.sectors (state_in old.seen p h es) ⊎ Denotes c old.sectors (state_in old.seen p next fs))
+      leaves_weaker {old = old} {new = mid} {P = λ c. Encodes c old.sectors (state_in old.seen p h es)} (λ c. Encodes c old.sectors (state_in old.seen p h es) ⊎ Encodes c old.sectors (state_in old.seen p next fs))
       (λ c is. inl is) first_run
 
   module _ (left : mid.may_leave mid.seen) (written : directory_in mid.seen p next.generation next.entries ≡ directory_bytes fs) where
-    seen : Denotes mid.seen mid.sectors (state_in mid.seen p h es)
+    seen : Encodes mid.seen mid.sectors (state_in mid.seen p h es)
     seen = mid_sound mid.seen left
 
     ready : IsReady mid.seen mid.sectors (state_in mid.seen p next fs)
@@ -76,31 +76,31 @@ module _ (old mid : Disk) (p : Plan) (h : CheckpointHeader) (es : List Entry) (n
     }
 
     -- an image with the new header denotes what is saved next
-    new_state : (c : Image) → HasNew next mid.seen c → Denotes c old.sectors (state_in old.seen p next fs)
+    new_state : (c : Image) → HasNew next mid.seen c → Encodes c old.sectors (state_in old.seen p next fs)
     new_state c has =
-        subst (λ (s : SavedState). Denotes c old.sectors s) next_state
-        (subst (λ (size : ℕ). Denotes c size (state_in mid.seen p next fs)) writes.size
+        subst (λ (s : SavedState). Encodes c old.sectors s) next_state
+        (subst (λ (size : ℕ). Encodes c size (state_in mid.seen p next fs)) writes.size
         (new_denoted mid.seen c mid.sectors (state_in mid.seen p next fs) (homes_behind p may.plan) ready has))
 
-    old_state : (c : Image) → IsOld next mid c → Denotes c old.sectors (state_in old.seen p h es)
+    old_state : (c : Image) → IsOld next mid c → Encodes c old.sectors (state_in old.seen p h es)
     old_state c is =
-        subst (λ (s : SavedState). Denotes c old.sectors s) mid_state
-        (subst (λ (size : ℕ). Denotes c size (state_in mid.seen p h es)) writes.size
+        subst (λ (s : SavedState). Encodes c old.sectors s) mid_state
+        (subst (λ (size : ℕ). Encodes c size (state_in mid.seen p h es)) writes.size
         (old_denoted mid.seen is.could_be.0 c mid.sectors (state_in mid.seen p h es) next (homes_behind p may.plan) seen (mid_sound is.could_be.0 is.could_be.1) is.could_be.2 is.committed))
 
     -- the run to its end
     pub either_run : (new : Disk) → LeavesOnly mid new (λ c. IsOld next mid c ⊎ HasNew next mid.seen c)
-        → LeavesOnly old new (λ c. Denotes c old.sectors (state_in old.seen p h es) ⊎ Denotes c old.sectors (state_in old.seen p next fs))
+        → LeavesOnly old new (λ c. Encodes c old.sectors (state_in old.seen p h es) ⊎ Encodes c old.sectors (state_in old.seen p next fs))
     either_run new run =
-        leaves_on {old = old} {mid = mid} {new = new} {P = λ c. Denotes c old.sectors (state_in old.seen p h es) ⊎ Denotes c old.sectors (state_in old.seen p next fs)} either_first
-        (leaves_weaker {old = mid} {new = new} {P = λ c. IsOld next mid c ⊎ HasNew next mid.seen c} (λ c. Denotes c old.sectors (state_in old.seen p h es) ⊎ Denotes c old.sectors (state_in old.seen p next fs))
+        leaves_on {old = old} {mid = mid} {new = new} {P = λ c. Encodes c old.sectors (state_in old.seen p h es) ⊎ Encodes c old.sectors (state_in old.seen p next fs)} either_first
+        (leaves_weaker {old = mid} {new = new} {P = λ c. IsOld next mid c ⊎ HasNew next mid.seen c} (λ c. Encodes c old.sectors (state_in old.seen p h es) ⊎ Encodes c old.sectors (state_in old.seen p next fs))
         (λ c. ⊎_elim (λ is. inl (old_state c is)) (λ has. inr (new_state c has))) run)
 
     -- where it succeeded each crash leaves what is saved next
     pub saved_next : (new : Disk) → new.sectors ≡ mid.sectors → Only new.seen new → HasNew next mid.seen new.seen → LeavesState new (state_in old.seen p next fs)
     saved_next new size only has c may_leave =
-        subst (λ (k : ℕ). Denotes c k (state_in old.seen p next fs)) (sym (size ∙ writes.size))
-        (subst (λ (i : Image). Denotes i old.sectors (state_in old.seen p next fs)) (sym (agrees_is c new.seen (only c may_leave))) (new_state new.seen has))
+        subst (λ (k : ℕ). Encodes c k (state_in old.seen p next fs)) (sym (size ∙ writes.size))
+        (subst (λ (i : Image). Encodes i old.sectors (state_in old.seen p next fs)) (sym (agrees_is c new.seen (only c may_leave))) (new_state new.seen has))
 
 -- two facts of a success make a third
 pub both_ok : {T E P Q R : Type 0} (r : Result T E) → (P → Q → R) → OnOk r P → OnOk r Q → OnOk r R

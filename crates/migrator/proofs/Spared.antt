@@ -9,7 +9,7 @@ use Rattle.device.proofs.Moments.{leaves_weaker, leaves_on}
 use Rattle.layout.specs.declared.directory.Entry.{Entry}
 use Rattle.layout.specs.declared.extent.Extent.{Extent}
 use Rattle.layout.specs.declared.header.CheckpointHeader.{CheckpointHeader}
-use Rattle.layout.specs.Image.{frame_in, Denotes, directory_length, sectors_from}
+use Rattle.layout.specs.Image.{frame_in, Encodes, directory_length, sectors_from}
 use Rattle.layout.specs.Spelt.{count_of, frames_read, state_in}
 use Rattle.layout.specs.Superblock.{Plan, IsApart}
 use Rattle.layout.proofs.Sectors.{same_sectors}
@@ -49,7 +49,7 @@ spares_same p h es e old new spares change = record {
 
 -- such a change leaves the saved state
 pub denotes_on : (p : Plan) (h : CheckpointHeader) (es : List Entry) (fs : List Frame) (e : Extent) (size : ℕ) (old new : Image) → Spares p h es e → Elsewhere e.sector e.length old new
-    → Denotes old size (record { plan = p; header = h; directory = es; frames = fs }) → Denotes new size (record { plan = p; header = h; directory = es; frames = fs })
+    → Encodes old size (record { plan = p; header = h; directory = es; frames = fs }) → Encodes new size (record { plan = p; header = h; directory = es; frames = fs })
 denotes_on p h es fs e size old new spares change was =
     same_saved old new size (record { plan = p; header = h; directory = es; frames = fs }) (λ i lt. change.before (0 + i) (omega (arith, lt, spares.headers))) (spares_same p h es e old new spares change) was
 
@@ -88,15 +88,15 @@ module _ (old new : Disk) (p : Plan) (h : CheckpointHeader) (es : List Entry) (e
   pub state_spared : state_in new.seen p h es ≡ state_in old.seen p h es
   state_spared = state_stays p h es e old.seen new.seen spares.frames writes.elsewhere
 
-  left_spared : LeavesState old (state_in old.seen p h es) → (c : Image) → IsTorn e.sector e.length old c → Denotes c old.sectors (state_in old.seen p h es)
+  left_spared : LeavesState old (state_in old.seen p h es) → (c : Image) → IsTorn e.sector e.length old c → Encodes c old.sectors (state_in old.seen p h es)
   left_spared sound c torn = denotes_on p h es (frames_read old.seen p h.generation es) e old.sectors torn.0 c spares torn.2 (sound torn.0 torn.1)
 
   -- each crash still leaves it
   pub sound_spared : LeavesState old (state_in old.seen p h es) → LeavesState new (state_in new.seen p h es)
   sound_spared sound c left =
-      subst (λ (size : ℕ). Denotes c size (state_in new.seen p h es)) (sym writes.size)
-      (subst (Denotes c old.sectors) (sym state_spared) (left_spared sound c (writes.crash c left)))
+      subst (λ (size : ℕ). Encodes c size (state_in new.seen p h es)) (sym writes.size)
+      (subst (Encodes c old.sectors) (sym state_spared) (left_spared sound c (writes.crash c left)))
 
   -- also at each moment of the write
-  pub moments_spared : LeavesState old (state_in old.seen p h es) → LeavesOnly old new (λ c. Denotes c old.sectors (state_in old.seen p h es))
-  moments_spared sound = leaves_weaker {old = old} {new = new} {P = IsTorn e.sector e.length old} (λ c. Denotes c old.sectors (state_in old.seen p h es)) (left_spared sound) writes.any_moment
+  pub moments_spared : LeavesState old (state_in old.seen p h es) → LeavesOnly old new (λ c. Encodes c old.sectors (state_in old.seen p h es))
+  moments_spared sound = leaves_weaker {old = old} {new = new} {P = IsTorn e.sector e.length old} (λ c. Encodes c old.sectors (state_in old.seen p h es)) (left_spared sound) writes.any_moment

@@ -12,7 +12,7 @@ use Rattle.layout.specs.declared.directory.Entry.{Entry}
 use Rattle.layout.specs.declared.header.CheckpointHeader.{CheckpointHeader}
 use Rattle.layout.specs.Directory.{IsDirectory, entry_at}
 use Rattle.layout.specs.Header.{IsHeader}
-use Rattle.layout.specs.Image.{frame_in, SavedState, Denotes}
+use Rattle.layout.specs.Image.{frame_in, SavedState, Encodes}
 use Rattle.layout.specs.Spelt.{AreSpelt, state_in}
 use Rattle.layout.specs.Superblock.{Plan, IsPlan}
 use Rattle.frame_io.specs.Frames.{bytes_at}
@@ -64,25 +64,25 @@ working_generation b = generation_after b.header.generation b.size
 -- ---- the three maps of frames
 
 -- a checkpoint on its way: what was put for it, and how many objects it writes
-pub record Frozen : Type 0 where
+pub record FrozenPuts : Type 0 where
   pub put : List Put
   pub size : ℕ
 
 -- of how many of them the frame is still to be put
-abbrev pub left_of : Frozen → ℕ
+abbrev pub left_of : FrozenPuts → ℕ
 left_of f = f.size - kept_count f.put
 
 -- what a store holds; to_move counts the saved objects that aren't home
 pub record Stored : Type 0 where
   pub working : List Put
-  pub frozen : Option Frozen
+  pub frozen : Option FrozenPuts
   pub saved : SavedFrames
   pub to_move : ℕ
 
 abbrev pub saved_state : Image → Books → SavedState
 saved_state image b = state_in image b.plan b.header b.directory
 
-abbrev pub frozen_of : Image → Books → ℕ → Frozen
+abbrev pub frozen_of : Image → Books → ℕ → FrozenPuts
 frozen_of image b size = record { put = puts_in image b.plan (frozen_generation b) b.frozen; size = size }
 
 abbrev pub stored_in : Image → Books → Stored
@@ -94,7 +94,7 @@ stored_in image b = record {
 }
 
 -- what lies below a frame that is kept in memory: the frozen one that was put, else the saved one
-abbrev pub frozen_put : Option Frozen → ℕ → Put
+abbrev pub frozen_put : Option FrozenPuts → ℕ → Put
 frozen_put None n = Absent
 frozen_put (Some f) n = put_at f.put n
 
@@ -132,7 +132,7 @@ pub record IsKept (size : ℕ) (image : Image) (b : Books) : Type 0 where
 
 -- each crash now leaves what is saved
 abbrev pub LeavesState : Disk → SavedState → Type 0
-LeavesState disk s = (c : Image) → disk.may_leave c → Denotes c disk.sectors s
+LeavesState disk s = (c : Image) → disk.may_leave c → Encodes c disk.sectors s
 
 -- so it is until a publishing fails
 abbrev pub IsSoundOn : Disk → Books → Type 0
@@ -142,7 +142,7 @@ IsSoundOn disk b = LeavesState disk (saved_state disk.seen b)
 abbrev pub with_working : ℕ → Put → Stored → Stored
 with_working n put s = record s { working = slice_set s.working n put }
 
-abbrev pub with_put : ℕ → Put → Frozen → Frozen
+abbrev pub with_put : ℕ → Put → FrozenPuts → FrozenPuts
 with_put n put f = record { put = slice_set f.put n put; size = f.size }
 
 abbrev pub with_frozen : ℕ → Put → Stored → Stored
@@ -165,18 +165,18 @@ freezing size s = record {
 }
 
 -- what is saved once the frozen frames are, at an age
-abbrev pub next_saved : ℕ → Frozen → SavedFrames → SavedFrames
+abbrev pub next_saved : ℕ → FrozenPuts → SavedFrames → SavedFrames
 next_saved age f s = record { geometry = s.geometry; frames = overlaid f.put s.frames; generation = s.generation + 1; entries = f.size; age = age }
 
 -- frozen frames may be saved at an age, once all of them were put
-pub record MayCommit (age : ℕ) (f : Frozen) (s : SavedFrames) : Type 0 where
+pub record MayCommit (age : ℕ) (f : FrozenPuts) (s : SavedFrames) : Type 0 where
   pub later : s.age < age
   pub most : age ≤ 2 ^ 62
   pub keepable : left_of f ≡ 0 → AreKeepable s.geometry age (next_saved age f s).frames
 
 -- they are saved
-abbrev pub committed : ℕ → Frozen → Stored → Stored
-committed age f s = record { working = s.working; frozen = None; saved = next_saved age f s.saved; to_move = f.size }
+abbrev pub stored_after_commit : ℕ → FrozenPuts → Stored → Stored
+stored_after_commit age f s = record { working = s.working; frozen = None; saved = next_saved age f s.saved; to_move = f.size }
 
 -- the header that is committed next, at an age
 abbrev pub next_header : ℕ → Books → CheckpointHeader

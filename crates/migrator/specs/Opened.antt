@@ -58,7 +58,7 @@ pub record Looks (old new : Disk) : Type 0 where
 
 -- a device was opened, and nothing was written: the store holds what it saves, the headers are those of its saved
 -- frames, and a crash leaves what a read gives
-pub record Opens {D : Type 0} (disk : D → Disk) (device : D) (s : DurableState D) (hs : List ObjectHeader) : Type 0 where
+pub record OpensDurable {D : Type 0} (disk : D → Disk) (device : D) (s : DurableState D) (hs : List ObjectHeader) : Type 0 where
   pub sound : is_sound disk s
   pub holds : Holds (disk device).sectors (disk device).seen (stored_of disk s).saved
   pub headers_are : hs ≡ headers (stored_of disk s).saved.frames

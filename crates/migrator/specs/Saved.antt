@@ -4,7 +4,7 @@ use Rattle.model.specs.declared.frame.Frame.{Frame}
 use Rattle.model.specs.declared.geometry.Geometry.{Geometry}
 use Rattle.device.specs.Disk.{Image, Disk}
 use Rattle.device.specs.Moments.{LeavesOnly}
-use Rattle.layout.specs.Image.{SavedState, Denotes}
+use Rattle.layout.specs.Image.{SavedState, Encodes}
 
 -- the frames of all objects, and what is told of the checkpoint; entries counts those that lie in the log
 pub record SavedFrames : Type 0 where
@@ -26,7 +26,7 @@ kept_of s = record {
 
 -- so many sectors hold saved frames
 abbrev pub Holds : ℕ → Image → SavedFrames → Type 0
-Holds size c saved = (s : SavedState) × Denotes c size s × (kept_of s ≡ saved)
+Holds size c saved = (s : SavedState) × Encodes c size s × (kept_of s ≡ saved)
 
 -- a crash at any moment since old leaves what is saved
 abbrev pub LeavesSaved : Disk → Disk → SavedFrames → Type 0

@@ -8,7 +8,7 @@ ghost use Rattle.frame_io.specs.Calls.{WritesAt};
 ghost use Rattle.frame_io.specs.Frames.{IsObject};
 ghost use Rattle.migrator.specs.Table.{slot_for, whole_count};
 ghost use Rattle.migrator.specs.Put.{Broken, Kept, most, slot_bytes, puts_in, held_slot, sum_of, HasRoom};
-ghost use Rattle.migrator.specs.Durable.{Frozen, frozen_of, left_of, stored_of, is_sound, next_header, next_saved, committed, MayCommit, with_working, with_frozen, freezing, GoesOn, working_generation, frozen_generation};
+ghost use Rattle.migrator.specs.Durable.{FrozenPuts, frozen_of, left_of, stored_of, is_sound, next_header, next_saved, stored_after_commit, MayCommit, with_working, with_frozen, freezing, GoesOn, working_generation, frozen_generation};
 ghost use Rattle.migrator.specs.Saved.{LeavesEither, LeavesOneOf};
 ghost use Rattle.migrator.specs.Refused.{IsPutAnswer, IsFreezeAnswer, IsCommitAnswer, IsRefused};
 
@@ -194,7 +194,7 @@ impl<D: Device> Durable<D> {
         requires object { IsObject self.old.books.plan.geometry number }
         requires keepable { IsKeepable self.old.books.plan.geometry most number
             (record { header = header; content = content.now }) }
-        requires room { (f : Frozen) → (stored_of D.disk self.old).frozen ≡ Some f
+        requires room { (f : FrozenPuts) → (stored_of D.disk self.old).frozen ≡ Some f
             → HasRoom f.size f.put number }
         ensures put { OnOk result (stored_of D.disk self.new
             ≡ with_frozen number (Kept (record { header = header; content = content.now }))
@@ -264,7 +264,7 @@ impl<D: Device> Durable<D> {
             (next_saved age (frozen_of (D.disk self.old.beneath).seen self.old.books size)
             (stored_of D.disk self.old).saved).frames }
         ensures committed { OnOk result (stored_of D.disk self.new
-            ≡ committed age (frozen_of (D.disk self.old.beneath).seen self.old.books size)
+            ≡ stored_after_commit age (frozen_of (D.disk self.old.beneath).seen self.old.books size)
             (stored_of D.disk self.old)) }
         ensures unchanged { OnErr result (stored_of D.disk self.new ≡ stored_of D.disk self.old) }
         ensures plan { self.new.books.plan ≡ self.old.books.plan }
@@ -296,12 +296,12 @@ impl<D: Device> Durable<D> {
     /// the frozen frames make of it.
     pub fn commit(&mut self, age: u64) -> Result<u64, CheckpointFault>
         requires sound { is_sound D.disk self.old }
-        requires ready { (f : Frozen) → (stored_of D.disk self.old).frozen ≡ Some f
+        requires ready { (f : FrozenPuts) → (stored_of D.disk self.old).frozen ≡ Some f
             → MayCommit age f (stored_of D.disk self.old).saved }
-        ensures committed { (f : Frozen) → (stored_of D.disk self.old).frozen ≡ Some f
+        ensures committed { (f : FrozenPuts) → (stored_of D.disk self.old).frozen ≡ Some f
             → OnOk result (stored_of D.disk self.new
-            ≡ committed age f (stored_of D.disk self.old)) }
-        ensures stable { OnOk result ((f : Frozen) × ((stored_of D.disk self.old).frozen ≡ Some f)
+            ≡ stored_after_commit age f (stored_of D.disk self.old)) }
+        ensures stable { OnOk result ((f : FrozenPuts) × ((stored_of D.disk self.old).frozen ≡ Some f)
             × (left_of f ≡ 0)) }
         ensures unchanged { OnErr result (stored_of D.disk self.new ≡ stored_of D.disk self.old) }
         ensures untouched { IsRefused result → self.new ≡ self.old }

@@ -2,7 +2,7 @@
 ghost use Rattle.std.specs.Prelude.{◌≡◌, ◌⊎◌, List, OnOk};
 ghost use Rattle.device.specs.Calls.{Counts};
 ghost use Rattle.device.specs.Moments.{LeavesOnly};
-ghost use Rattle.layout.specs.Image.{Denotes};
+ghost use Rattle.layout.specs.Image.{Encodes};
 ghost use Rattle.layout.specs.Spelt.{state_in};
 ghost use Rattle.layout.specs.declared.header.CheckpointHeader.{CheckpointHeader};
 ghost use Rattle.layout.specs.declared.directory.Entry.{Entry};
@@ -30,9 +30,9 @@ pub(crate) fn save<D: Device>(
     ensures any_moment { (h : CheckpointHeader) (es : List Entry)
         → MaySave (D.disk device.old) log.now h es header entries.now
         → LeavesOnly (D.disk device.old) (D.disk device.new)
-        (λ c. Denotes c (D.disk device.old).sectors
+        (λ c. Encodes c (D.disk device.old).sectors
         (state_in (D.disk device.old).seen log.now h es)
-        ⊎ Denotes c (D.disk device.old).sectors
+        ⊎ Encodes c (D.disk device.old).sectors
         (state_in (D.disk device.old).seen log.now header entries.now)) }
     ensures cause { Counts (D.disk device.old) (D.disk device.new) result }
 {

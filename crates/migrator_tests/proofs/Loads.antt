@@ -11,7 +11,7 @@ use Rattle.model.specs.Frame.{frame_at, blank_frame}
 use Rattle.model.specs.Keepable.{IsKeepable, AreKeepable, AreKeptWords}
 use Rattle.capability.proofs.Keeping.{frame_later}
 use Rattle.migrator.specs.Put.{Put, Absent, Broken, Kept, put_at, put_or, held_slot, sum_of, overlaid}
-use Rattle.migrator.specs.Durable.{Frozen, Stored, with_working, with_frozen, with_put, freezing, next_saved, committed, moved, moved_saved}
+use Rattle.migrator.specs.Durable.{FrozenPuts, Stored, with_working, with_frozen, with_put, freezing, next_saved, stored_after_commit, moved, moved_saved}
 use Rattle.migrator.specs.Saved.{SavedFrames, home_saved}
 use Rattle.migrator_tests.specs.Rig.{AreLight, IsLight, IsLightFor, IsLoad}
 
@@ -82,10 +82,10 @@ light_broken g slots ps n is = record {
 pub none_light : (g : Geometry) (n slots : ℕ) → IsLight g slots (replicate n Absent)
 none_light g n slots = record { light = λ m h e. absurd (none_kept n m h e); few = let none = none_held n in omega (arith, none) }
 
-some_frozen : (f h : Frozen) → Some f ≡ Some h → f ≡ h
+some_frozen : (f h : FrozenPuts) → Some f ≡ Some h → f ≡ h
 some_frozen f h e = cc
 
-pub none_frozen : (h : Frozen) → None ≡ Some h → ⊥
+pub none_frozen : (h : FrozenPuts) → None ≡ Some h → ⊥
 none_frozen h e = cc
 
 -- ---- frames over others
@@ -116,8 +116,8 @@ module _ (g : Geometry) (working frozen size : ℕ) (s : Stored) (is : IsLoad g 
   pub working_broken : (n : ℕ) → IsLoad g (working + 1) frozen size (with_working n Broken s)
   working_broken n = record { saved = is.saved; working = light_broken g working s.working n is.working; frozen = is.frozen }
 
-  frozen_by : (o : Option Frozen) → ((f : Frozen) → o ≡ Some f → IsLightFor g frozen size f) → (x : Put) (n : ℕ) → ((ps : List Put) → IsLight g frozen ps → IsLight g (frozen + 1) (set ps n x))
-      → (f : Frozen) → option_map (with_put n x) o ≡ Some f → IsLightFor g (frozen + 1) size f
+  frozen_by : (o : Option FrozenPuts) → ((f : FrozenPuts) → o ≡ Some f → IsLightFor g frozen size f) → (x : Put) (n : ℕ) → ((ps : List Put) → IsLight g frozen ps → IsLight g (frozen + 1) (set ps n x))
+      → (f : FrozenPuts) → option_map (with_put n x) o ≡ Some f → IsLightFor g (frozen + 1) size f
   frozen_by None was x n more f e = absurd cc
   frozen_by (Some h) was x n more f e =
       let light = was h refl in
@@ -144,10 +144,10 @@ module _ (g : Geometry) (working frozen size : ℕ) (s : Stored) (is : IsLoad g 
   }
 
   -- what is saved next can be kept
-  pub next_keepable : (age : ℕ) (f : Frozen) → s.frozen ≡ Some f → s.saved.age < age → AreKeepable g age (next_saved age f s.saved).frames
+  pub next_keepable : (age : ℕ) (f : FrozenPuts) → s.frozen ≡ Some f → s.saved.age < age → AreKeepable g age (next_saved age f s.saved).frames
   next_keepable age f e later = overlaid_keepable g s.saved.age age f.put s.saved.frames (omega (arith, later)) (is.frozen f e).put.light is.saved
 
-  pub committed_now : (age : ℕ) (f : Frozen) → s.frozen ≡ Some f → s.saved.age < age → (k : ℕ) → IsLoad g working 0 k (committed age f s)
+  pub committed_now : (age : ℕ) (f : FrozenPuts) → s.frozen ≡ Some f → s.saved.age < age → (k : ℕ) → IsLoad g working 0 k (stored_after_commit age f s)
   committed_now age f e later k = record { saved = next_keepable age f e later; working = is.working; frozen = λ h none. absurd (none_frozen h none) }
 
   moved_to : (k : ℕ) (saved : SavedFrames) → AreKeepable g saved.age saved.frames → IsLoad g working frozen size (record { working = s.working; frozen = s.frozen; saved = saved; to_move = k })

@@ -11,8 +11,8 @@ use Rattle.layout.specs.Image.{SavedState}
 use Rattle.layout.specs.Superblock.{Plan}
 use Rattle.migrator.specs.Put.{Put, Absent, Broken, Kept}
 use Rattle.migrator.specs.Saved.{SavedFrames, Holds}
-use Rattle.migrator.specs.Durable.{DurableState, Frozen, Stored, stored_of, is_sound, with_working, with_frozen, freezing, next_saved, committed, journaled, moved, saved_state, GoesOn, ReadsStore}
-use Rattle.migrator.specs.Opened.{Opens}
+use Rattle.migrator.specs.Durable.{DurableState, FrozenPuts, Stored, stored_of, is_sound, with_working, with_frozen, freezing, next_saved, stored_after_commit, journaled, moved, saved_state, GoesOn, ReadsStore}
+use Rattle.migrator.specs.Opened.{OpensDurable}
 use Rattle.migrator_tests.specs.Rig.{IsLight, IsLightFor, IsLoad, IsRig}
 use Rattle.migrator_tests.proofs.Loads.{none_light, none_frozen, working_kept, working_broken, frozen_kept, frozen_broken, frozen_now, next_keepable, committed_now, moved_now, moved_some}
 
@@ -27,7 +27,7 @@ saved_keepable size image saved holds =
     let s : SavedState = holds.0 in
     subst (λ (x : SavedFrames). AreKeepable x.geometry x.age x.frames) holds.2 (record { count = holds.1.count; each = λ n lt. (holds.1.each n lt).0 })
 
-pub rig_opened : {D : Type 0} (disk : D → Disk) (device : D) (s : DurableState D) (hs : List ObjectHeader) (size : ℕ) → Opens disk device s hs → IsRig disk true 0 0 size s
+pub rig_opened : {D : Type 0} (disk : D → Disk) (device : D) (s : DurableState D) (hs : List ObjectHeader) (size : ℕ) → OpensDurable disk device s hs → IsRig disk true 0 0 size s
 rig_opened disk device s hs size opens = record {
   sound = λ _. opens.sound;
   load = record {
@@ -76,15 +76,15 @@ module _ {D : Type 0} (disk : D → Disk) (goes_on : Bool) (slots frozen_slots s
   rig_frozen new k frozen plan sound =
       rig_by new goes_on 0 slots k (freezing k (stored_of disk old)) plan (λ still. sound (rig.sound still)) frozen (frozen_now old.books.plan.geometry slots frozen_slots size (stored_of disk old) rig.load k)
 
-  pub rig_keepable : (age : ℕ) (f : Frozen) → (stored_of disk old).frozen ≡ Some f → (stored_of disk old).saved.age < age
+  pub rig_keepable : (age : ℕ) (f : FrozenPuts) → (stored_of disk old).frozen ≡ Some f → (stored_of disk old).saved.age < age
       → AreKeepable old.books.plan.geometry age (next_saved age f (stored_of disk old).saved).frames
   rig_keepable age f some later =
       next_keepable old.books.plan.geometry slots frozen_slots size (stored_of disk old) rig.load age f some later
 
-  pub rig_committed : (new : DurableState D) (age : ℕ) (f : Frozen) (k : ℕ) → (stored_of disk old).frozen ≡ Some f → (stored_of disk old).saved.age < age
-      → stored_of disk new ≡ committed age f (stored_of disk old) → new.books.plan ≡ old.books.plan → is_sound disk new → IsRig disk goes_on slots 0 k new
+  pub rig_committed : (new : DurableState D) (age : ℕ) (f : FrozenPuts) (k : ℕ) → (stored_of disk old).frozen ≡ Some f → (stored_of disk old).saved.age < age
+      → stored_of disk new ≡ stored_after_commit age f (stored_of disk old) → new.books.plan ≡ old.books.plan → is_sound disk new → IsRig disk goes_on slots 0 k new
   rig_committed new age f k some later is plan sound =
-      rig_by new goes_on slots 0 k (committed age f (stored_of disk old)) plan (λ still. sound) is (committed_now old.books.plan.geometry slots frozen_slots size (stored_of disk old) rig.load age f some later k)
+      rig_by new goes_on slots 0 k (stored_after_commit age f (stored_of disk old)) plan (λ still. sound) is (committed_now old.books.plan.geometry slots frozen_slots size (stored_of disk old) rig.load age f some later k)
 
   pub rig_journaled : (new : DurableState D) (age n : ℕ) (words : List ℕ) → stored_of disk new ≡ journaled age n words (stored_of disk old) → new.books.plan ≡ old.books.plan → is_sound disk new
       → (disk new.beneath).may_leave (disk new.beneath).seen → IsRig disk goes_on slots frozen_slots size new

@@ -8,7 +8,7 @@ use Rattle.model.specs.declared.object.Content.TheVariants as content
 use Rattle.model.specs.Keepable.{IsKeepable, AreKeepable, AreKeptWords}
 use Rattle.device.specs.Disk.{Disk}
 use Rattle.migrator.specs.Put.{Put, Kept, put_at, sum_of, held_slot}
-use Rattle.migrator.specs.Durable.{DurableState, Frozen, Stored, stored_of, is_sound}
+use Rattle.migrator.specs.Durable.{DurableState, FrozenPuts, Stored, stored_of, is_sound}
 
 -- a page that can be kept
 abbrev pub IsPage : Content Cap → Type 0
@@ -25,14 +25,14 @@ pub record IsLight (g : Geometry) (slots : ℕ) (puts : List Put) : Type 0 where
   pub few : sum_of held_slot puts ≤ slots
 
 -- the same of a checkpoint on its way, which writes so many objects
-pub record IsLightFor (g : Geometry) (slots size : ℕ) (f : Frozen) : Type 0 where
+pub record IsLightFor (g : Geometry) (slots size : ℕ) (f : FrozenPuts) : Type 0 where
   pub put : IsLight g slots f.put
   pub size_is : f.size ≡ size
 
 pub record IsLoad (g : Geometry) (slots frozen_slots size : ℕ) (s : Stored) : Type 0 where
   pub saved : AreKeepable g s.saved.age s.saved.frames
   pub working : IsLight g slots s.working
-  pub frozen : (f : Frozen) → s.frozen ≡ Some f → IsLightFor g frozen_slots size f
+  pub frozen : (f : FrozenPuts) → s.frozen ≡ Some f → IsLightFor g frozen_slots size f
 
 -- what is kept beside a store tells of it
 pub record IsRig {D : Type 0} (disk : D → Disk) (goes_on : Bool) (slots frozen_slots size : ℕ) (s : DurableState D) : Type 0 where

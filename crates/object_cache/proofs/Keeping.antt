@@ -13,7 +13,7 @@ use Rattle.model.specs.Keepable.{AreKeepable}
 use Rattle.model.specs.Machine.{touched_count, touching}
 use Rattle.device.specs.Disk.{Disk}
 use Rattle.migrator.specs.Put.{kept_count, kept_frame, held_slot, put_at, most}
-use Rattle.migrator.specs.Durable.{Stored, Frozen, stored_of}
+use Rattle.migrator.specs.Durable.{Stored, FrozenPuts, stored_of}
 use Rattle.capability.specs.Plain.{PlainState, HasRoom}
 use Rattle.capability.proofs.Touched.{marked_stays, length-touching}
 use Rattle.object_cache.specs.declared.snapshot.Snapshot.{Snapshot}
@@ -60,7 +60,7 @@ pending_count_same (s ∷ ss) (t ∷ ts) count each =
     let rest : pending_count ts ≡ pending_count ss = pending_count_same ss ts (omega (arith, count)) (λ n. each (suc n)) in
     omega (arith, rest, each zero)
 
-pub frozen_stay : (fs : List Frame) (ss ts : List Snapshot) → KeepsFrozen fs ss ts → (f : Frozen) → AreFrozen f ss → AreFrozen f ts
+pub frozen_stay : (fs : List Frame) (ss ts : List Snapshot) → KeepsFrozen fs ss ts → (f : FrozenPuts) → AreFrozen f ss → AreFrozen f ts
 frozen_stay fs ss ts keeps f are =
     let same : (n : ℕ) → is_pending (snapshot_at ts n) ≡ is_pending (snapshot_at ss n) = pending_same fs ss ts keeps in
     record {

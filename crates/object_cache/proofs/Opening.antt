@@ -31,7 +31,7 @@ use Rattle.migrator.proofs.Moving.{goes_trans}
 use Rattle.capability.specs.Plain.{PlainState}
 use Rattle.object_cache.specs.declared.snapshot.Snapshot.{Snapshot}
 use Rattle.object_cache.specs.declared.snapshot.Snapshot.TheVariants.{Below}
-use Rattle.object_cache.specs.Store.{Opens}
+use Rattle.object_cache.specs.Store.{OpensStore}
 use Rattle.object_cache.specs.PlainStore.{IsStore, present_frames, frozen_in, parts_of, view_of}
 use Rattle.object_cache.proofs.Stages.{absent_at, opened_stands}
 
@@ -104,7 +104,7 @@ contents_saved s k count working none size =
     ∙ ap (λ (f : Frame). f.content) (newest_saved s 0 k n working none)
     ∙ sym (get_or-map (λ (f : Frame). f.content) s.saved.frames n blank_frame))
 
-module _ {D : Type 0} (disk : D → Disk) (device : D) (d0 d : DurableState D) (hs : List ObjectHeader) (p : PlainState) (ss : List Snapshot) (opened : below.Opens disk device d0 hs) (reads : ReadsStore disk d0 d)
+module _ {D : Type 0} (disk : D → Disk) (device : D) (d0 d : DurableState D) (hs : List ObjectHeader) (p : PlainState) (ss : List Snapshot) (opened : below.OpensDurable disk device d0 hs) (reads : ReadsStore disk d0 d)
     (count : length (stored_of disk d0).saved.frames ≡ object_count (stored_of disk d0).saved.geometry)
     (present : p ≡ record {
       geometry = (stored_of disk d0).saved.geometry;
@@ -146,7 +146,7 @@ module _ {D : Type 0} (disk : D → Disk) (device : D) (d0 d : DurableState D) (
   unfolding s0
   open_stands = subst (λ (x : Stored). IsStore x p ss) (sym reads.stored) first_stands
 
-  pub open_opens : (disk d.beneath).failures ≡ (disk d0.beneath).failures → Opens disk device (parts_of disk (record { durable = d; present = p; snapshots = ss })) (view_of disk (record { durable = d; present = p; snapshots = ss }))
+  pub open_opens : (disk d.beneath).failures ≡ (disk d0.beneath).failures → OpensStore disk device (parts_of disk (record { durable = d; present = p; snapshots = ss })) (view_of disk (record { durable = d; present = p; snapshots = ss }))
   unfolding s0
   open_opens same = record {
     sound = reads.goes_on.sound opened.sound;
@@ -162,7 +162,7 @@ module _ {D : Type 0} (disk : D → Disk) (device : D) (d0 d : DurableState D) (
     none_frozen : (s : Stored) (fs : List Frame) → s.frozen ≡ None → option_map (frozen_in s fs) s.frozen ≡ None
     none_frozen s fs none = ap (option_map (frozen_in s fs)) none
 
-pub open_refuses : {D : Type 0} (disk : D → Disk) (device : D) (d0 d : DurableState D) (hs : List ObjectHeader) → below.Opens disk device d0 hs → ReadsStore disk d0 d → (e : OpenFault) → IsReason (disk d0.beneath) (disk d.beneath) e → Refuses disk device d.beneath e
+pub open_refuses : {D : Type 0} (disk : D → Disk) (device : D) (d0 d : DurableState D) (hs : List ObjectHeader) → below.OpensDurable disk device d0 hs → ReadsStore disk d0 d → (e : OpenFault) → IsReason (disk d0.beneath) (disk d.beneath) e → Refuses disk device d.beneath e
 open_refuses disk device d0 d hs opened reads e why = record {
   why = reason_on (disk device) (disk d0.beneath) (disk d.beneath) e opened.failures opened.looks.size opened.looks.seen why;
   looks = looks_on (disk device) (disk d0.beneath) (disk d.beneath) opened.looks reads.goes_on.size reads.seen reads.crash reads.any_moment;

@@ -7,7 +7,7 @@ use Rattle.model.specs.declared.frame.Frame.{Frame}
 use Rattle.model.specs.Frame.{frame_at}
 use Rattle.model.specs.Keepable.{AreKeepable, IsKeepable}
 use Rattle.migrator.specs.Put.{Put, Absent, Broken, Kept, put_at, put_or, kept_count, kept_frame, held_slot, most, HasRoom}
-use Rattle.migrator.specs.Durable.{Stored, Frozen, frozen_put, left_of, with_frozen, with_put}
+use Rattle.migrator.specs.Durable.{Stored, FrozenPuts, frozen_put, left_of, with_frozen, with_put}
 use Rattle.capability.specs.Plain.{PlainState}
 use Rattle.object_cache.specs.declared.snapshot.Snapshot.{Snapshot}
 use Rattle.object_cache.specs.declared.snapshot.Snapshot.TheVariants.{Below, Present, Copied}
@@ -30,11 +30,11 @@ above Present present a b other = refl
 above (Copied f) present a b other = refl
 
 -- what was put of each, with one more
-put_set : (o : Option Frozen) (f : Frozen) (n m : ℕ) (put : Put) → o ≡ Some f → frozen_put (option_map (with_put n put) o) m ≡ put_at (set f.put n put) m
-put_set o f n m put is = ap (λ (x : Option Frozen). frozen_put (option_map (with_put n put) x) m) is
+put_set : (o : Option FrozenPuts) (f : FrozenPuts) (n m : ℕ) (put : Put) → o ≡ Some f → frozen_put (option_map (with_put n put) o) m ≡ put_at (set f.put n put) m
+put_set o f n m put is = ap (λ (x : Option FrozenPuts). frozen_put (option_map (with_put n put) x) m) is
 
-put_was : (o : Option Frozen) (f : Frozen) (m : ℕ) → o ≡ Some f → frozen_put o m ≡ put_at f.put m
-put_was o f m is = ap (λ (x : Option Frozen). frozen_put x m) is
+put_was : (o : Option FrozenPuts) (f : FrozenPuts) (m : ℕ) → o ≡ Some f → frozen_put o m ≡ put_at f.put m
+put_was o f m is = ap (λ (x : Option FrozenPuts). frozen_put x m) is
 
 put_or_broken : (p : Put) (f : Frame) → kept_frame p ≡ 0 → put_or p f ≡ f
 put_or_broken Absent f none = refl
@@ -47,7 +47,7 @@ held_none Absent = inl refl
 held_none Broken = inr (λ e. cc)
 held_none (Kept f) = inr (λ e. cc)
 
-module _ (s : Stored) (p : PlainState) (ss : List Snapshot) (n : ℕ) (f : Frozen) (is : IsStore s p ss) (some : s.frozen ≡ Some f) (pending : snapshot_at ss n ≢ Below) (known : n < length ss) where
+module _ (s : Stored) (p : PlainState) (ss : List Snapshot) (n : ℕ) (f : FrozenPuts) (is : IsStore s p ss) (some : s.frozen ≡ Some f) (pending : snapshot_at ss n ≢ Below) (known : n < length ss) where
   abbrev pub fs : List Frame
   fs = present_frames p
 
@@ -93,7 +93,7 @@ module _ (s : Stored) (p : PlainState) (ss : List Snapshot) (n : ℕ) (f : Froze
     abbrev pub s1 : Stored
     s1 = with_frozen n (Kept frame) s
 
-    abbrev pub f1 : Frozen
+    abbrev pub f1 : FrozenPuts
     f1 = with_put n (Kept frame) f
 
     abbrev pub ts : List Snapshot
@@ -146,9 +146,9 @@ module _ (s : Stored) (p : PlainState) (ss : List Snapshot) (n : ℕ) (f : Froze
       once = put_once;
     }
 
-    the_one : (g : Frozen) → s1.frozen ≡ Some g → f1 ≡ g
+    the_one : (g : FrozenPuts) → s1.frozen ≡ Some g → f1 ≡ g
     the_one g is_some = some_same (sym (ap (option_map (with_put n (Kept frame))) some) ∙ is_some) where
-      some_same : {a b : Frozen} → Some a ≡ Some b → a ≡ b
+      some_same : {a b : FrozenPuts} → Some a ≡ Some b → a ≡ b
       some_same e = cc
 
     -- the store stands
@@ -163,7 +163,7 @@ module _ (s : Stored) (p : PlainState) (ss : List Snapshot) (n : ℕ) (f : Froze
       snapshots = length-set ss n Below ∙ is.snapshots;
       working = is.working;
       idle = λ none. absurd (let e : Some f1 ≡ None = sym (ap (option_map (with_put n (Kept frame))) some) ∙ none in cc);
-      running = λ g is_some. subst (λ (h : Frozen). AreFrozen h ts) (the_one g is_some) are_put;
+      running = λ g is_some. subst (λ (h : FrozenPuts). AreFrozen h ts) (the_one g is_some) are_put;
       keepable = λ g is_some. subst (AreKeepable s.saved.geometry most) (sym frozen_put_same) (is.keepable f some);
       unwritten = λ m blank. is.unwritten m blank ∙ ap (λ (xs : List Frame). frame_at xs m) (sym frozen_put_same);
     }
@@ -172,7 +172,7 @@ module _ (s : Stored) (p : PlainState) (ss : List Snapshot) (n : ℕ) (f : Froze
     pub aside_put : (g : FrozenFrames) → (aside_in s (frozen_frames s fs ss)).frozen ≡ Some g → aside_in s1 (frozen_frames s1 fs ts) ≡ stabilized 1 g (aside_in s (frozen_frames s fs ss))
     aside_put g is_some =
         ap (λ (xs : List Frame). aside_in s1 xs) frozen_put_same
-        ∙ ap (λ (o : Option Frozen). record { frozen = option_map (frozen_in s (frozen_frames s fs ss)) (option_map (with_put n (Kept frame)) o); saved = s.saved; to_move = s.to_move }) some
+        ∙ ap (λ (o : Option FrozenPuts). record { frozen = option_map (frozen_in s (frozen_frames s fs ss)) (option_map (with_put n (Kept frame)) o); saved = s.saved; to_move = s.to_move }) some
         ∙ ap (λ (k : ℕ). record { frozen = Some (record { frames = frozen_frames s fs ss; size = f.size; left = k }); saved = s.saved; to_move = s.to_move }) left_less
         ∙ ap (λ (h : FrozenFrames). stabilized 1 h (aside_in s (frozen_frames s fs ss))) (some_same (sym (ap (option_map (frozen_in s (frozen_frames s fs ss))) some) ∙ is_some)) where
           some_same : {a b : FrozenFrames} → Some a ≡ Some b → a ≡ b
@@ -183,7 +183,7 @@ module _ (s : Stored) (p : PlainState) (ss : List Snapshot) (n : ℕ) (f : Froze
   abbrev pub s2 : Stored
   s2 = with_frozen n Broken s
 
-  abbrev pub f2 : Frozen
+  abbrev pub f2 : FrozenPuts
   f2 = with_put n Broken f
 
   torn_here : (m : ℕ) → frozen_frame (snapshot_at ss m) (frame_at fs m) (below_at s2 m) ≡ frozen_frame (snapshot_at ss m) (frame_at fs m) (below_at s m)
@@ -234,17 +234,17 @@ module _ (s : Stored) (p : PlainState) (ss : List Snapshot) (n : ℕ) (f : Froze
     snapshots = is.snapshots;
     working = is.working;
     idle = λ none. absurd (let e : Some f2 ≡ None = sym (ap (option_map (with_put n Broken)) some) ∙ none in cc);
-    running = λ g is_some. subst (λ (h : Frozen). AreFrozen h ss) (some_same (sym (ap (option_map (with_put n Broken)) some) ∙ is_some)) are_torn;
+    running = λ g is_some. subst (λ (h : FrozenPuts). AreFrozen h ss) (some_same (sym (ap (option_map (with_put n Broken)) some) ∙ is_some)) are_torn;
     keepable = λ g is_some. subst (AreKeepable s.saved.geometry most) (sym frozen_torn_same) (is.keepable f some);
     unwritten = λ m blank. is.unwritten m blank ∙ ap (λ (xs : List Frame). frame_at xs m) (sym frozen_torn_same);
   } where
-    some_same : {a b : Frozen} → Some a ≡ Some b → a ≡ b
+    some_same : {a b : FrozenPuts} → Some a ≡ Some b → a ≡ b
     some_same e = cc
 
   pub aside_torn : (g : FrozenFrames) → (aside_in s (frozen_frames s fs ss)).frozen ≡ Some g → aside_in s2 (frozen_frames s2 fs ss) ≡ stabilized 0 g (aside_in s (frozen_frames s fs ss))
   aside_torn g is_some =
       ap (λ (xs : List Frame). aside_in s2 xs) frozen_torn_same
-      ∙ ap (λ (o : Option Frozen). record { frozen = option_map (frozen_in s (frozen_frames s fs ss)) (option_map (with_put n Broken) o); saved = s.saved; to_move = s.to_move }) some
+      ∙ ap (λ (o : Option FrozenPuts). record { frozen = option_map (frozen_in s (frozen_frames s fs ss)) (option_map (with_put n Broken) o); saved = s.saved; to_move = s.to_move }) some
       ∙ ap (λ (k : ℕ). record { frozen = Some (record { frames = frozen_frames s fs ss; size = f.size; left = k }); saved = s.saved; to_move = s.to_move }) same_left
       ∙ ap (λ (h : FrozenFrames). stabilized 0 h (aside_in s (frozen_frames s fs ss))) (some_same (sym (ap (option_map (frozen_in s (frozen_frames s fs ss))) some) ∙ is_some)) where
         some_same : {a b : FrozenFrames} → Some a ≡ Some b → a ≡ b

@@ -7,7 +7,7 @@ use Rattle.model.specs.Machine.{touched_count, untouched}
 use Rattle.device.specs.Disk.{Disk}
 use Rattle.migrator.specs.Put.{held_slot, sum_of, most}
 use Rattle.migrator.specs.Saved.{SavedFrames, LeavesEither, LeavesOneOf}
-use Rattle.migrator.specs.Durable.{Stored, Frozen, DurableState, left_of, stored_of, is_sound, freezing, committed, next_saved, moved}
+use Rattle.migrator.specs.Durable.{Stored, FrozenPuts, DurableState, left_of, stored_of, is_sound, freezing, stored_after_commit, next_saved, moved}
 use Rattle.migrator.specs.Durable as durable
 use Rattle.capability.specs.Plain.{PlainState}
 use Rattle.object_cache.specs.declared.snapshot.Snapshot.{Snapshot}
@@ -27,7 +27,7 @@ none_in f (Some x) is = absurd cc
 -- how many frames are left is told by the durable store
 pub left_same : (s : Stored) (fs : List Frame) → option_map left_of s.frozen ≡ left_in (aside_in s fs)
 left_same s fs = left_of_option s.frozen where
-  left_of_option : (o : Option Frozen) → option_map left_of o ≡ option_map (λ (f : FrozenFrames). f.left) (option_map (frozen_in s fs) o)
+  left_of_option : (o : Option FrozenPuts) → option_map left_of o ≡ option_map (λ (f : FrozenFrames). f.left) (option_map (frozen_in s fs) o)
   left_of_option None = refl
   left_of_option (Some f) = refl
 
@@ -53,7 +53,7 @@ module _ {D : Type 0} (disk : D → Disk) (s t : StoreState D) (same : s ≡ t) 
   -- so many frames may be put of those that are left
   pub asked_here : (k n : ℕ) → option_map left_of (stored_of disk s.durable).frozen ≡ Some k → n ≤ k → (f : FrozenFrames) × ((view_of disk t).aside.frozen ≡ Some f) × (n ≤ f.left)
   asked_here k n told within = subst (λ (r : StoreState D). (f : FrozenFrames) × ((view_of disk r).aside.frozen ≡ Some f) × (n ≤ f.left)) same (asked st.frozen told) where
-    asked : (o : Option Frozen) → option_map left_of o ≡ Some k → (f : FrozenFrames) × (option_map (frozen_in st fs) o ≡ Some f) × (n ≤ f.left)
+    asked : (o : Option FrozenPuts) → option_map left_of o ≡ Some k → (f : FrozenFrames) × (option_map (frozen_in st fs) o ≡ Some f) × (n ≤ f.left)
     asked None told = cc
     asked (Some h) told = let is_left : left_of h ≡ k = cc in (frozen_in st fs h, refl, omega (arith, within, is_left))
 
@@ -89,7 +89,7 @@ module _ {D : Type 0} (disk : D → Disk) (s t : StoreState D) (same : s ≡ t) 
     own : (f : FrozenFrames) → (view_of disk s).aside.frozen ≡ Some f → MayCommit age f (view_of disk s).aside.saved
     own = subst (λ (r : StoreState D). (f : FrozenFrames) → (view_of disk r).aside.frozen ≡ Some f → MayCommit age f (view_of disk r).aside.saved) (sym same) ready
 
-    pub may_commit : (h : Frozen) → (stored_of disk s.durable).frozen ≡ Some h → durable.MayCommit age h (stored_of disk s.durable).saved
+    pub may_commit : (h : FrozenPuts) → (stored_of disk s.durable).frozen ≡ Some h → durable.MayCommit age h (stored_of disk s.durable).saved
     may_commit h some =
         let may = own (frozen_in st fs h) (ap (option_map (frozen_in st fs)) some) in
         record {
@@ -100,36 +100,36 @@ module _ {D : Type 0} (disk : D → Disk) (s t : StoreState D) (same : s ≡ t) 
 
   module _ (age : ℕ) (d : DurableState D) where
     abbrev IsStable : Type 0
-    IsStable = (h : Frozen) × (st.frozen ≡ Some h) × (left_of h ≡ 0)
+    IsStable = (h : FrozenPuts) × (st.frozen ≡ Some h) × (left_of h ≡ 0)
 
-    pub commit_stands : {T E : Type 0} (r : Result T E) → ((h : Frozen) → (stored_of disk s.durable).frozen ≡ Some h → OnOk r (stored_of disk d ≡ committed age h (stored_of disk s.durable)))
-        → OnOk r ((h : Frozen) × ((stored_of disk s.durable).frozen ≡ Some h) × (left_of h ≡ 0)) → OnErr r (stored_of disk d ≡ stored_of disk s.durable) → IsStore (stored_of disk d) s.present s.snapshots
+    pub commit_stands : {T E : Type 0} (r : Result T E) → ((h : FrozenPuts) → (stored_of disk s.durable).frozen ≡ Some h → OnOk r (stored_of disk d ≡ stored_after_commit age h (stored_of disk s.durable)))
+        → OnOk r ((h : FrozenPuts) × ((stored_of disk s.durable).frozen ≡ Some h) × (left_of h ≡ 0)) → OnErr r (stored_of disk d ≡ stored_of disk s.durable) → IsStore (stored_of disk d) s.present s.snapshots
     commit_stands (Ok x) done stable unchanged = subst (λ (x : Stored). IsStore x s.present s.snapshots) (sym (done stable.0 stable.1)) (over_stands st s.present s.snapshots stable.0 age is stable.1 stable.2)
     commit_stands (Err e) done stable unchanged = subst (λ (x : Stored). IsStore x s.present s.snapshots) (sym unchanged) is
 
-    commit_done : (h : Frozen) → st.frozen ≡ Some h → left_of h ≡ 0 → (f : FrozenFrames) → (view_of disk s).aside.frozen ≡ Some f → stored_of disk d ≡ committed age h st →
-        (view_of disk (record { durable = d; present = s.present; snapshots = s.snapshots })).aside ≡ store.committed age f (view_of disk s).aside
+    commit_done : (h : FrozenPuts) → st.frozen ≡ Some h → left_of h ≡ 0 → (f : FrozenFrames) → (view_of disk s).aside.frozen ≡ Some f → stored_of disk d ≡ stored_after_commit age h st →
+        (view_of disk (record { durable = d; present = s.present; snapshots = s.snapshots })).aside ≡ store.aside_after_commit age f (view_of disk s).aside
     commit_done h found stable f some done =
         ap (λ (x : Stored). aside_in x (frozen_frames x (present_frames s.present) s.snapshots)) done
         ∙ over_aside st s.present s.snapshots h age is found stable
-        ∙ ap (λ (h : FrozenFrames). store.committed age h (view_of disk s).aside) (some_frozen (sym (ap (option_map (frozen_in st fs)) found) ∙ some))
+        ∙ ap (λ (h : FrozenFrames). store.aside_after_commit age h (view_of disk s).aside) (some_frozen (sym (ap (option_map (frozen_in st fs)) found) ∙ some))
 
-    commit_on : {T E : Type 0} (r : Result T E) → ((h : Frozen) → st.frozen ≡ Some h → OnOk r (stored_of disk d ≡ committed age h st)) → OnOk r IsStable → (f : FrozenFrames) → (view_of disk s).aside.frozen ≡ Some f →
-        OnOk r ((view_of disk (record { durable = d; present = s.present; snapshots = s.snapshots })).aside ≡ store.committed age f (view_of disk s).aside)
+    commit_on : {T E : Type 0} (r : Result T E) → ((h : FrozenPuts) → st.frozen ≡ Some h → OnOk r (stored_of disk d ≡ stored_after_commit age h st)) → OnOk r IsStable → (f : FrozenFrames) → (view_of disk s).aside.frozen ≡ Some f →
+        OnOk r ((view_of disk (record { durable = d; present = s.present; snapshots = s.snapshots })).aside ≡ store.aside_after_commit age f (view_of disk s).aside)
     commit_on (Ok x) done stable f some = commit_done stable.0 stable.1 stable.2 f some (done stable.0 stable.1)
     commit_on (Err e) done stable f some = tt
 
-    pub commit_aside : {T E : Type 0} (r : Result T E) → ((h : Frozen) → (stored_of disk s.durable).frozen ≡ Some h → OnOk r (stored_of disk d ≡ committed age h (stored_of disk s.durable)))
-        → OnOk r ((h : Frozen) × ((stored_of disk s.durable).frozen ≡ Some h) × (left_of h ≡ 0))
-        → (f : FrozenFrames) → (view_of disk t).aside.frozen ≡ Some f → OnOk r ((view_of disk (record { durable = d; present = s.present; snapshots = s.snapshots })).aside ≡ store.committed age f (view_of disk t).aside)
-    commit_aside r done stable = subst (λ (x : StoreState D). (f : FrozenFrames) → (view_of disk x).aside.frozen ≡ Some f → OnOk r ((view_of disk (record { durable = d; present = s.present; snapshots = s.snapshots })).aside ≡ store.committed age f (view_of disk x).aside)) same
+    pub commit_aside : {T E : Type 0} (r : Result T E) → ((h : FrozenPuts) → (stored_of disk s.durable).frozen ≡ Some h → OnOk r (stored_of disk d ≡ stored_after_commit age h (stored_of disk s.durable)))
+        → OnOk r ((h : FrozenPuts) × ((stored_of disk s.durable).frozen ≡ Some h) × (left_of h ≡ 0))
+        → (f : FrozenFrames) → (view_of disk t).aside.frozen ≡ Some f → OnOk r ((view_of disk (record { durable = d; present = s.present; snapshots = s.snapshots })).aside ≡ store.aside_after_commit age f (view_of disk t).aside)
+    commit_aside r done stable = subst (λ (x : StoreState D). (f : FrozenFrames) → (view_of disk x).aside.frozen ≡ Some f → OnOk r ((view_of disk (record { durable = d; present = s.present; snapshots = s.snapshots })).aside ≡ store.aside_after_commit age f (view_of disk x).aside)) same
         (λ f some. commit_on r done stable f some)
 
     -- what a crash leaves in its course
-    leaves_next : (h : Frozen) → st.frozen ≡ Some h → LeavesOneOf (disk s.durable.beneath) (disk d.beneath) st.saved (option_map (λ (f : Frozen). next_saved age f st.saved) st.frozen) → LeavesEither (disk s.durable.beneath) (disk d.beneath) st.saved (next_saved age h st.saved)
-    leaves_next h found moments = subst (λ (o : Option Frozen). LeavesOneOf (disk s.durable.beneath) (disk d.beneath) st.saved (option_map (λ (f : Frozen). next_saved age f st.saved) o)) found moments
+    leaves_next : (h : FrozenPuts) → st.frozen ≡ Some h → LeavesOneOf (disk s.durable.beneath) (disk d.beneath) st.saved (option_map (λ (f : FrozenPuts). next_saved age f st.saved) st.frozen) → LeavesEither (disk s.durable.beneath) (disk d.beneath) st.saved (next_saved age h st.saved)
+    leaves_next h found moments = subst (λ (o : Option FrozenPuts). LeavesOneOf (disk s.durable.beneath) (disk d.beneath) st.saved (option_map (λ (f : FrozenPuts). next_saved age f st.saved) o)) found moments
 
-    moments_here : LeavesOneOf (disk s.durable.beneath) (disk d.beneath) st.saved (option_map (λ (f : Frozen). next_saved age f st.saved) st.frozen)
+    moments_here : LeavesOneOf (disk s.durable.beneath) (disk d.beneath) st.saved (option_map (λ (f : FrozenPuts). next_saved age f st.saved) st.frozen)
         → (f : FrozenFrames) → (view_of disk s).aside.frozen ≡ Some f → f.left ≡ 0 → LeavesEither (disk s.durable.beneath) (disk d.beneath) st.saved (store.next_saved age f st.saved)
     moments_here moments f some stable =
         let found = running_in st fs st.frozen f some in
@@ -138,7 +138,7 @@ module _ {D : Type 0} (disk : D → Disk) (s t : StoreState D) (same : s ≡ t) 
         ap (λ (x : Aside). x.saved) (over_aside st s.present s.snapshots found.0 age is found.1 none) ∙ ap (λ (h : FrozenFrames). store.next_saved age h st.saved) found.2 in
         subst (λ (n : SavedFrames). LeavesEither (disk s.durable.beneath) (disk d.beneath) st.saved n) next (leaves_next found.0 found.1 moments)
 
-    pub commit_moments : LeavesOneOf (disk s.durable.beneath) (disk d.beneath) (stored_of disk s.durable).saved (option_map (λ (f : Frozen). next_saved age f (stored_of disk s.durable).saved) (stored_of disk s.durable).frozen)
+    pub commit_moments : LeavesOneOf (disk s.durable.beneath) (disk d.beneath) (stored_of disk s.durable).saved (option_map (λ (f : FrozenPuts). next_saved age f (stored_of disk s.durable).saved) (stored_of disk s.durable).frozen)
         → (f : FrozenFrames) → (view_of disk t).aside.frozen ≡ Some f → f.left ≡ 0 → LeavesEither (disk t.durable.beneath) (disk d.beneath) (view_of disk t).aside.saved (store.next_saved age f (view_of disk t).aside.saved)
     commit_moments moments = subst (λ (x : StoreState D). (f : FrozenFrames) → (view_of disk x).aside.frozen ≡ Some f → f.left ≡ 0 → LeavesEither (disk x.durable.beneath) (disk d.beneath) (view_of disk x).aside.saved (store.next_saved age f (view_of disk x).aside.saved)) same
         (moments_here moments)

@@ -14,7 +14,7 @@ use Rattle.model.specs.Machine.{touched_count, untouched}
 use Rattle.model.specs.Sound.{object_count}
 use Rattle.migrator.specs.Put.{Put, Absent, put_at, put_or, overlaid, kept_count, kept_frame, held_slot, most}
 use Rattle.migrator.specs.Saved.{SavedFrames, home_saved}
-use Rattle.migrator.specs.Durable.{Stored, Frozen, left_of, frozen_put, freezing, committed, moved}
+use Rattle.migrator.specs.Durable.{Stored, FrozenPuts, left_of, frozen_put, freezing, stored_after_commit, moved}
 use Rattle.migrator.proofs.Kept.{maps_same}
 use Rattle.capability.specs.Plain.{PlainState}
 use Rattle.object_cache.specs.declared.snapshot.Snapshot.{Snapshot}
@@ -50,8 +50,8 @@ pending_one Present = omega arith
 pending_one (Copied f) = omega arith
 
 -- what lies below where no checkpoint is on its way
-idle_below : (s : Stored) (o : Option Frozen) (n : ℕ) → o ≡ None → put_or (frozen_put o n) (frame_at s.saved.frames n) ≡ frame_at s.saved.frames n
-idle_below s o n none = ap (λ (x : Option Frozen). put_or (frozen_put x n) (frame_at s.saved.frames n)) none
+idle_below : (s : Stored) (o : Option FrozenPuts) (n : ℕ) → o ≡ None → put_or (frozen_put o n) (frame_at s.saved.frames n) ≡ frame_at s.saved.frames n
+idle_below s o n none = ap (λ (x : Option FrozenPuts). put_or (frozen_put x n) (frame_at s.saved.frames n)) none
 
 -- ---- a checkpoint begins
 
@@ -117,11 +117,11 @@ module _ (s : Stored) (p : PlainState) (ss : List Snapshot) (size : ℕ) (is : I
         snapshots = length-map p.touched snapshot_of ∙ is.marks;
         working = ap (λ (k : ℕ). replicate k Absent) (ap length is.working ∙ length-replicate {A = Put} (object_count s.saved.geometry) Absent);
         idle = λ e. absurd cc;
-        running = λ f some. subst (λ (h : Frozen). AreFrozen h marks) (some_same some) begun_are;
+        running = λ f some. subst (λ (h : FrozenPuts). AreFrozen h marks) (some_same some) begun_are;
         keepable = λ f some. subst (AreKeepable s.saved.geometry most) (sym begun_frozen) keepable;
         unwritten = λ n blank. ap (λ (xs : List Frame). frame_at xs n) (sym begun_frozen);
       } where
-        some_same : {a b : Frozen} → Some a ≡ Some b → a ≡ b
+        some_same : {a b : FrozenPuts} → Some a ≡ Some b → a ≡ b
         some_same e = cc
 
       pub begun_aside : aside_in begun (frozen_frames begun (present_frames p) marks) ≡ store.freezing (present_frames p) (touched_count p.touched) (aside_in s (frozen_frames s (present_frames p) ss))
@@ -134,9 +134,9 @@ module _ (s : Stored) (p : PlainState) (ss : List Snapshot) (size : ℕ) (is : I
 
 -- ---- it is committed
 
-module _ (s : Stored) (p : PlainState) (ss : List Snapshot) (f : Frozen) (age : ℕ) (is : IsStore s p ss) (some : s.frozen ≡ Some f) (stable : left_of f ≡ 0) where
+module _ (s : Stored) (p : PlainState) (ss : List Snapshot) (f : FrozenPuts) (age : ℕ) (is : IsStore s p ss) (some : s.frozen ≡ Some f) (stable : left_of f ≡ 0) where
   abbrev pub over : Stored
-  over = committed age f s
+  over = stored_after_commit age f s
 
   below_all : (n : ℕ) → snapshot_at ss n ≡ Below
   below_all n = let are = is.running f some in none_pending ss n (omega (arith, are.count, stable))
@@ -146,7 +146,7 @@ module _ (s : Stored) (p : PlainState) (ss : List Snapshot) (f : Frozen) (age : 
   frozen_overlaid = maps_same (λ n. frozen_frame (snapshot_at ss n) (frame_at (present_frames p) n) (below_at s n)) (λ n. put_or (put_at f.put n) (frame_at s.saved.frames n)) (length s.saved.frames)
       (λ n lt.
       ap (λ (x : Snapshot). frozen_frame x (frame_at (present_frames p) n) (below_at s n)) (below_all n)
-      ∙ ap (λ (o : Option Frozen). put_or (frozen_put o n) (frame_at s.saved.frames n)) some)
+      ∙ ap (λ (o : Option FrozenPuts). put_or (frozen_put o n) (frame_at s.saved.frames n)) some)
 
   length_over : length (overlaid f.put s.saved.frames) ≡ length s.saved.frames
   unfolding overlaid
@@ -175,7 +175,7 @@ module _ (s : Stored) (p : PlainState) (ss : List Snapshot) (f : Frozen) (age : 
     unwritten = λ n blank. is.unwritten n blank ∙ ap (λ (xs : List Frame). frame_at xs n) (sym frozen_over);
   }
 
-  pub over_aside : aside_in over (frozen_frames over (present_frames p) ss) ≡ store.committed age (frozen_in s (frozen_frames s (present_frames p) ss) f) (aside_in s (frozen_frames s (present_frames p) ss))
+  pub over_aside : aside_in over (frozen_frames over (present_frames p) ss) ≡ store.aside_after_commit age (frozen_in s (frozen_frames s (present_frames p) ss) f) (aside_in s (frozen_frames s (present_frames p) ss))
   over_aside =
       ap (λ (fs : List Frame). record { frozen = None; saved = record { geometry = s.saved.geometry; frames = fs; generation = s.saved.generation + 1; entries = f.size; age = age }; to_move = f.size }) (sym frozen_overlaid)
 

@@ -6,7 +6,7 @@ use Rattle.model.specs.Frame.{frame_at}
 use Rattle.model.specs.Keepable.{IsKeepable}
 use Rattle.device.specs.Disk.{Disk}
 use Rattle.migrator.specs.Put.{Broken, Kept, HasRoom, most}
-use Rattle.migrator.specs.Durable.{Stored, Frozen, DurableState, GoesOn, left_of, stored_of, with_frozen}
+use Rattle.migrator.specs.Durable.{Stored, FrozenPuts, DurableState, GoesOn, left_of, stored_of, with_frozen}
 use Rattle.migrator.proofs.Moving.{goes_trans, goes_none}
 use Rattle.object_cache.specs.declared.snapshot.Snapshot.{Snapshot}
 use Rattle.object_cache.specs.declared.snapshot.Snapshot.TheVariants.{Below}
@@ -17,7 +17,7 @@ use Rattle.object_cache.specs.PlainStore.{StoreState, IsStore, PutsBy, present_f
 use Rattle.object_cache.proofs.Putting.{room, frame_keepable, stands_put, aside_put, stands_torn, aside_torn}
 
 -- a checkpoint is on its way, by its frozen frames
-pub running_in : (s : Stored) (fs : List Frame) (o : Option Frozen) (f : FrozenFrames) → option_map (frozen_in s fs) o ≡ Some f → (h : Frozen) × (o ≡ Some h) × (frozen_in s fs h ≡ f)
+pub running_in : (s : Stored) (fs : List Frame) (o : Option FrozenPuts) (f : FrozenFrames) → option_map (frozen_in s fs) o ≡ Some f → (h : FrozenPuts) × (o ≡ Some h) × (frozen_in s fs h ≡ f)
 running_in s fs None f is = absurd cc
 running_in s fs (Some h) f is = (h, refl, some_same is) where
   some_same : {a b : FrozenFrames} → Some a ≡ Some b → a ≡ b
@@ -38,13 +38,13 @@ module _ {D : Type 0} (disk : D → Disk) where
     abbrev pub st : Stored
     st = stored_of disk s.durable
 
-    found : (h : Frozen) × (st.frozen ≡ Some h)
+    found : (h : FrozenPuts) × (st.frozen ≡ Some h)
     found =
         let own = subst (λ (r : StoreState D). (f : FrozenFrames) × ((view_of disk r).aside.frozen ≡ Some f) × (0 < f.left)) (sym same) asked in
         let one = running_in st (frozen_frames st (present_frames s.present) s.snapshots) st.frozen own.0 own.1 in
         (one.0, one.1)
 
-    pub room_at : (f : Frozen) → (stored_of disk s.durable).frozen ≡ Some f → HasRoom f.size f.put n
+    pub room_at : (f : FrozenPuts) → (stored_of disk s.durable).frozen ≡ Some f → HasRoom f.size f.put n
     room_at f some = room st s.present s.snapshots n f is some pending known
 
     pub keepable_at : (x : Snapshot) → x ≡ snapshot_at s.snapshots n → IsKeepable (stored_of disk s.durable).saved.geometry most n (frozen_frame x (frame_at (present_frames s.present) n) (below_at (stored_of disk s.durable) n))

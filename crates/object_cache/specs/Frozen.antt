@@ -4,7 +4,7 @@ use Rattle.std.specs.List.{range_with_len}
 use Rattle.model.specs.declared.frame.Frame.{Frame}
 use Rattle.model.specs.Frame.{frame_at}
 use Rattle.migrator.specs.Put.{put_at, kept_count, kept_frame, held_slot}
-use Rattle.migrator.specs.Durable.{Frozen, Stored, below_at}
+use Rattle.migrator.specs.Durable.{FrozenPuts, Stored, below_at}
 use Rattle.object_cache.specs.declared.snapshot.Snapshot.{Snapshot}
 use Rattle.object_cache.specs.declared.snapshot.Snapshot.TheVariants.{Below, Present, Copied}
 
@@ -44,7 +44,7 @@ snapshot_of true = Present
 snapshot_of false = Below
 
 -- each of the objects that a checkpoint writes is pending or was put, and a slot that was torn belongs to a pending one
-pub record AreFrozen (f : Frozen) (ss : List Snapshot) : Type 0 where
+pub record AreFrozen (f : FrozenPuts) (ss : List Snapshot) : Type 0 where
   pub count : pending_count ss + kept_count f.put ≡ f.size
   pub each : length f.put ≡ length ss
   pub slots : (n : ℕ) → held_slot (put_at f.put n) ≤ kept_frame (put_at f.put n) + is_pending (snapshot_at ss n)

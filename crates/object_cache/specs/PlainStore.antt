@@ -9,7 +9,7 @@ use Rattle.model.specs.Machine.{touched_count}
 use Rattle.model.specs.Sound.{object_count}
 use Rattle.device.specs.Disk.{Disk}
 use Rattle.migrator.specs.Put.{Absent, most}
-use Rattle.migrator.specs.Durable.{DurableState, Frozen, Stored, GoesOn, left_of, stored_of, is_sound}
+use Rattle.migrator.specs.Durable.{DurableState, FrozenPuts, Stored, GoesOn, left_of, stored_of, is_sound}
 use Rattle.capability.specs.Parts.{Parts}
 use Rattle.capability.specs.Plain.{PlainState, HasRoom, IsThere, with_content_at}
 use Rattle.object_cache.specs.declared.snapshot.Snapshot.{Snapshot}
@@ -26,7 +26,7 @@ pub record StoreState (D : Type 0) : Type 0 where
 abbrev pub present_frames : PlainState → List Frame
 present_frames p = frames_in p.headers p.contents
 
-abbrev pub frozen_in : Stored → List Frame → Frozen → FrozenFrames
+abbrev pub frozen_in : Stored → List Frame → FrozenPuts → FrozenFrames
 frozen_in s fs f = record { frames = fs; size = f.size; left = left_of f }
 
 abbrev pub aside_in : Stored → List Frame → Aside
@@ -43,8 +43,8 @@ pub record IsStore (s : Stored) (p : PlainState) (ss : List Snapshot) : Type 0 w
   pub snapshots : length ss ≡ object_count s.saved.geometry
   pub working : s.working ≡ replicate (object_count s.saved.geometry) Absent
   pub idle : s.frozen ≡ None → (n : ℕ) → snapshot_at ss n ≡ Below
-  pub running : (f : Frozen) → s.frozen ≡ Some f → AreFrozen f ss
-  pub keepable : (f : Frozen) → s.frozen ≡ Some f → AreKeepable s.saved.geometry most (frozen_frames s (present_frames p) ss)
+  pub running : (f : FrozenPuts) → s.frozen ≡ Some f → AreFrozen f ss
+  pub keepable : (f : FrozenPuts) → s.frozen ≡ Some f → AreKeepable s.saved.geometry most (frozen_frames s (present_frames p) ss)
   pub unwritten : (n : ℕ) → slice_index_or p.touched n false ≡ false → frame_at (present_frames p) n ≡ frame_at (frozen_frames s (present_frames p) ss) n
 
 -- a number may be written where it has room, is marked, and its frozen frame is no longer the present one

@@ -39,7 +39,7 @@ pub record Leads {D : Type 0} (disk : D → Disk) (old new : View D) : Type 0 wh
 
 -- a device was opened, and nothing was written: the present objects are the saved ones, and a crash leaves what a read
 -- gives
-pub record Opens {D : Type 0} (disk : D → Disk) (device : D) (parts : Parts) (store : View D) : Type 0 where
+pub record OpensStore {D : Type 0} (disk : D → Disk) (device : D) (parts : Parts) (store : View D) : Type 0 where
   pub sound : store.is_sound
   pub holds : Holds (disk device).sectors (disk device).seen store.aside.saved
   pub frames : frames_of parts ≡ store.aside.saved.frames
@@ -74,8 +74,8 @@ abbrev pub next_saved : ℕ → FrozenFrames → SavedFrames → SavedFrames
 next_saved age f s = record { geometry = s.geometry; frames = f.frames; generation = s.generation + 1; entries = f.size; age = age }
 
 -- they are saved
-abbrev pub committed : ℕ → FrozenFrames → Aside → Aside
-committed age f c = record { frozen = None; saved = next_saved age f c.saved; to_move = f.size }
+abbrev pub aside_after_commit : ℕ → FrozenFrames → Aside → Aside
+aside_after_commit age f c = record { frozen = None; saved = next_saved age f c.saved; to_move = f.size }
 
 -- frozen frames may be saved at an age, once all of them are in the log
 pub record MayCommit (age : ℕ) (f : FrozenFrames) (s : SavedFrames) : Type 0 where

@@ -9,7 +9,7 @@ ghost use Rattle.migrator.specs.Saved.{Holds, LeavesSaved, LeavesEither};
 ghost use Rattle.migrator.specs.Opened.{Refuses};
 ghost use Rattle.capability.specs.Parts.{frames_of};
 ghost use Rattle.migrator.specs.Refused.{IsCommitAnswer, IsFreezeAnswer, IsRefused};
-ghost use Rattle.object_cache.specs.Store.{FrozenFrames, View, Leads, Opens, freezing, stabilized, next_saved, committed, IsStabilizeAnswer, MayCommit, left_in, moved, moved_saved};
+ghost use Rattle.object_cache.specs.Store.{FrozenFrames, View, Leads, OpensStore, freezing, stabilized, next_saved, aside_after_commit, IsStabilizeAnswer, MayCommit, left_in, moved, moved_saved};
 
 use capability::PresentFrames;
 use device::{Device, Failed};
@@ -34,7 +34,7 @@ pub trait ObjectStore<D: Device>: PresentFrames + Sized {
     /// A refusal hands the device back: `Failed` exactly where the device failed, `NoMemory` only
     /// where memory ran out, and else the least of the reasons 1 to 7 to refuse an image.
     fn open(alloc: Global, device: D, setting: Self::Setting) -> Result<Self, OpenRefused<D>>
-        ensures opened { IfOk result (λ s. Opens D.disk device (Self.parts s) (view s)) }
+        ensures opened { IfOk result (λ s. OpensStore D.disk device (Self.parts s) (view s)) }
         ensures refused { IfErr result (λ r. Refuses D.disk device r.device r.fault) };
 
     /// Gives the device back, and makes no call of it.
@@ -126,7 +126,7 @@ pub trait ObjectStore<D: Device>: PresentFrames + Sized {
         ensures touched { (Self.parts self.new).touched ≡ (Self.parts self.old).touched }
         ensures geometry { (Self.parts self.new).geometry ≡ (Self.parts self.old).geometry }
         ensures aside { (f : FrozenFrames) → (view self.old).aside.frozen ≡ Some f
-            → OnOk result ((view self.new).aside ≡ committed age f (view self.old).aside) }
+            → OnOk result ((view self.new).aside ≡ aside_after_commit age f (view self.old).aside) }
         ensures sound { OnOk result ((view self.new).is_sound) }
         ensures size { (D.disk (view self.new).beneath).sectors ≡ (D.disk (view self.old).beneath).sectors }
         ensures any_moment { (f : FrozenFrames) → (view self.old).aside.frozen ≡ Some f → f.left ≡ 0

@@ -3,36 +3,35 @@ use Rattle.std.proofs.Common.{◌≡◌, ℕ, List, Result, Ok, Err, sym, subst}
 use Rattle.model.specs.declared.answer.MemoryFault.{MemoryFault}
 use Rattle.model.specs.declared.geometry.Geometry.{Geometry}
 use Rattle.model.specs.declared.object.Object.{Object}
-use Rattle.model.specs.Frame.{objects_of}
 use Rattle.model.specs.World.{with_word}
 use Rattle.model_laws.proofs.InvocationFrame.{word_frame}
-use Rattle.capability.specs.Parts.{Parts, frames_of}
+use Rattle.capability.specs.Parts.{Parts, objects_in}
 use Rattle.space_bank.specs.Banks.{AreCounted, BanksState}
 use Rattle.address_space.specs.References.{IsStored}
 use Rattle.gate.proofs.BankStates.{counted_looked, counted_on}
 use Rattle.gate.proofs.Standing.{LooksAs}
 
 abbrev IsCountedAt : Parts → BanksState → Type 0
-IsCountedAt p s = AreCounted p.geometry (objects_of (frames_of p)) s
+IsCountedAt p s = AreCounted p.geometry (objects_in p) s
 
 -- after a look
 pub looked_counted : (old new : Parts) (s : BanksState) → LooksAs old new → IsCountedAt old s → IsCountedAt new s
 looked_counted = counted_looked
 
-word_counted : (mid new : Parts) (s : BanksState) (page i word : ℕ) → new.geometry ≡ mid.geometry → objects_of (frames_of new) ≡ with_word (objects_of (frames_of mid)) page i word →
+word_counted : (mid new : Parts) (s : BanksState) (page i word : ℕ) → new.geometry ≡ mid.geometry → objects_in new ≡ with_word (objects_in mid) page i word →
     IsCountedAt mid s → IsCountedAt new s
 word_counted mid new s page i word geometry is h =
-    subst (λ (g : Geometry). AreCounted g (objects_of (frames_of new)) s) (sym geometry)
+    subst (λ (g : Geometry). AreCounted g (objects_in new) s) (sym geometry)
     (subst (λ (us : List Object). AreCounted mid.geometry us s) (sym is)
-    (counted_on mid.geometry (objects_of (frames_of mid)) (with_word (objects_of (frames_of mid)) page i word) s (word_frame (objects_of (frames_of mid)) page i word) h))
+    (counted_on mid.geometry (objects_in mid) (with_word (objects_in mid) page i word) s (word_frame (objects_in mid) page i word) h))
 
-pub same_counted : (mid new : Parts) (s : BanksState) → new.geometry ≡ mid.geometry → objects_of (frames_of new) ≡ objects_of (frames_of mid) → IsCountedAt mid s → IsCountedAt new s
+pub same_counted : (mid new : Parts) (s : BanksState) → new.geometry ≡ mid.geometry → objects_in new ≡ objects_in mid → IsCountedAt mid s → IsCountedAt new s
 same_counted mid new s geometry is h =
-    subst (λ (g : Geometry). AreCounted g (objects_of (frames_of new)) s) (sym geometry)
+    subst (λ (g : Geometry). AreCounted g (objects_in new) s) (sym geometry)
     (subst (λ (us : List Object). AreCounted mid.geometry us s) (sym is) h)
 
 -- after a store, or a fault
 pub stored_counted : (mid new : Parts) (s : BanksState) (p address word : ℕ) (r : Result (Unit {0}) MemoryFault) → new.geometry ≡ mid.geometry →
-    IsStored mid.geometry.log (objects_of (frames_of mid)) mid.touched p address word (objects_of (frames_of new)) new.touched r → IsCountedAt mid s → IsCountedAt new s
+    IsStored mid.geometry.log (objects_in mid) mid.touched p address word (objects_in new) new.touched r → IsCountedAt mid s → IsCountedAt new s
 stored_counted mid new s p address word (Ok done) geometry stored h = word_counted mid new s stored.0 _ word geometry stored.2 h
 stored_counted mid new s p address word (Err why) geometry stored h = same_counted mid new s geometry stored.1 h

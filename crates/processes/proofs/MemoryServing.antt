@@ -22,10 +22,10 @@ use Rattle.model_laws.proofs.InvocationFrame.{word_frame}
 use Rattle.model_laws.proofs.Usage.{SameFrame, frame_refl, tests_at}
 use Rattle.capability.specs.declared.present.PrepareFault.{PrepareFault}
 use Rattle.capability.specs.declared.present.PrepareFault.TheVariants as prepare
-use Rattle.capability.specs.Parts.{IsUnchanged, Looks, LooksUp, Parts, frames_of}
+use Rattle.capability.specs.Parts.{IsUnchanged, Looks, LooksUp, Parts, frames_of, objects_in}
 use Rattle.address_space.specs.References.{IsLoaded, IsStored, KeepsSound, OverfillsStore}
 use Rattle.space_bank.proofs.Renewing.{renews_none}
-use Rattle.processes.specs.Machine.{IsEarly, Serves, machine_at, renewed_by}
+use Rattle.processes.specs.Machine.{IsEarly, Performs, machine_at, renewed_by}
 use Rattle.processes.specs.Prepared.{refused_by}
 use Rattle.processes.proofs.Serving.{AreSame, refused_serves, same_frames, same_renews, same_sound, serves_looked, standing, still_machine, told_cause, unfailed}
 use Rattle.processes.proofs.Steps.{early_fine}
@@ -62,33 +62,33 @@ stored_unfailed (Err why) e = cc
 
 -- the machine of parts with these objects and these numbers touched
 machine_is : (age : ℕ) (new : Parts) (renewed now : List Bool) (frozen : Option Frozen) (saved : Saved) (to_move : ℕ) (os : List Object) (ts : List Bool) →
-    objects_of (frames_of new) ≡ os → new.touched ≡ ts → renewed ≡ now → standing age renewed frozen saved to_move os ts ≡ machine_at age new now frozen saved to_move
+    objects_in new ≡ os → new.touched ≡ ts → renewed ≡ now → standing age renewed frozen saved to_move os ts ≡ machine_at age new now frozen saved to_move
 machine_is age new renewed now frozen saved to_move os ts objects touched same =
     ap (λ (us : List Object). standing age renewed frozen saved to_move us ts) (sym objects)
-    ∙ ap (standing age renewed frozen saved to_move (objects_of (frames_of new))) (sym touched)
-    ∙ ap (λ (rs : List Bool). standing age rs frozen saved to_move (objects_of (frames_of new)) new.touched) same
+    ∙ ap (standing age renewed frozen saved to_move (objects_in new)) (sym touched)
+    ∙ ap (λ (rs : List Bool). standing age rs frozen saved to_move (objects_in new) new.touched) same
 
 -- a process that can't act
 module _ {S : Type 0} (parts : S → Parts) (Leads : S → S → Type 0) (age : ℕ) (old new : S) (p address : ℕ) (why : Refusal)
-    (sound : IsSoundFrames (parts old).geometry age (frames_of (parts old))) (early : IsEarly (objects_of (frames_of (parts old))) p (Some why))
+    (sound : IsSoundFrames (parts old).geometry age (frames_of (parts old))) (early : IsEarly (objects_in (parts old)) p (Some why))
     (aside : LooksUp parts Leads old new) (later : (parts old).failures ≤ (parts new).failures)
     (stayed : (parts old).failures < (parts new).failures → ⊥) where
   why_cause : (why ≡ refusal.Fault) ↔ ((parts old).failures < (parts new).failures)
-  why_cause = told_cause why (early_fine (objects_of (frames_of (parts old))) p why early) stayed
+  why_cause = told_cause why (early_fine (objects_in (parts old)) p why early) stayed
 
-  pub early_load : Serves age (parts old) (command.Load p address) (answer.Refused why) age (parts new)
+  pub early_load : Performs age (parts old) (command.Load p address) (answer.Refused why) age (parts new)
   early_load =
       refused_serves age (parts old) (parts new) (command.Load p address) why (looked_same parts Leads old new aside) sound later why_cause
       (λ renewed frozen saved to_move other. load_early (parts old).geometry _ p address why early)
 
-  pub early_store : (word : ℕ) → Serves age (parts old) (command.Store p address word) (answer.Refused why) age (parts new)
+  pub early_store : (word : ℕ) → Performs age (parts old) (command.Store p address word) (answer.Refused why) age (parts new)
   early_store word =
       refused_serves age (parts old) (parts new) (command.Store p address word) why (looked_same parts Leads old new aside) sound later why_cause
       (λ renewed frozen saved to_move other. store_early (parts old).geometry _ p address word why early)
 
 -- what is answered to a process that runs, after a look at it, by what came of its load or store
 module _ {S : Type 0} (parts : S → Parts) (Leads : S → S → Type 0) (age : ℕ) (before between after : S) (p address : ℕ)
-    (sound : IsSoundFrames (parts before).geometry age (frames_of (parts before))) (acts : IsEarly (objects_of (frames_of (parts before))) p None)
+    (sound : IsSoundFrames (parts before).geometry age (frames_of (parts before))) (acts : IsEarly (objects_in (parts before)) p None)
     (aside : LooksUp parts Leads before between) (rises : (parts before).failures ≤ (parts between).failures)
     (stayed : (parts before).failures < (parts between).failures → ⊥) where
   abbrev old : Parts
@@ -106,10 +106,10 @@ module _ {S : Type 0} (parts : S → Parts) (Leads : S → S → Type 0) (age : 
   failures : mid.failures ≡ old.failures
   failures = unfailed old.failures mid.failures rises stayed
 
-  process : is_process (objects_of (frames_of mid)) p ≡ true
+  process : is_process (objects_in mid) p ≡ true
   process = ap (λ (fs : List Frame). is_process (objects_of fs) p) (same_frames old mid same) ∙ acts.0
 
-  running : is_running_process (objects_of (frames_of mid)) p ≡ true
+  running : is_running_process (objects_in mid) p ≡ true
   running = ap (λ (fs : List Frame). is_running_process (objects_of fs) p) (same_frames old mid same) ∙ acts.1
 
   mid_sound : IsSoundFrames mid.geometry age (frames_of mid)
@@ -118,14 +118,14 @@ module _ {S : Type 0} (parts : S → Parts) (Leads : S → S → Type 0) (age : 
   refused_then : (c : Command) (why : Refusal) → (why ≡ refusal.Fault → ⊥) → AreSame mid new → mid.failures ≤ new.failures → (mid.failures < new.failures → ⊥) →
       ((renewed : List Bool) (frozen : Option Frozen) (saved : Saved) (to_move : ℕ) →
       Step mid.geometry (machine_at age mid renewed frozen saved to_move) c (answer.Refused why) (machine_at age mid renewed frozen saved to_move)) →
-      Serves age old c (answer.Refused why) age new
+      Performs age old c (answer.Refused why) age new
   refused_then c why other unchanged later stayed step =
       serves_looked age age old mid new c (answer.Refused why) same failures
       (refused_serves age mid new c why unchanged mid_sound later (told_cause why other stayed)
       (λ renewed frozen saved to_move differs. step renewed frozen saved to_move))
 
-  load_then : (loaded : Result ℕ MemoryFault) → IsLoaded (objects_of (frames_of mid)) p address loaded → AreSame mid new → mid.failures ≤ new.failures →
-      (mid.failures < new.failures → ⊥) → Serves age old (command.Load p address) (loaded_answer loaded) age new
+  load_then : (loaded : Result ℕ MemoryFault) → IsLoaded (objects_in mid) p address loaded → AreSame mid new → mid.failures ≤ new.failures →
+      (mid.failures < new.failures → ⊥) → Performs age old (command.Load p address) (loaded_answer loaded) age new
   load_then loaded is unchanged later stayed = serves_looked age age old mid new (command.Load p address) (loaded_answer loaded) same failures (record {
     step = λ renewed frozen saved to_move other.
         subst (λ (m : Machine). Step mid.geometry (machine_at age mid renewed frozen saved to_move) (command.Load p address) (loaded_answer loaded) m)
@@ -138,21 +138,21 @@ module _ {S : Type 0} (parts : S → Parts) (Leads : S → S → Type 0) (age : 
     cause = (λ e. absurd (loaded_unfailed loaded e), λ rose. absurd (stayed rose));
   })
 
-  pub load_answers : (loaded told : Result ℕ MemoryFault) → loaded ≡ told → IsLoaded (objects_of (frames_of mid)) p address loaded →
+  pub load_answers : (loaded told : Result ℕ MemoryFault) → loaded ≡ told → IsLoaded (objects_in mid) p address loaded →
       (let r : Result (Result ℕ MemoryFault) PrepareFault = Ok loaded in Looks parts Leads between after r) →
-      Serves age old (command.Load p address) (loaded_answer told) age new
+      Performs age old (command.Load p address) (loaded_answer told) age new
   load_answers loaded told is found looks =
-      subst (λ (r : Result ℕ MemoryFault). Serves age old (command.Load p address) (loaded_answer r) age new) is
+      subst (λ (r : Result ℕ MemoryFault). Performs age old (command.Load p address) (loaded_answer r) age new) is
       (load_then loaded found (looked_same parts Leads between after looks.aside) looks.later (λ rose. ok_unfailed loaded (looks.cause.1 rose)))
 
-  failed_then : (c : Command) → AreSame mid new → mid.failures < new.failures → Serves age old c (answer.Refused refusal.Fault) age new
+  failed_then : (c : Command) → AreSame mid new → mid.failures < new.failures → Performs age old c (answer.Refused refusal.Fault) age new
   failed_then c unchanged rose =
       serves_looked age age old mid new c (answer.Refused refusal.Fault) same failures
       (refused_serves age mid new c refusal.Fault unchanged mid_sound (omega (arith, rose)) (λ e. rose, λ r. refl)
       (λ renewed frozen saved to_move other. absurd (other refl)))
 
   load_by : (f : PrepareFault) → (let r : Result (Result ℕ MemoryFault) PrepareFault = Err f in Looks parts Leads between after r) →
-      Serves age old (command.Load p address) (answer.Refused (refused_by f)) age new
+      Performs age old (command.Load p address) (answer.Refused (refused_by f)) age new
   load_by prepare.NoMemory looks =
       refused_then (command.Load p address) refusal.NoMemory (λ e. cc) (looked_same parts Leads between after looks.aside) looks.later
       (λ rose. err_unfailed prepare.NoMemory (λ e. cc) (looks.cause.1 rose))
@@ -162,51 +162,51 @@ module _ {S : Type 0} (parts : S → Parts) (Leads : S → S → Type 0) (age : 
 
   pub load_is_refused : (f : PrepareFault) (a : Answer) → a ≡ answer.Refused (refused_by f) →
       (let r : Result (Result ℕ MemoryFault) PrepareFault = Err f in Looks parts Leads between after r) →
-      Serves age old (command.Load p address) a age new
+      Performs age old (command.Load p address) a age new
   load_is_refused f a is looks =
-      subst (λ (b : Answer). Serves age old (command.Load p address) b age new) (sym is) (load_by f looks)
+      subst (λ (b : Answer). Performs age old (command.Load p address) b age new) (sym is) (load_by f looks)
 
   -- a store, after which the count of failures may have risen
   module _ (word : ℕ) (geometry : new.geometry ≡ mid.geometry) (headers : new.headers ≡ mid.headers) (later : mid.failures ≤ new.failures) where
     -- a store leaves the frame of the objects
     stored_frame : (stored : Result (Unit {0}) MemoryFault) →
-        IsStored mid.geometry.log (objects_of (frames_of mid)) mid.touched p address word (objects_of (frames_of new)) new.touched stored →
-        SameFrame (objects_of (frames_of mid)) (objects_of (frames_of new))
+        IsStored mid.geometry.log (objects_in mid) mid.touched p address word (objects_in new) new.touched stored →
+        SameFrame (objects_in mid) (objects_in new)
     stored_frame (Ok done) is =
-        subst (λ (us : List Object). SameFrame (objects_of (frames_of mid)) us) (sym is.2) (word_frame (objects_of (frames_of mid)) is.0 (address % 512) word)
-    stored_frame (Err why) is = subst (λ (us : List Object). SameFrame (objects_of (frames_of mid)) us) (sym is.1) (frame_refl (objects_of (frames_of mid)))
+        subst (λ (us : List Object). SameFrame (objects_in mid) us) (sym is.2) (word_frame (objects_in mid) is.0 (address % 512) word)
+    stored_frame (Err why) is = subst (λ (us : List Object). SameFrame (objects_in mid) us) (sym is.1) (frame_refl (objects_in mid))
 
-    none_renewed : (renewed : List Bool) → SameFrame (objects_of (frames_of mid)) (objects_of (frames_of new)) → renewed_by renewed mid new ≡ renewed
+    none_renewed : (renewed : List Bool) → SameFrame (objects_in mid) (objects_in new) → renewed_by renewed mid new ≡ renewed
     none_renewed renewed frame =
-        renewing_none renewed (objects_of (frames_of mid)) (objects_of (frames_of new)) (none_in_frame (objects_of (frames_of mid)) (objects_of (frames_of new)) frame)
+        renewing_none renewed (objects_in mid) (objects_in new) (none_in_frame (objects_in mid) (objects_in new) frame)
 
     stored_step : (stored : Result (Unit {0}) MemoryFault) →
-        IsStored mid.geometry.log (objects_of (frames_of mid)) mid.touched p address word (objects_of (frames_of new)) new.touched stored →
+        IsStored mid.geometry.log (objects_in mid) mid.touched p address word (objects_in new) new.touched stored →
         (renewed : List Bool) (frozen : Option Frozen) (saved : Saved) (to_move : ℕ) →
         Step mid.geometry (machine_at age mid renewed frozen saved to_move) (command.Store p address word) (stored_answer stored)
         (machine_at age new (renewed_by renewed mid new) frozen saved to_move)
     stored_step (Ok done) is renewed frozen saved to_move =
         subst (λ (m : Machine). Step mid.geometry (machine_at age mid renewed frozen saved to_move) (command.Store p address word) answer.Done m)
-        (machine_is age new renewed (renewed_by renewed mid new) frozen saved to_move (with_word (objects_of (frames_of mid)) is.0 (address % 512) word) (touching mid.touched (is.0 ∷ [])) is.2 is.3
+        (machine_is age new renewed (renewed_by renewed mid new) frozen saved to_move (with_word (objects_in mid) is.0 (address % 512) word) (touching mid.touched (is.0 ∷ [])) is.2 is.3
         (sym (none_renewed renewed (stored_frame (Ok done) is))))
         (store_step mid.geometry _ p address word process running is.0 is.1 (subst (λ (ts : List Bool). touched_count ts ≤ mid.geometry.log) is.3 is.4))
     stored_step (Err why) is renewed frozen saved to_move =
         subst (λ (m : Machine). Step mid.geometry (machine_at age mid renewed frozen saved to_move) (command.Store p address word) (answer.MemoryFault why) m)
-        (machine_is age new renewed (renewed_by renewed mid new) frozen saved to_move (objects_of (frames_of mid)) mid.touched is.1 is.2
+        (machine_is age new renewed (renewed_by renewed mid new) frozen saved to_move (objects_in mid) mid.touched is.1 is.2
         (sym (none_renewed renewed (stored_frame (Err why) is))))
         (store_fault_step mid.geometry _ p address word process running why is.0)
 
     pub store_answers : (stored told : Result (Unit {0}) MemoryFault) → stored ≡ told →
-        IsStored mid.geometry.log (objects_of (frames_of mid)) mid.touched p address word (objects_of (frames_of new)) new.touched stored →
+        IsStored mid.geometry.log (objects_in mid) mid.touched p address word (objects_in new) new.touched stored →
         KeepsSound mid new →
         (let r : Result (Result (Unit {0}) MemoryFault) PrepareFault = Ok stored in IsErrOf r prepare.Failed ↔ (mid.failures < new.failures)) →
-        Serves age old (command.Store p address word) (stored_answer told) age new
+        Performs age old (command.Store p address word) (stored_answer told) age new
     store_answers stored told is found keeps cause =
-        subst (λ (r : Result (Unit {0}) MemoryFault). Serves age old (command.Store p address word) (stored_answer r) age new) is
+        subst (λ (r : Result (Unit {0}) MemoryFault). Performs age old (command.Store p address word) (stored_answer r) age new) is
         (serves_looked age age old mid new (command.Store p address word) (stored_answer stored) same failures (record {
           step = λ renewed frozen saved to_move other. stored_step stored found renewed frozen saved to_move;
           renews = renews_none mid new (λ n. ap (λ (hs : List ObjectHeader). (header_at hs n).allocations) headers)
-              (λ n used. (tests_at (objects_of (frames_of mid)) (objects_of (frames_of new)) (stored_frame stored found) n).free ∙ used);
+              (λ n used. (tests_at (objects_in mid) (objects_in new) (stored_frame stored found) n).free ∙ used);
           sound = subst (λ (g : Geometry). IsSoundFrames g age (frames_of new)) (sym geometry) (keeps age mid_sound);
           geometry = geometry;
           later = later;
@@ -216,8 +216,8 @@ module _ {S : Type 0} (parts : S → Parts) (Leads : S → S → Type 0) (age : 
     store_by : (f : PrepareFault) → AreSame mid new →
         (let r : Result (Result (Unit {0}) MemoryFault) PrepareFault = Err f in IsErrOf r prepare.Failed ↔ (mid.failures < new.failures)) →
         (let r : Result (Result (Unit {0}) MemoryFault) PrepareFault = Err f in IsErrOf r prepare.LogFull →
-        OverfillsStore mid.geometry.log (objects_of (frames_of mid)) mid.touched p address) →
-        Serves age old (command.Store p address word) (answer.Refused (refused_by f)) age new
+        OverfillsStore mid.geometry.log (objects_in mid) mid.touched p address) →
+        Performs age old (command.Store p address word) (answer.Refused (refused_by f)) age new
     store_by prepare.NoMemory unchanged cause full =
         refused_then (command.Store p address word) refusal.NoMemory (λ e. cc) unchanged later
         (λ rose. err_unfailed prepare.NoMemory (λ e. cc) (cause.1 rose))
@@ -232,8 +232,8 @@ module _ {S : Type 0} (parts : S → Parts) (Leads : S → S → Type 0) (age : 
     pub store_is_refused : (f : PrepareFault) (a : Answer) → a ≡ answer.Refused (refused_by f) → IsUnchanged mid new →
         (let r : Result (Result (Unit {0}) MemoryFault) PrepareFault = Err f in IsErrOf r prepare.Failed ↔ (mid.failures < new.failures)) →
         (let r : Result (Result (Unit {0}) MemoryFault) PrepareFault = Err f in IsErrOf r prepare.LogFull →
-        OverfillsStore mid.geometry.log (objects_of (frames_of mid)) mid.touched p address) →
-        Serves age old (command.Store p address word) a age new
+        OverfillsStore mid.geometry.log (objects_in mid) mid.touched p address) →
+        Performs age old (command.Store p address word) a age new
     store_is_refused f a is unchanged cause full =
-        subst (λ (b : Answer). Serves age old (command.Store p address word) b age new) (sym is)
+        subst (λ (b : Answer). Performs age old (command.Store p address word) b age new) (sym is)
         (store_by f (unchanged_same mid new geometry unchanged) cause full)

@@ -20,7 +20,7 @@ use Rattle.model.specs.Object.{is_free}
 use Rattle.model.specs.Step.{Step, shown}
 use Rattle.model.specs.World.{content_at, is_process, is_running_process}
 use Rattle.model_laws.proofs.GivenUp.{none_given_up, renewing_none}
-use Rattle.capability.specs.Parts.{Parts, Renews, frames_of}
+use Rattle.capability.specs.Parts.{Parts, Renews, frames_of, objects_in}
 use Rattle.capability.proofs.Keeping.{keepable_count}
 use Rattle.std.specs.Prelude.{IsErr, IsErrOf}
 use Rattle.capability.specs.declared.present.PrepareFault.{PrepareFault}
@@ -30,7 +30,7 @@ use Rattle.gate.specs.declared.fault.InvokeFault.TheVariants as fault
 use Rattle.gate.specs.Invoke.{Invokes, KeepsSoundFrames, Overfills}
 use Rattle.device.specs.declared.device.Failed.{Failed}
 use Rattle.space_bank.proofs.Renewing.{renews_after, renews_none}
-use Rattle.processes.specs.Machine.{Serves, answer_of, machine_at, renewed_by}
+use Rattle.processes.specs.Machine.{Performs, answer_of, machine_at, renewed_by}
 use Rattle.processes.specs.Prepared.{refused_by}
 use Rattle.processes.proofs.Steps.{bad_number_step, full_step, invoke_step, no_memory_step, show_no_memory, show_step, stalled_step}
 
@@ -63,8 +63,8 @@ module _ (old new : Parts) (same : AreSame old new) where
 
   pub same_renewed : (renewed : List Bool) → renewed_by renewed old new ≡ renewed
   same_renewed renewed =
-      renewing_none renewed (objects_of (frames_of old)) (objects_of (frames_of new))
-      (λ n. none_given_up (objects_of (frames_of old)) (objects_of (frames_of new)) n (λ used. ap (λ (fs : List Frame). is_free (content_at (objects_of fs) n)) same_frames ∙ used))
+      renewing_none renewed (objects_in old) (objects_in new)
+      (λ n. none_given_up (objects_in old) (objects_in new) n (λ used. ap (λ (fs : List Frame). is_free (content_at (objects_of fs) n)) same_frames ∙ used))
 
   pub still_machine : (age : ℕ) (renewed : List Bool) (frozen : Option Frozen) (saved : Saved) (to_move : ℕ) →
       machine_at age new (renewed_by renewed old new) frozen saved to_move ≡ machine_at age old renewed frozen saved to_move
@@ -76,7 +76,7 @@ pub refused_serves : (age : ℕ) (old new : Parts) (c : Command) (why : Refusal)
     ((why ≡ refusal.Fault) ↔ (old.failures < new.failures)) →
     ((renewed : List Bool) (frozen : Option Frozen) (saved : Saved) (to_move : ℕ) → (why ≡ refusal.Fault → ⊥) →
     Step old.geometry (machine_at age old renewed frozen saved to_move) c (answer.Refused why) (machine_at age old renewed frozen saved to_move)) →
-    Serves age old c (answer.Refused why) age new
+    Performs age old c (answer.Refused why) age new
 refused_serves age old new c why same sound later cause step = record {
   step = λ renewed frozen saved to_move other.
       subst (λ (m : Machine). Step old.geometry (machine_at age old renewed frozen saved to_move) c (answer.Refused why) m) (sym (still_machine old new same age renewed frozen saved to_move))
@@ -97,13 +97,13 @@ pub unfailed : (m n : ℕ) → m ≤ n → (m < n → ⊥) → n ≡ m
 unfailed m n later stayed = ⊎_elim (λ (rose : m < n). absurd (stayed rose)) (λ (within : n ≤ m). omega arith) (cases_lt m n)
 
 -- what is answered after a look is answered before it
-pub serves_looked : (age after : ℕ) (old mid new : Parts) (c : Command) (a : Answer) → AreSame old mid → mid.failures ≡ old.failures → Serves age mid c a after new → Serves age old c a after new
+pub serves_looked : (age after : ℕ) (old mid new : Parts) (c : Command) (a : Answer) → AreSame old mid → mid.failures ≡ old.failures → Performs age mid c a after new → Performs age old c a after new
 serves_looked age after old mid new c a same failures serves = record {
   step = λ renewed frozen saved to_move other.
       subst (λ (g : Geometry). Step g (machine_at age old renewed frozen saved to_move) c a (machine_at after new (renewed_by renewed old new) frozen saved to_move)) same.geometry
       (subst (λ (m : Machine). Step mid.geometry m c a (machine_at after new (renewed_by renewed old new) frozen saved to_move)) (same_machine old mid same age renewed frozen saved to_move)
       (subst (λ (fs : List Frame). Step mid.geometry (machine_at age mid renewed frozen saved to_move) c a
-      (machine_at after new (renewing renewed (objects_of fs) (objects_of (frames_of new))) frozen saved to_move)) (same_frames old mid same)
+      (machine_at after new (renewing renewed (objects_of fs) (objects_in new)) frozen saved to_move)) (same_frames old mid same)
       (serves.step renewed frozen saved to_move other)));
   renews = renews_after old mid new (λ n. ap (λ (hs : List ObjectHeader). (header_at hs n).allocations) same.headers)
       (λ n. ap (λ (fs : List Frame). is_free (content_at (objects_of fs) n)) (same_frames old mid same)) serves.renews;
@@ -117,10 +117,10 @@ abbrev pub standing : ℕ → List Bool → Option Frozen → Saved → ℕ → 
 standing age renewed frozen saved to_move os ts = Up (record { now = record { objects = os; age = age }; touched = ts; renewed = renewed; frozen = frozen; saved = saved; to_move = to_move })
 
 -- an invocation that was carried out
-pub done_serves : (age : ℕ) (old new : Parts) (i : Invocation) → age < 2 ^ 62 → is_process (objects_of (frames_of old)) i.process ≡ true →
-    is_running_process (objects_of (frames_of old)) i.process ≡ true → IsSoundFrames old.geometry age (frames_of old) →
-    Invokes old.geometry i (objects_of (frames_of old)) old.touched (objects_of (frames_of new)) new.touched → KeepsSoundFrames old new → Renews old new → new.geometry ≡ old.geometry →
-    old.failures ≤ new.failures → (old.failures < new.failures → ⊥) → Serves age old (command.Invoke i) answer.Done (age + 1) new
+pub done_serves : (age : ℕ) (old new : Parts) (i : Invocation) → age < 2 ^ 62 → is_process (objects_in old) i.process ≡ true →
+    is_running_process (objects_in old) i.process ≡ true → IsSoundFrames old.geometry age (frames_of old) →
+    Invokes old.geometry i (objects_in old) old.touched (objects_in new) new.touched → KeepsSoundFrames old new → Renews old new → new.geometry ≡ old.geometry →
+    old.failures ≤ new.failures → (old.failures < new.failures → ⊥) → Performs age old (command.Invoke i) answer.Done (age + 1) new
 done_serves age old new i young process running sound invokes keeps renews geometry later stayed = record {
   step = λ renewed frozen saved to_move other.
       let s : Running = record { now = world_at age (frames_of old); touched = old.touched; renewed = renewed; frozen = frozen; saved = saved; to_move = to_move } in
@@ -134,24 +134,24 @@ done_serves age old new i young process running sound invokes keeps renews geome
 }
   where
     made : (renewed : List Bool) (frozen : Option Frozen) (saved : Saved) (to_move : ℕ) →
-        standing (age + 1) (renewing renewed (objects_of (frames_of old)) invokes.0.objects) frozen saved to_move invokes.0.objects (touching old.touched invokes.0.written)
+        standing (age + 1) (renewing renewed (objects_in old) invokes.0.objects) frozen saved to_move invokes.0.objects (touching old.touched invokes.0.written)
         ≡ machine_at (age + 1) new (renewed_by renewed old new) frozen saved to_move
     made renewed frozen saved to_move =
-        ap (λ (os : List Object). standing (age + 1) (renewing renewed (objects_of (frames_of old)) os) frozen saved to_move os (touching old.touched invokes.0.written)) (sym invokes.2)
-        ∙ ap (standing (age + 1) (renewed_by renewed old new) frozen saved to_move (objects_of (frames_of new))) (sym invokes.3)
+        ap (λ (os : List Object). standing (age + 1) (renewing renewed (objects_in old) os) frozen saved to_move os (touching old.touched invokes.0.written)) (sym invokes.2)
+        ∙ ap (standing (age + 1) (renewed_by renewed old new) frozen saved to_move (objects_in new)) (sym invokes.3)
 
 -- what is answered to a process that runs, after a look, by what came of its invocation
 module _ (age : ℕ) (old mid new : Parts) (i : Invocation) (same : AreSame old mid) (failures : mid.failures ≡ old.failures)
-    (process : is_process (objects_of (frames_of old)) i.process ≡ true) (running : is_running_process (objects_of (frames_of old)) i.process ≡ true)
+    (process : is_process (objects_in old) i.process ≡ true) (running : is_running_process (objects_in old) i.process ≡ true)
     (sound : IsSoundFrames old.geometry age (frames_of old)) (young : age < 2 ^ 62) where
-  process_then : is_process (objects_of (frames_of mid)) i.process ≡ true
+  process_then : is_process (objects_in mid) i.process ≡ true
   process_then = ap (λ (fs : List Frame). is_process (objects_of fs) i.process) (same_frames old mid same) ∙ process
 
-  running_then : is_running_process (objects_of (frames_of mid)) i.process ≡ true
+  running_then : is_running_process (objects_in mid) i.process ≡ true
   running_then = ap (λ (fs : List Frame). is_running_process (objects_of fs) i.process) (same_frames old mid same) ∙ running
 
-  pub done_after : Invokes mid.geometry i (objects_of (frames_of mid)) mid.touched (objects_of (frames_of new)) new.touched → KeepsSoundFrames mid new → Renews mid new → new.geometry ≡ mid.geometry →
-      mid.failures ≤ new.failures → (mid.failures < new.failures → ⊥) → Serves age old (command.Invoke i) answer.Done (age + 1) new
+  pub done_after : Invokes mid.geometry i (objects_in mid) mid.touched (objects_in new) new.touched → KeepsSoundFrames mid new → Renews mid new → new.geometry ≡ mid.geometry →
+      mid.failures ≤ new.failures → (mid.failures < new.failures → ⊥) → Performs age old (command.Invoke i) answer.Done (age + 1) new
   done_after invokes keeps renews geometry later stayed =
       serves_looked age (age + 1) old mid new (command.Invoke i) answer.Done same failures
       (done_serves age mid new i young process_then running_then (same_sound old mid same age sound) invokes keeps renews geometry later stayed)
@@ -159,30 +159,30 @@ module _ (age : ℕ) (old mid new : Parts) (i : Invocation) (same : AreSame old 
   refused_after : (why : Refusal) → AreSame mid new → mid.failures ≤ new.failures → ((why ≡ refusal.Fault) ↔ (mid.failures < new.failures)) →
       ((renewed : List Bool) (frozen : Option Frozen) (saved : Saved) (to_move : ℕ) → (why ≡ refusal.Fault → ⊥) →
       Step mid.geometry (machine_at age mid renewed frozen saved to_move) (command.Invoke i) (answer.Refused why) (machine_at age mid renewed frozen saved to_move)) →
-      Serves age old (command.Invoke i) (answer.Refused why) age new
+      Performs age old (command.Invoke i) (answer.Refused why) age new
   refused_after why unchanged later cause step =
       serves_looked age age old mid new (command.Invoke i) (answer.Refused why) same failures
       (refused_serves age mid new (command.Invoke i) why unchanged (same_sound old mid same age sound) later cause step)
 
-  pub stalled_after : invoke mid.geometry (objects_of (frames_of mid)) i ≡ None → AreSame mid new → mid.failures ≤ new.failures → (mid.failures < new.failures → ⊥) →
-      Serves age old (command.Invoke i) (answer.Refused refusal.Stalled) age new
+  pub stalled_after : invoke mid.geometry (objects_in mid) i ≡ None → AreSame mid new → mid.failures ≤ new.failures → (mid.failures < new.failures → ⊥) →
+      Performs age old (command.Invoke i) (answer.Refused refusal.Stalled) age new
   stalled_after none unchanged later stayed =
       refused_after refusal.Stalled unchanged later (told_cause refusal.Stalled (λ e. cc) stayed)
       (λ renewed frozen saved to_move other. stalled_step mid.geometry _ i process_then running_then young none)
 
-  pub full_after : Overfills mid.geometry i (objects_of (frames_of mid)) mid.touched → AreSame mid new → mid.failures ≤ new.failures → (mid.failures < new.failures → ⊥) →
-      Serves age old (command.Invoke i) (answer.Refused refusal.LogFull) age new
+  pub full_after : Overfills mid.geometry i (objects_in mid) mid.touched → AreSame mid new → mid.failures ≤ new.failures → (mid.failures < new.failures → ⊥) →
+      Performs age old (command.Invoke i) (answer.Refused refusal.LogFull) age new
   full_after over unchanged later stayed =
       refused_after refusal.LogFull unchanged later (told_cause refusal.LogFull (λ e. cc) stayed)
       (λ renewed frozen saved to_move other. full_step mid.geometry _ i process_then running_then young over.0 over.1 over.2)
 
   pub no_memory_after : AreSame mid new → mid.failures ≤ new.failures → (mid.failures < new.failures → ⊥) →
-      Serves age old (command.Invoke i) (answer.Refused refusal.NoMemory) age new
+      Performs age old (command.Invoke i) (answer.Refused refusal.NoMemory) age new
   no_memory_after unchanged later stayed =
       refused_after refusal.NoMemory unchanged later (told_cause refusal.NoMemory (λ e. cc) stayed)
       (λ renewed frozen saved to_move other. no_memory_step mid.geometry _ i process_then)
 
-  pub failed_after : AreSame mid new → mid.failures < new.failures → Serves age old (command.Invoke i) (answer.Refused refusal.Fault) age new
+  pub failed_after : AreSame mid new → mid.failures < new.failures → Performs age old (command.Invoke i) (answer.Refused refusal.Fault) age new
   failed_after unchanged rose =
       refused_after refusal.Fault unchanged (omega (arith, rose)) (λ e. rose, λ r. refl)
       (λ renewed frozen saved to_move other. absurd (other refl))
@@ -199,7 +199,7 @@ fault_unfailed f k is other e = let d : f ≡ fault.Failed = cc in other (sym is
 
 -- what is shown of an object
 pub shown_serves : (age : ℕ) (old new : Parts) (n : ℕ) (a : Answer) → n < length old.headers → AreSame old new → IsSoundFrames old.geometry age (frames_of old) →
-    a ≡ shown (objects_of (frames_of old)) n → old.failures ≤ new.failures → (old.failures < new.failures → ⊥) → Serves age old (command.Show n) a age new
+    a ≡ shown (objects_in old) n → old.failures ≤ new.failures → (old.failures < new.failures → ⊥) → Performs age old (command.Show n) a age new
 shown_serves age old new n a known same sound told later stayed = record {
   step = λ renewed frozen saved to_move other.
       subst (λ (m : Machine). Step old.geometry (machine_at age old renewed frozen saved to_move) (command.Show n) a m) (sym (still_machine old new same age renewed frozen saved to_move))
@@ -208,21 +208,21 @@ shown_serves age old new n a known same sound told later stayed = record {
   sound = same_sound old new same age sound;
   geometry = same.geometry;
   later = later;
-  cause = (λ e. let d : shown (objects_of (frames_of old)) n ≡ answer.Refused refusal.Fault = sym told ∙ e in cc, λ rose. absurd (stayed rose));
+  cause = (λ e. let d : shown (objects_in old) n ≡ answer.Refused refusal.Fault = sym told ∙ e in cc, λ rose. absurd (stayed rose));
 }
 
 module _ (age : ℕ) (old new : Parts) (n : ℕ) (same : AreSame old new) (sound : IsSoundFrames old.geometry age (frames_of old)) (later : old.failures ≤ new.failures) where
-  pub bad_number_serves : length old.headers ≤ n → (old.failures < new.failures → ⊥) → Serves age old (command.Show n) (answer.Refused refusal.BadNumber) age new
+  pub bad_number_serves : length old.headers ≤ n → (old.failures < new.failures → ⊥) → Performs age old (command.Show n) (answer.Refused refusal.BadNumber) age new
   bad_number_serves past stayed =
       refused_serves age old new (command.Show n) refusal.BadNumber same sound later (told_cause refusal.BadNumber (λ e. cc) stayed)
       (λ renewed frozen saved to_move other. bad_number_step old.geometry _ n (subst (λ (m : ℕ). m ≤ n) (keepable_count old.geometry age old sound.keepable) past))
 
-  pub show_no_memory_serves : n < length old.headers → (old.failures < new.failures → ⊥) → Serves age old (command.Show n) (answer.Refused refusal.NoMemory) age new
+  pub show_no_memory_serves : n < length old.headers → (old.failures < new.failures → ⊥) → Performs age old (command.Show n) (answer.Refused refusal.NoMemory) age new
   show_no_memory_serves known stayed =
       refused_serves age old new (command.Show n) refusal.NoMemory same sound later (told_cause refusal.NoMemory (λ e. cc) stayed)
       (λ renewed frozen saved to_move other. show_no_memory old.geometry _ n (subst (λ (m : ℕ). n < m) (keepable_count old.geometry age old sound.keepable) known))
 
-  pub show_failed_serves : old.failures < new.failures → Serves age old (command.Show n) (answer.Refused refusal.Fault) age new
+  pub show_failed_serves : old.failures < new.failures → Performs age old (command.Show n) (answer.Refused refusal.Fault) age new
   show_failed_serves rose =
       refused_serves age old new (command.Show n) refusal.Fault same sound later (λ e. rose, λ r. refl)
       (λ renewed frozen saved to_move other. absurd (other refl))
@@ -240,7 +240,7 @@ ok_stayed early cause x = let never : false ≡ true = cause.1 x in cc
 
 -- a failure that is all there is
 pub failed_serves : (age : ℕ) (old new : Parts) (c : Command) (r : Result Answer Failed) → IsErr r → AreSame old new → IsSoundFrames old.geometry age (frames_of old) → old.failures < new.failures →
-    Serves age old c (answer_of r) age new
+    Performs age old c (answer_of r) age new
 failed_serves age old new c (Ok a) failed same sound rose = let never : false ≡ true = failed in cc
 failed_serves age old new c (Err e) failed same sound rose =
     refused_serves age old new c refusal.Fault same sound (omega (arith, rose)) (λ told. rose, λ r. refl) (λ renewed frozen saved to_move other. absurd (other refl))
@@ -251,10 +251,10 @@ shown_fine os n a told e = let d : shown os n ≡ answer.Refused refusal.Fault =
 
 -- an object isn't shown
 pub show_refused : (age : ℕ) (old new : Parts) (n : ℕ) → AreSame old new → IsSoundFrames old.geometry age (frames_of old) → old.failures ≤ new.failures → n < length old.headers → (f : PrepareFault) (a : Answer) →
-    a ≡ answer.Refused (refused_by f) → (let r : Result Answer PrepareFault = Err f in IsErrOf r prepare.Failed ↔ (old.failures < new.failures)) → (let r : Result Answer PrepareFault = Err f in IsErrOf r prepare.LogFull → ⊥) → Serves age old (command.Show n) a age new
-show_refused age old new n same sound later known f a is cause room = subst (λ (b : Answer). Serves age old (command.Show n) b age new) (sym is) (by f cause room)
+    a ≡ answer.Refused (refused_by f) → (let r : Result Answer PrepareFault = Err f in IsErrOf r prepare.Failed ↔ (old.failures < new.failures)) → (let r : Result Answer PrepareFault = Err f in IsErrOf r prepare.LogFull → ⊥) → Performs age old (command.Show n) a age new
+show_refused age old new n same sound later known f a is cause room = subst (λ (b : Answer). Performs age old (command.Show n) b age new) (sym is) (by f cause room)
   where
-    by : (f : PrepareFault) → (let r : Result Answer PrepareFault = Err f in IsErrOf r prepare.Failed ↔ (old.failures < new.failures)) → (let r : Result Answer PrepareFault = Err f in IsErrOf r prepare.LogFull → ⊥) → Serves age old (command.Show n) (answer.Refused (refused_by f)) age new
+    by : (f : PrepareFault) → (let r : Result Answer PrepareFault = Err f in IsErrOf r prepare.Failed ↔ (old.failures < new.failures)) → (let r : Result Answer PrepareFault = Err f in IsErrOf r prepare.LogFull → ⊥) → Performs age old (command.Show n) (answer.Refused (refused_by f)) age new
     by prepare.NoMemory cause room = show_no_memory_serves age old new n same sound later known (λ rose. look_unfailed prepare.NoMemory refl (cause.1 rose))
     by prepare.LogFull cause room = absurd (room refl)
     by prepare.Failed cause room = show_failed_serves age old new n same sound later (cause.0 refl)

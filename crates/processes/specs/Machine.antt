@@ -7,12 +7,11 @@ use Rattle.model.specs.declared.answer.Refusal.{Refusal}
 use Rattle.model.specs.declared.answer.Refusal.TheVariants as refusal
 use Rattle.model.specs.declared.command.Command.{Command}
 use Rattle.model.specs.declared.object.Object.{Object}
-use Rattle.model.specs.Frame.{objects_of}
 use Rattle.model.specs.Keepable.{IsSoundFrames, world_at}
 use Rattle.model.specs.Machine.{Frozen, Saved, Machine, Up, renewing}
 use Rattle.model.specs.Step.{Step}
 use Rattle.model.specs.World.{is_process, is_running_process}
-use Rattle.capability.specs.Parts.{Parts, Renews, frames_of}
+use Rattle.capability.specs.Parts.{Parts, Renews, frames_of, objects_in}
 
 -- the machine whose objects now are those of present frames
 abbrev pub machine_at : ℕ → Parts → List Bool → Option Frozen → Saved → ℕ → Machine
@@ -21,7 +20,7 @@ machine_at age p renewed frozen saved to_move =
 
 -- those of a set of numbers, and those whose objects are given up from some parts to others
 abbrev pub renewed_by : List Bool → Parts → Parts → List Bool
-renewed_by renewed old new = renewing renewed (objects_of (frames_of old)) (objects_of (frames_of new))
+renewed_by renewed old new = renewing renewed (objects_in old) (objects_in new)
 
 -- what a step is answered by: a failure of the device by `Fault`
 abbrev pub answer_of : Result Answer Failed → Answer
@@ -35,7 +34,7 @@ IsToldOnce (Err failed) = Unit {0}
 
 -- from parts at an age to parts at an age a command is answered as the machine answers it, whatever was renewed and is
 -- frozen and saved; a failure of the device aside, after which the machine is down
-pub record Serves (old_age : ℕ) (old : Parts) (c : Command) (a : Answer) (new_age : ℕ) (new : Parts) : Type 0 where
+pub record Performs (old_age : ℕ) (old : Parts) (c : Command) (a : Answer) (new_age : ℕ) (new : Parts) : Type 0 where
   pub step : (renewed : List Bool) (frozen : Option Frozen) (saved : Saved) (to_move : ℕ) → (a ≡ answer.Refused refusal.Fault → ⊥) →
       Step old.geometry (machine_at old_age old renewed frozen saved to_move) c a (machine_at new_age new (renewed_by renewed old new) frozen saved to_move)
   pub renews : Renews old new

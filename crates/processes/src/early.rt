@@ -1,8 +1,7 @@
 // Why a process can't act.
 ghost use Rattle.std.specs.Prelude.{◌≡◌, ◌↔◌, ◌<◌, ◌≤◌, IfOk, IsErr};
-ghost use Rattle.model.specs.Frame.{objects_of};
 ghost use Rattle.model.specs.Keepable.{IsSoundFrames};
-ghost use Rattle.capability.specs.Parts.{LooksUp, frames_of};
+ghost use Rattle.capability.specs.Parts.{LooksUp, frames_of, objects_in};
 ghost use Rattle.processes.specs.Machine.{IsEarly};
 
 use capability::{PrepareFault, PresentFrames, objects, roots};
@@ -20,7 +19,7 @@ pub fn early<F: PresentFrames>(
 ) -> Result<Option<Refusal>, Failed>
     requires sound { IsSoundFrames (F.parts store.old).geometry age
         (frames_of (F.parts store.old)) }
-    ensures why { IfOk result (λ why. IsEarly (objects_of (frames_of (F.parts store.old))) process why) }
+    ensures why { IfOk result (λ why. IsEarly (objects_in (F.parts store.old)) process why) }
     ensures aside { LooksUp F.parts F.LeadsTo store.old store.new }
     ensures later { (F.parts store.old).failures ≤ (F.parts store.new).failures }
     ensures cause { IsErr result ↔ ((F.parts store.old).failures < (F.parts store.new).failures) }

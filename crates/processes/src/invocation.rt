@@ -2,10 +2,9 @@
 ghost use Rattle.std.specs.Prelude.{◌≤◌};
 ghost use Rattle.model.specs.declared.command.Command.TheVariants as command;
 ghost use Rattle.model.specs.Keepable.{IsSoundFrames};
-ghost use Rattle.model.specs.Frame.{objects_of};
-ghost use Rattle.capability.specs.Parts.{frames_of};
+ghost use Rattle.capability.specs.Parts.{frames_of, objects_in};
 ghost use Rattle.space_bank.specs.Banks.{AreCounted};
-ghost use Rattle.processes.specs.Machine.{IsToldOnce, Serves, answer_of};
+ghost use Rattle.processes.specs.Machine.{IsToldOnce, Performs, answer_of};
 
 use crate::early::early;
 use capability::PresentFrames;
@@ -31,13 +30,13 @@ pub fn invoke<F: PresentFrames>(
     requires sound { IsSoundFrames (F.parts store.old).geometry age.old
         (frames_of (F.parts store.old)) }
     requires counted { AreCounted (F.parts store.old).geometry
-        (objects_of (frames_of (F.parts store.old))) banks.old }
-    ensures serves { Serves age.old (F.parts store.old) (command.Invoke invocation) (answer_of result)
+        (objects_in (F.parts store.old)) banks.old }
+    ensures serves { Performs age.old (F.parts store.old) (command.Invoke invocation) (answer_of result)
         age.new (F.parts store.new) }
     ensures told_once { IsToldOnce result }
     ensures later { age.old ≤ age.new }
     ensures counted { AreCounted (F.parts store.new).geometry
-        (objects_of (frames_of (F.parts store.new))) banks.new }
+        (objects_in (F.parts store.new)) banks.new }
     ensures leads { F.LeadsTo store.old store.new }
 {
     if let Some(refusal) = early(alloc, store, *age, invocation.process)? {

@@ -2,10 +2,9 @@
 ghost use Rattle.std.specs.Prelude.{◌≡◌};
 ghost use Rattle.model.specs.declared.command.Command.TheVariants as command;
 ghost use Rattle.model.specs.Keepable.{IsSoundFrames};
-ghost use Rattle.model.specs.Frame.{objects_of};
-ghost use Rattle.capability.specs.Parts.{LooksUp, frames_of};
+ghost use Rattle.capability.specs.Parts.{LooksUp, frames_of, objects_in};
 ghost use Rattle.space_bank.specs.Banks.{AreCounted, BanksState};
-ghost use Rattle.processes.specs.Machine.{IsToldOnce, Serves, answer_of};
+ghost use Rattle.processes.specs.Machine.{IsToldOnce, Performs, answer_of};
 ghost use Rattle.processes.specs.Prepared.{refused_by};
 
 use crate::early::early;
@@ -39,7 +38,7 @@ pub fn load<F: PresentFrames>(
     address: u64,
 ) -> Result<Answer, Failed>
     requires { IsSoundFrames (F.parts store.old).geometry age (frames_of (F.parts store.old)) }
-    ensures serves { Serves age (F.parts store.old) (command.Load process address) (answer_of result)
+    ensures serves { Performs age (F.parts store.old) (command.Load process address) (answer_of result)
         age (F.parts store.new) }
     ensures told_once { IsToldOnce result }
     ensures aside { LooksUp F.parts F.LeadsTo store.old store.new }
@@ -70,13 +69,13 @@ pub fn store<F: PresentFrames>(
     word: u64,
 ) -> Result<Answer, Failed>
     requires { IsSoundFrames (F.parts store.old).geometry age (frames_of (F.parts store.old)) }
-    ensures serves { Serves age (F.parts store.old) (command.Store process address word)
+    ensures serves { Performs age (F.parts store.old) (command.Store process address word)
         (answer_of result) age (F.parts store.new) }
     ensures told_once { IsToldOnce result }
     ensures counted { (banks : BanksState) → AreCounted (F.parts store.old).geometry
-        (objects_of (frames_of (F.parts store.old))) banks
+        (objects_in (F.parts store.old)) banks
         → AreCounted (F.parts store.new).geometry
-        (objects_of (frames_of (F.parts store.new))) banks }
+        (objects_in (F.parts store.new)) banks }
     ensures leads { F.LeadsTo store.old store.new }
 {
     if let Some(refusal) = early(alloc, store, age, process)? {

@@ -1,14 +1,13 @@
 // The step of showing an object.
 ghost use Rattle.std.specs.Prelude.{◌≡◌, ◌<◌, IfOk, IsTrue, length, if◌then◌else◌, slice_index};
 ghost use Rattle.model.specs.declared.command.Command.TheVariants as command;
-ghost use Rattle.model.specs.Frame.{objects_of};
 ghost use Rattle.model.specs.Keepable.{AreKeepable, IsSoundFrames};
 ghost use Rattle.model.specs.Step.{shown};
 ghost use Rattle.model.specs.Object.{is_annex, is_bank, slots_in};
 ghost use Rattle.model.specs.World.{content_at};
-ghost use Rattle.capability.specs.Parts.{Looks, LooksUp, frames_of};
+ghost use Rattle.capability.specs.Parts.{Looks, LooksUp, frames_of, objects_in};
 ghost use Rattle.space_bank.specs.Banks.{AreCounted};
-ghost use Rattle.processes.specs.Machine.{IsToldOnce, Serves, answer_of};
+ghost use Rattle.processes.specs.Machine.{IsToldOnce, Performs, answer_of};
 
 use crate::memory::refused;
 use capability::{PrepareFault, PresentFrames, objects, view};
@@ -36,8 +35,8 @@ fn registers_of<F: PresentFrames>(
     requires keepable { AreKeepable (F.parts store.old).geometry u64.MAX
         (frames_of (F.parts store.old)) }
     requires annex { IsTrue (is_annex
-        (content_at (objects_of (frames_of (F.parts store.old))) annex)) }
-    ensures registers { IfOk result (λ registers. registers ≡ slots_in (content_at (objects_of (frames_of (F.parts store.old))) annex)) }
+        (content_at (objects_in (F.parts store.old)) annex)) }
+    ensures registers { IfOk result (λ registers. registers ≡ slots_in (content_at (objects_in (F.parts store.old)) annex)) }
     ensures looks { Looks F.parts F.LeadsTo store.old store.new result }
 {
     objects::fetch(store, alloc, &[annex])?;
@@ -59,9 +58,9 @@ fn shown<F: PresentFrames>(
     requires sound { IsSoundFrames (F.parts store.old).geometry age
         (frames_of (F.parts store.old)) }
     requires counted { AreCounted (F.parts store.old).geometry
-        (objects_of (frames_of (F.parts store.old))) banks.now }
+        (objects_in (F.parts store.old)) banks.now }
     requires known { number < length (F.parts store.old).headers }
-    ensures answer { IfOk result (λ answer. answer ≡ shown (objects_of (frames_of (F.parts store.old))) number) }
+    ensures answer { IfOk result (λ answer. answer ≡ shown (objects_in (F.parts store.old)) number) }
     ensures looks { Looks F.parts F.LeadsTo store.old store.new result }
 {
     objects::fetch(store, alloc, &[number])?;
@@ -95,8 +94,8 @@ pub fn show<F: PresentFrames>(
     requires sound { IsSoundFrames (F.parts store.old).geometry age
         (frames_of (F.parts store.old)) }
     requires counted { AreCounted (F.parts store.old).geometry
-        (objects_of (frames_of (F.parts store.old))) banks.now }
-    ensures serves { Serves age (F.parts store.old) (command.Show number) (answer_of result) age
+        (objects_in (F.parts store.old)) banks.now }
+    ensures serves { Performs age (F.parts store.old) (command.Show number) (answer_of result) age
         (F.parts store.new) }
     ensures told_once { IsToldOnce result }
     ensures aside { LooksUp F.parts F.LeadsTo store.old store.new }

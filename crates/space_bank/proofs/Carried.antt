@@ -10,14 +10,14 @@ use Rattle.model.specs.declared.object.Object.{Object}
 use Rattle.model.specs.declared.object.Role.TheVariants as role
 use Rattle.model.specs.Bank.{chain}
 use Rattle.model.specs.Banking.{new_annex, new_root, with_new}
-use Rattle.model.specs.Frame.{header_at, objects_of}
+use Rattle.model.specs.Frame.{header_at}
 use Rattle.model.specs.Keepable.{AreCurrent, AreKeepable}
 use Rattle.model.specs.Object.{is_bank, is_free}
 use Rattle.model.specs.World.{content_at}
 use Rattle.model_laws.proofs.BankTree.{at_other}
 use Rattle.capability.specs.declared.present.Fresh.{Fresh}
 use Rattle.capability.specs.declared.present.Fresh.TheVariants as fresh
-use Rattle.capability.specs.Parts.{FreshFits, Parts, frames_of, fresh_content}
+use Rattle.capability.specs.Parts.{FreshFits, Parts, frames_of, fresh_content, objects_in}
 use Rattle.capability.proofs.Frames.{length_objects}
 use Rattle.capability.proofs.Keeping.{keepable_later}
 use Rattle.space_bank.specs.Banks.{AreCounted, BanksState}
@@ -59,11 +59,11 @@ taken_two banks count s r t marks n taken made = record {
 
 -- what is free beside a new object has the role of what is free
 pub still_free : (g : Geometry) (age : ℕ) (p q : Parts) (n m b : ℕ) (c : Content Capability) → AreKeepable g age (frames_of q) → length q.headers ≡ length p.headers
-    → objects_of (frames_of q) ≡ with_new (objects_of (frames_of p)) n b c → m < length p.headers → m ≢ n
-    → IsTrue (is_free (content_at (objects_of (frames_of p)) m)) → (header_at q.headers m).role ≡ role.Free
+    → objects_in q ≡ with_new (objects_in p) n b c → m < length p.headers → m ≢ n
+    → IsTrue (is_free (content_at (objects_in p) m)) → (header_at q.headers m).role ≡ role.Free
 still_free g age p q n m b c k count objects known two unused =
     free_header g age q k m (omega arith)
-    (ap (λ (os : List Object). is_free (content_at os m)) objects ∙ (ap (λ (o : Object). is_free o.content) (at_other (objects_of (frames_of p)) n b c m two) ∙ unused))
+    (ap (λ (os : List Object). is_free (content_at os m)) objects ∙ (ap (λ (o : Object). is_free o.content) (at_other (objects_in p) n b c m two) ∙ unused))
 
 pub alone_fits : (f : Fresh) → IsAlone f → FreshFits f
 alone_fits fresh.Page is = tt
@@ -80,7 +80,7 @@ alone_plain fresh.Page is = refl
 alone_plain fresh.Node is = refl
 alone_plain f is = absurd is
 
-module _ (p : Parts) (s : BanksState) (b : ℕ) (asks : MayServe p s b) (q : Parts) (us : List Object) (u : BanksState) (objects : objects_of (frames_of q) ≡ us)
+module _ (p : Parts) (s : BanksState) (b : ℕ) (asks : MayServe p s b) (q : Parts) (us : List Object) (u : BanksState) (objects : objects_in q ≡ us)
     (current : AreCurrent (frames_of p) → AreCurrent (frames_of q))
     (keepable : (age : ℕ) → AreKeepable p.geometry age (frames_of p) → AreKeepable p.geometry age (frames_of q)) where
   carried : AreCounted p.geometry us u → CarriesOut p q u
@@ -91,14 +91,14 @@ module _ (p : Parts) (s : BanksState) (b : ℕ) (asks : MayServe p s b) (q : Par
   }
 
 module _ (p : Parts) (s : BanksState) (b : ℕ) (asks : MayServe p s b) (n : ℕ) (known : n < length p.headers)
-    (unused : IsTrue (is_free (content_at (objects_of (frames_of p)) n))) (q : Parts) (current : AreCurrent (frames_of p) → AreCurrent (frames_of q)) where
+    (unused : IsTrue (is_free (content_at (objects_in p) n))) (q : Parts) (current : AreCurrent (frames_of p) → AreCurrent (frames_of q)) where
   abbrev before : List Object
-  before = objects_of (frames_of p)
+  before = objects_in p
 
   inside : n < length before
   inside = omega (arith, length_objects p.headers p.contents)
 
-  pub alone_carried : (f : Fresh) (u : BanksState) → IsAlone f → objects_of (frames_of q) ≡ with_new before n b (fresh_content Void f)
+  pub alone_carried : (f : Fresh) (u : BanksState) → IsAlone f → objects_in q ≡ with_new before n b (fresh_content Void f)
       → ((age : ℕ) → FreshFits f → AreKeepable p.geometry age (frames_of p) → AreKeepable p.geometry age (frames_of q))
       → IsTaken (chain before b) 1 s u (slice_set (marks_of s) n false) → CarriesOut p q u
   alone_carried f u alone objects keepable taken =
@@ -106,7 +106,7 @@ module _ (p : Parts) (s : BanksState) (b : ℕ) (asks : MayServe p s b) (n : ℕ
       (counted_alone p.geometry before (serve_framed p s b asks).size (serve_tree p s b asks) s asks.counted b asks.bank n inside unused (fresh_content Void f) u
       (alone_used f alone) (alone_plain f alone) taken)
 
-  pub bank_carried : (limit : ℕ) (u v : BanksState) → objects_of (frames_of q) ≡ with_new before n b (content.Bank limit)
+  pub bank_carried : (limit : ℕ) (u v : BanksState) → objects_in q ≡ with_new before n b (content.Bank limit)
       → ((age : ℕ) → AreKeepable p.geometry age (frames_of p) → AreKeepable p.geometry age (frames_of q))
       → length (chain before b) < 16 → n < p.geometry.nodes → IsTaken (chain before b) 1 s u (slice_set (marks_of s) n false)
       → v ≡ record u { usages = slice_set u.usages n 0; limits = slice_set u.limits n limit } → CarriesOut p q v
@@ -114,7 +114,7 @@ module _ (p : Parts) (s : BanksState) (b : ℕ) (asks : MayServe p s b) (n : ℕ
       carried p s b asks q (with_new before n b (content.Bank limit)) v objects current keepable
       (counted_bank p.geometry before (serve_framed p s b asks).size (serve_tree p s b asks) s asks.counted b asks.bank n inside unused limit u v short place taken is)
 
-  pub process_carried : (m : ℕ) (u : BanksState) → objects_of (frames_of q) ≡ with_new (with_new before n b (new_root m)) m b new_annex
+  pub process_carried : (m : ℕ) (u : BanksState) → objects_in q ≡ with_new (with_new before n b (new_root m)) m b new_annex
       → ((age : ℕ) → AreKeepable p.geometry age (frames_of p) → AreKeepable p.geometry age (frames_of q))
       → m < length p.headers → m ≢ n → IsTrue (is_free (content_at before m))
       → IsTaken (chain before b) 2 s u (slice_set (slice_set (marks_of s) n false) m false) → CarriesOut p q u

@@ -18,7 +18,7 @@ use Rattle.model.specs.Frame.{conveyed, frames_in, held_at, objects_of}
 use Rattle.model.specs.Object.{is_bank, is_free, limit_in, map_content}
 use Rattle.model.specs.Sound.{object_count}
 use Rattle.model.specs.World.{content_at}
-use Rattle.capability.specs.Parts.{Parts, frames_of}
+use Rattle.capability.specs.Parts.{Parts, objects_in}
 use Rattle.capability.proofs.Frames.{content_there}
 use Rattle.space_bank.specs.Banks.{AreCounted, BanksState}
 use Rattle.space_bank.specs.Counting.{AreMarked}
@@ -50,12 +50,12 @@ no_limit (content.Bank limit) bank = absurd (bank limit refl)
 
 -- the limit of what is held at a number
 pub limit_held : (p : Parts) (n : ℕ) (c : Content Cap) → n < length p.headers → c ≡ held_at p.contents n →
-    limit_in c ≡ limit_in (content_at (objects_of (frames_of p)) n)
+    limit_in c ≡ limit_in (content_at (objects_in p) n)
 limit_held p n c known is =
     sym (limit_of_map (conveyed p.headers) c) ∙ sym (ap (λ (d : Content Capability). limit_in d) (content_there p n known c (sym is)))
 
 -- a look leaves the objects as they were
-pub objects_looked : (old now : Parts) → now.headers ≡ old.headers → now.contents ≡ old.contents → objects_of (frames_of now) ≡ objects_of (frames_of old)
+pub objects_looked : (old now : Parts) → now.headers ≡ old.headers → now.contents ≡ old.contents → objects_in now ≡ objects_in old
 objects_looked old now headers contents =
     ap (λ (fs : List Frame). objects_of fs)
     (ap (λ (hs : List ObjectHeader). frames_in hs now.contents) headers ∙ ap (frames_in old.headers) contents)
@@ -69,11 +69,11 @@ never_failed old mid now so later never = elim (cases_lt mid now) [
 
 -- one limit more, read after a look
 pub limits_more : (old now : Parts) (n limit : ℕ) (limits new : List ℕ) → now.headers ≡ old.headers → now.contents ≡ old.contents →
-    limit ≡ limit_in (content_at (objects_of (frames_of now)) n) →
-    limits ≡ map (λ m. limit_in (content_at (objects_of (frames_of old)) m)) (range_with_len 0 n) → new ≡ limits ++ limit ∷ [] →
-    new ≡ map (λ m. limit_in (content_at (objects_of (frames_of old)) m)) (range_with_len 0 (n + 1))
+    limit ≡ limit_in (content_at (objects_in now) n) →
+    limits ≡ map (λ m. limit_in (content_at (objects_in old) m)) (range_with_len 0 n) → new ≡ limits ++ limit ∷ [] →
+    new ≡ map (λ m. limit_in (content_at (objects_in old) m)) (range_with_len 0 (n + 1))
 limits_more old now n limit limits new headers contents is so more =
-    let f : ℕ → ℕ = λ m. limit_in (content_at (objects_of (frames_of old)) m) in
+    let f : ℕ → ℕ = λ m. limit_in (content_at (objects_in old) m) in
     let here : limit ≡ f n = is ∙ ap (λ (os : List Object). limit_in (content_at os n)) (objects_looked old now headers contents) in
     more
     ∙ ap (λ (xs : List ℕ). xs ++ limit ∷ []) so

@@ -11,7 +11,7 @@ use Rattle.model.specs.declared.object.Content.{Content}
 use Rattle.model.specs.declared.object.Content.TheVariants as content
 use Rattle.model.specs.declared.object.Object.{Object}
 use Rattle.model.specs.Bank.{chain, usage}
-use Rattle.model.specs.Frame.{header_at, objects_of}
+use Rattle.model.specs.Frame.{header_at}
 use Rattle.model.specs.Keepable.{AreCurrent, AreKeepable}
 use Rattle.model.specs.Object.{free, is_bank, is_free, limit_in, map_content}
 use Rattle.model.specs.Revoke.{is_member, names_member, rescind, void_where, without}
@@ -20,7 +20,7 @@ use Rattle.model_laws.proofs.NumberLists.{AllDiffer}
 use Rattle.model_laws.proofs.BankTree.{chain_banks, member_tail}
 use Rattle.model_laws.proofs.GivenUp.{free_rescinded}
 use Rattle.model_laws.proofs.Revoking.{at_rescind}
-use Rattle.capability.specs.Parts.{AreGivenUp, IsOnce, KeepsAside, Parts, frames_of}
+use Rattle.capability.specs.Parts.{AreGivenUp, IsOnce, KeepsAside, Parts, frames_of, objects_in}
 use Rattle.space_bank.specs.Banks.{AreCounted, BanksState, KeepsObjects}
 use Rattle.space_bank.specs.Carrying.{CarriesOut, MayGiveUp, MayServe, marks_of}
 use Rattle.space_bank.specs.Chains.{IsRaised}
@@ -127,18 +127,18 @@ module _ (p : Parts) (s : BanksState) (b : ℕ) (asks : MayServe p s b) (n : ℕ
   serve_calls = omega (arith, few_calls p.geometry asks.sound.0 p asks.sound.1.keepable n known, asks.sound.1.sound.age)
 
 -- what the banks of the chain account for is enough
-pub enough_used : (p : Parts) (s : BanksState) (above : ℕ) (list : List ℕ) → MayServe p s above → MayGiveUp (objects_of (frames_of p)) above list
-    → (x : ℕ) → is_member (chain (objects_of (frames_of p)) above) x ≡ true → length list ≤ slice_index s.usages x
+pub enough_used : (p : Parts) (s : BanksState) (above : ℕ) (list : List ℕ) → MayServe p s above → MayGiveUp (objects_in p) above list
+    → (x : ℕ) → is_member (chain (objects_in p) above) x ≡ true → length list ≤ slice_index s.usages x
 enough_used p s above list asks gives x member =
-    let os = objects_of (frames_of p) in
+    let os = objects_in p in
     let bank = chain_banks os (serve_tree p s above asks) above x asks.bank member in
     let all : (if is_member (chain os above) x then length list else 0) ≡ length list = rw member refl in
     omega (arith, asks.counted.usage x bank, gives.lowered x bank (gives.apart x member), all)
 
 -- what lies beside the objects where a set is given up
 module _ {S : Type 0} (parts : S → Parts) (Fetched Announced : S → ℕ → Type 0) (Leads : S → S → Type 0) where
-  pub ended_aside : (old new : S) (set : List ℕ) → AreGivenUp set (parts old) (parts new) → objects_of (frames_of (parts new)) ≡ rescind set (objects_of (frames_of (parts old)))
-      → ((n : ℕ) → is_member set n ≡ true → is_free (content_at (objects_of (frames_of (parts old))) n) ≡ false)
+  pub ended_aside : (old new : S) (set : List ℕ) → AreGivenUp set (parts old) (parts new) → objects_in (parts new) ≡ rescind set (objects_in (parts old))
+      → ((n : ℕ) → is_member set n ≡ true → is_free (content_at (objects_in (parts old)) n) ≡ false)
       → ((n : ℕ) → is_member set n ≡ false → Fetched old n → Fetched new n) → ((n : ℕ) → is_member set n ≡ false → Announced old n → Announced new n)
       → Leads old new → KeepsObjects parts Fetched Announced Leads old new
   ended_aside old new set given objects used fetched announced leads = record {
@@ -152,8 +152,8 @@ module _ {S : Type 0} (parts : S → Parts) (Fetched Announced : S → ℕ → T
     leads = leads;
   }
     where
-      stays : (n : ℕ) → is_free (content_at (objects_of (frames_of (parts new))) n) ≡ false → is_member set n ≡ false
-      stays n used = used_stays set (objects_of (frames_of (parts old))) n (sym (ap (λ (os : List Object). is_free (content_at os n)) objects) ∙ used)
+      stays : (n : ℕ) → is_free (content_at (objects_in (parts new)) n) ≡ false → is_member set n ≡ false
+      stays n used = used_stays set (objects_in (parts old)) n (sym (ap (λ (os : List Object). is_free (content_at os n)) objects) ∙ used)
 
   pub aside_then_ended : (twice : (s t u : S) → Leads s t → Leads t u → Leads s u) (old mid new : S) → KeepsAside parts Fetched Announced Leads old mid
       → SameFree (parts old) (parts mid) → KeepsObjects parts Fetched Announced Leads mid new → KeepsObjects parts Fetched Announced Leads old new
@@ -169,7 +169,7 @@ module _ {S : Type 0} (parts : S → Parts) (Fetched Announced : S → ℕ → T
   }
 
   pub aside_alone : (old new : S) → KeepsAside parts Fetched Announced Leads old new
-      → ((n : ℕ) → is_free (content_at (objects_of (frames_of (parts old))) n) ≡ false → is_free (content_at (objects_of (frames_of (parts new))) n) ≡ false)
+      → ((n : ℕ) → is_free (content_at (objects_in (parts old)) n) ≡ false → is_free (content_at (objects_in (parts new)) n) ≡ false)
       → KeepsObjects parts Fetched Announced Leads old new
   aside_alone old new a stays = record {
     count = a.count;
@@ -218,12 +218,12 @@ released_then banks count s r v nodes pages set raised kept same nodes_same page
 }
 
 -- what is left once a list is given up
-pub ended_carried : (p q : Parts) (s t : BanksState) (above : ℕ) (list : List ℕ) → MayServe p s above → MayGiveUp (objects_of (frames_of p)) above list
-    → IsReleased (chain (objects_of (frames_of p)) above) (length list) s t list → objects_of (frames_of q) ≡ rescind list (objects_of (frames_of p))
+pub ended_carried : (p q : Parts) (s t : BanksState) (above : ℕ) (list : List ℕ) → MayServe p s above → MayGiveUp (objects_in p) above list
+    → IsReleased (chain (objects_in p) above) (length list) s t list → objects_in q ≡ rescind list (objects_in p)
     → AreCurrent (frames_of q) → ((age : ℕ) → age + 1 < 2 ^ 64 → AreKeepable p.geometry age (frames_of p) → AreKeepable p.geometry (age + 1) (frames_of q))
     → CarriesOut p q t
 ended_carried p q s t above list asks gives released objects current keepable =
-    let os = objects_of (frames_of p) in
+    let os = objects_in p in
     record {
       counted = subst (λ (us : List Object). AreCounted p.geometry us t) (sym objects)
           (counted_gone p.geometry os os s t list (chain os above) (length list) asks.counted (λ n. refl) released gives.lowered);

@@ -9,7 +9,6 @@ use Rattle.model.specs.declared.geometry.Geometry.{Geometry}
 use Rattle.model.specs.declared.object.Object.{Object}
 use Rattle.model.specs.Bank.{chain, is_under}
 use Rattle.model.specs.Banking.{freed_by, under}
-use Rattle.model.specs.Frame.{objects_of}
 use Rattle.model.specs.Object.{is_bank, is_free}
 use Rattle.model.specs.Revoke.{is_member}
 use Rattle.model.specs.Sound.{NamesItsKind}
@@ -18,7 +17,7 @@ use Rattle.model_laws.proofs.BankFreed.{destroyed_fits, freed_fits, freed_set, u
 use Rattle.model_laws.proofs.BankRescind.{used_where}
 use Rattle.model_laws.proofs.BankTree.{IsTree, chain_banks, chain_longer, chain_nonempty, chain_once, chain_shorter, chain_zero, owner_bank, tree_of}
 use Rattle.model_laws.proofs.SoundOrders.{IsNow}
-use Rattle.capability.specs.Parts.{Parts, frames_of}
+use Rattle.capability.specs.Parts.{Parts, objects_in}
 use Rattle.space_bank.specs.Banks.{BanksState}
 use Rattle.space_bank.specs.Carrying.{IsFreedOf, MayGiveUp, MayServe}
 use Rattle.space_bank.proofs.Ending.{once_of_differ}
@@ -82,17 +81,17 @@ member_some [] x member = absurd (false≢true member)
 member_some (y ∷ ys) x member = omega arith
 
 -- a bank is under itself, so the list begins within what it stands in
-pub under_within : (p : Parts) (s : BanksState) (b : ℕ) (list : List ℕ) (skip : ℕ) → MayServe p s b → drop skip list ≡ under (objects_of (frames_of p)) b → skip ≤ length list
+pub under_within : (p : Parts) (s : BanksState) (b : ℕ) (list : List ℕ) (skip : ℕ) → MayServe p s b → drop skip list ≡ under (objects_in p) b → skip ≤ length list
 under_within p s b list skip asks is =
-    let os = objects_of (frames_of p) in
+    let os = objects_in p in
     let inside = used_within os b (used_where is_bank refl (content_at os b) asks.bank) in
     let some = member_some (under os b) b (under_stands os b b inside (or_left (b == b) (is_under os b (object_at os b)) (eq-eqb b b refl))) in
     omega (arith, some, length-drop skip list, ap (λ (xs : List ℕ). length xs) is)
 
 -- the bank that owns a bank may be served too
-pub serve_parent : (p : Parts) (s : BanksState) (b parent : ℕ) → MayServe p s b → parent ≡ owner_at (objects_of (frames_of p)) b → MayServe p s parent
+pub serve_parent : (p : Parts) (s : BanksState) (b parent : ℕ) → MayServe p s b → parent ≡ owner_at (objects_in p) b → MayServe p s parent
 serve_parent p s b parent asks is = record {
   sound = asks.sound;
   counted = asks.counted;
-  bank = rw is (owner_bank (objects_of (frames_of p)) (serve_tree p s b asks) b asks.bank);
+  bank = rw is (owner_bank (objects_in p) (serve_tree p s b asks) b asks.bank);
 }

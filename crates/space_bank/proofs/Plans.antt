@@ -17,13 +17,12 @@ use Rattle.model.specs.declared.order.ResultCode.TheVariants as code
 use Rattle.model.specs.Bank.{chain, usage}
 use Rattle.model.specs.Banking.{freed, freed_by, inherited, owned_by, remaining, under, free_nodes, free_pages, has_room, new_annex, new_node, new_page, new_root, on_bank, with_new}
 use Rattle.model.specs.Capability.{full}
-use Rattle.model.specs.Frame.{objects_of}
 use Rattle.model.specs.OrderOutcome.{OrderOutcome, made, refused, told_three}
 use Rattle.model.specs.Object.{is_bank, is_root, limit_in}
 use Rattle.model.specs.Revoke.{rescind}
 use Rattle.model.specs.Sound.{MayBeHeld}
 use Rattle.model.specs.World.{content_at, owner_at}
-use Rattle.capability.specs.Parts.{HaveTheirRoles, Parts, frames_of}
+use Rattle.capability.specs.Parts.{HaveTheirRoles, Parts, frames_of, objects_in}
 use Rattle.capability.proofs.Keeping.{keepable_count, keepable_roles}
 use Rattle.capability.proofs.KindNumbers.{root_number}
 use Rattle.space_bank.specs.declared.plan.BankPlan.{BankPlan}
@@ -46,7 +45,7 @@ pub told_words : (plan : BankPlan) (words : List ℕ) (a b c : ℕ) → plan ≡
 told_words plan words a b c is are = is ∙ ap (λ (ws : List ℕ). let q : BankPlan = record { code = code.Done; words = ws; capability = Void } in q) are
 
 module _ (p : Parts) (b : ℕ) (order : BankOrder) (args : Arguments) (first list : List ℕ) (plan : BankPlan) where
-  pub planned_refused : (os : List Object) (why : ResultCode) → on_bank p.geometry (objects_of (frames_of p)) b order args ≡ refused os why →
+  pub planned_refused : (os : List Object) (why : ResultCode) → on_bank p.geometry (objects_in p) b order args ≡ refused os why →
       plan ≡ refusal why → list ≡ first → IsPlanned p b order args first plan list
   planned_refused os why is plans same = record {
     code = ap (λ (q : BankPlan). q.code) plans ∙ sym (ap (λ (o : OrderOutcome). o.code) is);
@@ -55,7 +54,7 @@ module _ (p : Parts) (b : ℕ) (order : BankOrder) (args : Arguments) (first lis
     listed = same ∙ sym (append-nil first) ∙ sym (ap (λ (o : OrderOutcome). first ++ o.written) is);
   }
 
-  pub planned_made : (os : List Object) (written : List ℕ) (c : Capability) → on_bank p.geometry (objects_of (frames_of p)) b order args ≡ made os written c →
+  pub planned_made : (os : List Object) (written : List ℕ) (c : Capability) → on_bank p.geometry (objects_in p) b order args ≡ made os written c →
       plan ≡ gift c → list ≡ first ++ written → IsPlanned p b order args first plan list
   planned_made os written c is plans same = record {
     code = ap (λ (q : BankPlan). q.code) plans ∙ sym (ap (λ (o : OrderOutcome). o.code) is);
@@ -64,7 +63,7 @@ module _ (p : Parts) (b : ℕ) (order : BankOrder) (args : Arguments) (first lis
     listed = same ∙ sym (ap (λ (o : OrderOutcome). first ++ o.written) is);
   }
 
-  pub planned_told : (os : List Object) (x y z : ℕ) → on_bank p.geometry (objects_of (frames_of p)) b order args ≡ told_three os x y z →
+  pub planned_told : (os : List Object) (x y z : ℕ) → on_bank p.geometry (objects_in p) b order args ≡ told_three os x y z →
       plan ≡ answer x y z → list ≡ first → IsPlanned p b order args first plan list
   planned_told os x y z is plans same = record {
     code = ap (λ (q : BankPlan). q.code) plans ∙ sym (ap (λ (o : OrderOutcome). o.code) is);
@@ -185,7 +184,7 @@ module _ (p : Parts) (s : BanksState) (b : ℕ) (h : IsBankOf p s b) where
   pub bank_room : (n : ℕ) → n ≤ 2 → n + length p.headers ≤ s.room
   bank_room n few = omega (arith, keepable_count p.geometry h.sound.0 p h.sound.1.keepable, h.counted.room)
 
-  pub prime_owner : owner_at (objects_of (frames_of p)) 0 ≡ 0
+  pub prime_owner : owner_at (objects_in p) 0 ≡ 0
   prime_owner = h.sound.1.sound.prime.1
 
 root_not_bank : (c : Content Capability) → IsTrue (is_root c) → IsTrue (is_bank c) → ⊥
@@ -197,10 +196,10 @@ root_not_bank (content.Annex registers) root is = cc
 root_not_bank (content.Bank limit) root is = cc
 
 -- beside a bank and a process there is room for four numbers
-pub process_room : (p : Parts) (s t : BanksState) (b : ℕ) (c : Capability) (q n : ℕ) → IsBankOf p s b → MayBeHeld (objects_of (frames_of p)) c → c ≡ Process q →
+pub process_room : (p : Parts) (s t : BanksState) (b : ℕ) (c : Capability) (q n : ℕ) → IsBankOf p s b → MayBeHeld (objects_in p) c → c ≡ Process q →
     length s.listed ≤ 2 → t ≡ record s { listed = s.listed ++ n ∷ [] } → length t.listed < t.room
 process_room p s t b c q n h sent is few listed =
-    let os = objects_of (frames_of p) in
+    let os = objects_in p in
     let process : IsTrue (is_root (content_at os q)) = (subst (λ (d : Capability). MayBeHeld os d) is sent).1 in
     let known : q < p.geometry.nodes = root_number p.geometry q (content_at os q) (h.sound.1.sound.kinds q) process in
     let other : q ≡ b → ⊥ = λ e. root_not_bank (content_at os b) (subst (λ (m : ℕ). IsTrue (is_root (content_at os m))) e process) h.bank in

@@ -6,19 +6,19 @@ use Rattle.model.specs.declared.frame.ObjectHeader.{ObjectHeader}
 use Rattle.model.specs.declared.object.Content.{Content}
 use Rattle.model.specs.declared.object.Object.{Object}
 use Rattle.model.specs.Banking.{with_new}
-use Rattle.model.specs.Frame.{given_up, header_at, objects_of}
+use Rattle.model.specs.Frame.{given_up, header_at}
 use Rattle.model.specs.Object.{is_free}
 use Rattle.model.specs.Revoke.{is_given_up, is_member, rescind}
 use Rattle.model.specs.World.{content_at}
 use Rattle.model_laws.proofs.GivenUp.{new_used, none_given_up, rescinded_given_up}
-use Rattle.capability.specs.Parts.{AreGivenUp, Parts, Renews, frames_of}
+use Rattle.capability.specs.Parts.{AreGivenUp, Parts, Renews, objects_in}
 
 -- the same counts of allocations, and the same numbers free
 abbrev pub SameAllocations : Parts → Parts → Type 0
 SameAllocations p q = (n : ℕ) → (header_at q.headers n).allocations ≡ (header_at p.headers n).allocations
 
 abbrev pub SameFree : Parts → Parts → Type 0
-SameFree p q = (n : ℕ) → is_free (content_at (objects_of (frames_of q)) n) ≡ is_free (content_at (objects_of (frames_of p)) n)
+SameFree p q = (n : ℕ) → is_free (content_at (objects_in q) n) ≡ is_free (content_at (objects_in p) n)
 
 -- a count of allocations by whether the object was given up
 counted : (gone : Bool) (member : Bool) (h k : ObjectHeader) → gone ≡ member → k ≡ (if member then given_up h else h) → k.allocations ≡ h.allocations + (if gone then 1 else 0)
@@ -33,18 +33,18 @@ stayed true m n e same = cc
 
 -- where what was there stays there
 pub renews_none : (p q : Parts) → SameAllocations p q
-    → ((n : ℕ) → is_free (content_at (objects_of (frames_of p)) n) ≡ false → is_free (content_at (objects_of (frames_of q)) n) ≡ false) → Renews p q
+    → ((n : ℕ) → is_free (content_at (objects_in p) n) ≡ false → is_free (content_at (objects_in q) n) ≡ false) → Renews p q
 renews_none p q same stays = record {
-  each = λ n. stayed (is_given_up (objects_of (frames_of p)) (objects_of (frames_of q)) n) (header_at q.headers n).allocations (header_at p.headers n).allocations
-      (none_given_up (objects_of (frames_of p)) (objects_of (frames_of q)) n (stays n)) (same n);
+  each = λ n. stayed (is_given_up (objects_in p) (objects_in q) n) (header_at q.headers n).allocations (header_at p.headers n).allocations
+      (none_given_up (objects_in p) (objects_in q) n (stays n)) (same n);
 }
 
 -- where a set of objects that were there is given up
-pub renews_rescinded : (p q : Parts) (set : List ℕ) → AreGivenUp set p q → objects_of (frames_of q) ≡ rescind set (objects_of (frames_of p))
-    → ((n : ℕ) → is_member set n ≡ true → is_free (content_at (objects_of (frames_of p)) n) ≡ false) → Renews p q
+pub renews_rescinded : (p q : Parts) (set : List ℕ) → AreGivenUp set p q → objects_in q ≡ rescind set (objects_in p)
+    → ((n : ℕ) → is_member set n ≡ true → is_free (content_at (objects_in p) n) ≡ false) → Renews p q
 renews_rescinded p q set given objects used = record {
-  each = λ n. counted (is_given_up (objects_of (frames_of p)) (objects_of (frames_of q)) n) (is_member set n) (header_at p.headers n) (header_at q.headers n)
-      (ap (λ (us : List Object). is_given_up (objects_of (frames_of p)) us n) objects ∙ rescinded_given_up set (objects_of (frames_of p)) used n) (given.headers n);
+  each = λ n. counted (is_given_up (objects_in p) (objects_in q) n) (is_member set n) (header_at p.headers n) (header_at q.headers n)
+      (ap (λ (us : List Object). is_given_up (objects_in p) us n) objects ∙ rescinded_given_up set (objects_in p) used n) (given.headers n);
 }
 
 -- and after or before a change that leaves counts and free numbers as they are
@@ -52,8 +52,8 @@ pub renews_after : (o p q : Parts) → SameAllocations o p → SameFree o p → 
 renews_after o p q same free renews = record {
   each = λ n.
       renews.each n
-      ∙ (ap (λ (a : ℕ). a + (if is_given_up (objects_of (frames_of p)) (objects_of (frames_of q)) n then 1 else 0)) (same n)
-      ∙ ap (λ (was : Bool). (header_at o.headers n).allocations + (if not was && is_free (content_at (objects_of (frames_of q)) n) then 1 else 0)) (free n));
+      ∙ (ap (λ (a : ℕ). a + (if is_given_up (objects_in p) (objects_in q) n then 1 else 0)) (same n)
+      ∙ ap (λ (was : Bool). (header_at o.headers n).allocations + (if not was && is_free (content_at (objects_in q) n) then 1 else 0)) (free n));
 }
 
 pub renews_then : (o p q : Parts) → Renews o p → SameAllocations p q → SameFree p q → Renews o q
@@ -61,7 +61,7 @@ renews_then o p q renews same free = record {
   each = λ n.
       same n
       ∙ (renews.each n
-      ∙ ap (λ (now : Bool). (header_at o.headers n).allocations + (if not (is_free (content_at (objects_of (frames_of o)) n)) && now then 1 else 0)) (sym (free n)));
+      ∙ ap (λ (now : Bool). (header_at o.headers n).allocations + (if not (is_free (content_at (objects_in o) n)) && now then 1 else 0)) (sym (free n)));
 }
 
 -- a new object leaves those that were there

@@ -7,7 +7,7 @@ use Rattle.std.proofs.lemmas.List.{ext_get_or, get_or-set_other, get_or-set_same
 use Rattle.model.specs.declared.object.Object.{Object}
 use Rattle.model.specs.Bank.{chain, usage}
 use Rattle.model.specs.Banking.{handed_on, inherited, owned_by}
-use Rattle.model.specs.Frame.{header_at, objects_of}
+use Rattle.model.specs.Frame.{header_at}
 use Rattle.model.specs.Keepable.{AreCurrent, AreKeepable}
 use Rattle.model.specs.Object.{free, is_bank, is_free}
 use Rattle.model.specs.Revoke.{is_member, rescind}
@@ -18,7 +18,7 @@ use Rattle.model_laws.proofs.BankReturn.{returned_fits, usage_returned}
 use Rattle.model_laws.proofs.BankTree.{chain_banks, chain_once, member_head, member_tail, owner_bank}
 use Rattle.model_laws.proofs.NumberLists.{all_members, found_in, only_member, stands_in}
 use Rattle.model_laws.proofs.SoundEdits.{at_map}
-use Rattle.capability.specs.Parts.{Parts, frames_of}
+use Rattle.capability.specs.Parts.{Parts, frames_of, objects_in}
 use Rattle.space_bank.specs.Banks.{AreCounted, BanksState}
 use Rattle.space_bank.specs.Carrying.{AreHandedOn, CarriesOut, MayServe}
 use Rattle.number_set.specs.Marks.{is_marked}
@@ -93,7 +93,7 @@ inherited_by os us b are =
 
 module _ (p : Parts) (s : BanksState) (b : ℕ) (asks : MayServe p s b) (on : b ≢ 0) where
   abbrev before : List Object
-  before = objects_of (frames_of p)
+  before = objects_in p
 
   -- each bank above accounts for the bank
   pub one_enough : (x : ℕ) → is_member (chain before (owner_at before b)) x ≡ true → 1 ≤ slice_index s.usages x
@@ -106,7 +106,7 @@ module _ (p : Parts) (s : BanksState) (b : ℕ) (asks : MayServe p s b) (on : b 
 
   -- what is left once the bank is gone
   pub returned_carried : (q : Parts) (t : BanksState) (us : List Object) → AreHandedOn (owned_by before b) (owner_at before b) before us
-      → IsReleased (chain before (owner_at before b)) 1 s t (b ∷ []) → objects_of (frames_of q) ≡ rescind (b ∷ []) us → AreCurrent (frames_of q)
+      → IsReleased (chain before (owner_at before b)) 1 s t (b ∷ []) → objects_in q ≡ rescind (b ∷ []) us → AreCurrent (frames_of q)
       → ((age : ℕ) → age + 1 < 2 ^ 64 → AreKeepable p.geometry age (frames_of p) → AreKeepable p.geometry (age + 1) (frames_of q)) → CarriesOut p q t
   returned_carried q t us are released objects current keepable =
       let is = inherited_by before us b are in

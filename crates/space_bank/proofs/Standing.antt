@@ -22,7 +22,7 @@ use Rattle.model_laws.proofs.BankTree.{IsTree, chain_banks, tree_of}
 use Rattle.model_laws.proofs.SoundBanks.{member_passes}
 use Rattle.model_laws.proofs.SoundOrders.{IsNow}
 use Rattle.model_laws.proofs.SoundParts.{IsFramed, nearly_from}
-use Rattle.capability.specs.Parts.{Parts, frames_of}
+use Rattle.capability.specs.Parts.{Parts, frames_of, objects_in}
 use Rattle.capability.proofs.Frames.{content_there}
 use Rattle.capability.proofs.Keeping.{keepable_at, keepable_count}
 use Rattle.space_bank.specs.Banks.{BanksState}
@@ -52,15 +52,15 @@ role_used f (content.Annex registers) is e = cc
 role_used f (content.Bank limit) is e = cc
 
 module _ (g : Geometry) (age : ℕ) (p : Parts) (k : AreKeepable g age (frames_of p)) (n : ℕ) (known : n < length p.headers) where
-  there : content_at (objects_of (frames_of p)) n ≡ map_content (conveyed p.headers) (held_at p.contents n)
+  there : content_at (objects_in p) n ≡ map_content (conveyed p.headers) (held_at p.contents n)
   there = content_there p n known (held_at p.contents n) refl
 
-  pub free_header : IsTrue (is_free (content_at (objects_of (frames_of p)) n)) → (header_at p.headers n).role ≡ role.Free
+  pub free_header : IsTrue (is_free (content_at (objects_in p) n)) → (header_at p.headers n).role ≡ role.Free
   free_header is =
       (keepable_at g age p n known k).kept.role
       ∙ role_free (conveyed p.headers) (held_at p.contents n) (sym (ap (λ (c : Content Capability). is_free c) there) ∙ is)
 
-  pub used_header : is_free (content_at (objects_of (frames_of p)) n) ≡ false → (header_at p.headers n).role ≢ role.Free
+  pub used_header : is_free (content_at (objects_in p) n) ≡ false → (header_at p.headers n).role ≢ role.Free
   used_header is e =
       role_used (conveyed p.headers) (held_at p.contents n) (sym (ap (λ (c : Content Capability). is_free c) there) ∙ is)
       (sym (keepable_at g age p n known k).kept.role ∙ e)
@@ -92,31 +92,31 @@ room_within os b count x room member =
     (member_passes (λ c. nat_le (usage os c + count) (limit_in (content_at os c))) (chain os b) x room member)
 
 module _ (p : Parts) (s : BanksState) (b : ℕ) (asks : MayServe p s b) where
-  pub serve_now : IsNow p.geometry (objects_of (frames_of p))
+  pub serve_now : IsNow p.geometry (objects_in p)
   serve_now = sound_now p.geometry asks.sound.0 (frames_of p) asks.sound.1
 
-  pub serve_framed : IsFramed p.geometry (objects_of (frames_of p))
+  pub serve_framed : IsFramed p.geometry (objects_in p)
   serve_framed = serve_now.frame
 
-  pub serve_tree : IsTree (objects_of (frames_of p))
-  serve_tree = tree_of p.geometry (objects_of (frames_of p)) serve_framed
+  pub serve_tree : IsTree (objects_in p)
+  serve_tree = tree_of p.geometry (objects_in p) serve_framed
 
   pub serve_count : length p.headers ≡ object_count p.geometry
   serve_count = keepable_count p.geometry asks.sound.0 p asks.sound.1.keepable
 
   -- each bank is counted
-  pub bank_inside : (x : ℕ) → IsTrue (is_bank (content_at (objects_of (frames_of p)) x)) → x < length s.usages
+  pub bank_inside : (x : ℕ) → IsTrue (is_bank (content_at (objects_in p) x)) → x < length s.usages
   bank_inside x is =
-      omega (arith, bank_kind p.geometry x (content_at (objects_of (frames_of p)) x) (serve_framed.kinds x) is, asks.counted.usage_each)
+      omega (arith, bank_kind p.geometry x (content_at (objects_in p) x) (serve_framed.kinds x) is, asks.counted.usage_each)
 
   -- what a chain accounts for stays a number of 64 bits
-  pub room_fits : (count : ℕ) → IsTrue (has_room (objects_of (frames_of p)) b count) → (x : ℕ) → is_member (chain (objects_of (frames_of p)) b) x ≡ true →
+  pub room_fits : (count : ℕ) → IsTrue (has_room (objects_in p) b count) → (x : ℕ) → is_member (chain (objects_in p) b) x ≡ true →
       slice_index s.usages x + count < 2 ^ 64
   room_fits count room x member =
-      let os = objects_of (frames_of p) in
+      let os = objects_in p in
       let bank = chain_banks os serve_tree b x asks.bank member in
       let shape = limit_shape (content_at os x) (asks.sound.1.sound.shapes x) in
       omega (arith, asks.counted.usage x bank, room_within os b count x room member, shape)
 
-  pub free_role : (n : ℕ) → n < length p.headers → IsTrue (is_free (content_at (objects_of (frames_of p)) n)) → (header_at p.headers n).role ≡ role.Free
+  pub free_role : (n : ℕ) → n < length p.headers → IsTrue (is_free (content_at (objects_in p) n)) → (header_at p.headers n).role ≡ role.Free
   free_role n known is = free_header p.geometry asks.sound.0 p asks.sound.1.keepable n known is

@@ -7,10 +7,9 @@ use Rattle.model.specs.declared.frame.ObjectHeader.{ObjectHeader}
 use Rattle.model.specs.declared.object.Object.{Object}
 use Rattle.model.specs.Bank.{chain, chain_within, usage}
 use Rattle.model.specs.Banking.{has_room, least, left_of, remaining}
-use Rattle.model.specs.Frame.{objects_of}
 use Rattle.model.specs.Object.{is_bank, limit_in}
 use Rattle.model.specs.World.{content_at, owner_at}
-use Rattle.capability.specs.Parts.{Parts, frames_of}
+use Rattle.capability.specs.Parts.{Parts, objects_in}
 use Rattle.capability.proofs.Frames.{bank_used, length_objects}
 use Rattle.capability.proofs.KindNumbers.{bank_number}
 use Rattle.space_bank.specs.Banks.{BanksState}
@@ -18,16 +17,16 @@ use Rattle.space_bank.specs.Planning.{IsBankOf}
 
 -- a number past which the table has none, and before which it has all
 pub count_read : (p : Parts) (hs : List ObjectHeader) (count n : ℕ) → hs ≡ p.headers → count ≡ length hs → n ≤ count → count ≤ n →
-    n ≡ length (objects_of (frames_of p))
+    n ≡ length (objects_in p)
 count_read p hs count n table is below above =
     let same : n ≡ count = omega arith in
     same ∙ is ∙ ap (λ (ks : List ObjectHeader). length ks) table ∙ sym (length_objects p.headers p.contents)
 
-pub inside_read : (p : Parts) (hs : List ObjectHeader) (count n : ℕ) → hs ≡ p.headers → count ≡ length hs → n < count → n < length (objects_of (frames_of p))
+pub inside_read : (p : Parts) (hs : List ObjectHeader) (count n : ℕ) → hs ≡ p.headers → count ≡ length hs → n < count → n < length (objects_in p)
 inside_read p hs count n table is inside =
     omega (arith, ap (λ (ks : List ObjectHeader). length ks) table, length_objects p.headers p.contents)
 
-pub past_read : (p : Parts) (hs : List ObjectHeader) (count n : ℕ) → hs ≡ p.headers → count ≡ length hs → count ≤ n → length (objects_of (frames_of p)) ≤ n
+pub past_read : (p : Parts) (hs : List ObjectHeader) (count n : ℕ) → hs ≡ p.headers → count ≡ length hs → count ≤ n → length (objects_in p) ≤ n
 past_read p hs count n table is past =
     omega (arith, ap (λ (ks : List ObjectHeader). length ks) table, length_objects p.headers p.contents)
 
@@ -123,7 +122,7 @@ module _ (os : List Object) (i b m left now : ℕ) (inside : i < 16) (here : lef
 -- what is counted of a bank that there is
 module _ (p : Parts) (s : BanksState) (b : ℕ) (h : IsBankOf p s b) where
   pub node_of_bank : b < p.geometry.nodes
-  node_of_bank = bank_number p.geometry b (content_at (objects_of (frames_of p)) b) (h.sound.1.sound.kinds b) h.bank
+  node_of_bank = bank_number p.geometry b (content_at (objects_in p) b) (h.sound.1.sound.kinds b) h.bank
 
   pub usage_known : b < length s.usages
   usage_known = omega (arith, node_of_bank, h.counted.usage_each)
@@ -131,20 +130,20 @@ module _ (p : Parts) (s : BanksState) (b : ℕ) (h : IsBankOf p s b) where
   pub limit_known : b < length s.limits
   limit_known = omega (arith, node_of_bank, h.counted.limit_each)
 
-  pub usage_within : usage (objects_of (frames_of p)) b ≤ limit_in (content_at (objects_of (frames_of p)) b)
+  pub usage_within : usage (objects_in p) b ≤ limit_in (content_at (objects_in p) b)
   usage_within = h.sound.1.sound.limits b h.bank
 
   pub within_counted : slice_index s.usages b ≤ slice_index s.limits b
   within_counted = omega (arith, usage_within, h.counted.usage b h.bank, h.counted.limit b h.bank)
 
-  pub left_counted : slice_index s.limits b - slice_index s.usages b ≡ left_of (objects_of (frames_of p)) b
+  pub left_counted : slice_index s.limits b - slice_index s.usages b ≡ left_of (objects_in p) b
   left_counted = omega (arith, h.counted.usage b h.bank, h.counted.limit b h.bank)
 
   -- its owner is one too
-  pub owner_is_bank : (owner : ℕ) → owner ≡ owner_at (objects_of (frames_of p)) b → IsBankOf p s owner
+  pub owner_is_bank : (owner : ℕ) → owner ≡ owner_at (objects_in p) b → IsBankOf p s owner
   owner_is_bank owner is = record {
     sound = h.sound;
     counted = h.counted;
-    bank = subst (λ (n : ℕ). IsTrue (is_bank (content_at (objects_of (frames_of p)) n))) (sym is)
-        (h.sound.1.sound.owners b (λ free. let used = bank_used (content_at (objects_of (frames_of p)) b) h.bank in cc));
+    bank = subst (λ (n : ℕ). IsTrue (is_bank (content_at (objects_in p) n))) (sym is)
+        (h.sound.1.sound.owners b (λ free. let used = bank_used (content_at (objects_in p) b) h.bank in cc));
   }

@@ -7,11 +7,10 @@ use Rattle.model.specs.declared.order.BankOrder.{BankOrder}
 use Rattle.model.specs.declared.order.BankOrder.TheVariants.{NewPage, NewNode, NewProcess, NewBank}
 use Rattle.model.specs.Bank.{usage}
 use Rattle.model.specs.Banking.{on_bank}
-use Rattle.model.specs.Frame.{objects_of}
 use Rattle.model.specs.Object.{is_bank, is_free, limit_in}
 use Rattle.model.specs.Sound.{MayBeHeld, object_count}
 use Rattle.model.specs.World.{content_at}
-use Rattle.capability.specs.Parts.{AreSound, Parts, Renews, frames_of}
+use Rattle.capability.specs.Parts.{AreSound, Parts, Renews, objects_in}
 use Rattle.space_bank.specs.declared.plan.BankPlan.{BankPlan}
 use Rattle.number_set.specs.Marks.{is_marked}
 
@@ -40,16 +39,16 @@ pub record AreCounted (g : Geometry) (os : List Object) (s : BanksState) : Type 
 -- a bank may be asked: the frames are sound and counted, and what is sent may be held
 pub record MayAsk (p : Parts) (s : BanksState) (b : ℕ) (args : Arguments) : Type 0 where
   pub sound : AreSound p
-  pub counted : AreCounted p.geometry (objects_of (frames_of p)) s
-  pub bank : IsTrue (is_bank (content_at (objects_of (frames_of p)) b))
-  pub sent : MayBeHeld (objects_of (frames_of p)) args.capability
+  pub counted : AreCounted p.geometry (objects_in p) s
+  pub bank : IsTrue (is_bank (content_at (objects_in p) b))
+  pub sent : MayBeHeld (objects_in p) args.capability
 
 -- what a plan tells, and what it lists, behind the numbers that the invocation writes itself
 pub record IsPlanned (p : Parts) (b : ℕ) (order : BankOrder) (args : Arguments) (first : List ℕ) (plan : BankPlan) (list : List ℕ) : Type 0 where
-  pub code : plan.code ≡ (on_bank p.geometry (objects_of (frames_of p)) b order args).code
-  pub words : plan.words ≡ (on_bank p.geometry (objects_of (frames_of p)) b order args).words
-  pub capability : plan.capability ≡ (on_bank p.geometry (objects_of (frames_of p)) b order args).capability
-  pub listed : list ≡ first ++ (on_bank p.geometry (objects_of (frames_of p)) b order args).written
+  pub code : plan.code ≡ (on_bank p.geometry (objects_in p) b order args).code
+  pub words : plan.words ≡ (on_bank p.geometry (objects_in p) b order args).words
+  pub capability : plan.capability ≡ (on_bank p.geometry (objects_in p) b order args).capability
+  pub listed : list ≡ first ++ (on_bank p.geometry (objects_in p) b order args).written
 
 -- an order that makes new objects
 abbrev pub is_new : BankOrder → Bool
@@ -67,6 +66,6 @@ pub record KeepsObjects {S : Type 0} (parts : S → Parts) (Fetched Announced : 
   pub touched : (parts new).touched ≡ (parts old).touched
   pub geometry : (parts new).geometry ≡ (parts old).geometry
   pub failures : (parts new).failures ≡ (parts old).failures
-  pub fetched : (n : ℕ) → is_free (content_at (objects_of (frames_of (parts new))) n) ≡ false → Fetched old n → Fetched new n
-  pub announced : (n : ℕ) → is_free (content_at (objects_of (frames_of (parts new))) n) ≡ false → Announced old n → Announced new n
+  pub fetched : (n : ℕ) → is_free (content_at (objects_in (parts new)) n) ≡ false → Fetched old n → Fetched new n
+  pub announced : (n : ℕ) → is_free (content_at (objects_in (parts new)) n) ≡ false → Announced old n → Announced new n
   pub leads : Leads old new

@@ -4,7 +4,6 @@ use Rattle.model.specs.declared.capability.Capability.{Capability}
 use Rattle.model.specs.declared.object.Object.{Object}
 use Rattle.model.specs.Bank.{chain, usage}
 use Rattle.model.specs.Banking.{freed_by}
-use Rattle.model.specs.Frame.{objects_of}
 use Rattle.model.specs.Keepable.{AreCurrent, AreKeepable}
 use Rattle.model.specs.Object.{is_bank, is_free}
 use Rattle.model.specs.Revoke.{is_member, rescind}
@@ -12,7 +11,7 @@ use Rattle.model.specs.Sound.{MayBeHeld}
 use Rattle.model.specs.World.{content_at, object_at, owner_at}
 use Rattle.capability.specs.declared.present.Fresh.{Fresh}
 use Rattle.capability.specs.declared.present.Fresh.TheVariants as fresh
-use Rattle.capability.specs.Parts.{AreSound, IsOnce, Parts, frames_of}
+use Rattle.capability.specs.Parts.{AreSound, IsOnce, Parts, frames_of, objects_in}
 use Rattle.space_bank.specs.Banks.{AreCounted, BanksState}
 
 -- which numbers are marked as free, those of nodes and then those of pages
@@ -22,12 +21,12 @@ marks_of s = s.free_nodes ++ s.free_pages
 -- a bank may be served: the frames are sound and counted
 pub record MayServe (p : Parts) (s : BanksState) (b : ℕ) : Type 0 where
   pub sound : AreSound p
-  pub counted : AreCounted p.geometry (objects_of (frames_of p)) s
-  pub bank : IsTrue (is_bank (content_at (objects_of (frames_of p)) b))
+  pub counted : AreCounted p.geometry (objects_in p) s
+  pub bank : IsTrue (is_bank (content_at (objects_in p) b))
 
 -- what is counted is what there is, and the frames can be kept at the next age
 pub record CarriesOut (old new : Parts) (s : BanksState) : Type 0 where
-  pub counted : AreCounted old.geometry (objects_of (frames_of new)) s
+  pub counted : AreCounted old.geometry (objects_in new) s
   pub current : AreCurrent (frames_of new)
   pub keepable : (age : ℕ) → age + 1 < 2 ^ 64 → AreKeepable old.geometry age (frames_of old) → AreKeepable old.geometry (age + 1) (frames_of new)
 

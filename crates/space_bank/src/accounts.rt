@@ -2,9 +2,8 @@
 ghost use Rattle.std.specs.Prelude.{◌≡◌, ℕ, ◌≤◌, true, slice_index, IsTrue};
 ghost use Rattle.model.specs.Bank.{chain};
 ghost use Rattle.model.specs.Banking.{has_room};
-ghost use Rattle.model.specs.Frame.{objects_of};
 ghost use Rattle.model.specs.Revoke.{is_member};
-ghost use Rattle.capability.specs.Parts.{frames_of};
+ghost use Rattle.capability.specs.Parts.{objects_in};
 ghost use Rattle.space_bank.specs.Carrying.{MayServe};
 ghost use Rattle.space_bank.specs.Chains.{IsRaised};
 
@@ -17,8 +16,8 @@ impl Banks {
     /// limits is passed.
     pub(crate) fn account<F: PresentFrames>(&mut self, store: &F, bank: u64, count: u64)
         requires asks { MayServe (F.parts store.now) self.old bank }
-        requires room { IsTrue (has_room (objects_of (frames_of (F.parts store.now))) bank count) }
-        ensures usages { IsRaised (chain (objects_of (frames_of (F.parts store.now))) bank) count
+        requires room { IsTrue (has_room (objects_in (F.parts store.now)) bank count) }
+        ensures usages { IsRaised (chain (objects_in (F.parts store.now)) bank) count
             self.old.usages self.new.usages }
         ensures kept { self.new ≡ record self.old { usages = self.new.usages } }
     {
@@ -29,9 +28,9 @@ impl Banks {
     pub(crate) fn release<F: PresentFrames>(&mut self, store: &F, bank: u64, count: u64)
         requires asks { MayServe (F.parts store.now) self.old bank }
         requires enough { (b : ℕ)
-            → is_member (chain (objects_of (frames_of (F.parts store.now))) bank) b ≡ true
+            → is_member (chain (objects_in (F.parts store.now)) bank) b ≡ true
             → count ≤ slice_index self.old.usages b }
-        ensures usages { IsRaised (chain (objects_of (frames_of (F.parts store.now))) bank) count
+        ensures usages { IsRaised (chain (objects_in (F.parts store.now)) bank) count
             self.new.usages self.old.usages }
         ensures kept { self.new ≡ record self.old { usages = self.new.usages } }
     {

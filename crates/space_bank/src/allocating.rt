@@ -2,11 +2,11 @@
 ghost use Rattle.std.specs.Prelude.{◌≡◌, ◌≢◌, ℕ, ◌+◌, ◌<◌, false, length, slice_set, IsTrue};
 ghost use Rattle.model.specs.Bank.{chain};
 ghost use Rattle.model.specs.Banking.{has_room, new_annex, new_root, with_new};
-ghost use Rattle.model.specs.Frame.{header_at, objects_of};
+ghost use Rattle.model.specs.Frame.{header_at};
 ghost use Rattle.model.specs.Keepable.{AreCurrent, AreKeepable};
 ghost use Rattle.model.specs.Object.{is_free};
 ghost use Rattle.model.specs.World.{content_at};
-ghost use Rattle.capability.specs.Parts.{FreshFits, IsFreshAt, KeepsAside, frames_of, fresh_content};
+ghost use Rattle.capability.specs.Parts.{FreshFits, IsFreshAt, KeepsAside, frames_of, fresh_content, objects_in};
 ghost use Rattle.space_bank.specs.Carrying.{CarriesOut, IsAlone, MayServe, marks_of};
 
 use crate::banks::Banks;
@@ -26,15 +26,15 @@ impl Banks {
         bank: u64,
     )
         requires asks { MayServe (F.parts store.old) self.old bank }
-        requires room { IsTrue (has_room (objects_of (frames_of (F.parts store.old))) bank 1) }
+        requires room { IsTrue (has_room (objects_in (F.parts store.old)) bank 1) }
         requires free { IsTrue
-            (is_free (content_at (objects_of (frames_of (F.parts store.old))) number)) }
+            (is_free (content_at (objects_in (F.parts store.old)) number)) }
         requires alone { IsAlone fresh }
         requires place { IsFreshAt (F.parts store.old).geometry number fresh }
         requires fetched { F.IsFetched store.old number }
         requires announced { F.IsAnnounced store.old number }
-        ensures objects { objects_of (frames_of (F.parts store.new))
-            ≡ with_new (objects_of (frames_of (F.parts store.old))) number bank
+        ensures objects { objects_in (F.parts store.new)
+            ≡ with_new (objects_in (F.parts store.old)) number bank
             (fresh_content Capability.Void fresh) }
         ensures carried { CarriesOut (F.parts store.old) (F.parts store.new) self.new }
         ensures aside { KeepsAside F.parts F.IsFetched F.IsAnnounced F.LeadsTo store.old store.new }
@@ -47,11 +47,11 @@ impl Banks {
     /// in whose chain each limit leaves two.
     pub fn new_process<F: PresentFrames>(&mut self, store: &mut F, root: u64, annex: u64, bank: u64)
         requires asks { MayServe (F.parts store.old) self.old bank }
-        requires room { IsTrue (has_room (objects_of (frames_of (F.parts store.old))) bank 2) }
+        requires room { IsTrue (has_room (objects_in (F.parts store.old)) bank 2) }
         requires free { IsTrue
-            (is_free (content_at (objects_of (frames_of (F.parts store.old))) root)) }
+            (is_free (content_at (objects_in (F.parts store.old)) root)) }
         requires annex_free { IsTrue
-            (is_free (content_at (objects_of (frames_of (F.parts store.old))) annex)) }
+            (is_free (content_at (objects_in (F.parts store.old)) annex)) }
         requires two { annex ≢ root }
         requires place { root < (F.parts store.old).geometry.nodes }
         requires annex_place { annex < (F.parts store.old).geometry.nodes }
@@ -59,9 +59,9 @@ impl Banks {
         requires annex_fetched { F.IsFetched store.old annex }
         requires announced { F.IsAnnounced store.old root }
         requires annex_announced { F.IsAnnounced store.old annex }
-        ensures objects { objects_of (frames_of (F.parts store.new))
+        ensures objects { objects_in (F.parts store.new)
             ≡ with_new
-            (with_new (objects_of (frames_of (F.parts store.old))) root bank (new_root annex)) annex
+            (with_new (objects_in (F.parts store.old)) root bank (new_root annex)) annex
             bank new_annex }
         ensures carried { CarriesOut (F.parts store.old) (F.parts store.new) self.new }
         ensures aside { KeepsAside F.parts F.IsFetched F.IsAnnounced F.LeadsTo store.old store.new }
@@ -75,15 +75,15 @@ impl Banks {
     /// reached, and that has fewer than 16 banks.
     pub fn sub_bank<F: PresentFrames>(&mut self, store: &mut F, number: u64, bank: u64, limit: u64)
         requires asks { MayServe (F.parts store.old) self.old bank }
-        requires room { IsTrue (has_room (objects_of (frames_of (F.parts store.old))) bank 1) }
-        requires short { length (chain (objects_of (frames_of (F.parts store.old))) bank) < 16 }
+        requires room { IsTrue (has_room (objects_in (F.parts store.old)) bank 1) }
+        requires short { length (chain (objects_in (F.parts store.old)) bank) < 16 }
         requires free { IsTrue
-            (is_free (content_at (objects_of (frames_of (F.parts store.old))) number)) }
+            (is_free (content_at (objects_in (F.parts store.old)) number)) }
         requires place { number < (F.parts store.old).geometry.nodes }
         requires fetched { F.IsFetched store.old number }
         requires announced { F.IsAnnounced store.old number }
-        ensures objects { objects_of (frames_of (F.parts store.new))
-            ≡ with_new (objects_of (frames_of (F.parts store.old))) number bank
+        ensures objects { objects_in (F.parts store.new)
+            ≡ with_new (objects_in (F.parts store.old)) number bank
             (Content.Bank limit) }
         ensures carried { CarriesOut (F.parts store.old) (F.parts store.new) self.new }
         ensures aside { KeepsAside F.parts F.IsFetched F.IsAnnounced F.LeadsTo store.old store.new }
@@ -102,8 +102,8 @@ impl Banks {
         requires announced { F.IsAnnounced store.old number }
         requires free { (header_at (F.parts store.old).headers number).role ≡ Role.Free }
         requires place { IsFreshAt (F.parts store.old).geometry number fresh }
-        ensures objects { objects_of (frames_of (F.parts store.new))
-            ≡ with_new (objects_of (frames_of (F.parts store.old))) number bank
+        ensures objects { objects_in (F.parts store.new)
+            ≡ with_new (objects_in (F.parts store.old)) number bank
             (fresh_content Capability.Void fresh) }
         ensures current { AreCurrent (frames_of (F.parts store.old))
             → AreCurrent (frames_of (F.parts store.new)) }

@@ -2,9 +2,8 @@
 ghost use Rattle.std.specs.Prelude.{◌≡◌, ℕ, ◌+◌, ◌^◌, ◌<◌, true, drop, length, slice_index};
 ghost use Rattle.std.specs.List.{All};
 ghost use Rattle.model.specs.Banking.{on_bank};
-ghost use Rattle.model.specs.Frame.{objects_of};
 ghost use Rattle.model.specs.Keepable.{AreCurrent, AreKeepable};
-ghost use Rattle.capability.specs.Parts.{frames_of};
+ghost use Rattle.capability.specs.Parts.{frames_of, objects_in};
 ghost use Rattle.space_bank.specs.Banks.{AreCounted, KeepsObjects, MayAsk, is_new};
 
 use crate::banks::Banks;
@@ -27,19 +26,19 @@ impl Banks {
     )
         requires asks { MayAsk (F.parts store.old) self.old bank arguments }
         requires done { (on_bank (F.parts store.old).geometry
-            (objects_of (frames_of (F.parts store.old))) bank order arguments).code
+            (objects_in (F.parts store.old)) bank order arguments).code
             ≡ ResultCode.Done }
         requires listed { drop skip self.old.listed
-            ≡ (on_bank (F.parts store.old).geometry (objects_of (frames_of (F.parts store.old)))
+            ≡ (on_bank (F.parts store.old).geometry (objects_in (F.parts store.old))
             bank order arguments).written }
         requires announced { All (F.IsAnnounced store.old) (drop skip self.old.listed) }
         requires fetched { is_new order ≡ true
             → All (F.IsFetched store.old) (drop skip self.old.listed) }
-        ensures objects { objects_of (frames_of (F.parts store.new))
-            ≡ (on_bank (F.parts store.old).geometry (objects_of (frames_of (F.parts store.old)))
+        ensures objects { objects_in (F.parts store.new)
+            ≡ (on_bank (F.parts store.old).geometry (objects_in (F.parts store.old))
             bank order arguments).objects }
         ensures counted { AreCounted (F.parts store.old).geometry
-            (objects_of (frames_of (F.parts store.new))) self.new }
+            (objects_in (F.parts store.new)) self.new }
         ensures current { AreCurrent (frames_of (F.parts store.new)) }
         ensures keepable { (age : ℕ) → age + 1 < 2 ^ 64
             → AreKeepable (F.parts store.old).geometry age (frames_of (F.parts store.old))

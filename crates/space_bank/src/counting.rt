@@ -2,12 +2,11 @@
 ghost use Rattle.std.specs.Prelude.{◌≡◌, ◌↔◌, ℕ, ◌+◌, ◌<◌, ◌≤◌, ◌^◌, length, map, slice_index, IfOk, IsErrOf, IsTrue};
 ghost use Rattle.std.specs.List.{range_with_len};
 ghost use Rattle.model.specs.Bank.{usage as usage_of};
-ghost use Rattle.model.specs.Frame.{objects_of};
 ghost use Rattle.model.specs.Keepable.{AreKeepable};
 ghost use Rattle.model.specs.Object.{is_bank as counts_as_bank, limit_in};
 ghost use Rattle.model.specs.World.{content_at};
 ghost use Rattle.model_laws.proofs.BankTree.{IsTree};
-ghost use Rattle.capability.specs.Parts.{AreSound, HaveTheirRoles, LooksUp, frames_of};
+ghost use Rattle.capability.specs.Parts.{AreSound, HaveTheirRoles, LooksUp, frames_of, objects_in};
 ghost use Rattle.space_bank.specs.Banks.{AreCounted};
 ghost use Rattle.space_bank.specs.Counting.{AreMarked};
 
@@ -23,7 +22,7 @@ use std::alloc::{AllocError, Global};
 fn is_bank<F: PresentFrames>(store: &F, number: u64) -> bool
     requires { HaveTheirRoles (frames_of (F.parts store.now)) }
     ensures { result
-        ≡ counts_as_bank (content_at (objects_of (frames_of (F.parts store.now))) number) }
+        ≡ counts_as_bank (content_at (objects_in (F.parts store.now)) number) }
 {
     matches!(store.table().header(number).role, Role::Bank)
 }
@@ -32,7 +31,7 @@ fn is_bank<F: PresentFrames>(store: &F, number: u64) -> bool
 fn limit_there<F: PresentFrames>(store: &F, number: u64) -> u64
     requires { F.IsFetched store.now number }
     ensures { result
-        ≡ limit_in (content_at (objects_of (frames_of (F.parts store.now))) number) }
+        ≡ limit_in (content_at (objects_in (F.parts store.now)) number) }
 {
     match store.frame(number) {
         Content::Bank { limit } => *limit,
@@ -50,7 +49,7 @@ fn read_limit<F: PresentFrames>(
     requires keepable { AreKeepable (F.parts store.old).geometry u64.MAX
         (frames_of (F.parts store.old)) }
     ensures limit { IfOk result (λ limit. limit
-        ≡ limit_in (content_at (objects_of (frames_of (F.parts store.old))) number)) }
+        ≡ limit_in (content_at (objects_in (F.parts store.old)) number)) }
     ensures room { IsErrOf result PrepareFault.LogFull → ⊥ }
     ensures cause { IsErrOf result PrepareFault.Failed
         ↔ ((F.parts store.old).failures < (F.parts store.new).failures) }
@@ -79,7 +78,7 @@ pub fn read_limits<F: PresentFrames>(
     requires known { count ≤ length (F.parts store.old).headers }
     requires keepable { AreKeepable (F.parts store.old).geometry u64.MAX
         (frames_of (F.parts store.old)) }
-    ensures limits { let objects = objects_of (frames_of (F.parts store.old)) in
+    ensures limits { let objects = objects_in (F.parts store.old) in
         IfOk result (λ limits. limits.items
         ≡ map (λ n. limit_in (content_at objects n)) (range_with_len 0 count)) }
     ensures room { IsErrOf result PrepareFault.LogFull → ⊥ }
@@ -111,7 +110,7 @@ fn free_numbers<F: PresentFrames>(
     requires roles { HaveTheirRoles (frames_of (F.parts store.now)) }
     requires fits { first + count < 2 ^ 64 }
     ensures { IfOk result
-        (AreMarked (objects_of (frames_of (F.parts store.now))) first count) }
+        (AreMarked (objects_in (F.parts store.now)) first count) }
 {
     let mut numbers = NumberSet::new(alloc, count as usize)?;
     for number in 0..count {
@@ -123,15 +122,15 @@ fn free_numbers<F: PresentFrames>(
 // Adds up how many objects each bank accounts for, from nothing.
 fn add_usages<F: PresentFrames>(store: &F, usages: &mut [u64])
     requires roles { HaveTheirRoles (frames_of (F.parts store.now)) }
-    requires tree { IsTree (objects_of (frames_of (F.parts store.now))) }
+    requires tree { IsTree (objects_in (F.parts store.now)) }
     requires each { (b : ℕ)
-        → IsTrue (counts_as_bank (content_at (objects_of (frames_of (F.parts store.now))) b))
+        → IsTrue (counts_as_bank (content_at (objects_in (F.parts store.now)) b))
         → b < length usages.old }
     requires none { (b : ℕ) → slice_index usages.old b ≡ 0 }
     ensures size { length usages.new ≡ length usages.old }
     ensures counted { (b : ℕ)
-        → IsTrue (counts_as_bank (content_at (objects_of (frames_of (F.parts store.now))) b))
-        → slice_index usages.new b ≡ usage_of (objects_of (frames_of (F.parts store.now))) b }
+        → IsTrue (counts_as_bank (content_at (objects_in (F.parts store.now)) b))
+        → slice_index usages.new b ≡ usage_of (objects_in (F.parts store.now)) b }
 {
     for number in 1..store.table().count() {
         if !is_free(store, number) {
@@ -148,14 +147,14 @@ pub fn count_usages<F: PresentFrames>(
     count: u64,
 ) -> Result<Vec<u64>, AllocError>
     requires roles { HaveTheirRoles (frames_of (F.parts store.now)) }
-    requires tree { IsTree (objects_of (frames_of (F.parts store.now))) }
+    requires tree { IsTree (objects_in (F.parts store.now)) }
     requires each { (b : ℕ)
-        → IsTrue (counts_as_bank (content_at (objects_of (frames_of (F.parts store.now))) b))
+        → IsTrue (counts_as_bank (content_at (objects_in (F.parts store.now)) b))
         → b < count }
     ensures size { IfOk result (λ usages. length usages.items ≡ count) }
     ensures counted { IfOk result (λ usages. (b : ℕ)
-        → IsTrue (counts_as_bank (content_at (objects_of (frames_of (F.parts store.now))) b))
-        → slice_index usages.items b ≡ usage_of (objects_of (frames_of (F.parts store.now))) b) }
+        → IsTrue (counts_as_bank (content_at (objects_in (F.parts store.now)) b))
+        → slice_index usages.items b ≡ usage_of (objects_in (F.parts store.now)) b) }
 {
     let mut usages = Vec::new(alloc);
     usages.resize(count as usize, 0)?;
@@ -172,7 +171,7 @@ impl Banks {
     pub fn count<F: PresentFrames>(alloc: Global, store: &mut F) -> Result<Banks, PrepareFault>
         requires sound { AreSound (F.parts store.old) }
         ensures counted { IfOk result (AreCounted (F.parts store.old).geometry
-            (objects_of (frames_of (F.parts store.old)))) }
+            (objects_in (F.parts store.old))) }
         ensures room { IsErrOf result PrepareFault.LogFull → ⊥ }
         ensures cause { IsErrOf result PrepareFault.Failed
             ↔ ((F.parts store.old).failures < (F.parts store.new).failures) }
@@ -196,11 +195,11 @@ impl Banks {
         limits: Vec<u64>,
     ) -> Result<Banks, AllocError>
         requires sound { AreSound (F.parts store.now) }
-        requires limits { let objects = objects_of (frames_of (F.parts store.now)) in limits.items
+        requires limits { let objects = objects_in (F.parts store.now) in limits.items
             ≡ map (λ n. limit_in (content_at objects n))
             (range_with_len 0 (F.parts store.now).geometry.nodes) }
         ensures { IfOk result (AreCounted (F.parts store.now).geometry
-            (objects_of (frames_of (F.parts store.now)))) }
+            (objects_in (F.parts store.now))) }
     {
         let geometry = store.geometry();
         let room = match store.table().count().checked_add(2) {

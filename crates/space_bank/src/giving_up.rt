@@ -2,9 +2,8 @@
 ghost use Rattle.std.specs.Prelude.{◌≡◌, ◌≢◌, ◌≤◌, ◌∷◌, [], drop, length};
 ghost use Rattle.std.specs.List.{All};
 ghost use Rattle.model.specs.Banking.{inherited, owned_by, under};
-ghost use Rattle.model.specs.Frame.{objects_of};
 ghost use Rattle.model.specs.Revoke.{rescind as rescinded};
-ghost use Rattle.capability.specs.Parts.{frames_of};
+ghost use Rattle.capability.specs.Parts.{objects_in};
 ghost use Rattle.space_bank.specs.Banks.{KeepsObjects};
 ghost use Rattle.space_bank.specs.Carrying.{CarriesOut, IsFreedOf, MayGiveUp, MayServe};
 
@@ -19,11 +18,11 @@ impl Banks {
     /// a page, a node, or the root and the annex of a process.
     pub fn free<F: PresentFrames>(&mut self, store: &mut F, skip: usize, bank: u64)
         requires asks { MayServe (F.parts store.old) self.old bank }
-        requires listed { IsFreedOf (objects_of (frames_of (F.parts store.old))) bank
+        requires listed { IsFreedOf (objects_in (F.parts store.old)) bank
             (drop skip self.old.listed) }
         requires announced { All (F.IsAnnounced store.old) (drop skip self.old.listed) }
-        ensures objects { objects_of (frames_of (F.parts store.new))
-            ≡ rescinded (drop skip self.old.listed) (objects_of (frames_of (F.parts store.old))) }
+        ensures objects { objects_in (F.parts store.new)
+            ≡ rescinded (drop skip self.old.listed) (objects_in (F.parts store.old)) }
         ensures carried { CarriesOut (F.parts store.old) (F.parts store.new) self.new }
         ensures aside { KeepsObjects F.parts F.IsFetched F.IsAnnounced F.LeadsTo store.old
             store.new }
@@ -39,10 +38,10 @@ impl Banks {
         requires asks { MayServe (F.parts store.old) self.old bank }
         requires other { bank ≢ 0 }
         requires listed { drop skip self.old.listed
-            ≡ under (objects_of (frames_of (F.parts store.old))) bank }
+            ≡ under (objects_in (F.parts store.old)) bank }
         requires announced { All (F.IsAnnounced store.old) (drop skip self.old.listed) }
-        ensures objects { let objects = objects_of (frames_of (F.parts store.old)) in
-            objects_of (frames_of (F.parts store.new)) ≡ rescinded (under objects bank) objects }
+        ensures objects { let objects = objects_in (F.parts store.old) in
+            objects_in (F.parts store.new) ≡ rescinded (under objects bank) objects }
         ensures carried { CarriesOut (F.parts store.old) (F.parts store.new) self.new }
         ensures aside { KeepsObjects F.parts F.IsFetched F.IsAnnounced F.LeadsTo store.old
             store.new }
@@ -57,10 +56,10 @@ impl Banks {
         requires asks { MayServe (F.parts store.old) self.old bank }
         requires other { bank ≢ 0 }
         requires listed { drop skip self.old.listed
-            ≡ bank ∷ owned_by (objects_of (frames_of (F.parts store.old))) bank }
+            ≡ bank ∷ owned_by (objects_in (F.parts store.old)) bank }
         requires announced { All (F.IsAnnounced store.old) (drop skip self.old.listed) }
-        ensures objects { objects_of (frames_of (F.parts store.new))
-            ≡ rescinded (bank ∷ []) (inherited (objects_of (frames_of (F.parts store.old))) bank) }
+        ensures objects { objects_in (F.parts store.new)
+            ≡ rescinded (bank ∷ []) (inherited (objects_in (F.parts store.old)) bank) }
         ensures carried { CarriesOut (F.parts store.old) (F.parts store.new) self.new }
         ensures aside { KeepsObjects F.parts F.IsFetched F.IsAnnounced F.LeadsTo store.old
             store.new }
@@ -76,12 +75,12 @@ impl Banks {
     // Gives up what is listed from `skip` on, which the chain of a bank accounted for.
     fn give_up<F: PresentFrames>(&mut self, store: &mut F, skip: usize, above: u64)
         requires asks { MayServe (F.parts store.old) self.old above }
-        requires gives { MayGiveUp (objects_of (frames_of (F.parts store.old))) above
+        requires gives { MayGiveUp (objects_in (F.parts store.old)) above
             (drop skip self.old.listed) }
         requires within { skip ≤ length self.old.listed }
         requires announced { All (F.IsAnnounced store.old) (drop skip self.old.listed) }
-        ensures objects { objects_of (frames_of (F.parts store.new))
-            ≡ rescinded (drop skip self.old.listed) (objects_of (frames_of (F.parts store.old))) }
+        ensures objects { objects_in (F.parts store.new)
+            ≡ rescinded (drop skip self.old.listed) (objects_in (F.parts store.old)) }
         ensures carried { CarriesOut (F.parts store.old) (F.parts store.new) self.new }
         ensures aside { KeepsObjects F.parts F.IsFetched F.IsAnnounced F.LeadsTo store.old
             store.new }

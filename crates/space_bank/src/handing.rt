@@ -1,11 +1,10 @@
 // Objects that get another bank as their owner.
 ghost use Rattle.std.specs.Prelude.{◌≡◌, ℕ, false};
 ghost use Rattle.std.specs.List.{All};
-ghost use Rattle.model.specs.Frame.{objects_of};
 ghost use Rattle.model.specs.Keepable.{AreCurrent, AreKeepable};
 ghost use Rattle.model.specs.Object.{is_free};
 ghost use Rattle.model.specs.World.{content_at};
-ghost use Rattle.capability.specs.Parts.{KeepsAside, frames_of};
+ghost use Rattle.capability.specs.Parts.{KeepsAside, frames_of, objects_in};
 ghost use Rattle.space_bank.specs.Carrying.{AreHandedOn};
 
 use capability::PresentFrames;
@@ -15,10 +14,10 @@ use capability::objects::set_owner;
 pub(crate) fn hand_on<F: PresentFrames>(store: &mut F, numbers: &[u64], bank: u64)
     requires announced { All (F.IsAnnounced store.old) numbers.now }
     requires used { All
-        (λ n. is_free (content_at (objects_of (frames_of (F.parts store.old))) n) ≡ false)
+        (λ n. is_free (content_at (objects_in (F.parts store.old)) n) ≡ false)
         numbers.now }
-    ensures objects { AreHandedOn numbers.now bank (objects_of (frames_of (F.parts store.old)))
-        (objects_of (frames_of (F.parts store.new))) }
+    ensures objects { AreHandedOn numbers.now bank (objects_in (F.parts store.old))
+        (objects_in (F.parts store.new)) }
     ensures current { AreCurrent (frames_of (F.parts store.old))
         → AreCurrent (frames_of (F.parts store.new)) }
     ensures keepable { (age : ℕ)

@@ -2,9 +2,8 @@
 ghost use Rattle.std.specs.Prelude.{◌≡◌, ◌≢◌, ◌+◌, ◌<◌, ◌≤◌, ◌++◌, [], ◌∷◌, length, vec_len};
 ghost use Rattle.std.specs.Vec.{vec_capacity};
 ghost use Rattle.model.specs.Banking.{owned_by, under};
-ghost use Rattle.model.specs.Frame.{objects_of};
 ghost use Rattle.model.specs.World.{owner_at};
-ghost use Rattle.capability.specs.Parts.{HaveTheirRoles, frames_of};
+ghost use Rattle.capability.specs.Parts.{HaveTheirRoles, frames_of, objects_in};
 
 use crate::banks::Banks;
 use crate::walking::{is_free, is_under, owner};
@@ -16,7 +15,7 @@ fn list_under<F: PresentFrames>(store: &F, bank: u64, listed: &mut Vec<u64>)
     requires room { vec_len listed.old + length (F.parts store.now).headers
         ≤ vec_capacity listed.old }
     ensures listed { listed.new.items
-        ≡ listed.old.items ++ under (objects_of (frames_of (F.parts store.now))) bank }
+        ≡ listed.old.items ++ under (objects_in (F.parts store.now)) bank }
     ensures room { vec_capacity listed.new ≡ vec_capacity listed.old }
 {
     for number in 0..store.table().count() {
@@ -29,12 +28,12 @@ fn list_under<F: PresentFrames>(store: &F, bank: u64, listed: &mut Vec<u64>)
 // Lists what a bank itself owns, by number. Number 0 isn't among it.
 fn list_owned<F: PresentFrames>(store: &F, bank: u64, listed: &mut Vec<u64>)
     requires roles { HaveTheirRoles (frames_of (F.parts store.now)) }
-    requires prime { owner_at (objects_of (frames_of (F.parts store.now))) 0 ≡ 0 }
+    requires prime { owner_at (objects_in (F.parts store.now)) 0 ≡ 0 }
     requires other { bank ≢ 0 }
     requires room { vec_len listed.old + length (F.parts store.now).headers
         ≤ vec_capacity listed.old + 1 }
     ensures listed { listed.new.items
-        ≡ listed.old.items ++ owned_by (objects_of (frames_of (F.parts store.now))) bank }
+        ≡ listed.old.items ++ owned_by (objects_in (F.parts store.now)) bank }
     ensures room { vec_capacity listed.new ≡ vec_capacity listed.old }
 {
     for number in 0..store.table().count() {
@@ -78,7 +77,7 @@ impl Banks {
         requires roles { HaveTheirRoles (frames_of (F.parts store.now)) }
         requires room { length self.old.listed + length (F.parts store.now).headers
             ≤ self.old.room }
-        ensures { let objects = objects_of (frames_of (F.parts store.now)) in
+        ensures { let objects = objects_in (F.parts store.now) in
             self.new ≡ record self.old { listed = self.old.listed ++ under objects bank } }
     {
         list_under(store, bank, &mut self.listed);
@@ -87,11 +86,11 @@ impl Banks {
     // Lists what a bank itself owns behind those that are listed.
     pub(crate) fn list_owned<F: PresentFrames>(&mut self, store: &F, bank: u64)
         requires roles { HaveTheirRoles (frames_of (F.parts store.now)) }
-        requires prime { owner_at (objects_of (frames_of (F.parts store.now))) 0 ≡ 0 }
+        requires prime { owner_at (objects_in (F.parts store.now)) 0 ≡ 0 }
         requires other { bank ≢ 0 }
         requires room { length self.old.listed + length (F.parts store.now).headers
             ≤ self.old.room + 1 }
-        ensures { let objects = objects_of (frames_of (F.parts store.now)) in
+        ensures { let objects = objects_in (F.parts store.now) in
             self.new ≡ record self.old { listed = self.old.listed ++ owned_by objects bank } }
     {
         list_owned(store, bank, &mut self.listed);

@@ -4,11 +4,10 @@ ghost use Rattle.model.specs.declared.object.Object.{Object};
 ghost use Rattle.model.specs.declared.order.Arguments.{Arguments};
 ghost use Rattle.model.specs.Bank.{usage as usage_of};
 ghost use Rattle.model.specs.Banking.{freed_by, remaining as left_in_chain};
-ghost use Rattle.model.specs.Frame.{objects_of};
 ghost use Rattle.model.specs.Object.{limit_in};
 ghost use Rattle.model.specs.Sound.{MayBeHeld};
 ghost use Rattle.model.specs.World.{content_at};
-ghost use Rattle.capability.specs.Parts.{frames_of};
+ghost use Rattle.capability.specs.Parts.{objects_in};
 ghost use Rattle.space_bank.specs.Banks.{IsPlanned, MayAsk};
 ghost use Rattle.space_bank.specs.Planning.{IsBankOf, annex_of};
 
@@ -74,7 +73,7 @@ impl Banks {
     /// accounts for; and its own limit.
     pub fn remaining<F: PresentFrames>(&self, store: &F, bank: u64) -> [u64; 3]
         requires { IsBankOf (F.parts store.now) self.now bank }
-        ensures { let objects = objects_of (frames_of (F.parts store.now)) in result
+        ensures { let objects = objects_in (F.parts store.now) in result
             ≡ left_in_chain objects bank ∷ usage_of objects bank
             ∷ limit_in (content_at objects bank) ∷ [] }
     {
@@ -189,7 +188,7 @@ impl Banks {
     ) -> BankPlan
         requires bank { IsBankOf (F.parts store.now) self.old bank }
         requires few { length self.old.listed ≤ 2 }
-        requires sent { MayBeHeld (objects_of (frames_of (F.parts store.now))) capability }
+        requires sent { MayBeHeld (objects_in (F.parts store.now)) capability }
         requires root { (p : ℕ) → capability ≡ Capability.Process p → F.IsFetched store.now p }
         ensures planned { (args : Arguments) → args.capability ≡ capability
             → IsPlanned (F.parts store.now) bank BankOrder.Free args self.old.listed result
@@ -214,7 +213,7 @@ impl Banks {
         requires room { (p : ℕ) → capability ≡ Capability.Process p
             → length self.old.listed < self.old.room }
         requires root { (p : ℕ) → capability ≡ Capability.Process p → F.IsFetched store.now p }
-        ensures { let objects = objects_of (frames_of (F.parts store.now)) in self.new
+        ensures { let objects = objects_in (F.parts store.now) in self.new
             ≡ record self.old { listed = self.old.listed ++ annex_of objects capability } }
     {
         if let Capability::Process(root) = capability {

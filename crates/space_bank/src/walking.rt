@@ -3,10 +3,9 @@ ghost use Rattle.std.specs.Prelude.{◌≡◌, ◌-◌, ◌<◌, ◌≤◌, leng
 ghost use Rattle.std.specs.List.{list_any};
 ghost use Rattle.model.specs.Bank.{chain, is_under as lies_under};
 ghost use Rattle.model.specs.Banking.{has_room as is_room, remaining};
-ghost use Rattle.model.specs.Frame.{objects_of};
 ghost use Rattle.model.specs.Object.{is_free as counts_as_free};
 ghost use Rattle.model.specs.World.{content_at, object_at, owner_at};
-ghost use Rattle.capability.specs.Parts.{HaveTheirRoles, frames_of};
+ghost use Rattle.capability.specs.Parts.{HaveTheirRoles, frames_of, objects_in};
 ghost use Rattle.space_bank.specs.Planning.{IsBankOf};
 
 use crate::banks::Banks;
@@ -18,7 +17,7 @@ pub(crate) const MAX_CHAIN: usize = 16;
 
 // The owner of what stands at a number.
 pub(crate) fn owner<F: PresentFrames>(store: &F, number: u64) -> u64
-    ensures { result ≡ owner_at (objects_of (frames_of (F.parts store.now))) number }
+    ensures { result ≡ owner_at (objects_in (F.parts store.now)) number }
 {
     store.table().header(number).owner
 }
@@ -27,7 +26,7 @@ pub(crate) fn owner<F: PresentFrames>(store: &F, number: u64) -> u64
 pub(crate) fn is_free<F: PresentFrames>(store: &F, number: u64) -> bool
     requires { HaveTheirRoles (frames_of (F.parts store.now)) }
     ensures { result
-        ≡ counts_as_free (content_at (objects_of (frames_of (F.parts store.now))) number) }
+        ≡ counts_as_free (content_at (objects_in (F.parts store.now)) number) }
 {
     matches!(store.table().header(number).role, Role::Free)
 }
@@ -36,7 +35,7 @@ pub(crate) fn is_free<F: PresentFrames>(store: &F, number: u64) -> bool
 /// EROS: banks form a tree). Goes from owner to owner in the table alone.
 pub fn is_in_chain<F: PresentFrames>(store: &F, first: u64, bank: u64) -> bool
     ensures { result
-        ≡ list_any (nat_eq bank) (chain (objects_of (frames_of (F.parts store.now))) first) }
+        ≡ list_any (nat_eq bank) (chain (objects_in (F.parts store.now)) first) }
 {
     let mut link = first;
     for _step in 0..MAX_CHAIN {
@@ -54,7 +53,7 @@ pub fn is_in_chain<F: PresentFrames>(store: &F, first: u64, bank: u64) -> bool
 // Whether the chain of what stands at a number passes through a bank.
 pub(crate) fn is_under<F: PresentFrames>(store: &F, bank: u64, number: u64) -> bool
     requires { HaveTheirRoles (frames_of (F.parts store.now)) }
-    ensures { let objects = objects_of (frames_of (F.parts store.now)) in
+    ensures { let objects = objects_in (F.parts store.now) in
         result ≡ lies_under objects bank (object_at objects number) }
 {
     !is_free(store, number) && is_in_chain(store, owner(store, number), bank)
@@ -62,7 +61,7 @@ pub(crate) fn is_under<F: PresentFrames>(store: &F, bank: u64, number: u64) -> b
 
 // How many banks the chain of a bank has.
 pub(crate) fn chain_length<F: PresentFrames>(store: &F, bank: u64) -> usize
-    ensures { result ≡ length (chain (objects_of (frames_of (F.parts store.now))) bank) }
+    ensures { result ≡ length (chain (objects_in (F.parts store.now)) bank) }
 {
     let mut current = bank;
     for passed in 0..MAX_CHAIN {
@@ -88,7 +87,7 @@ impl Banks {
     // Whether so many more objects of a bank pass the limit of no bank in its chain.
     pub(crate) fn has_room<F: PresentFrames>(&self, store: &F, bank: u64, count: u64) -> bool
         requires { IsBankOf (F.parts store.now) self.now bank }
-        ensures { result ≡ is_room (objects_of (frames_of (F.parts store.now))) bank count }
+        ensures { result ≡ is_room (objects_in (F.parts store.now)) bank count }
     {
         let mut current = bank;
         for _step in 0..MAX_CHAIN {
@@ -106,7 +105,7 @@ impl Banks {
     // How many more objects of a bank pass the limit of no bank in its chain.
     pub(crate) fn least_left<F: PresentFrames>(&self, store: &F, bank: u64) -> u64
         requires { IsBankOf (F.parts store.now) self.now bank }
-        ensures { result ≡ remaining (objects_of (frames_of (F.parts store.now))) bank }
+        ensures { result ≡ remaining (objects_in (F.parts store.now)) bank }
     {
         let mut least = self.left(bank);
         let mut current = bank;

@@ -4,7 +4,7 @@ ghost use Rattle.device.specs.Calls.{Only};
 ghost use Rattle.layout.specs.Image.{HasPlan};
 ghost use Rattle.layout.specs.Superblock.{Plan};
 ghost use Rattle.frame_io.specs.Calls.{ReadsOnly};
-ghost use Rattle.migrator.specs.Opened.{IsBadFor, IsRead, CountsOpen, Looks, Opens, Refuses};
+ghost use Rattle.migrator.specs.Opened.{IsBadFor, IsRead, CountsOpen, Looks, OpensDurable, Refuses};
 ghost use Rattle.migrator.specs.Reserve.{IsReserve, IsTables};
 
 use crate::durable::Durable;
@@ -157,7 +157,7 @@ impl<D: Device> Durable<D> {
     /// A refusal hands the device back: `Failed` exactly where the device failed, `NoMemory` only
     /// where memory ran out, and else the least of the reasons 1 to 7 to refuse an image.
     pub fn open(alloc: Global, device: D) -> Result<Opened<D>, OpenRefused<D>>
-        ensures opened { IfOk result (λ o. Opens D.disk device o.store o.headers.items) }
+        ensures opened { IfOk result (λ o. OpensDurable D.disk device o.store o.headers.items) }
         ensures refused { IfErr result (λ r. Refuses D.disk device r.device r.fault) }
     {
         let mut device = device;

@@ -5,7 +5,7 @@ ghost use Rattle.model.specs.Keepable.{IsKeepable};
 ghost use Rattle.device.specs.Calls.{Counts};
 ghost use Rattle.frame_io.specs.Frames.{IsObject};
 ghost use Rattle.migrator.specs.Put.{Broken, Kept, HasRoom, most};
-ghost use Rattle.migrator.specs.Durable.{Frozen, GoesOn, left_of, stored_of, with_frozen};
+ghost use Rattle.migrator.specs.Durable.{FrozenPuts, GoesOn, left_of, stored_of, with_frozen};
 ghost use Rattle.migrator.specs.Refused.{IsPutAnswer};
 ghost use Rattle.object_cache.specs.declared.snapshot.Snapshot.TheVariants.{Below};
 ghost use Rattle.object_cache.specs.Frozen.{snapshot_at, frozen_frame, pending_count};
@@ -47,7 +47,7 @@ fn put_snapshot<D: Device>(
     requires keepable { IsKeepable durable.old.books.plan.geometry most number
         (frozen_frame snapshot.now (frame_at (present_frames present.now) number)
         (below_at (stored_of D.disk durable.old) number)) }
-    requires room { (f : Frozen) → (stored_of D.disk durable.old).frozen ≡ Some f
+    requires room { (f : FrozenPuts) → (stored_of D.disk durable.old).frozen ≡ Some f
         → HasRoom f.size f.put number }
     ensures put { OnOk result (stored_of D.disk durable.new ≡ with_frozen number
         (Kept (frozen_frame snapshot.now (frame_at (present_frames present.now) number)

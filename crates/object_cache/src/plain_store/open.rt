@@ -8,7 +8,7 @@ ghost use Rattle.frame_io.specs.Frames.{IsObject};
 ghost use Rattle.migrator.specs.Durable.{stored_of, newest, ReadsStore};
 ghost use Rattle.migrator.specs.Opened.{IsReason, Refuses};
 ghost use Rattle.object_cache.specs.declared.snapshot.Snapshot.TheVariants.{Below};
-ghost use Rattle.object_cache.specs.Store.{Opens};
+ghost use Rattle.object_cache.specs.Store.{OpensStore};
 ghost use Rattle.object_cache.specs.PlainStore.{parts_of, view_of};
 
 use crate::plain_store::PlainStore;
@@ -190,7 +190,7 @@ pub(crate) fn open_plain<D: Device>(
     alloc: Global,
     device: D,
 ) -> Result<PlainStore<D>, OpenRefused<D>>
-    ensures opened { IfOk result (λ s. Opens D.disk device (parts_of D.disk s) (view_of D.disk s)) }
+    ensures opened { IfOk result (λ s. OpensStore D.disk device (parts_of D.disk s) (view_of D.disk s)) }
     ensures refused { IfErr result (λ r. Refuses D.disk device r.device r.fault) }
 {
     match Durable::open(alloc, device) {

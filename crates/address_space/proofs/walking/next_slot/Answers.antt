@@ -1,9 +1,8 @@
 use Rattle.std.proofs.Common.{rules, ◌≡◌, ◌-◌, ◌^◌, ◌/◌, ◌%◌, sym, subst}
 use Rattle.model.specs.declared.capability.Capability.{Capability}
-use Rattle.model.specs.Frame.{objects_of}
 use Rattle.model.specs.Sound.{MayBeHeld}
 use Rattle.model.specs.World.{slot_at}
-use Rattle.capability.specs.Parts.{frames_of}
+use Rattle.capability.specs.Parts.{objects_in}
 use Rattle.address_space.proofs.Known.{space_known}
 use Rattle.address_space.proofs.walking.next_slot.Goals as goal
 
@@ -13,7 +12,7 @@ look-requires-clause-known g c =
 
 pub returns-clause-held : goal.returns-clause-held
 returns-clause-held g c =
-    let os = objects_of (frames_of (g.F.PresentFrames.parts c.args.frames.now)) in
+    let os = objects_in (g.F.PresentFrames.parts c.args.frames.now) in
     let slot = c.args.index / 32 ^ (c.args.tree.height - 1) % 32 in
     let is : c.slot.result ≡ slot_at os c.args.tree.node slot = search rules in
     subst (λ (s : Capability). MayBeHeld os s) (sym is) (c.requires.sound.1.sound.slots c.args.tree.node slot)

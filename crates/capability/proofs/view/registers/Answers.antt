@@ -4,10 +4,10 @@ use Rattle.model.specs.declared.capability.Capability.{Capability}
 use Rattle.model.specs.declared.frame.ObjectHeader.{ObjectHeader}
 use Rattle.model.specs.declared.object.Content.{Content}
 use Rattle.model.specs.declared.object.Content.TheVariants as content
-use Rattle.model.specs.Frame.{conveyed, objects_of}
+use Rattle.model.specs.Frame.{conveyed}
 use Rattle.model.specs.Object.{slots_in}
 use Rattle.model.specs.World.{content_at}
-use Rattle.capability.specs.Parts.{frames_of}
+use Rattle.capability.specs.Parts.{objects_in}
 use Rattle.capability.proofs.Frames.{content_there, no_annex_there}
 use Rattle.capability.proofs.view.registers.Goals as goal
 
@@ -24,5 +24,5 @@ returns g c =
     let p = g.F.PresentFrames.parts c.args.store.now in
     let known = (g.met.F.PresentFrames.known_fetched c.args.store.now c.args.annex c.requires.fetched).0 in
     let there = ap (λ (d : Content Capability). slots_in d) (content_there p c.args.annex known (content.Annex c.in-Annex.registers) (sym c.frame.ensures ∙ c.in-Annex.is)) in
-    IfOk-weaker c.conveyed_slots.result _ (λ (registers : List Capability). registers ≡ slots_in (content_at (objects_of (frames_of p)) c.args.annex))
+    IfOk-weaker c.conveyed_slots.result _ (λ (registers : List Capability). registers ≡ slots_in (content_at (objects_in p) c.args.annex))
     (λ registers is. is ∙ ap (λ (hs : List ObjectHeader). map (conveyed hs) c.in-Annex.registers) c.table.ensures ∙ sym there) c.conveyed_slots.ensures

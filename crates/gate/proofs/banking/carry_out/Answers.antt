@@ -1,6 +1,5 @@
 use Rattle.std.proofs.Common.{◌+◌, refl, sym, ◌∙◌, arith}
-use Rattle.model.specs.Frame.{objects_of}
-use Rattle.capability.specs.Parts.{frames_of}
+use Rattle.capability.specs.Parts.{frames_of, objects_in}
 use Rattle.capability.proofs.Keeping.{keepable_later}
 use Rattle.space_bank.proofs.Renewing.{renews_none}
 use Rattle.gate.proofs.BankOutcomes.{done_or_same}
@@ -9,7 +8,7 @@ use Rattle.gate.proofs.banking.carry_out.Goals as goal
 pub returns-in_default : goal.returns-in_default
 returns-in_default g c =
     let old = g.F.PresentFrames.parts c.args.store.now in
-    let os = objects_of (frames_of old) in
+    let os = objects_in old in
     let call = c.args.call in
     record {
       objects = sym ((done_or_same old.geometry os call.bank call.order call.arguments).objects (λ done. c.in_default.not-Done (c.requires.code ∙ done)));

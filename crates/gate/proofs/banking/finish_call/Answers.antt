@@ -4,14 +4,13 @@ use Rattle.model.specs.declared.command.Operation.TheVariants.{Call, Return}
 use Rattle.model.specs.declared.geometry.Geometry.{Geometry}
 use Rattle.model.specs.declared.object.Object.{Object}
 use Rattle.model.specs.declared.object.State.TheVariants.{Available}
-use Rattle.model.specs.Frame.{objects_of}
 use Rattle.model.specs.Object.{is_annex}
 use Rattle.model.specs.OrderOutcome.{OrderOutcome}
 use Rattle.model.specs.World.{annex_at, content_at, is_process, with_state}
 use Rattle.model_laws.proofs.BankWrites.{annex_kept}
 use Rattle.model_laws.proofs.BankUsage.{on_bank_same}
 use Rattle.model_laws.proofs.InvocationFrame.{state_frame}
-use Rattle.capability.specs.Parts.{frames_of}
+use Rattle.capability.specs.Parts.{frames_of, objects_in}
 use Rattle.capability.proofs.Frames.{annex_used, root_used}
 use Rattle.capability.proofs.Keeping.{keepable_roles}
 use Rattle.space_bank.specs.Banks.{AreCounted}
@@ -37,7 +36,7 @@ answer-requires-clause-roles g c =
 pub answer-requires-clause-root_fetched : goal.answer-requires-clause-root_fetched
 answer-requires-clause-root_fetched g c is =
     let call = c.args.call in
-    let mid = objects_of (frames_of (g.F.PresentFrames.parts c.carry_out.new.store)) in
+    let mid = objects_in (g.F.PresentFrames.parts c.carry_out.new.store) in
     let listed = listed_by call.operation Call call.process call.annex c.args.banks.now.listed _ c.requires.planned.listed c.in-Call.is in
     let used = root_used (content_at mid call.process) is in (
       c.carry_out.ensures.aside.fetched call.process used c.requires.fetched.0,
@@ -48,8 +47,8 @@ pub answer-requires-clause-annex_fetched : goal.answer-requires-clause-annex_fet
 answer-requires-clause-annex_fetched g c is =
     let call = c.args.call in
     let old = g.F.PresentFrames.parts c.args.store.now in
-    let os = objects_of (frames_of old) in
-    let mid = objects_of (frames_of (g.F.PresentFrames.parts c.carry_out.new.store)) in
+    let os = objects_in old in
+    let mid = objects_in (g.F.PresentFrames.parts c.carry_out.new.store) in
     let outcome = outcome_at old.geometry os call in
     let listed = listed_by call.operation Call call.process call.annex c.args.banks.now.listed _ c.requires.planned.listed c.in-Call.is in
     let process = running_process os call.process c.requires.running in
@@ -84,7 +83,7 @@ pub carry_out-requires-in-Return-clause-code : goal.carry_out-requires-in-Return
 carry_out-requires-in-Return-clause-code g c =
     let old = g.F.PresentFrames.parts c.args.store.now in
     let mid = g.F.PresentFrames.parts c.set_state.new.store in
-    let os = objects_of (frames_of old) in
+    let os = objects_in old in
     let call = c.args.call in
     let process = running_process os call.process c.requires.running in
     let same = on_bank_same os (with_state os call.process Available) (state_frame os call.process Available process) old.geometry call.bank call.order call.arguments in
@@ -96,7 +95,7 @@ pub carry_out-requires-in-Return-clause-listed : goal.carry_out-requires-in-Retu
 carry_out-requires-in-Return-clause-listed g c =
     let old = g.F.PresentFrames.parts c.args.store.now in
     let mid = g.F.PresentFrames.parts c.set_state.new.store in
-    let os = objects_of (frames_of old) in
+    let os = objects_in old in
     let call = c.args.call in
     let process = running_process os call.process c.requires.running in
     let same = on_bank_same os (with_state os call.process Available) (state_frame os call.process Available process) old.geometry call.bank call.order call.arguments in
@@ -113,7 +112,7 @@ carry_out-requires-in-Return-clause-announced g c =
 pub returns-in-Call-clause-objects : goal.returns-in-Call-clause-objects
 returns-in-Call-clause-objects g c =
     let old = g.F.PresentFrames.parts c.args.store.now in
-    let os = objects_of (frames_of old) in
+    let os = objects_in old in
     let call = c.args.call in
     let outcome = outcome_at old.geometry os call in
     c.answer.ensures.objects outcome c.requires.planned.code c.requires.planned.words c.requires.planned.capability
@@ -126,9 +125,9 @@ returns-in-Call-clause-current g c = c.answer.ensures.current c.carry_out.ensure
 pub returns-in-Call-clause-counted : goal.returns-in-Call-clause-counted
 returns-in-Call-clause-counted g c =
     let old = g.F.PresentFrames.parts c.args.store.now in
-    let mid = objects_of (frames_of (g.F.PresentFrames.parts c.carry_out.new.store)) in
+    let mid = objects_in (g.F.PresentFrames.parts c.carry_out.new.store) in
     let call = c.args.call in
-    let outcome = outcome_at old.geometry (objects_of (frames_of old)) call in
+    let outcome = outcome_at old.geometry (objects_in old) call in
     subst (λ (us : List Object). AreCounted old.geometry us c.carry_out.new.banks)
     (sym (c.answer.ensures.objects outcome c.requires.planned.code c.requires.planned.words c.requires.planned.capability))
     (counted_on old.geometry mid (answered Call call.process mid outcome) c.carry_out.new.banks (answered_frame mid call.process outcome) c.carry_out.ensures.counted)
@@ -158,9 +157,9 @@ returns-in-Call-clause-beside g c =
     let old = g.F.PresentFrames.parts c.args.store.now in
     let mid = g.F.PresentFrames.parts c.carry_out.new.store in
     let new = g.F.PresentFrames.parts c.answer.new.store in
-    let us = objects_of (frames_of mid) in
+    let us = objects_in mid in
     let process = c.args.call.process in
-    let outcome = outcome_at old.geometry (objects_of (frames_of old)) c.args.call in
+    let outcome = outcome_at old.geometry (objects_in old) c.args.call in
     let free = free_in_frame mid new (answered Call process us outcome)
     (c.answer.ensures.objects outcome c.requires.planned.code c.requires.planned.words c.requires.planned.capability) (answered_frame us process outcome) in
     record {
@@ -176,7 +175,7 @@ returns-in-Return-clause-beside g c =
     let old = g.F.PresentFrames.parts c.args.store.now in
     let mid = g.F.PresentFrames.parts c.set_state.new.store in
     let new = g.F.PresentFrames.parts c.carry_out-in-Return.new.store in
-    let os = objects_of (frames_of old) in
+    let os = objects_in old in
     let process = c.args.call.process in
     let free = free_in_frame old mid (with_state os process Available) c.set_state.ensures.objects
     (state_frame os process Available (running_process os process c.requires.running)) in

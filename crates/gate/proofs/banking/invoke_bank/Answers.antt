@@ -2,10 +2,9 @@ use Rattle.std.proofs.Common.{ℕ, ◌+◌, ◌<◌, ◌≤◌, Bool, List, drop
 use Rattle.std.proofs.lemmas.Result.{err_from_is_err_and}
 use Rattle.std.specs.List.{All}
 use Rattle.model.specs.declared.geometry.Geometry.{Geometry}
-use Rattle.model.specs.Frame.{objects_of}
 use Rattle.model.specs.Invoke.{on_kernel_object}
 use Rattle.model.specs.Machine.{touching, touched_count}
-use Rattle.capability.specs.Parts.{frames_of}
+use Rattle.capability.specs.Parts.{frames_of, objects_in}
 use Rattle.gate.specs.Banking.{outcome_at, writer_count, writers}
 use Rattle.gate.specs.Plan.{FitsCap}
 use Rattle.gate.proofs.BankEffects.{all_listed, asks_looked, bank_invoked, bank_objects, bank_written, banked_looked, behind_writers, capability_after, given_fits, invoked_asks, listed_after, ordered_looked, ordered_sound, sent_known, writers_counted, written_known}
@@ -48,7 +47,7 @@ announce_call-requires-clause-process g c =
     let looks : LooksAs old now = record { headers = c.in_ok-look_at_freed.ensures.looks.aside.headers; contents = c.in_ok-look_at_freed.ensures.looks.aside.contents; geometry = c.in_ok-look_at_freed.ensures.looks.aside.geometry } in
     looked_number old now looks c.args.call.process
     (subst (λ (p : ℕ). p < length old.headers) (sym c.requires.asked.process)
-    (process_known old c.args.invocation.now.process (running_process (objects_of (frames_of old)) c.args.invocation.now.process c.requires.running)))
+    (process_known old c.args.invocation.now.process (running_process (objects_in old) c.args.invocation.now.process c.requires.running)))
 
 pub announce_call-requires-clause-annex : goal.announce_call-requires-clause-annex
 announce_call-requires-clause-annex g c =
@@ -57,7 +56,7 @@ announce_call-requires-clause-annex g c =
     let looks : LooksAs old now = record { headers = c.in_ok-look_at_freed.ensures.looks.aside.headers; contents = c.in_ok-look_at_freed.ensures.looks.aside.contents; geometry = c.in_ok-look_at_freed.ensures.looks.aside.geometry } in
     let process = c.args.invocation.now.process in
     looked_number old now looks c.args.call.annex
-    (asked_annex old c.requires.sound process c.args.call.annex (running_process (objects_of (frames_of old)) process c.requires.running) c.requires.asked.annex)
+    (asked_annex old c.requires.sound process c.args.call.annex (running_process (objects_in old) process c.requires.running) c.requires.asked.annex)
 
 pub announce_call-requires-clause-known : goal.announce_call-requires-clause-known
 announce_call-requires-clause-known g c =
@@ -66,7 +65,7 @@ announce_call-requires-clause-known g c =
     let looks : LooksAs old now = record { headers = c.in_ok-look_at_freed.ensures.looks.aside.headers; contents = c.in_ok-look_at_freed.ensures.looks.aside.contents; geometry = c.in_ok-look_at_freed.ensures.looks.aside.geometry } in
     let call = c.args.call in
     let i = c.args.invocation.now in
-    let os = objects_of (frames_of old) in
+    let os = objects_in old in
     let process = running_process os i.process c.requires.running in
     let listed = listed_after old now call looks c.plan_call-plan.result c.plan_call-plan.new.banks.listed c.listed.result.now c.listed.ensures c.plan_call-plan.ensures.planned in
     subst (All (λ n. n < length now.headers)) (sym listed)
@@ -82,7 +81,7 @@ announce_call-requires-clause-writers g c =
     let looks : LooksAs old now = record { headers = c.in_ok-look_at_freed.ensures.looks.aside.headers; contents = c.in_ok-look_at_freed.ensures.looks.aside.contents; geometry = c.in_ok-look_at_freed.ensures.looks.aside.geometry } in
     let call = c.args.call in
     let listed = listed_after old now call looks c.plan_call-plan.result c.plan_call-plan.new.banks.listed c.listed.result.now c.listed.ensures c.plan_call-plan.ensures.planned in
-    subst (λ (ns : List ℕ). writer_count call.operation ≤ length ns) (sym listed) (writers_counted call.operation call.process call.annex (outcome_at old.geometry (objects_of (frames_of old)) call).written)
+    subst (λ (ns : List ℕ). writer_count call.operation ≤ length ns) (sym listed) (writers_counted call.operation call.process call.annex (outcome_at old.geometry (objects_in old) call).written)
 
 pub announce_call-requires-clause-few : goal.announce_call-requires-clause-few
 announce_call-requires-clause-few g c new =
@@ -90,7 +89,7 @@ announce_call-requires-clause-few g c new =
     let now = g.F.PresentFrames.parts c.look_at_freed.new.store in
     let looks : LooksAs old now = record { headers = c.in_ok-look_at_freed.ensures.looks.aside.headers; contents = c.in_ok-look_at_freed.ensures.looks.aside.contents; geometry = c.in_ok-look_at_freed.ensures.looks.aside.geometry } in
     let call = c.args.call in
-    let os = objects_of (frames_of old) in
+    let os = objects_in old in
     let listed = listed_after old now call looks c.plan_call-plan.result c.plan_call-plan.new.banks.listed c.listed.result.now c.listed.ensures c.plan_call-plan.ensures.planned in
     subst (λ (ns : List ℕ). length ns ≤ 2)
     (sym (ap (drop (writer_count call.operation)) listed ∙ behind_writers call.operation call.process call.annex (outcome_at old.geometry os call).written))
@@ -104,7 +103,7 @@ returns-in_err-announce_call-clause-full g c =
     let looks : LooksAs old now = record { headers = c.in_ok-look_at_freed.ensures.looks.aside.headers; contents = c.in_ok-look_at_freed.ensures.looks.aside.contents; geometry = c.in_ok-look_at_freed.ensures.looks.aside.geometry } in
     let i = c.args.invocation.now in
     let call = c.args.call in
-    let os = objects_of (frames_of old) in
+    let os = objects_in old in
     let listed = listed_after old now call looks c.plan_call-plan.result c.plan_call-plan.new.banks.listed c.listed.result.now c.listed.ensures c.plan_call-plan.ensures.planned in
     let written = listed ∙ sym (bank_written old.geometry os i call c.requires.asked (running_process os i.process c.requires.running)) in
     rw (p.1, p.2) (λ is.
@@ -132,7 +131,7 @@ finish_call-requires-clause-after g c =
     let there : LooksAs old mid = looks_again old now mid looks (record { headers = c.in_ok-announce_call.ensures.headers; contents = c.in_ok-announce_call.ensures.contents; geometry = c.in_ok-announce_call.ensures.geometry }) in (
       0,
       ordered_looked old mid c.args.call there
-          (ordered_sound old.geometry (objects_of (frames_of old)) c.args.invocation.now c.args.call c.requires.asked (now_sound old c.requires.sound) c.requires.fits c.requires.running 0 (omega arith)),
+          (ordered_sound old.geometry (objects_in old) c.args.invocation.now c.args.call c.requires.asked (now_sound old c.requires.sound) c.requires.fits c.requires.running 0 (omega arith)),
     )
 
 pub returns-clause-done : goal.returns-clause-done
@@ -144,11 +143,11 @@ returns-clause-done g c =
     let there : LooksAs old mid = looks_again old now mid looks (record { headers = c.in_ok-announce_call.ensures.headers; contents = c.in_ok-announce_call.ensures.contents; geometry = c.in_ok-announce_call.ensures.geometry }) in
     let i = c.args.invocation.now in
     let call = c.args.call in
-    let os = objects_of (frames_of old) in
+    let os = objects_in old in
     let new = g.F.PresentFrames.parts c.finish_call.new.store in
     let listed = listed_after old now call looks c.plan_call-plan.result c.plan_call-plan.new.banks.listed c.listed.result.now c.listed.ensures c.plan_call-plan.ensures.planned in
     let written = listed ∙ sym (bank_written old.geometry os i call c.requires.asked (running_process os i.process c.requires.running)) in
-    invokes_by old.geometry i os (objects_of (frames_of new)) old.touched new.touched (on_kernel_object old.geometry os i)
+    invokes_by old.geometry i os (objects_in new) old.touched new.touched (on_kernel_object old.geometry os i)
     (bank_invoked old.geometry os i call c.requires.asked)
     (c.finish_call.ensures.objects ∙ banked_looked old mid call there ∙ sym (bank_objects old.geometry os i call c.requires.asked))
     (c.finish_call.ensures.beside.touched ∙ c.in_ok-announce_call.ensures.touched
@@ -166,7 +165,7 @@ returns-clause-sound g c age young sound =
     let there : LooksAs old mid = looks_again old now mid looks (record { headers = c.in_ok-announce_call.ensures.headers; contents = c.in_ok-announce_call.ensures.contents; geometry = c.in_ok-announce_call.ensures.geometry }) in
     let i = c.args.invocation.now in
     let call = c.args.call in
-    let os = objects_of (frames_of old) in
+    let os = objects_in old in
     let new = g.F.PresentFrames.parts c.finish_call.new.store in
     let given = given_fits old.geometry os i call c.requires.asked (now_sound old c.requires.sound) c.requires.fits c.requires.running (few_objects old c.requires.sound c.requires.few) in
     let fits = subst (λ (h : Geometry). FitsCap h c.plan_call-plan.result.capability) (sym there.geometry)

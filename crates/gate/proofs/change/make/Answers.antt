@@ -1,6 +1,5 @@
 use Rattle.std.proofs.Common.{◌+◌, arith, subst, sym}
-use Rattle.model.specs.Frame.{objects_of}
-use Rattle.capability.specs.Parts.{frames_of}
+use Rattle.capability.specs.Parts.{frames_of, objects_in}
 use Rattle.capability.proofs.Keeping.{keepable_later}
 use Rattle.gate.specs.Plan.{IsWithinObject, MayHold}
 use Rattle.gate.proofs.Fits.{fits_kept, in_geometry, node_is_no_annex}
@@ -13,14 +12,14 @@ returns-in-Word-clause-keepable g c age young held k =
 pub returns-in-Slot-clause-keepable : goal.returns-in-Slot-clause-keepable
 returns-in-Slot-clause-keepable g c age young held k =
     let old = g.F.PresentFrames.parts c.args.store.now in
-    let here = subst (MayHold old.geometry (objects_of (frames_of old))) c.in-Slot.is held in
+    let here = subst (MayHold old.geometry (objects_in old)) c.in-Slot.is held in
     keepable_later old.geometry age (age + 1) (frames_of (g.F.PresentFrames.parts c.set_slot.new.store)) (omega arith)
     (c.set_slot.ensures.keepable age (fits_kept old.geometry age old k c.in-Slot.capability here.0) (λ annex zeroth. absurd (node_is_no_annex old c.in-Slot.node here.1 annex)) k)
 
 pub returns-in-Register-clause-keepable : goal.returns-in-Register-clause-keepable
 returns-in-Register-clause-keepable g c age young held k =
     let old = g.F.PresentFrames.parts c.args.store.now in
-    let here = subst (MayHold old.geometry (objects_of (frames_of old))) c.in-Register.is held in
+    let here = subst (MayHold old.geometry (objects_in old)) c.in-Register.is held in
     let within = subst IsWithinObject c.in-Register.is c.requires.within in
     keepable_later old.geometry age (age + 1) (frames_of (g.F.PresentFrames.parts c.set_slot-in-Register.new.store)) (omega arith)
     (c.set_slot-in-Register.ensures.keepable age (fits_kept old.geometry age old k c.in-Register.capability here) (λ annex zeroth. absurd (omega (arith, within.1, zeroth))) k)
@@ -41,6 +40,6 @@ returns-in-SetState-clause-keepable g c age young held k =
 pub returns-in-Space-clause-keepable : goal.returns-in-Space-clause-keepable
 returns-in-Space-clause-keepable g c age young held k =
     let old = g.F.PresentFrames.parts c.args.store.now in
-    let here = subst (MayHold old.geometry (objects_of (frames_of old))) c.in-Space.is held in
+    let here = subst (MayHold old.geometry (objects_in old)) c.in-Space.is held in
     keepable_later old.geometry age (age + 1) (frames_of (g.F.PresentFrames.parts c.set_space.new.store)) (omega arith)
     (c.set_space.ensures.keepable age (fits_kept old.geometry age old k c.in-Space.capability here.0) here.1 k)

@@ -3,9 +3,9 @@ use Rattle.std.specs.List.{All}
 use Rattle.model.specs.declared.capability.Capability.{Capability}
 use Rattle.model.specs.declared.frame.ObjectHeader.{ObjectHeader}
 use Rattle.model.specs.declared.object.Object.{Object}
-use Rattle.model.specs.Frame.{header_at, objects_of}
+use Rattle.model.specs.Frame.{header_at}
 use Rattle.model.specs.World.{annex_at, is_process}
-use Rattle.capability.specs.Parts.{frames_of}
+use Rattle.capability.specs.Parts.{frames_of, objects_in}
 use Rattle.capability.proofs.Keeping.{keepable_later}
 use Rattle.gate.specs.Plan.{FitsCap}
 use Rattle.gate.proofs.Fits.{in_geometry}
@@ -14,19 +14,19 @@ use Rattle.gate.proofs.gates.enter.Goals as goal
 
 pub deliver-requires-clause-process : goal.deliver-requires-clause-process
 deliver-requires-clause-process g c =
-    let old = objects_of (frames_of (g.F.PresentFrames.parts c.args.store.now)) in
+    let old = objects_in (g.F.PresentFrames.parts c.args.store.now) in
     ap (λ (os : List Object). is_process os c.args.gate.process) c.leave.ensures.objects
     ∙ after_process old c.args.invocation.now c.requires.process c.args.gate.process ∙ c.requires.receiver
 
 pub deliver-requires-clause-annex_fetched : goal.deliver-requires-clause-annex_fetched
 deliver-requires-clause-annex_fetched g c =
-    let old = objects_of (frames_of (g.F.PresentFrames.parts c.args.store.now)) in
+    let old = objects_in (g.F.PresentFrames.parts c.args.store.now) in
     let same = ap (λ (os : List Object). annex_at os c.args.gate.process) c.leave.ensures.objects ∙ after_annex old c.args.invocation.now c.args.gate.process ∙ sym c.requires.annex in
     subst (g.F.PresentFrames.IsFetched c.leave.new.store) (sym same) (c.leave.ensures.aside.fetched c.args.annex c.requires.fetched.2)
 
 pub deliver-requires-clause-annex_announced : goal.deliver-requires-clause-annex_announced
 deliver-requires-clause-annex_announced g c =
-    let old = objects_of (frames_of (g.F.PresentFrames.parts c.args.store.now)) in
+    let old = objects_in (g.F.PresentFrames.parts c.args.store.now) in
     let same = ap (λ (os : List Object). annex_at os c.args.gate.process) c.leave.ensures.objects ∙ after_annex old c.args.invocation.now c.args.gate.process ∙ sym c.requires.annex in
     subst (g.F.PresentFrames.IsAnnounced c.leave.new.store) (sym same) (c.leave.ensures.aside.announced c.args.annex c.requires.announced.1)
 

@@ -5,12 +5,11 @@ use Rattle.std.proofs.lemmas.Result.{err_from_is_err_and}
 use Rattle.model.specs.declared.capability.Capability.{Capability}
 use Rattle.model.specs.declared.geometry.Geometry.{Geometry}
 use Rattle.model.specs.declared.object.Object.{Object}
-use Rattle.model.specs.Frame.{objects_of}
 use Rattle.model.specs.Invoke.{can_start}
 use Rattle.model.specs.Machine.{touching, touched_count}
 use Rattle.model.specs.Order.{IsNoBankOrder}
 use Rattle.model.specs.World.{is_process}
-use Rattle.capability.specs.Parts.{frames_of}
+use Rattle.capability.specs.Parts.{frames_of, objects_in}
 use Rattle.gate.specs.Invoke.{entered, received, written_through}
 use Rattle.gate.specs.Plan.{FitsCap}
 use Rattle.gate.proofs.Effects.{invokes_by, overfills_by, sound_after}
@@ -30,14 +29,14 @@ pub look_at_process-requires-clause-process : goal.look_at_process-requires-clau
 look_at_process-requires-clause-process g c =
     let old = g.F.PresentFrames.parts c.args.store.now in
     let i = c.args.invocation.now in
-    gate_process (objects_of (frames_of old)) c.args.asked.invoked c.args.gate (register_kind old c.requires.sound i.process i.register c.args.asked.invoked c.requires.asked.invoked) c.requires.gate
+    gate_process (objects_in old) c.args.asked.invoked c.args.gate (register_kind old c.requires.sound i.process i.register c.args.asked.invoked c.requires.asked.invoked) c.requires.gate
 
 pub look_at_process-requires-clause-annex : goal.look_at_process-requires-clause-annex
 look_at_process-requires-clause-annex g c =
     let old = g.F.PresentFrames.parts c.args.store.now in
     let i = c.args.invocation.now in
     annex_there old c.requires.sound c.args.gate.process
-    (gate_process (objects_of (frames_of old)) c.args.asked.invoked c.args.gate (register_kind old c.requires.sound i.process i.register c.args.asked.invoked c.requires.asked.invoked) c.requires.gate)
+    (gate_process (objects_in old) c.args.asked.invoked c.args.gate (register_kind old c.requires.sound i.process i.register c.args.asked.invoked c.requires.asked.invoked) c.requires.gate)
 
 pub returns-then-not-can_enter-clause-stalled : goal.returns-then-not-can_enter-clause-stalled
 returns-then-not-can_enter-clause-stalled g c is =
@@ -45,7 +44,7 @@ returns-then-not-can_enter-clause-stalled g c is =
     let now = g.F.PresentFrames.parts c.look_at_process.new.store in
     let looks : LooksAs old now = record { headers = c.in_ok-annex.ensures.looks.aside.headers; contents = c.in_ok-annex.ensures.looks.aside.contents; geometry = c.in_ok-annex.ensures.looks.aside.geometry } in
     let i = c.args.invocation.now in
-    gate_stalled old.geometry (objects_of (frames_of old)) i c.args.asked c.args.gate c.requires.asked c.requires.gate
+    gate_stalled old.geometry (objects_in old) i c.args.asked c.args.gate c.requires.asked c.requires.gate
     (sym (c.if-not-can_enter.ensures ∙ ap (λ (us : List Object). c.args.gate.is_resume || can_start us i c.args.gate.process) (looked_objects old now looks)))
 
 pub announce-requires-clause-keepable : goal.announce-requires-clause-keepable
@@ -61,7 +60,7 @@ announce-requires-clause-process g c =
     let now = g.F.PresentFrames.parts c.look_at_process.new.store in
     let looks : LooksAs old now = record { headers = c.in_ok-annex.ensures.looks.aside.headers; contents = c.in_ok-annex.ensures.looks.aside.contents; geometry = c.in_ok-annex.ensures.looks.aside.geometry } in
     looked_number old now looks c.args.invocation.now.process
-    (process_known old c.args.invocation.now.process (running_process (objects_of (frames_of old)) c.args.invocation.now.process c.requires.running))
+    (process_known old c.args.invocation.now.process (running_process (objects_in old) c.args.invocation.now.process c.requires.running))
 
 pub returns-in_err-announce-clause-full : goal.returns-in_err-announce-clause-full
 returns-in_err-announce-clause-full g c =
@@ -69,7 +68,7 @@ returns-in_err-announce-clause-full g c =
     let now = g.F.PresentFrames.parts c.look_at_process.new.store in
     let looks : LooksAs old now = record { headers = c.in_ok-annex.ensures.looks.aside.headers; contents = c.in_ok-annex.ensures.looks.aside.contents; geometry = c.in_ok-annex.ensures.looks.aside.geometry } in
     let i = c.args.invocation.now in
-    let os = objects_of (frames_of old) in
+    let os = objects_in old in
     let can = sym (c.if-not-can_enter.ensures ∙ ap (λ (us : List Object). c.args.gate.is_resume || can_start us i c.args.gate.process) (looked_objects old now looks)) in
     let invoked = gate_invoked old.geometry os i c.args.asked c.args.gate c.requires.asked c.requires.gate c.requires.key can in
     let effect = effect_through os i c.args.gate in
@@ -88,7 +87,7 @@ enter-requires-clause-receiver g c =
     let mid = g.F.PresentFrames.parts c.announce.new.store in
     let there : LooksAs old mid = looks_again old now mid looks (record { headers = c.in_ok-announce.ensures.headers; contents = c.in_ok-announce.ensures.contents; geometry = c.in_ok-announce.ensures.geometry }) in
     subst (λ (us : List Object). is_process us c.args.gate.process ≡ true) (sym (looked_objects old mid there))
-    (gate_process (objects_of (frames_of old)) c.args.asked.invoked c.args.gate
+    (gate_process (objects_in old) c.args.asked.invoked c.args.gate
     (register_kind old c.requires.sound c.args.invocation.now.process c.args.invocation.now.register c.args.asked.invoked c.requires.asked.invoked) c.requires.gate)
 
 pub enter-requires-clause-calls : goal.enter-requires-clause-calls
@@ -99,7 +98,7 @@ enter-requires-clause-calls g c =
     let mid = g.F.PresentFrames.parts c.announce.new.store in
     let there : LooksAs old mid = looks_again old now mid looks (record { headers = c.in_ok-announce.ensures.headers; contents = c.in_ok-announce.ensures.contents; geometry = c.in_ok-announce.ensures.geometry }) in
     calls_below mid (looked_sound old mid there c.requires.sound) c.args.gate.process (looked_number old mid there c.args.gate.process (process_known old c.args.gate.process
-    (gate_process (objects_of (frames_of old)) c.args.asked.invoked c.args.gate
+    (gate_process (objects_in old) c.args.asked.invoked c.args.gate
     (register_kind old c.requires.sound c.args.invocation.now.process c.args.invocation.now.register c.args.asked.invoked c.requires.asked.invoked) c.requires.gate)))
 
 pub enter-requires-clause-current : goal.enter-requires-clause-current
@@ -119,14 +118,14 @@ returns-clause-done g c =
     let mid = g.F.PresentFrames.parts c.announce.new.store in
     let there : LooksAs old mid = looks_again old now mid looks (record { headers = c.in_ok-announce.ensures.headers; contents = c.in_ok-announce.ensures.contents; geometry = c.in_ok-announce.ensures.geometry }) in
     let i = c.args.invocation.now in
-    let os = objects_of (frames_of old) in
+    let os = objects_in old in
     let can = sym (c.if-not-can_enter.ensures ∙ ap (λ (us : List Object). c.args.gate.is_resume || can_start us i c.args.gate.process) (looked_objects old now looks)) in
     let invoked = gate_invoked old.geometry os i c.args.asked c.args.gate c.requires.asked c.requires.gate c.requires.key can in
     let effect = effect_through os i c.args.gate in
     let new = g.F.PresentFrames.parts c.enter.new.store in
     let objects = c.enter.ensures.objects ∙ ap (λ (us : List Object). entered us i c.args.gate c.all_sent-sent.result) (looked_objects old mid there)
     ∙ ap (λ (cs : List Capability). entered os i c.args.gate cs) c.all_sent-sent.ensures in
-    invokes_by old.geometry i os (objects_of (frames_of new)) old.touched new.touched effect invoked objects
+    invokes_by old.geometry i os (objects_in new) old.touched new.touched effect invoked objects
     (c.enter.ensures.aside.touched ∙ c.in_ok-announce.ensures.touched
     ∙ ap (λ (ts : List Bool). touching ts (written_through i.operation i.process c.args.gate.process c.in_ok-annex.annex)) c.in_ok-annex.ensures.looks.aside.touched
     ∙ ap (λ (a : ℕ). touching old.touched (written_through i.operation i.process c.args.gate.process a)) c.in_ok-annex.ensures.annex.0)
@@ -141,7 +140,7 @@ returns-clause-sound g c age young sound =
     let mid = g.F.PresentFrames.parts c.announce.new.store in
     let there : LooksAs old mid = looks_again old now mid looks (record { headers = c.in_ok-announce.ensures.headers; contents = c.in_ok-announce.ensures.contents; geometry = c.in_ok-announce.ensures.geometry }) in
     let i = c.args.invocation.now in
-    let os = objects_of (frames_of old) in
+    let os = objects_in old in
     let can = sym (c.if-not-can_enter.ensures ∙ ap (λ (us : List Object). c.args.gate.is_resume || can_start us i c.args.gate.process) (looked_objects old now looks)) in
     let invoked = gate_invoked old.geometry os i c.args.asked c.args.gate c.requires.asked c.requires.gate c.requires.key can in
     let effect = effect_through os i c.args.gate in
@@ -168,7 +167,7 @@ returns-clause-renews g c =
     let mid = g.F.PresentFrames.parts c.announce.new.store in
     let there : LooksAs old mid = looks_again old now mid looks (record { headers = c.in_ok-announce.ensures.headers; contents = c.in_ok-announce.ensures.contents; geometry = c.in_ok-announce.ensures.geometry }) in
     let i = c.args.invocation.now in
-    let os = objects_of (frames_of old) in
+    let os = objects_in old in
     let can = sym (c.if-not-can_enter.ensures ∙ ap (λ (us : List Object). c.args.gate.is_resume || can_start us i c.args.gate.process) (looked_objects old now looks)) in
     let invoked = gate_invoked old.geometry os i c.args.asked c.args.gate c.requires.asked c.requires.gate c.requires.key can in
     let objects = c.enter.ensures.objects ∙ ap (λ (us : List Object). entered us i c.args.gate c.all_sent-sent.result) (looked_objects old mid there)

@@ -4,11 +4,10 @@ use Rattle.std.proofs.lemmas.Result.{err_from_is_err_and}
 use Rattle.model.specs.declared.capability.Capability.{Capability}
 use Rattle.model.specs.declared.geometry.Geometry.{Geometry}
 use Rattle.model.specs.declared.object.Object.{Object}
-use Rattle.model.specs.Frame.{objects_of}
 use Rattle.model.specs.Invoke.{on_kernel_object}
 use Rattle.model.specs.Machine.{touching, touched_count}
 use Rattle.model.specs.Order.{IsNoBankOrder}
-use Rattle.capability.specs.Parts.{frames_of}
+use Rattle.capability.specs.Parts.{frames_of, objects_in}
 use Rattle.gate.specs.Invoke.{finished, written_by}
 use Rattle.gate.specs.Plan.{FitsCap, MayHold}
 use Rattle.gate.proofs.Effects.{invokes_by, object_invoked, overfills_by, planned_objects, planned_written, sound_after}
@@ -33,7 +32,7 @@ announce-requires-clause-process g c =
     let now = g.F.PresentFrames.parts c.plan_order.new.store in
     let looks : LooksAs old now = record { headers = c.in_ok-plan.ensures.looks.aside.headers; contents = c.in_ok-plan.ensures.looks.aside.contents; geometry = c.in_ok-plan.ensures.looks.aside.geometry } in
     looked_number old now looks c.args.invocation.now.process
-    (process_known old c.args.invocation.now.process (running_process (objects_of (frames_of old)) c.args.invocation.now.process c.requires.running))
+    (process_known old c.args.invocation.now.process (running_process (objects_in old) c.args.invocation.now.process c.requires.running))
 
 pub announce-requires-clause-annex : goal.announce-requires-clause-annex
 announce-requires-clause-annex g c =
@@ -42,7 +41,7 @@ announce-requires-clause-annex g c =
     let looks : LooksAs old now = record { headers = c.in_ok-plan.ensures.looks.aside.headers; contents = c.in_ok-plan.ensures.looks.aside.contents; geometry = c.in_ok-plan.ensures.looks.aside.geometry } in
     let process = c.args.invocation.now.process in
     looked_number old now looks c.args.asked.annex
-    (asked_annex old c.requires.sound process c.args.asked.annex (running_process (objects_of (frames_of old)) process c.requires.running) c.requires.asked.annex)
+    (asked_annex old c.requires.sound process c.args.asked.annex (running_process (objects_in old) process c.requires.running) c.requires.asked.annex)
 
 pub announce-requires-clause-target : goal.announce-requires-clause-target
 announce-requires-clause-target g c n is =
@@ -56,7 +55,7 @@ returns-in_err-announce-clause-full g c =
     let p = err_from_is_err_and c.from_residual-in_err-announce.result c.from_residual-in_err-announce.ensures.1 in
     let old = g.F.PresentFrames.parts c.args.store.now in
     let i = c.args.invocation.now in
-    let os = objects_of (frames_of old) in
+    let os = objects_in old in
     let written = planned_written old.geometry os i c.args.asked c.in_ok-plan.plan c.requires.asked c.in_ok-plan.ensures.planned in
     rw (p.1, p.2) (λ is.
     let over = c.in_err-announce.ensures.full (full_fault _ is) in
@@ -90,11 +89,11 @@ returns-clause-done g c =
     let mid = g.F.PresentFrames.parts c.announce.new.store in
     let there : LooksAs old mid = looks_again old now mid looks (record { headers = c.in_ok-announce.ensures.headers; contents = c.in_ok-announce.ensures.contents; geometry = c.in_ok-announce.ensures.geometry }) in
     let i = c.args.invocation.now in
-    let os = objects_of (frames_of old) in
+    let os = objects_in old in
     let plan = c.in_ok-plan.plan in
     let written = planned_written old.geometry os i c.args.asked plan c.requires.asked c.in_ok-plan.ensures.planned in
     let new = g.F.PresentFrames.parts c.finish.new.store in
-    invokes_by old.geometry i os (objects_of (frames_of new)) old.touched new.touched (on_kernel_object old.geometry os i)
+    invokes_by old.geometry i os (objects_in new) old.touched new.touched (on_kernel_object old.geometry os i)
     (object_invoked old.geometry os i c.args.asked c.requires.asked c.requires.object)
     (c.finish.ensures.objects ∙ ap (λ (us : List Object). finished us i.operation i.process plan) (looked_objects old mid there)
     ∙ sym (planned_objects old.geometry os i c.args.asked plan c.requires.asked c.in_ok-plan.ensures.planned))
@@ -112,11 +111,11 @@ returns-clause-sound g c age young sound =
     let mid = g.F.PresentFrames.parts c.announce.new.store in
     let there : LooksAs old mid = looks_again old now mid looks (record { headers = c.in_ok-announce.ensures.headers; contents = c.in_ok-announce.ensures.contents; geometry = c.in_ok-announce.ensures.geometry }) in
     let i = c.args.invocation.now in
-    let os = objects_of (frames_of old) in
+    let os = objects_in old in
     let plan = c.in_ok-plan.plan in
     let new = g.F.PresentFrames.parts c.finish.new.store in
     let planned = c.in_ok-plan.ensures.planned in
-    let holds = subst (λ (h : Geometry). MayHold h (objects_of (frames_of mid)) plan.change) (sym there.geometry)
+    let holds = subst (λ (h : Geometry). MayHold h (objects_in mid) plan.change) (sym there.geometry)
     (subst (λ (us : List Object). MayHold old.geometry us plan.change) (sym (looked_objects old mid there)) planned.holds) in
     let fits = subst (λ (h : Geometry). FitsCap h plan.capability) (sym there.geometry) planned.fits in
     sound_after old.geometry age (frames_of old) (frames_of new) i (on_kernel_object old.geometry os i) young c.requires.fits c.requires.running
@@ -141,7 +140,7 @@ returns-clause-renews g c =
     let mid = g.F.PresentFrames.parts c.announce.new.store in
     let there : LooksAs old mid = looks_again old now mid looks (record { headers = c.in_ok-announce.ensures.headers; contents = c.in_ok-announce.ensures.contents; geometry = c.in_ok-announce.ensures.geometry }) in
     let i = c.args.invocation.now in
-    let os = objects_of (frames_of old) in
+    let os = objects_in old in
     let plan = c.in_ok-plan.plan in
     let objects = c.finish.ensures.objects ∙ ap (λ (us : List Object). finished us i.operation i.process plan) (looked_objects old mid there)
     ∙ sym (planned_objects old.geometry os i c.args.asked plan c.requires.asked c.in_ok-plan.ensures.planned) in

@@ -1,8 +1,7 @@
 use Rattle.std.proofs.Common.{subst}
 use Rattle.model.specs.declared.answer.Refusal.TheVariants as refusal
 use Rattle.model.specs.declared.command.Command.TheVariants as command
-use Rattle.model.specs.Frame.{objects_of}
-use Rattle.capability.specs.Parts.{frames_of}
+use Rattle.capability.specs.Parts.{objects_in}
 use Rattle.gate.specs.declared.fault.InvokeFault.TheVariants as fault
 use Rattle.gate.proofs.BankStates.{counted_looked}
 use Rattle.gate.proofs.Standing.{LooksAs}
@@ -17,9 +16,9 @@ returns-in-Some-clause-serves g c =
     let mid = g.F.PresentFrames.parts c.early.new.store in
     let aside = c.early.ensures.aside in
     let same : AreSame old mid = record { headers = aside.headers; contents = aside.contents; touched = aside.touched; geometry = aside.geometry } in
-    let early = subst (IsEarly (objects_of (frames_of old)) c.args.invocation.process) c.in-Some.is c.in_ok-refusal.ensures.why in
+    let early = subst (IsEarly (objects_in old) c.args.invocation.process) c.in-Some.is c.in_ok-refusal.ensures.why in
     refused_serves c.args.age.now old mid (command.Invoke c.args.invocation) c.in-Some.refusal same c.requires.sound c.early.ensures.later
-    (told_cause c.in-Some.refusal (early_fine (objects_of (frames_of old)) c.args.invocation.process c.in-Some.refusal early) (ok_stayed c.in_ok-refusal.field-0 c.in_ok-refusal.ensures.cause))
+    (told_cause c.in-Some.refusal (early_fine (objects_in old) c.args.invocation.process c.in-Some.refusal early) (ok_stayed c.in_ok-refusal.field-0 c.in_ok-refusal.ensures.cause))
     (λ renewed frozen saved to_move other. early_step old.geometry _ c.args.invocation c.in-Some.refusal early)
 
 pub returns-then-age-ge-MAX_AGE-clause-serves : goal.returns-then-age-ge-MAX_AGE-clause-serves
@@ -28,7 +27,7 @@ returns-then-age-ge-MAX_AGE-clause-serves g c =
     let mid = g.F.PresentFrames.parts c.early.new.store in
     let aside = c.early.ensures.aside in
     let same : AreSame old mid = record { headers = aside.headers; contents = aside.contents; touched = aside.touched; geometry = aside.geometry } in
-    let runs = early_none (objects_of (frames_of old)) c.args.invocation.process c.in_ok-refusal.field-0 c.in_default.not-Some c.in_ok-refusal.ensures.why in
+    let runs = early_none (objects_in old) c.args.invocation.process c.in_ok-refusal.field-0 c.in_default.not-Some c.in_ok-refusal.ensures.why in
     refused_serves c.args.age.now old mid (command.Invoke c.args.invocation) refusal.Worn same c.requires.sound c.early.ensures.later
     (told_cause refusal.Worn (λ e. cc) (ok_stayed c.in_ok-refusal.field-0 c.in_ok-refusal.ensures.cause))
     (λ renewed frozen saved to_move other. worn_step old.geometry _ c.args.invocation runs.0 runs.1 c.if-age-ge-MAX_AGE.true)
@@ -41,7 +40,7 @@ returns-in-Ok-clause-serves g c =
     let aside = c.early.ensures.aside in
     let same : AreSame old mid = record { headers = aside.headers; contents = aside.contents; touched = aside.touched; geometry = aside.geometry } in
     let failures = unfailed old.failures mid.failures c.early.ensures.later (ok_stayed c.in_ok-refusal.field-0 c.in_ok-refusal.ensures.cause) in
-    let runs = early_none (objects_of (frames_of old)) c.args.invocation.process c.in_ok-refusal.field-0 c.in_default.not-Some c.in_ok-refusal.ensures.why in
+    let runs = early_none (objects_in old) c.args.invocation.process c.in_ok-refusal.field-0 c.in_default.not-Some c.in_ok-refusal.ensures.why in
     let said = c.in-Ok.ensures in
     done_after c.args.age.now old mid new c.args.invocation same failures runs.0 runs.1 c.requires.sound c.if-age-ge-MAX_AGE.false
     said.done said.sound said.renews said.geometry said.later (λ rose. done_unfailed (said.cause.1 rose))
@@ -54,7 +53,7 @@ returns-in-Err-Stalled-clause-serves g c =
     let aside = c.early.ensures.aside in
     let same : AreSame old mid = record { headers = aside.headers; contents = aside.contents; touched = aside.touched; geometry = aside.geometry } in
     let failures = unfailed old.failures mid.failures c.early.ensures.later (ok_stayed c.in_ok-refusal.field-0 c.in_ok-refusal.ensures.cause) in
-    let runs = early_none (objects_of (frames_of old)) c.args.invocation.process c.in_ok-refusal.field-0 c.in_default.not-Some c.in_ok-refusal.ensures.why in
+    let runs = early_none (objects_in old) c.args.invocation.process c.in_ok-refusal.field-0 c.in_default.not-Some c.in_ok-refusal.ensures.why in
     let said = c.in-Err-Stalled.ensures in
     let unchanged : AreSame mid new = record { headers = said.unchanged.headers; contents = said.unchanged.contents; touched = said.unchanged.touched; geometry = said.geometry } in
     stalled_after c.args.age.now old mid new c.args.invocation same failures runs.0 runs.1 c.requires.sound c.if-age-ge-MAX_AGE.false
@@ -68,7 +67,7 @@ returns-in-Err-LogFull-clause-serves g c =
     let aside = c.early.ensures.aside in
     let same : AreSame old mid = record { headers = aside.headers; contents = aside.contents; touched = aside.touched; geometry = aside.geometry } in
     let failures = unfailed old.failures mid.failures c.early.ensures.later (ok_stayed c.in_ok-refusal.field-0 c.in_ok-refusal.ensures.cause) in
-    let runs = early_none (objects_of (frames_of old)) c.args.invocation.process c.in_ok-refusal.field-0 c.in_default.not-Some c.in_ok-refusal.ensures.why in
+    let runs = early_none (objects_in old) c.args.invocation.process c.in_ok-refusal.field-0 c.in_default.not-Some c.in_ok-refusal.ensures.why in
     let said = c.in-Err-LogFull.ensures in
     let unchanged : AreSame mid new = record { headers = said.unchanged.headers; contents = said.unchanged.contents; touched = said.unchanged.touched; geometry = said.geometry } in
     full_after c.args.age.now old mid new c.args.invocation same failures runs.0 runs.1 c.requires.sound c.if-age-ge-MAX_AGE.false
@@ -82,7 +81,7 @@ returns-in-Err-NoMemory-clause-serves g c =
     let aside = c.early.ensures.aside in
     let same : AreSame old mid = record { headers = aside.headers; contents = aside.contents; touched = aside.touched; geometry = aside.geometry } in
     let failures = unfailed old.failures mid.failures c.early.ensures.later (ok_stayed c.in_ok-refusal.field-0 c.in_ok-refusal.ensures.cause) in
-    let runs = early_none (objects_of (frames_of old)) c.args.invocation.process c.in_ok-refusal.field-0 c.in_default.not-Some c.in_ok-refusal.ensures.why in
+    let runs = early_none (objects_in old) c.args.invocation.process c.in_ok-refusal.field-0 c.in_default.not-Some c.in_ok-refusal.ensures.why in
     let said = c.in-Err-NoMemory.ensures in
     let unchanged : AreSame mid new = record { headers = said.unchanged.headers; contents = said.unchanged.contents; touched = said.unchanged.touched; geometry = said.geometry } in
     no_memory_after c.args.age.now old mid new c.args.invocation same failures runs.0 runs.1 c.requires.sound c.if-age-ge-MAX_AGE.false

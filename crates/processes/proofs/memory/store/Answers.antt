@@ -5,7 +5,7 @@ use Rattle.model.specs.Frame.{objects_of}
 use Rattle.gate.proofs.Known.{same_frames}
 use Rattle.gate.proofs.Standing.{LooksAs}
 use Rattle.processes.proofs.Counted.{looked_counted, same_counted, stored_counted}
-use Rattle.capability.specs.Parts.{frames_of}
+use Rattle.capability.specs.Parts.{objects_in}
 use Rattle.processes.specs.Machine.{IsEarly, answer_of}
 use Rattle.processes.proofs.Serving.{ok_stayed}
 use Rattle.processes.proofs.Steps.{early_none}
@@ -15,27 +15,27 @@ use Rattle.processes.proofs.memory.store.Goals as goal
 pub returns-in-Some-clause-serves : goal.returns-in-Some-clause-serves
 returns-in-Some-clause-serves g c =
     early_store g.F.PresentFrames.parts g.F.PresentFrames.LeadsTo c.args.age c.args.store.now c.early.new.store c.args.process c.args.address c.in-Some.refusal
-    c.requires (subst (IsEarly (objects_of (frames_of (g.F.PresentFrames.parts c.args.store.now))) c.args.process) c.in-Some.is c.in_ok-refusal.ensures.why) c.early.ensures.aside c.early.ensures.later (ok_stayed c.in_ok-refusal.field-0 c.in_ok-refusal.ensures.cause) c.args.word
+    c.requires (subst (IsEarly (objects_in (g.F.PresentFrames.parts c.args.store.now)) c.args.process) c.in-Some.is c.in_ok-refusal.ensures.why) c.early.ensures.aside c.early.ensures.later (ok_stayed c.in_ok-refusal.field-0 c.in_ok-refusal.ensures.cause) c.args.word
 
 pub returns-in-Ok-Ok-clause-serves : goal.returns-in-Ok-Ok-clause-serves
 returns-in-Ok-Ok-clause-serves g c =
     let said = c.in-Ok-Ok.ensures in
     store_answers g.F.PresentFrames.parts g.F.PresentFrames.LeadsTo c.args.age c.args.store.now c.early.new.store c.store.new.frames c.args.process c.args.address
-    c.requires (early_none (objects_of (frames_of (g.F.PresentFrames.parts c.args.store.now))) c.args.process c.in_ok-refusal.field-0 c.in_default.not-Some c.in_ok-refusal.ensures.why) c.early.ensures.aside c.early.ensures.later (ok_stayed c.in_ok-refusal.field-0 c.in_ok-refusal.ensures.cause) c.args.word said.geometry said.headers said.later
+    c.requires (early_none (objects_in (g.F.PresentFrames.parts c.args.store.now)) c.args.process c.in_ok-refusal.field-0 c.in_default.not-Some c.in_ok-refusal.ensures.why) c.early.ensures.aside c.early.ensures.later (ok_stayed c.in_ok-refusal.field-0 c.in_ok-refusal.ensures.cause) c.args.word said.geometry said.headers said.later
     c.in-Ok-Ok.field-0 (Ok tt) c.in-Ok-Ok.field-0-is said.stored said.sound said.cause
 
 pub returns-in-Ok-Err-clause-serves : goal.returns-in-Ok-Err-clause-serves
 returns-in-Ok-Err-clause-serves g c =
     let said = c.in-Ok-Err.ensures in
     store_answers g.F.PresentFrames.parts g.F.PresentFrames.LeadsTo c.args.age c.args.store.now c.early.new.store c.store.new.frames c.args.process c.args.address
-    c.requires (early_none (objects_of (frames_of (g.F.PresentFrames.parts c.args.store.now))) c.args.process c.in_ok-refusal.field-0 c.in_default.not-Some c.in_ok-refusal.ensures.why) c.early.ensures.aside c.early.ensures.later (ok_stayed c.in_ok-refusal.field-0 c.in_ok-refusal.ensures.cause) c.args.word said.geometry said.headers said.later
+    c.requires (early_none (objects_in (g.F.PresentFrames.parts c.args.store.now)) c.args.process c.in_ok-refusal.field-0 c.in_default.not-Some c.in_ok-refusal.ensures.why) c.early.ensures.aside c.early.ensures.later (ok_stayed c.in_ok-refusal.field-0 c.in_ok-refusal.ensures.cause) c.args.word said.geometry said.headers said.later
     c.in-Ok-Err.field-0 (Err c.in-Ok-Err.fault) c.in-Ok-Err.field-0-is said.stored said.sound said.cause
 
 pub returns-in-Err-clause-serves : goal.returns-in-Err-clause-serves
 returns-in-Err-clause-serves g c =
     let said = c.in-Err.ensures in
     store_is_refused g.F.PresentFrames.parts g.F.PresentFrames.LeadsTo c.args.age c.args.store.now c.early.new.store c.store.new.frames c.args.process c.args.address
-    c.requires (early_none (objects_of (frames_of (g.F.PresentFrames.parts c.args.store.now))) c.args.process c.in_ok-refusal.field-0 c.in_default.not-Some c.in_ok-refusal.ensures.why) c.early.ensures.aside c.early.ensures.later (ok_stayed c.in_ok-refusal.field-0 c.in_ok-refusal.ensures.cause) c.args.word said.geometry said.headers said.later
+    c.requires (early_none (objects_in (g.F.PresentFrames.parts c.args.store.now)) c.args.process c.in_ok-refusal.field-0 c.in_default.not-Some c.in_ok-refusal.ensures.why) c.early.ensures.aside c.early.ensures.later (ok_stayed c.in_ok-refusal.field-0 c.in_ok-refusal.ensures.cause) c.args.word said.geometry said.headers said.later
     c.in-Err.fault (answer_of c.refused.result) c.refused.ensures.answer said.unchanged said.cause said.full
 
 pub returns-in-Some-clause-counted : goal.returns-in-Some-clause-counted

@@ -1,7 +1,6 @@
 use Rattle.std.proofs.Common.{◌≡◌, ℕ, ◌≤◌, ◌<◌, List, length, refl, ap, ◌∙◌, subst, arith}
 use Rattle.model.specs.declared.frame.ObjectHeader.{ObjectHeader}
-use Rattle.model.specs.Frame.{objects_of}
-use Rattle.capability.specs.Parts.{frames_of}
+use Rattle.capability.specs.Parts.{objects_in}
 use Rattle.processes.specs.Machine.{answer_of}
 use Rattle.processes.proofs.Serving.{AreSame, bad_number_serves, show_refused, shown_fine, shown_serves, shown_unfailed}
 use Rattle.processes.proofs.showing.show.Goals as goal
@@ -27,7 +26,7 @@ returns-in-Ok-clause-serves g c =
 pub returns-in-Ok-clause-told_once : goal.returns-in-Ok-clause-told_once
 returns-in-Ok-clause-told_once g c =
     let old = g.F.PresentFrames.parts c.args.store.now in
-    shown_fine (objects_of (frames_of old)) c.args.number c.in-Ok.answer c.in-Ok.ensures.answer
+    shown_fine (objects_in old) c.args.number c.in-Ok.answer c.in-Ok.ensures.answer
 
 pub returns-in-Err-clause-serves : goal.returns-in-Err-clause-serves
 returns-in-Err-clause-serves g c =

@@ -1,19 +1,18 @@
 use Rattle.std.proofs.Common.{◌≡◌, ◌<◌, arith, length}
-use Rattle.model.specs.Frame.{objects_of}
 use Rattle.model.specs.World.{owner_at}
-use Rattle.capability.specs.Parts.{frames_of}
+use Rattle.capability.specs.Parts.{objects_in}
 use Rattle.capability.proofs.Frames.{owner_read}
 use Rattle.space_bank.proofs.Climbs.{climb_ended, climb_itself, climb_starts, climbs_on, lowered_last, lowering_here, lowers_on, raising_starts}
 use Rattle.space_bank.proofs.chains.lower.Goals as goal
 
 pub loop-step-init : goal.loop-step-init
 loop-step-init g c =
-    let os = objects_of (frames_of (g.F.PresentFrames.parts c.args.store.now)) in
+    let os = objects_in (g.F.PresentFrames.parts c.args.store.now) in
     record { climbs = climb_starts os c.args.bank c.requires.bank; raising = raising_starts os c.args.bank c.args.count c.args.usages.now }
 
 pub overflow_sub-usages : goal.overflow_sub-usages
 overflow_sub-usages g c =
-    let os = objects_of (frames_of (g.F.PresentFrames.parts c.args.store.now)) in
+    let os = objects_in (g.F.PresentFrames.parts c.args.store.now) in
     let at = c.loop-step.current in
     let inside : at < length c.loop-step.usages = omega (arith, c.requires.each at c.loop-step.invariant.climbs.bank, c.loop-step.invariant.raising.size) in
     let here = lowering_here os c.requires.tree c.args.bank c.loop-step._step at c.loop-step.invariant.climbs c.args.count c.args.usages.now c.loop-step.usages inside c.loop-step.invariant.raising in
@@ -22,7 +21,7 @@ overflow_sub-usages g c =
 
 pub returns-then-current-eq0 : goal.returns-then-current-eq0
 returns-then-current-eq0 g c =
-    let os = objects_of (frames_of (g.F.PresentFrames.parts c.args.store.now)) in
+    let os = objects_in (g.F.PresentFrames.parts c.args.store.now) in
     let at = c.loop-step.current in
     let inside : at < length c.loop-step.usages = omega (arith, c.requires.each at c.loop-step.invariant.climbs.bank, c.loop-step.invariant.raising.size) in
     let enough = c.requires.enough at (climb_itself os c.requires.tree c.args.bank c.loop-step._step at c.loop-step.invariant.climbs) in
@@ -32,7 +31,7 @@ returns-then-current-eq0 g c =
 pub loop-step-preserved : goal.loop-step-preserved
 loop-step-preserved g c =
     let p = g.F.PresentFrames.parts c.args.store.now in
-    let os = objects_of (frames_of p) in
+    let os = objects_in p in
     let at = c.loop-step.current in
     let inside : at < length c.loop-step.usages = omega (arith, c.requires.each at c.loop-step.invariant.climbs.bank, c.loop-step.invariant.raising.size) in
     let enough = c.requires.enough at (climb_itself os c.requires.tree c.args.bank c.loop-step._step at c.loop-step.invariant.climbs) in
@@ -45,5 +44,5 @@ loop-step-preserved g c =
 
 pub returns : goal.returns
 returns g c =
-    let os = objects_of (frames_of (g.F.PresentFrames.parts c.args.store.now)) in
+    let os = objects_in (g.F.PresentFrames.parts c.args.store.now) in
     absurd (climb_ended os c.requires.tree c.args.bank c.loop-step._step c.loop-step.current c.loop-step.invariant.climbs c.loop-step-test.false)

@@ -1,9 +1,8 @@
 use Rattle.std.proofs.Common.{◌≡◌, ◌∙◌, ◌<◌, ℕ, true, false, List, length, slice_index, refl, sym, ap, arith}
-use Rattle.model.specs.Frame.{objects_of}
 use Rattle.model.specs.Object.{is_free}
 use Rattle.model.specs.World.{content_at}
 use Rattle.model_laws.proofs.BankTree.{chain_banks}
-use Rattle.capability.specs.Parts.{frames_of}
+use Rattle.capability.specs.Parts.{objects_in}
 use Rattle.space_bank.proofs.Used.{owner_of_used, raise_fits, used_first, used_free, used_raised, used_whole}
 use Rattle.space_bank.proofs.Walks.{inside_read, past_read}
 use Rattle.space_bank.proofs.counting.add_usages.Goals as goal
@@ -11,7 +10,7 @@ use Rattle.space_bank.proofs.counting.add_usages.Goals.{then-not-is_free, else-n
 
 pub loop-number-init : goal.loop-number-init
 loop-number-init g c =
-    let os = objects_of (frames_of (g.F.PresentFrames.parts c.args.store.now)) in
+    let os = objects_in (g.F.PresentFrames.parts c.args.store.now) in
     record {
       size = refl;
       each = λ b bank. c.requires.none b ∙ sym (used_first os c.requires.tree b);
@@ -19,7 +18,7 @@ loop-number-init g c =
 
 pub raise-requires : goal.raise-requires
 raise-requires g c =
-    let os = objects_of (frames_of (g.F.PresentFrames.parts c.args.store.now)) in
+    let os = objects_in (g.F.PresentFrames.parts c.args.store.now) in
     let used : is_free (content_at os c.loop-number.number) ≡ false = sym c.is_free.ensures ∙ c.if-not-is_free.true in
     let bank = owner_of_used os c.requires.tree c.loop-number.number c.owner.result used c.owner.ensures in
     record {
@@ -34,7 +33,7 @@ raise-requires g c =
 pub loop-number-preserved : goal.loop-number-preserved
 loop-number-preserved g c =
     let p = g.F.PresentFrames.parts c.args.store.now in
-    let os = objects_of (frames_of p) in
+    let os = objects_in p in
     let n = c.loop-number.number in
     let inside : n < length os = inside_read p c.table.result.now c.count-number-end.result n c.table.ensures c.count-number-end.ensures c.loop-number-test.true in
     elim c.if-not-is_free.branch [
@@ -61,6 +60,6 @@ loop-number-preserved g c =
 pub returns-clause-counted : goal.returns-clause-counted
 returns-clause-counted g c = λ b bank.
     let p = g.F.PresentFrames.parts c.args.store.now in
-    let os = objects_of (frames_of p) in
+    let os = objects_in p in
     c.loop-number.invariant.each b bank
     ∙ sym (used_whole os b c.loop-number.number (past_read p c.table.result.now c.count-number-end.result c.loop-number.number c.table.ensures c.count-number-end.ensures c.loop-number-test.false))

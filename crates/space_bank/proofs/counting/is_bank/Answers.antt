@@ -1,7 +1,6 @@
 use Rattle.std.proofs.Common.{sym}
-use Rattle.model.specs.Frame.{objects_of}
 use Rattle.model.specs.World.{content_at}
-use Rattle.capability.specs.Parts.{frames_of}
+use Rattle.capability.specs.Parts.{objects_in}
 use Rattle.capability.proofs.Roles.{role_bank, role_no_bank, role_read}
 use Rattle.space_bank.proofs.counting.is_bank.Goals as goal
 
@@ -9,10 +8,10 @@ pub returns-in-Bank : goal.returns-in-Bank
 returns-in-Bank g c =
     let p = g.F.PresentFrames.parts c.args.store.now in
     let is = role_read p c.table.result.now c.header.result c.args.number c.requires c.table.ensures c.header.ensures in
-    sym (role_bank c.header.result.role (content_at (objects_of (frames_of p)) c.args.number) is c.in-Bank.is)
+    sym (role_bank c.header.result.role (content_at (objects_in p) c.args.number) is c.in-Bank.is)
 
 pub returns-in_default : goal.returns-in_default
 returns-in_default g c =
     let p = g.F.PresentFrames.parts c.args.store.now in
     let is = role_read p c.table.result.now c.header.result c.args.number c.requires c.table.ensures c.header.ensures in
-    sym (role_no_bank c.header.result.role (content_at (objects_of (frames_of p)) c.args.number) is c.in_default.not-Bank)
+    sym (role_no_bank c.header.result.role (content_at (objects_in p) c.args.number) is c.in_default.not-Bank)

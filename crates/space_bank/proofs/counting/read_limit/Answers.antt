@@ -1,7 +1,6 @@
 use Rattle.std.proofs.Common.{◌^◌, ◌-◌, ◌∙◌, sym}
-use Rattle.model.specs.Frame.{objects_of}
 use Rattle.model.specs.World.{content_at}
-use Rattle.capability.specs.Parts.{frames_of}
+use Rattle.capability.specs.Parts.{frames_of, objects_in}
 use Rattle.capability.proofs.Keeping.{keepable_roles}
 use Rattle.space_bank.proofs.Counts.{limit_of_other}
 use Rattle.space_bank.proofs.counting.read_limit.Goals as goal
@@ -13,5 +12,5 @@ is_bank-requires g c =
 
 pub returns-then-not-is_bank-clause-limit : goal.returns-then-not-is_bank-clause-limit
 returns-then-not-is_bank-clause-limit g c =
-    let os = objects_of (frames_of (g.F.PresentFrames.parts c.args.store.now)) in
+    let os = objects_in (g.F.PresentFrames.parts c.args.store.now) in
     sym (limit_of_other (content_at os c.args.number) (sym c.is_bank.ensures ∙ c.if-not-is_bank.true))

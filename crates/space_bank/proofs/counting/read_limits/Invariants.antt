@@ -1,15 +1,14 @@
 use Rattle.std.proofs.Common.{◌≡◌, ◌≤◌, map, vec_len}
 use Rattle.std.specs.List.{range_with_len}
 use Rattle.std.specs.Vec.{vec_capacity}
-use Rattle.model.specs.Frame.{objects_of}
 use Rattle.model.specs.Object.{limit_in}
 use Rattle.model.specs.World.{content_at}
-use Rattle.capability.specs.Parts.{LooksUp, frames_of}
+use Rattle.capability.specs.Parts.{LooksUp, objects_in}
 use Rattle.space_bank.proofs.counting.read_limits.Given as goal
 
 abbrev pub invariant-loop-number : goal.invariant-loop-number
 invariant-loop-number g l =
-    let os = objects_of (frames_of (g.F.PresentFrames.parts l.initial.store)) in
+    let os = objects_in (g.F.PresentFrames.parts l.initial.store) in
     record {
       limits : l.limits.items ≡ map (λ n. limit_in (content_at os n)) (range_with_len 0 l.number);
       size : vec_len l.limits ≡ l.number;

@@ -1,11 +1,10 @@
 use Rattle.std.proofs.Common.{◌≡◌, ◌<◌, arith, false, length, subst, sym, take}
 use Rattle.std.specs.Prelude.{slice_index}
 use Rattle.model.specs.declared.geometry.Geometry.{Geometry}
-use Rattle.model.specs.Frame.{objects_of}
 use Rattle.model.specs.Keepable.{AreKeepable}
 use Rattle.model.specs.Object.{is_free}
 use Rattle.model.specs.World.{content_at}
-use Rattle.capability.specs.Parts.{frames_of}
+use Rattle.capability.specs.Parts.{frames_of, objects_in}
 use Rattle.capability.proofs.Asides.{keeps_twice}
 use Rattle.capability.proofs.Frames.{length_objects}
 use Rattle.space_bank.proofs.Owners.{handed_more, handed_used}
@@ -17,8 +16,8 @@ loop-number-preserved g c =
     let p = g.F.PresentFrames.parts c.args.store.now in
     let q = g.F.PresentFrames.parts c.loop-number.store in
     let r = g.F.PresentFrames.parts c.set_owner.new.store in
-    let os = objects_of (frames_of p) in
-    let us = objects_of (frames_of q) in
+    let os = objects_in p in
+    let us = objects_in q in
     let list = c.args.numbers.now in
     let i = c.loop-number.number-index in
     let n = slice_index list i in
@@ -27,7 +26,7 @@ loop-number-preserved g c =
     let inside : n < length us = omega (arith, known.0, length_objects q.headers q.contents) in
     let used : is_free (content_at us n) ≡ false = handed_used (take i list) c.args.bank os us before.objects n (c.requires.used i 0 c.loop-number-test.true) in
     record {
-      objects = handed_more list i c.args.bank os us (objects_of (frames_of r)) c.loop-number-test.true inside before.objects c.set_owner.ensures.objects;
+      objects = handed_more list i c.args.bank os us (objects_in r) c.loop-number-test.true inside before.objects c.set_owner.ensures.objects;
       current = λ current. c.set_owner.ensures.current (before.current current);
       keepable = λ age k.
           let now = subst (λ (h : Geometry). AreKeepable h age (frames_of q)) (sym before.aside.geometry) (before.keepable age k) in

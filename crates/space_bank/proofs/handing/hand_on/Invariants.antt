@@ -1,7 +1,6 @@
 use Rattle.std.proofs.Common.{ℕ, take}
-use Rattle.model.specs.Frame.{objects_of}
 use Rattle.model.specs.Keepable.{AreCurrent, AreKeepable}
-use Rattle.capability.specs.Parts.{KeepsAside, frames_of}
+use Rattle.capability.specs.Parts.{KeepsAside, frames_of, objects_in}
 use Rattle.space_bank.specs.Carrying.{AreHandedOn}
 use Rattle.space_bank.proofs.handing.hand_on.Given as goal
 
@@ -10,7 +9,7 @@ invariant-loop-number g l =
     let p = g.F.PresentFrames.parts l.initial.store in
     let q = g.F.PresentFrames.parts l.store in
     record {
-      objects : AreHandedOn (take l.number-index l.numbers) l.bank (objects_of (frames_of p)) (objects_of (frames_of q));
+      objects : AreHandedOn (take l.number-index l.numbers) l.bank (objects_in p) (objects_in q);
       current : AreCurrent (frames_of p) → AreCurrent (frames_of q);
       keepable : (age : ℕ) → AreKeepable p.geometry age (frames_of p) → AreKeepable p.geometry age (frames_of q);
       aside : KeepsAside g.F.PresentFrames.parts g.F.PresentFrames.IsFetched g.F.PresentFrames.IsAnnounced g.F.PresentFrames.LeadsTo l.initial.store l.store;

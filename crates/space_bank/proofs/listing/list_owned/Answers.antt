@@ -1,10 +1,9 @@
 use Rattle.std.proofs.Common.{◌≡◌, ◌∙◌, ◌++◌, ℕ, List, length, Vec, Global, true, false, vec_len, ap, sym, refl, arith}
 use Rattle.std.proofs.lemmas.Bool.{eq-eqb, ne_eqb}
 use Rattle.std.specs.Vec.{vec_capacity}
-use Rattle.model.specs.Frame.{objects_of}
 use Rattle.model.specs.Object.{is_free}
 use Rattle.model.specs.World.{content_at, owner_at}
-use Rattle.capability.specs.Parts.{frames_of}
+use Rattle.capability.specs.Parts.{objects_in}
 use Rattle.space_bank.proofs.Lists.{is_listed_owned, listed_more, listed_same, owned_whole}
 use Rattle.space_bank.proofs.Walks.{count_read}
 use Rattle.space_bank.proofs.listing.list_owned.Goals as goal
@@ -12,7 +11,7 @@ use Rattle.space_bank.proofs.listing.list_owned.Goals.{then-not-is_free+then-own
 
 pub loop-number-preserved : goal.loop-number-preserved
 loop-number-preserved g c =
-    let os = objects_of (frames_of (g.F.PresentFrames.parts c.args.store.now)) in
+    let os = objects_in (g.F.PresentFrames.parts c.args.store.now) in
     let p = is_listed_owned os c.args.bank in
     let n = c.loop-number.number in
     elim c.if-not-is_free.branch [
@@ -47,7 +46,7 @@ loop-number-preserved g c =
 pub returns-clause-listed : goal.returns-clause-listed
 returns-clause-listed g c =
     let p = g.F.PresentFrames.parts c.args.store.now in
-    let os = objects_of (frames_of p) in
+    let os = objects_in p in
     let all : c.loop-number.number ≡ length os =
     count_read p c.table.result.now c.count-number-end.result c.loop-number.number c.table.ensures c.count-number-end.ensures c.loop-number.auto.number-end c.loop-number-test.false in
     c.loop-number.invariant.listed ∙ ap (λ (xs : List ℕ). c.args.listed.now.items ++ xs) (owned_whole os c.args.bank c.loop-number.number all)

@@ -2,9 +2,8 @@ use Rattle.std.proofs.Common.{◌≡◌, ◌∙◌, ◌++◌, ℕ, List, length,
 use Rattle.std.proofs.lemmas.Bool.{eq-eqb, ne_eqb}
 use Rattle.std.specs.Vec.{vec_capacity}
 use Rattle.model.specs.Bank.{is_under}
-use Rattle.model.specs.Frame.{objects_of}
 use Rattle.model.specs.World.{object_at}
-use Rattle.capability.specs.Parts.{frames_of}
+use Rattle.capability.specs.Parts.{objects_in}
 use Rattle.space_bank.proofs.Lists.{is_listed_under, listed_more, listed_same, under_whole}
 use Rattle.space_bank.proofs.Walks.{count_read}
 use Rattle.space_bank.proofs.listing.list_under.Goals as goal
@@ -12,7 +11,7 @@ use Rattle.space_bank.proofs.listing.list_under.Goals.{then-number-bank, then-nu
 
 pub loop-number-preserved : goal.loop-number-preserved
 loop-number-preserved g c =
-    let os = objects_of (frames_of (g.F.PresentFrames.parts c.args.store.now)) in
+    let os = objects_in (g.F.PresentFrames.parts c.args.store.now) in
     let p = is_listed_under os c.args.bank in
     let n = c.loop-number.number in
     elim c.if-number-bank.branch [
@@ -43,7 +42,7 @@ loop-number-preserved g c =
 pub returns-clause-listed : goal.returns-clause-listed
 returns-clause-listed g c =
     let p = g.F.PresentFrames.parts c.args.store.now in
-    let os = objects_of (frames_of p) in
+    let os = objects_in p in
     let all : c.loop-number.number ≡ length os =
     count_read p c.table.result.now c.count-number-end.result c.loop-number.number c.table.ensures c.count-number-end.ensures c.loop-number.auto.number-end c.loop-number-test.false in
     c.loop-number.invariant.listed ∙ ap (λ (xs : List ℕ). c.args.listed.now.items ++ xs) (under_whole os c.args.bank c.loop-number.number all)

@@ -1,14 +1,13 @@
 use Rattle.std.proofs.Common.{◌≡◌, ◌≤◌, ◌+◌, ◌++◌, vec_len}
 use Rattle.std.specs.List.{filter, range_with_len}
 use Rattle.std.specs.Vec.{vec_capacity}
-use Rattle.model.specs.Frame.{objects_of}
-use Rattle.capability.specs.Parts.{frames_of}
+use Rattle.capability.specs.Parts.{objects_in}
 use Rattle.space_bank.proofs.Lists.{is_listed_under}
 use Rattle.space_bank.proofs.listing.list_under.Given as goal
 
 abbrev pub invariant-loop-number : goal.invariant-loop-number
 invariant-loop-number g l =
-    let os = objects_of (frames_of (g.F.PresentFrames.parts l.store)) in
+    let os = objects_in (g.F.PresentFrames.parts l.store) in
     record {
       listed : l.listed.items ≡ l.initial.listed.items ++ filter (is_listed_under os l.bank) (range_with_len 0 l.number);
       count : vec_len l.listed ≤ vec_len l.initial.listed + l.number;

@@ -1,10 +1,9 @@
 use Rattle.std.proofs.Common.{◌≡◌, ◌+◌, ◌-◌, length}
-use Rattle.model.specs.Frame.{objects_of}
 use Rattle.model.specs.Bank.{chain, chain_within}
-use Rattle.capability.specs.Parts.{frames_of}
+use Rattle.capability.specs.Parts.{objects_in}
 use Rattle.space_bank.proofs.walking.chain_length.Given as goal
 
 abbrev pub invariant-loop-passed : goal.invariant-loop-passed
 invariant-loop-passed g l =
-    let os = objects_of (frames_of (g.F.PresentFrames.parts l.store)) in
+    let os = objects_in (g.F.PresentFrames.parts l.store) in
     length (chain os l.bank) ≡ l.passed + length (chain_within (16 - l.passed) os l.current)

@@ -4,7 +4,7 @@ use Rattle.layout.specs.Image.{SavedState}
 use Rattle.model.specs.Keepable.{AreKeepable}
 use Rattle.migrator.specs.Table.{whole_count}
 use Rattle.migrator.specs.Saved.{LeavesEither}
-use Rattle.migrator.specs.Durable.{Books, books_of, stored_of, stored_in, frozen_of, is_sound, next_header, next_saved, committed, saved_state, IsKept, LeavesState}
+use Rattle.migrator.specs.Durable.{Books, books_of, stored_of, stored_in, frozen_of, is_sound, next_header, next_saved, stored_after_commit, saved_state, IsKept, LeavesState}
 use Rattle.migrator.proofs.Tables.{rewritten}
 use Rattle.migrator.proofs.Saving.{on_err}
 use Rattle.migrator.proofs.Committing.{committed_books, books_same, may_commit, failed_kept, failed_stored, commit_moments, done_kept, done_stored, done_state}
@@ -112,8 +112,8 @@ returns-clause-committed g c =
     let only = rw header at c.save.ensures.only in
     let directory = ap (λ n. take n c.swap.new.x.items) (ap (λ h. h.entries) header ∙ sym c.fill-count.ensures.count) ∙ ap (λ (es : List Entry). take c.fill-count.result es) (ap (λ v. v.items) c.swap.ensures.x_after ∙ spare) ∙ c.fill-count.ensures.entries in
     let books = books_same c.args.age b c.next_header-header.result c.swap.new.x.items c.clear.new.self header directory in
-    subst (λ (x : Books). stored_in (g.D.Device.disk c.save.new.device).seen x ≡ committed c.args.age (frozen_of (g.D.Device.disk c.args.self.now.beneath).seen c.args.self.now.books c.args.size) (stored_of g.D.Device.disk c.args.self.now)) (sym books)
-    (subst (λ t. stored_in (g.D.Device.disk c.save.new.device).seen (committed_books c.args.age b c.clear.new.self) ≡ committed c.args.age (frozen_of (g.D.Device.disk t.beneath).seen t.books c.args.size) (stored_of g.D.Device.disk t)) c.self.view_is (done_stored (g.D.Device.disk c.self.inside.device) b c.args.size kept running stable c.args.age later c.requires.most keepable c.clear.new.self c.clear.ensures (g.D.Device.disk c.save.new.device).seen only))
+    subst (λ (x : Books). stored_in (g.D.Device.disk c.save.new.device).seen x ≡ stored_after_commit c.args.age (frozen_of (g.D.Device.disk c.args.self.now.beneath).seen c.args.self.now.books c.args.size) (stored_of g.D.Device.disk c.args.self.now)) (sym books)
+    (subst (λ t. stored_in (g.D.Device.disk c.save.new.device).seen (committed_books c.args.age b c.clear.new.self) ≡ stored_after_commit c.args.age (frozen_of (g.D.Device.disk t.beneath).seen t.books c.args.size) (stored_of g.D.Device.disk t)) c.self.view_is (done_stored (g.D.Device.disk c.self.inside.device) b c.args.size kept running stable c.args.age later c.requires.most keepable c.clear.new.self c.clear.ensures (g.D.Device.disk c.save.new.device).seen only))
 
 pub returns-clause-sound : goal.returns-clause-sound
 returns-clause-sound g c =

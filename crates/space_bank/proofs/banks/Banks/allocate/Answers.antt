@@ -1,7 +1,6 @@
 use Rattle.std.proofs.Common.{◌≡◌, arith, ap, length}
 use Rattle.model.specs.Bank.{chain}
-use Rattle.model.specs.Frame.{objects_of}
-use Rattle.capability.specs.Parts.{frames_of}
+use Rattle.capability.specs.Parts.{objects_in}
 use Rattle.space_bank.specs.Banks.{BanksState}
 use Rattle.space_bank.proofs.Carried.{IsMade, alone_carried, taken_one}
 use Rattle.space_bank.proofs.Standing.{free_role, serve_count}
@@ -29,5 +28,5 @@ returns-clause-carried g c =
     record { nodes = c.make.ensures.nodes; pages = c.make.ensures.pages; marks = c.make.ensures.marks; kept = c.make.ensures.kept } in
     alone_carried p c.args.self.now c.args.bank c.requires.asks c.args.number at.0 c.requires.free q c.make.ensures.current c.args.fresh c.make.new.self
     c.requires.alone c.make.ensures.objects c.make.ensures.keepable
-    (taken_one (chain (objects_of (frames_of p)) c.args.bank) 1 c.args.self.now c.account.new.self c.make.new.self c.args.number
+    (taken_one (chain (objects_in p) c.args.bank) 1 c.args.self.now c.account.new.self c.make.new.self c.args.number
     c.account.ensures.usages c.account.ensures.kept made)

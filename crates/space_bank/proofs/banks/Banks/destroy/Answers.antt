@@ -1,7 +1,6 @@
 use Rattle.std.proofs.Common.{List, subst, sym, ℕ}
-use Rattle.model.specs.Frame.{objects_of}
 use Rattle.model.specs.World.{owner_at}
-use Rattle.capability.specs.Parts.{frames_of}
+use Rattle.capability.specs.Parts.{objects_in}
 use Rattle.space_bank.specs.Carrying.{MayGiveUp}
 use Rattle.capability.proofs.Frames.{owner_read}
 use Rattle.space_bank.proofs.Giving.{destroyed_gives, serve_parent, under_within}
@@ -16,7 +15,7 @@ give_up-requires-clause-asks g c =
 pub give_up-requires-clause-gives : goal.give_up-requires-clause-gives
 give_up-requires-clause-gives g c =
     let p = g.F.PresentFrames.parts c.args.store.now in
-    let os = objects_of (frames_of p) in
+    let os = objects_in p in
     let owner = owner_read p c.table.result.now _ c.args.bank c.table.ensures c.header-parent.ensures in
     rw owner (subst (λ (list : List ℕ). MayGiveUp os (owner_at os c.args.bank) list) (sym c.requires.listed)
     (destroyed_gives p.geometry os c.args.bank (serve_now p c.args.self.now c.args.bank c.requires.asks) c.requires.asks.bank c.requires.other))

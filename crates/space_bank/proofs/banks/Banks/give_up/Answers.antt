@@ -2,11 +2,10 @@ use Rattle.std.proofs.Common.{◌≡◌, ◌+◌, ◌-◌, ◌∙◌, ◌++◌, 
 use Rattle.std.specs.Prelude.{if◌then◌else◌}
 use Rattle.std.proofs.lemmas.List.{length-drop}
 use Rattle.model.specs.Bank.{chain}
-use Rattle.model.specs.Frame.{objects_of}
 use Rattle.model.specs.Object.{is_free}
 use Rattle.model.specs.Revoke.{is_member, rescind}
 use Rattle.model.specs.World.{content_at}
-use Rattle.capability.specs.Parts.{frames_of}
+use Rattle.capability.specs.Parts.{objects_in}
 use Rattle.space_bank.specs.Banks.{BanksState}
 use Rattle.space_bank.specs.Chains.{IsRaised}
 use Rattle.number_set.specs.Marks.{is_marked}
@@ -55,7 +54,7 @@ returns-clause-carried g c =
     let q = g.F.PresentFrames.parts c.rescind.new.store in
     let s = c.args.self.now in
     let list = drop c.args.skip s.listed in
-    let banks = chain (objects_of (frames_of p)) c.args.above in
+    let banks = chain (objects_in p) c.args.above in
     let listed : c.self-2.inside.listed.items ≡ s.listed =
     ap (λ (k : BanksState). k.listed) c.self-2.view_is ∙ ap (λ (k : BanksState). k.listed) c.release.ensures.kept in
     let part : take (length c.deref.result.now - c.args.skip) (drop c.args.skip c.deref.result.now) ≡ list =
@@ -71,11 +70,11 @@ returns-clause-carried g c =
     ended_carried p q s _ c.args.above list c.requires.asks c.requires.gives
     (released_then banks (length list) s c.release.new.self _ c.mark_free.new.nodes c.mark_free.new.pages list raised c.release.ensures.kept c.self-2.view_is
     c.mark_free.ensures.nodes c.mark_free.ensures.pages marks)
-    (c.rescind.ensures.objects ∙ ap (λ (xs : List ℕ). rescind xs (objects_of (frames_of p))) part) c.rescind.ensures.current c.rescind.ensures.keepable
+    (c.rescind.ensures.objects ∙ ap (λ (xs : List ℕ). rescind xs (objects_in p)) part) c.rescind.ensures.current c.rescind.ensures.keepable
 
 pub returns-clause-aside : goal.returns-clause-aside
 returns-clause-aside g c =
-    let os = objects_of (frames_of (g.F.PresentFrames.parts c.args.store.now)) in
+    let os = objects_in (g.F.PresentFrames.parts c.args.store.now) in
     let s = c.args.self.now in
     let part = rest_is c.deref.result.now s.listed c.args.skip
     (c.deref.ensures.value ∙ (ap (λ (k : BanksState). k.listed) c.self-2.view_is ∙ ap (λ (k : BanksState). k.listed) c.release.ensures.kept)) in

@@ -1,9 +1,8 @@
 use Rattle.std.proofs.Common.{◌≡◌, ◌-◌}
 use Rattle.std.specs.List.{list_all}
-use Rattle.model.specs.Frame.{objects_of}
 use Rattle.model.specs.Bank.{chain_within}
 use Rattle.model.specs.Banking.{has_room}
-use Rattle.capability.specs.Parts.{frames_of}
+use Rattle.capability.specs.Parts.{objects_in}
 use Rattle.space_bank.specs.Planning.{IsBankOf}
 use Rattle.space_bank.proofs.Walks.{fits}
 use Rattle.space_bank.proofs.banks.Banks.has_room.Given as goal
@@ -11,7 +10,7 @@ use Rattle.space_bank.proofs.banks.Banks.has_room.Given as goal
 abbrev pub invariant-loop-step : goal.invariant-loop-step
 invariant-loop-step g l =
     let p = g.F.PresentFrames.parts l.store in
-    let os = objects_of (frames_of p) in
+    let os = objects_in p in
     record {
       same : has_room os l.bank l.count ≡ list_all (fits os l.count) (chain_within (16 - l._step) os l.current);
       there : IsBankOf p l.self l.current;

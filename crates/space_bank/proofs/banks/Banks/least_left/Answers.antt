@@ -1,8 +1,7 @@
 use Rattle.std.proofs.Common.{◌≡◌, ◌-◌, ◌∙◌, [], sym}
 use Rattle.model.specs.Banking.{left_of}
 use Rattle.model.specs.Bank.{chain_within}
-use Rattle.model.specs.Frame.{objects_of}
-use Rattle.capability.specs.Parts.{frames_of}
+use Rattle.capability.specs.Parts.{objects_in}
 use Rattle.space_bank.proofs.Walks.{chain_past, least_begun, least_last, least_next, least_on, left_counted, limit_known, owner_is_bank, usage_known, within_counted}
 use Rattle.space_bank.proofs.banks.Banks.least_left.Goals as goal
 
@@ -18,7 +17,7 @@ left-least-requires g c =
 pub loop-step-init : goal.loop-step-init
 loop-step-init g c =
     let p = g.F.PresentFrames.parts c.args.store.now in
-    let os = objects_of (frames_of p) in
+    let os = objects_in p in
     record {
       same = least_begun os c.args.bank c.left-least.result (c.left-least.ensures ∙ left_counted p c.args.self.now c.args.bank c.requires);
       there = c.requires;
@@ -36,7 +35,7 @@ left-requires g c =
 pub returns-then-current-eq0 : goal.returns-then-current-eq0
 returns-then-current-eq0 g c =
     let p = g.F.PresentFrames.parts c.args.store.now in
-    let os = objects_of (frames_of p) in
+    let os = objects_in p in
     let here : c.left.result ≡ left_of os c.loop-step.current = c.left.ensures ∙ left_counted p c.args.self.now c.loop-step.current c.loop-step.invariant.there in
     sym (c.loop-step.invariant.same
     ∙ least_last os c.loop-step._step c.loop-step.current c.loop-step.least c.left.result c.min-least.result c.loop-step-test.true here c.min-least.ensures c.if-current-eq0.true)
@@ -44,7 +43,7 @@ returns-then-current-eq0 g c =
 pub loop-step-preserved : goal.loop-step-preserved
 loop-step-preserved g c =
     let p = g.F.PresentFrames.parts c.args.store.now in
-    let os = objects_of (frames_of p) in
+    let os = objects_in p in
     let here : c.left.result ≡ left_of os c.loop-step.current = c.left.ensures ∙ left_counted p c.args.self.now c.loop-step.current c.loop-step.invariant.there in
     record {
       same = c.loop-step.invariant.same
@@ -54,6 +53,6 @@ loop-step-preserved g c =
 
 pub returns : goal.returns
 returns g c =
-    let os = objects_of (frames_of (g.F.PresentFrames.parts c.args.store.now)) in
+    let os = objects_in (g.F.PresentFrames.parts c.args.store.now) in
     let past = chain_past os c.loop-step._step c.loop-step.current c.loop-step-test.false in
     sym (c.loop-step.invariant.same ∙ least_on os c.loop-step.least (chain_within (16 - c.loop-step._step) os c.loop-step.current) [] past)

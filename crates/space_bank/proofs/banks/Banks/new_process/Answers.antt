@@ -6,8 +6,7 @@ use Rattle.model.specs.Banking.{new_annex, new_root, with_new}
 use Rattle.model.specs.Keepable.{AreKeepable}
 use Rattle.space_bank.specs.Carrying.{marks_of}
 use Rattle.model.specs.Bank.{chain}
-use Rattle.model.specs.Frame.{objects_of}
-use Rattle.capability.specs.Parts.{frames_of}
+use Rattle.capability.specs.Parts.{frames_of, objects_in}
 use Rattle.space_bank.proofs.Carried.{IsMade, process_carried, still_free, taken_one, taken_two}
 use Rattle.space_bank.proofs.Standing.{free_role}
 use Rattle.space_bank.proofs.banks.Banks.new_process.Goals as goal
@@ -32,7 +31,7 @@ returns-clause-carried g c =
     let q = g.F.PresentFrames.parts c.make.new.store in
     let r = g.F.PresentFrames.parts c.make-2.new.store in
     let s = c.args.self.now in
-    let banks = chain (objects_of (frames_of p)) c.args.bank in
+    let banks = chain (objects_in p) c.args.bank in
     let at = g.met.F.PresentFrames.known_announced c.args.store.now c.args.root c.requires.announced in
     let at_annex = g.met.F.PresentFrames.known_announced c.args.store.now c.args.annex c.requires.annex_announced in
     let made : IsMade c.account.new.self c.make.new.self c.args.root =

@@ -2,10 +2,9 @@ use Rattle.std.proofs.Common.{ap, refl}
 use Rattle.model.specs.declared.order.BankOrder.TheVariants as bank
 use Rattle.model.specs.Bank.{usage}
 use Rattle.model.specs.Banking.{remaining}
-use Rattle.model.specs.Frame.{objects_of}
 use Rattle.model.specs.Object.{limit_in}
 use Rattle.model.specs.World.{content_at}
-use Rattle.capability.specs.Parts.{frames_of}
+use Rattle.capability.specs.Parts.{objects_in}
 use Rattle.space_bank.specs.Banks.{BanksState}
 use Rattle.space_bank.proofs.Plans.{bank_asked, planned_behind, planned_told, remaining_told, told_words}
 use Rattle.space_bank.proofs.banks.Banks.plan.Goals as goal
@@ -80,7 +79,7 @@ remaining-requires g c =
 pub returns-in-Remaining-clause-planned : goal.returns-in-Remaining-clause-planned
 returns-in-Remaining-clause-planned g c =
     let p = g.F.PresentFrames.parts c.args.store.now in
-    let os = objects_of (frames_of p) in
+    let os = objects_in p in
     let b = c.args.bank in
     planned_behind p b c.args.order bank.Remaining c.args.arguments c.args.first.now c.list_only.new.self.listed c.list_only.new.self.listed c.told.result
     c.in-Remaining.is (ap (λ (s : BanksState). s.listed) c.list_only.ensures)

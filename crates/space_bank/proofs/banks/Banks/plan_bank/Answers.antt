@@ -5,8 +5,7 @@ use Rattle.model.specs.declared.order.BankOrder.TheVariants as bank
 use Rattle.model.specs.declared.order.ResultCode.TheVariants as code
 use Rattle.model.specs.Bank.{chain}
 use Rattle.model.specs.Banking.{with_new}
-use Rattle.model.specs.Frame.{objects_of}
-use Rattle.capability.specs.Parts.{frames_of}
+use Rattle.capability.specs.Parts.{objects_in}
 use Rattle.space_bank.specs.Banks.{BanksState}
 use Rattle.space_bank.proofs.Found.{no_node, node_found, nodes_from}
 use Rattle.space_bank.proofs.Plans.{bank_deep, bank_limit, bank_new, bank_none, planned_made, planned_refused}
@@ -15,7 +14,7 @@ use Rattle.space_bank.proofs.banks.Banks.plan_bank.Goals as goal
 pub returns-then-not-has_room-clause-planned : goal.returns-then-not-has_room-clause-planned
 returns-then-not-has_room-clause-planned g c = λ args.
     let p = g.F.PresentFrames.parts c.args.store.now in
-    let os = objects_of (frames_of p) in
+    let os = objects_in p in
     let first = c.args.self.now.listed in
     planned_refused p c.args.bank bank.NewBank args first first c.refused.result os code.Limit
     (bank_limit p.geometry os c.args.bank args (sym c.has_room.ensures ∙ c.if-not-has_room.true))
@@ -24,7 +23,7 @@ returns-then-not-has_room-clause-planned g c = λ args.
 pub returns-in-None-clause-planned : goal.returns-in-None-clause-planned
 returns-in-None-clause-planned g c = λ args.
     let p = g.F.PresentFrames.parts c.args.store.now in
-    let os = objects_of (frames_of p) in
+    let os = objects_in p in
     let first = c.args.self.now.listed in
     planned_refused p c.args.bank bank.NewBank args first first c.refused-in-None.result os code.NoFrame
     (bank_none p.geometry os c.args.bank args (sym c.has_room.ensures ∙ c.if-not-has_room.false) (no_node p.geometry os c.args.self.now c.requires.bank.counted c.self.inside.nodes (ap (λ (s : BanksState). s.free_nodes) c.self.view_is) (c.in-None.ensures.none refl)))
@@ -33,7 +32,7 @@ returns-in-None-clause-planned g c = λ args.
 pub returns-then-chain_length-ge-MAX_CHAIN-clause-planned : goal.returns-then-chain_length-ge-MAX_CHAIN-clause-planned
 returns-then-chain_length-ge-MAX_CHAIN-clause-planned g c = λ args.
     let p = g.F.PresentFrames.parts c.args.store.now in
-    let os = objects_of (frames_of p) in
+    let os = objects_in p in
     let first = c.args.self.now.listed in
     let deep : 16 ≤ length (chain os c.args.bank) = omega (arith, c.chain_length.ensures, c.if-chain_length-ge-MAX_CHAIN.true) in
     let rest = nodes_from p.geometry os c.args.self.now c.requires.bank.counted (c.in-Some.node + 1) in
@@ -44,7 +43,7 @@ returns-then-chain_length-ge-MAX_CHAIN-clause-planned g c = λ args.
 pub returns-else-chain_length-ge-MAX_CHAIN-clause-planned : goal.returns-else-chain_length-ge-MAX_CHAIN-clause-planned
 returns-else-chain_length-ge-MAX_CHAIN-clause-planned g c = λ args.
     let p = g.F.PresentFrames.parts c.args.store.now in
-    let os = objects_of (frames_of p) in
+    let os = objects_in p in
     let first = c.args.self.now.listed in
     let short : length (chain os c.args.bank) < 16 = omega (arith, c.chain_length.ensures, c.if-chain_length-ge-MAX_CHAIN.false) in
     let object = c.in-Some.node in

@@ -2,9 +2,8 @@ use Rattle.std.proofs.Common.{◌++◌, ◌∙◌, [], ◌∷◌, append_assoc, 
 use Rattle.model.specs.declared.capability.Capability.TheVariants.{Void}
 use Rattle.model.specs.declared.order.BankOrder.TheVariants as bank
 use Rattle.model.specs.declared.order.ResultCode.TheVariants as code
-use Rattle.model.specs.Frame.{objects_of}
 use Rattle.model.specs.Revoke.{rescind}
-use Rattle.capability.specs.Parts.{frames_of}
+use Rattle.capability.specs.Parts.{objects_in}
 use Rattle.space_bank.specs.Banks.{BanksState}
 use Rattle.space_bank.specs.Planning.{annex_of}
 use Rattle.space_bank.proofs.Plans.{frees_none, frees_other, frees_own, planned_made, planned_refused, process_room}
@@ -13,7 +12,7 @@ use Rattle.space_bank.proofs.banks.Banks.plan_free.Goals as goal
 pub returns-in-None-clause-planned : goal.returns-in-None-clause-planned
 returns-in-None-clause-planned g c = λ args is.
     let p = g.F.PresentFrames.parts c.args.store.now in
-    let os = objects_of (frames_of p) in
+    let os = objects_in p in
     let first = c.args.self.now.listed in
     planned_refused p c.args.bank bank.Free args first first c.refused.result os code.BadCapability
     (frees_none p.geometry os c.args.bank args c.args.capability is (c.in-None.ensures os))
@@ -22,7 +21,7 @@ returns-in-None-clause-planned g c = λ args is.
 pub returns-then-owner-bank-clause-planned : goal.returns-then-owner-bank-clause-planned
 returns-then-owner-bank-clause-planned g c = λ args is.
     let p = g.F.PresentFrames.parts c.args.store.now in
-    let os = objects_of (frames_of p) in
+    let os = objects_in p in
     let first = c.args.self.now.listed in
     planned_refused p c.args.bank bank.Free args first first c.refused-then-owner-bank.result os code.NotFromThisBank
     (frees_other p.geometry os c.args.bank args c.args.capability c.in-Some.object (annex_of os c.args.capability) is (c.in-Some.ensures os)
@@ -37,7 +36,7 @@ list_annex-requires-clause-room g c = λ q is.
 pub returns-else-owner-bank-clause-planned : goal.returns-else-owner-bank-clause-planned
 returns-else-owner-bank-clause-planned g c = λ args is.
     let p = g.F.PresentFrames.parts c.args.store.now in
-    let os = objects_of (frames_of p) in
+    let os = objects_in p in
     let first = c.args.self.now.listed in
     let object = c.in-Some.object in
     let annex = annex_of os c.args.capability in

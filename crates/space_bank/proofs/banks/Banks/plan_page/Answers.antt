@@ -6,8 +6,7 @@ use Rattle.model.specs.declared.order.BankOrder.TheVariants as bank
 use Rattle.model.specs.declared.order.ResultCode.TheVariants as code
 use Rattle.model.specs.Banking.{new_page, with_new}
 use Rattle.model.specs.Capability.{full}
-use Rattle.model.specs.Frame.{objects_of}
-use Rattle.capability.specs.Parts.{frames_of}
+use Rattle.capability.specs.Parts.{objects_in}
 use Rattle.space_bank.specs.Banks.{BanksState}
 use Rattle.space_bank.proofs.Found.{no_page, page_found, pages_from}
 use Rattle.space_bank.proofs.Plans.{gift, page_limit, page_new, page_none, planned_made, planned_refused}
@@ -16,7 +15,7 @@ use Rattle.space_bank.proofs.banks.Banks.plan_page.Goals as goal
 pub returns-then-not-has_room-clause-planned : goal.returns-then-not-has_room-clause-planned
 returns-then-not-has_room-clause-planned g c = λ args.
     let p = g.F.PresentFrames.parts c.args.store.now in
-    let os = objects_of (frames_of p) in
+    let os = objects_in p in
     let first = c.args.self.now.listed in
     planned_refused p c.args.bank bank.NewPage args first first c.refused.result os code.Limit
     (page_limit p.geometry os c.args.bank args (sym c.has_room.ensures ∙ c.if-not-has_room.true))
@@ -25,7 +24,7 @@ returns-then-not-has_room-clause-planned g c = λ args.
 pub returns-in-None-clause-planned : goal.returns-in-None-clause-planned
 returns-in-None-clause-planned g c = λ args.
     let p = g.F.PresentFrames.parts c.args.store.now in
-    let os = objects_of (frames_of p) in
+    let os = objects_in p in
     let first = c.args.self.now.listed in
     planned_refused p c.args.bank bank.NewPage args first first c.refused-in-None.result os code.NoFrame
     (page_none p.geometry os c.args.bank args (sym c.has_room.ensures ∙ c.if-not-has_room.false) (no_page p.geometry os c.args.self.now c.requires.bank.counted c.self.inside.pages (ap (λ (s : BanksState). s.free_pages) c.self.view_is) (c.in-None.ensures.none refl)))
@@ -34,7 +33,7 @@ returns-in-None-clause-planned g c = λ args.
 pub returns-in-Some-clause-planned : goal.returns-in-Some-clause-planned
 returns-in-Some-clause-planned g c = λ args.
     let p = g.F.PresentFrames.parts c.args.store.now in
-    let os = objects_of (frames_of p) in
+    let os = objects_in p in
     let first = c.args.self.now.listed in
     let object = c.geometry.result.nodes + c.in-Some.page in
     let is : p.geometry.nodes + c.in-Some.page ≡ object = ap (λ (h : Geometry). h.nodes + c.in-Some.page) (sym c.geometry.ensures.geometry) in

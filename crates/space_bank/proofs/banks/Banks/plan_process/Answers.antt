@@ -3,8 +3,7 @@ use Rattle.model.specs.declared.capability.Capability.TheVariants.{Process}
 use Rattle.model.specs.declared.order.BankOrder.TheVariants as bank
 use Rattle.model.specs.declared.order.ResultCode.TheVariants as code
 use Rattle.model.specs.Banking.{new_annex, new_root, with_new}
-use Rattle.model.specs.Frame.{objects_of}
-use Rattle.capability.specs.Parts.{frames_of}
+use Rattle.capability.specs.Parts.{objects_in}
 use Rattle.space_bank.specs.Banks.{BanksState}
 use Rattle.space_bank.proofs.Found.{no_node, no_second, nodes_from, second_found}
 use Rattle.space_bank.proofs.Plans.{process_limit, process_new, process_none, process_one, planned_made, planned_refused}
@@ -13,7 +12,7 @@ use Rattle.space_bank.proofs.banks.Banks.plan_process.Goals as goal
 pub returns-then-not-has_room-clause-planned : goal.returns-then-not-has_room-clause-planned
 returns-then-not-has_room-clause-planned g c = λ args.
     let p = g.F.PresentFrames.parts c.args.store.now in
-    let os = objects_of (frames_of p) in
+    let os = objects_in p in
     let first = c.args.self.now.listed in
     planned_refused p c.args.bank bank.NewProcess args first first c.refused.result os code.Limit
     (process_limit p.geometry os c.args.bank args (sym c.has_room.ensures ∙ c.if-not-has_room.true))
@@ -22,7 +21,7 @@ returns-then-not-has_room-clause-planned g c = λ args.
 pub returns-in-None-clause-planned : goal.returns-in-None-clause-planned
 returns-in-None-clause-planned g c = λ args.
     let p = g.F.PresentFrames.parts c.args.store.now in
-    let os = objects_of (frames_of p) in
+    let os = objects_in p in
     let first = c.args.self.now.listed in
     planned_refused p c.args.bank bank.NewProcess args first first c.refused-in-None.result os code.NoFrame
     (process_none p.geometry os c.args.bank args (sym c.has_room.ensures ∙ c.if-not-has_room.false) (no_node p.geometry os c.args.self.now c.requires.bank.counted c.self.inside.nodes (ap (λ (s : BanksState). s.free_nodes) c.self.view_is) (c.in-None.ensures.none refl)))
@@ -31,7 +30,7 @@ returns-in-None-clause-planned g c = λ args.
 pub returns-in-None-next-clause-planned : goal.returns-in-None-next-clause-planned
 returns-in-None-next-clause-planned g c = λ args.
     let p = g.F.PresentFrames.parts c.args.store.now in
-    let os = objects_of (frames_of p) in
+    let os = objects_in p in
     let first = c.args.self.now.listed in
     let one = no_second p.geometry os c.args.self.now c.requires.bank.counted c.self.inside.nodes (ap (λ (s : BanksState). s.free_nodes) c.self.view_is) c.in-Some.root c.in-Some.ensures.some (c.in-None-next.ensures.none refl) in
     planned_refused p c.args.bank bank.NewProcess args first first c.refused-in-None-next.result os code.NoFrame
@@ -41,7 +40,7 @@ returns-in-None-next-clause-planned g c = λ args.
 pub returns-in-Some-next-clause-planned : goal.returns-in-Some-next-clause-planned
 returns-in-Some-next-clause-planned g c = λ args.
     let p = g.F.PresentFrames.parts c.args.store.now in
-    let os = objects_of (frames_of p) in
+    let os = objects_in p in
     let first = c.args.self.now.listed in
     let root = c.in-Some.root in
     let annex = c.in-Some-next.annex in

@@ -5,8 +5,7 @@ use Rattle.model.specs.declared.order.BankOrder.TheVariants as bank
 use Rattle.model.specs.declared.order.ResultCode.TheVariants as code
 use Rattle.model.specs.Banking.{inherited, owned_by}
 use Rattle.model.specs.Revoke.{rescind}
-use Rattle.model.specs.Frame.{objects_of}
-use Rattle.capability.specs.Parts.{frames_of}
+use Rattle.capability.specs.Parts.{objects_in}
 use Rattle.space_bank.specs.Banks.{BanksState}
 use Rattle.space_bank.proofs.Plans.{bank_roles, bank_room, planned_made, planned_refused, return_all, return_prime}
 use Rattle.space_bank.proofs.banks.Banks.plan_return.Goals as goal
@@ -14,7 +13,7 @@ use Rattle.space_bank.proofs.banks.Banks.plan_return.Goals as goal
 pub returns-then-bank-eq0-clause-planned : goal.returns-then-bank-eq0-clause-planned
 returns-then-bank-eq0-clause-planned g c = λ args.
     let p = g.F.PresentFrames.parts c.args.store.now in
-    let os = objects_of (frames_of p) in
+    let os = objects_in p in
     let first = c.args.self.now.listed in
     planned_refused p c.args.bank bank.ReturnToParent args first first c.refused.result os code.PrimeBank
     (return_prime p.geometry os c.args.bank args c.if-bank-eq0.true)
@@ -38,7 +37,7 @@ list_owned-requires-clause-room g c =
 pub returns-clause-planned : goal.returns-clause-planned
 returns-clause-planned g c = λ args.
     let p = g.F.PresentFrames.parts c.args.store.now in
-    let os = objects_of (frames_of p) in
+    let os = objects_in p in
     let first = c.args.self.now.listed in
     let own = owned_by os c.args.bank in
     planned_made p c.args.bank bank.ReturnToParent args first c.list_owned.new.self.listed c.given.result

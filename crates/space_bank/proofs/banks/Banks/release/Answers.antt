@@ -1,15 +1,14 @@
 use Rattle.std.proofs.Common.{◌≡◌, ◌∙◌, ℕ, List, ap, subst, sym}
 use Rattle.std.proofs.lemmas.List.{with_items_is}
 use Rattle.model.specs.Bank.{chain}
-use Rattle.model.specs.Frame.{objects_of}
-use Rattle.capability.specs.Parts.{frames_of}
+use Rattle.capability.specs.Parts.{objects_in}
 use Rattle.space_bank.specs.Banks.{BanksState}
 use Rattle.space_bank.specs.Chains.{IsRaised}
 use Rattle.space_bank.proofs.banks.Banks.release.Goals as goal
 
 pub returns-clause-usages : goal.returns-clause-usages
 returns-clause-usages g c =
-    let banks = chain (objects_of (frames_of (g.F.PresentFrames.parts c.args.store.now))) c.args.bank in
+    let banks = chain (objects_in (g.F.PresentFrames.parts c.args.store.now)) c.args.bank in
     let before : c.deref_mut.result.now ≡ c.args.self.now.usages = c.deref_mut.ensures.value ∙ ap (λ (s : BanksState). s.usages) c.self.view_is in
     let after = with_items_is c.self.inside.usages c.lower.new.usages (sym c.lower.ensures.size ∙ c.deref_mut.ensures.len) in
     rw after (subst (λ (us : List ℕ). IsRaised banks c.args.count c.lower.new.usages us) before c.lower.ensures)

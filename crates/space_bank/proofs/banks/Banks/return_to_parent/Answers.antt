@@ -7,12 +7,12 @@ use Rattle.model.specs.declared.object.Content.{Content}
 use Rattle.model.specs.declared.object.Object.{Object}
 use Rattle.model.specs.Bank.{chain}
 use Rattle.model.specs.Banking.{owned_by}
-use Rattle.model.specs.Frame.{header_at, objects_of}
+use Rattle.model.specs.Frame.{header_at}
 use Rattle.model.specs.Keepable.{AreKeepable}
 use Rattle.model.specs.Object.{is_free}
 use Rattle.model.specs.Revoke.{rescind}
 use Rattle.model.specs.World.{content_at, owner_at}
-use Rattle.capability.specs.Parts.{frames_of}
+use Rattle.capability.specs.Parts.{frames_of, objects_in}
 use Rattle.space_bank.specs.Banks.{BanksState}
 use Rattle.space_bank.specs.Carrying.{AreHandedOn}
 use Rattle.space_bank.specs.Chains.{IsRaised}
@@ -38,7 +38,7 @@ release-requires-clause-enough g c =
 
 pub hand_on-requires-clause-announced : goal.hand_on-requires-clause-announced
 hand_on-requires-clause-announced g c =
-    let os = objects_of (frames_of (g.F.PresentFrames.parts c.args.store.now)) in
+    let os = objects_in (g.F.PresentFrames.parts c.args.store.now) in
     let s = c.args.self.now in
     let announced = g.F.PresentFrames.IsAnnounced c.args.store.now in
     let part : take (length c.deref.result.now - (c.args.skip + 1)) (drop (c.args.skip + 1) c.deref.result.now) ≡ owned_by os c.args.bank =
@@ -50,7 +50,7 @@ hand_on-requires-clause-announced g c =
 
 pub hand_on-requires-clause-used : goal.hand_on-requires-clause-used
 hand_on-requires-clause-used g c =
-    let os = objects_of (frames_of (g.F.PresentFrames.parts c.args.store.now)) in
+    let os = objects_in (g.F.PresentFrames.parts c.args.store.now) in
     let s = c.args.self.now in
     let part : take (length c.deref.result.now - (c.args.skip + 1)) (drop (c.args.skip + 1) c.deref.result.now) ≡ owned_by os c.args.bank =
     rest_is c.deref.result.now s.listed (c.args.skip + 1)
@@ -60,7 +60,7 @@ hand_on-requires-clause-used g c =
 
 pub rescind-requires-clause-announced : goal.rescind-requires-clause-announced
 rescind-requires-clause-announced g c =
-    let os = objects_of (frames_of (g.F.PresentFrames.parts c.args.store.now)) in
+    let os = objects_in (g.F.PresentFrames.parts c.args.store.now) in
     let first = subst (λ (list : List ℕ). All (g.F.PresentFrames.IsAnnounced c.args.store.now) list) c.requires.listed c.requires.announced 0 0 (omega arith) in
     one_all (g.F.PresentFrames.IsAnnounced c.hand_on.new.store) c.args.bank (c.hand_on.ensures.aside.announced c.args.bank first)
 
@@ -85,8 +85,8 @@ rescind-requires-clause-calls g c =
 pub returns-clause-objects : goal.returns-clause-objects
 returns-clause-objects g c =
     let p = g.F.PresentFrames.parts c.args.store.now in
-    let os = objects_of (frames_of p) in
-    let us = objects_of (frames_of (g.F.PresentFrames.parts c.hand_on.new.store)) in
+    let os = objects_in p in
+    let us = objects_in (g.F.PresentFrames.parts c.hand_on.new.store) in
     let s = c.args.self.now in
     let owner = owner_read p c.table.result.now _ c.args.bank c.table.ensures c.header-parent.ensures in
     let part : take (length c.deref.result.now - (c.args.skip + 1)) (drop (c.args.skip + 1) c.deref.result.now) ≡ owned_by os c.args.bank =
@@ -103,8 +103,8 @@ returns-clause-carried g c =
     let p = g.F.PresentFrames.parts c.args.store.now in
     let q = g.F.PresentFrames.parts c.hand_on.new.store in
     let r = g.F.PresentFrames.parts c.rescind.new.store in
-    let os = objects_of (frames_of p) in
-    let us = objects_of (frames_of q) in
+    let os = objects_in p in
+    let us = objects_in q in
     let s = c.args.self.now in
     let b = c.args.bank in
     let banks = chain os (owner_at os b) in
@@ -134,8 +134,8 @@ returns-clause-carried g c =
 pub returns-clause-aside : goal.returns-clause-aside
 returns-clause-aside g c =
     let q = g.F.PresentFrames.parts c.hand_on.new.store in
-    let os = objects_of (frames_of (g.F.PresentFrames.parts c.args.store.now)) in
-    let us = objects_of (frames_of q) in
+    let os = objects_in (g.F.PresentFrames.parts c.args.store.now) in
+    let us = objects_in q in
     let list = take (length c.deref.result.now - (c.args.skip + 1)) (drop (c.args.skip + 1) c.deref.result.now) in
     let free : SameFree (g.F.PresentFrames.parts c.args.store.now) q =
     λ n. ap (λ (k : Content Capability). is_free k) (handed_same list c.header-parent.result.owner os us c.hand_on.ensures.objects n) in

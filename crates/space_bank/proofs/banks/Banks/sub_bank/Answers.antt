@@ -1,8 +1,7 @@
 use Rattle.std.proofs.Common.{ap}
 use Rattle.std.specs.Prelude.{slice_set}
 use Rattle.model.specs.Bank.{chain}
-use Rattle.model.specs.Frame.{objects_of}
-use Rattle.capability.specs.Parts.{frames_of}
+use Rattle.capability.specs.Parts.{objects_in}
 use Rattle.space_bank.specs.Banks.{BanksState}
 use Rattle.space_bank.proofs.Carried.{IsMade, bank_carried, taken_one}
 use Rattle.space_bank.proofs.Standing.{free_role}
@@ -22,7 +21,7 @@ returns-clause-carried g c =
     record { nodes = c.make.ensures.nodes; pages = c.make.ensures.pages; marks = c.make.ensures.marks; kept = c.make.ensures.kept } in
     bank_carried p c.args.self.now c.args.bank c.requires.asks c.args.number at.0 c.requires.free q c.make.ensures.current c.args.limit c.make.new.self
     _ c.make.ensures.objects (λ age k. c.make.ensures.keepable age c.ranges.limit.fits k) c.requires.short c.requires.place
-    (taken_one (chain (objects_of (frames_of p)) c.args.bank) 1 c.args.self.now c.account.new.self c.make.new.self c.args.number
+    (taken_one (chain (objects_in p) c.args.bank) 1 c.args.self.now c.account.new.self c.make.new.self c.args.number
     c.account.ensures.usages c.account.ensures.kept made)
     (ap (λ (k : BanksState). let u : BanksState = record k { usages = slice_set k.usages c.args.number 0; limits = slice_set k.limits c.args.number c.args.limit } in u)
     c.self.view_is)

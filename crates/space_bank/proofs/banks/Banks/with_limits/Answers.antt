@@ -2,10 +2,9 @@ use Rattle.std.proofs.Common.{◌≡◌, ◌<◌, ◌≤◌, ◌+◌, List, leng
 use Rattle.model.specs.declared.geometry.Geometry.{Geometry}
 use Rattle.std.specs.Vec.{vec_capacity}
 use Rattle.model.specs.declared.frame.ObjectHeader.{ObjectHeader}
-use Rattle.model.specs.Frame.{objects_of}
 use Rattle.model.specs.Sound.{object_count}
 use Rattle.model.specs.World.{content_at}
-use Rattle.capability.specs.Parts.{frames_of}
+use Rattle.capability.specs.Parts.{frames_of, objects_in}
 use Rattle.capability.proofs.Keeping.{keepable_count, keepable_roles}
 use Rattle.space_bank.specs.Banks.{BanksState}
 use Rattle.space_bank.proofs.Counts.{counted_from, numbers_fit, room_told}
@@ -28,7 +27,7 @@ count_usages-requires-clause-roles g c =
 pub returns : goal.returns
 returns g c =
     let p = g.F.PresentFrames.parts c.args.store.now in
-    let os = objects_of (frames_of p) in
+    let os = objects_in p in
     let sound = c.requires.sound in
     let count = keepable_count p.geometry sound.0 p sound.1.keepable in
     let more : c.in-Some.room ≡ c.count.result + 2 = room_told c.count.result c.in-Some.room c.in-Some.ensures in
@@ -55,5 +54,5 @@ free_numbers-requires-2-clause-roles g c =
 pub count_usages-requires-clause-each : goal.count_usages-requires-clause-each
 count_usages-requires-clause-each g c = λ b bank.
     let p = g.F.PresentFrames.parts c.args.store.now in
-    let below = bank_number p.geometry b (content_at (objects_of (frames_of p)) b) (c.requires.sound.1.sound.kinds b) bank in
+    let below = bank_number p.geometry b (content_at (objects_in p) b) (c.requires.sound.1.sound.kinds b) bank in
     subst (λ (h : Geometry). b < h.nodes) (sym c.geometry-geometry.ensures.geometry) below
