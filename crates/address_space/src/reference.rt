@@ -1,12 +1,12 @@
 // The references of processes to memory: loads and stores.
-ghost use Rattle.std.specs.Prelude.{◌≡◌, ◌↔◌, ◌%◌, ◌<◌, ◌≤◌, IfOk, OnErr, OnOk, IsErrOf, IsTrue, [], ◌∷◌};
+ghost use Rattle.std.specs.Prelude.{◌≡◌, ◌%◌, ◌<◌, ◌≤◌, IfOk, OnOk, IsErrOf, IsTrue, [], ◌∷◌};
 ghost use Rattle.model.specs.Machine.{touched_count, touching};
 ghost use Rattle.model.specs.Object.{is_page};
 ghost use Rattle.model.specs.Step.{reached};
 ghost use Rattle.model.specs.World.{content_at, is_running_process, with_word};
-ghost use Rattle.capability.specs.Parts.{AreSound, IsUnchanged, Looks, objects_in};
+ghost use Rattle.capability.specs.Parts.{AreSound, Looks, objects_in};
 ghost use Rattle.address_space.specs.Reaches.{ReachesPage, allowed, told};
-ghost use Rattle.address_space.specs.References.{IsLoaded, IsStored, KeepsSound, OverfillsStore};
+ghost use Rattle.address_space.specs.References.{IsLoaded, IsStored, OverfillsStore, WritesWord};
 
 use crate::looking::{look, space_of};
 use crate::walking::{Reached, walk};
@@ -59,17 +59,10 @@ pub fn store<F: PresentFrames>(
     ensures stored { IfOk result (λ stored. IsStored (F.parts frames.old).geometry.log
         (objects_in (F.parts frames.old)) (F.parts frames.old).touched process address word
         (objects_in (F.parts frames.new)) (F.parts frames.new).touched stored) }
-    ensures sound { KeepsSound (F.parts frames.old) (F.parts frames.new) }
-    ensures headers { (F.parts frames.new).headers ≡ (F.parts frames.old).headers }
     ensures full { IsErrOf result PrepareFault.LogFull
         → OverfillsStore (F.parts frames.old).geometry.log (objects_in (F.parts frames.old))
         (F.parts frames.old).touched process address }
-    ensures unchanged { OnErr result (IsUnchanged (F.parts frames.old) (F.parts frames.new)) }
-    ensures cause { IsErrOf result PrepareFault.Failed
-        ↔ ((F.parts frames.old).failures < (F.parts frames.new).failures) }
-    ensures later { (F.parts frames.old).failures ≤ (F.parts frames.new).failures }
-    ensures geometry { (F.parts frames.new).geometry ≡ (F.parts frames.old).geometry }
-    ensures leads { F.LeadsTo frames.old frames.new }
+    ensures writes { WritesWord F.parts F.LeadsTo frames.old frames.new result }
 {
     match reach(alloc, frames, process, address, true)? {
         Ok(found) => {
@@ -118,17 +111,10 @@ fn put<F: PresentFrames>(
         ≡ touching (F.parts frames.old).touched (page ∷ [])) }
     ensures within { touched_count (F.parts frames.new).touched
         ≤ (F.parts frames.old).geometry.log }
-    ensures sound { KeepsSound (F.parts frames.old) (F.parts frames.new) }
-    ensures headers { (F.parts frames.new).headers ≡ (F.parts frames.old).headers }
     ensures full { IsErrOf result PrepareFault.LogFull
         → (F.parts frames.old).geometry.log
         < touched_count (touching (F.parts frames.old).touched (page ∷ [])) }
-    ensures unchanged { OnErr result (IsUnchanged (F.parts frames.old) (F.parts frames.new)) }
-    ensures cause { IsErrOf result PrepareFault.Failed
-        ↔ ((F.parts frames.old).failures < (F.parts frames.new).failures) }
-    ensures later { (F.parts frames.old).failures ≤ (F.parts frames.new).failures }
-    ensures geometry { (F.parts frames.new).geometry ≡ (F.parts frames.old).geometry }
-    ensures leads { F.LeadsTo frames.old frames.new }
+    ensures writes { WritesWord F.parts F.LeadsTo frames.old frames.new result }
 {
     frames.prepare(alloc, &[page], &[page])?;
     objects::set_word(frames, page, index, word);

@@ -19,6 +19,7 @@ use Rattle.model.specs.Frame.{blank_frame, blank_header, conveyed, frame_at, fra
 use Rattle.model.specs.Object.{free, is_annex, is_bank, is_free, is_node, is_page, is_root, map_content, root_in, slots_in, words_in}
 use Rattle.model.specs.World.{content_at, is_process, object_at, owner_at, slot_at, word_at}
 use Rattle.capability.specs.Parts.{Parts, objects_in}
+use Rattle.capability.proofs.Mapped.{mapped}
 
 -- what holds of the new item at its place and of an old item at another holds after a set
 pub at_set : {X : Type 0} (P : ℕ → X → Type 0) (xs : List X) (n m : ℕ) (x d : X) → P n x → P m (slice_index_or xs m d) → P m (slice_index_or (slice_set xs n x) m d)
@@ -159,39 +160,6 @@ bank_used (content.Bank limit) is = refl
 pub process_known : (p : Parts) (n : ℕ) → IsTrue (is_process (objects_in p) n) → n < length p.headers
 process_known p n is = known_used p n (root_used (content_at (objects_in p) n) is)
 
--- the parts of a content with each capability in it changed
-slots_in_map : (f : Cap → Capability) (c : Content Cap) → slots_in (map_content f c) ≡ map f (slots_in c)
-slots_in_map f content.Free = refl
-slots_in_map f (content.Page words) = refl
-slots_in_map f (content.Node slots) = refl
-slots_in_map f (content.Root r) = refl
-slots_in_map f (content.Annex registers) = refl
-slots_in_map f (content.Bank limit) = refl
-
-words_in_map : (f : Cap → Capability) (c : Content Cap) → words_in (map_content f c) ≡ words_in c
-words_in_map f content.Free = refl
-words_in_map f (content.Page words) = refl
-words_in_map f (content.Node slots) = refl
-words_in_map f (content.Root r) = refl
-words_in_map f (content.Annex registers) = refl
-words_in_map f (content.Bank limit) = refl
-
-pub is_root_map : (f : Cap → Capability) (c : Content Cap) → is_root (map_content f c) ≡ is_root c
-is_root_map f content.Free = refl
-is_root_map f (content.Page words) = refl
-is_root_map f (content.Node slots) = refl
-is_root_map f (content.Root r) = refl
-is_root_map f (content.Annex registers) = refl
-is_root_map f (content.Bank limit) = refl
-
-is_annex_map : (f : Cap → Capability) (c : Content Cap) → is_annex (map_content f c) ≡ is_annex c
-is_annex_map f content.Free = refl
-is_annex_map f (content.Page words) = refl
-is_annex_map f (content.Node slots) = refl
-is_annex_map f (content.Root r) = refl
-is_annex_map f (content.Annex registers) = refl
-is_annex_map f (content.Bank limit) = refl
-
 -- a content that is neither a node nor an annex has no slots, and one that is no page no words
 no_slots : {C : Type 0} (c : Content C) → ((x : List C) → c ≡ content.Node x → ⊥) → ((x : List C) → c ≡ content.Annex x → ⊥) → slots_in c ≡ []
 no_slots content.Free node annex = refl
@@ -243,7 +211,7 @@ module _ (p : Parts) (n : ℕ) (known : n < length p.headers) (c : Content Cap) 
   pub slot_there : (i : ℕ) (held : Cap) → slice_get (slots_in c) i ≡ Some held → slot_at (objects_in p) n i ≡ conveyed p.headers held
   slot_there i held at =
       ap (λ (d : Content Capability). slice_index_or (slots_in d) i Void) content_there
-      ∙ ap (λ (cs : List Capability). slice_index_or cs i Void) (slots_in_map (conveyed p.headers) c)
+      ∙ ap (λ (cs : List Capability). slice_index_or cs i Void) ((mapped (conveyed p.headers) c).slots)
       ∙ get_or_from_slice_get (map (conveyed p.headers) (slots_in c)) i (conveyed p.headers held) Void
       (slice_get-map (conveyed p.headers) (slots_in c) i ∙ ap (option_map (conveyed p.headers)) at)
 
@@ -251,25 +219,25 @@ module _ (p : Parts) (n : ℕ) (known : n < length p.headers) (c : Content Cap) 
       slot_at (objects_in p) n i ≡ Void
   no_slot_there i node annex =
       ap (λ (d : Content Capability). slice_index_or (slots_in d) i Void) content_there
-      ∙ ap (λ (cs : List Capability). slice_index_or cs i Void) (slots_in_map (conveyed p.headers) c)
+      ∙ ap (λ (cs : List Capability). slice_index_or cs i Void) ((mapped (conveyed p.headers) c).slots)
       ∙ ap (λ (cs : List Cap). slice_index_or (map (conveyed p.headers) cs) i Void) (no_slots c node annex)
 
   pub word_there : (i : ℕ) → word_at (objects_in p) n i ≡ slice_index (words_in c) i
   word_there i =
       ap (λ (d : Content Capability). slice_index (words_in d) i) content_there
-      ∙ ap (λ (ws : List ℕ). slice_index ws i) (words_in_map (conveyed p.headers) c)
+      ∙ ap (λ (ws : List ℕ). slice_index ws i) ((mapped (conveyed p.headers) c).words)
 
   pub no_word_there : (i : ℕ) → ((x : List ℕ) → c ≡ content.Page x → ⊥) → word_at (objects_in p) n i ≡ 0
   no_word_there i page = word_there i ∙ ap (λ (ws : List ℕ). slice_index ws i) (no_words c page)
 
   pub no_root_there : ((x : Root Cap) → c ≡ content.Root x → ⊥) → is_process (objects_in p) n ≡ false
-  no_root_there root = ap is_root content_there ∙ is_root_map (conveyed p.headers) c ∙ no_root c root
+  no_root_there root = ap is_root content_there ∙ (mapped (conveyed p.headers) c).root ∙ no_root c root
 
   pub no_process_annex : ((x : Root Cap) → c ≡ content.Root x → ⊥) → (root_in (content_at (objects_in p) n)).annex ≡ 0
   no_process_annex root = ap (λ (d : Content Capability). (root_in d).annex) content_there ∙ blank_annex (conveyed p.headers) c root
 
   pub no_annex_there : ((x : List Cap) → c ≡ content.Annex x → ⊥) → is_annex (content_at (objects_in p) n) ≡ false
-  no_annex_there annex = ap is_annex content_there ∙ is_annex_map (conveyed p.headers) c ∙ no_annex c annex
+  no_annex_there annex = ap is_annex content_there ∙ (mapped (conveyed p.headers) c).annex ∙ no_annex c annex
 
 -- the object that its header and what it holds make
 pub object_there : (p : Parts) (n : ℕ) → n < length p.headers → (hs ks : List ObjectHeader) (h : ObjectHeader) (now : Content Cap) (shown : Content Capability) →

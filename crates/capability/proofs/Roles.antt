@@ -16,7 +16,8 @@ use Rattle.model.specs.Frame.{blank_frame, blank_header, conveyed, frame_at, hea
 use Rattle.model.specs.Object.{is_bank, is_free, is_root, map_content, role_of}
 use Rattle.model.specs.World.{content_at, is_process}
 use Rattle.capability.specs.Parts.{HaveTheirRoles, Parts, frames_of, objects_in}
-use Rattle.capability.proofs.Frames.{frame_in, headers_in, is_root_map, object_in, object_past}
+use Rattle.capability.proofs.Frames.{frame_in, headers_in, object_in, object_past}
+use Rattle.capability.proofs.Mapped.{mapped}
 
 abbrev pub is_root_role : Role → Bool
 is_root_role role.Root = true
@@ -43,7 +44,7 @@ header_there p n =
 pub process_by_role : (p : Parts) (n : ℕ) → HaveTheirRoles (frames_of p) → is_process (objects_in p) n ≡ is_root_role (header_at p.headers n).role
 process_by_role p n roles =
     ap is_root (content_there (frames_of p) n)
-    ∙ is_root_map (conveyed (headers (frames_of p))) (frame_at (frames_of p) n).content
+    ∙ (mapped (conveyed (headers (frames_of p))) (frame_at (frames_of p) n).content).root
     ∙ root_of (frame_at (frames_of p) n).content
     ∙ ap is_root_role (sym (roles n))
     ∙ ap (λ (h : ObjectHeader). is_root_role h.role) (sym (header_there p n))
@@ -60,14 +61,6 @@ no_root_role role.Annex other = refl
 no_root_role role.Bank other = refl
 
 -- what a content is, and whether it is free or a bank, are told by its role
-pub role_of_map : {B C : Type 0} (f : B → C) (c : Content B) → role_of (map_content f c) ≡ role_of c
-role_of_map f content.Free = refl
-role_of_map f (content.Page words) = refl
-role_of_map f (content.Node slots) = refl
-role_of_map f (content.Root r) = refl
-role_of_map f (content.Annex registers) = refl
-role_of_map f (content.Bank limit) = refl
-
 pub role_read : (p : Parts) (hs : List ObjectHeader) (h : ObjectHeader) (n : ℕ) → HaveTheirRoles (frames_of p) → hs ≡ p.headers → h ≡ header_at hs n →
     h.role ≡ role_of (content_at (objects_in p) n)
 role_read p hs h n roles table is =
@@ -75,7 +68,7 @@ role_read p hs h n roles table is =
     ∙ ⊎_elim
     (λ (known : n < length p.headers).
     subst (λ (f : Frame). f.header.role ≡ role_of f.content) (frame_in p.headers p.contents n known) (roles n)
-    ∙ sym (role_of_map (conveyed p.headers) (held_at p.contents n))
+    ∙ sym ((mapped (conveyed p.headers) (held_at p.contents n)).role)
     ∙ sym (ap (λ (o : Object). role_of o.content) (object_in p.headers p.contents n known)))
     (λ (past : length p.headers ≤ n).
     ap (λ (k : ObjectHeader). k.role) (get_or_past p.headers n blank_header past)

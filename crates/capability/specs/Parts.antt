@@ -1,5 +1,5 @@
 -- The parts of a store of present frames, and what goes on beside a change.
-use Rattle.std.specs.Prelude.{◌≡◌, ◌↔◌, ℕ, ◌+◌, ◌<◌, ◌≤◌, ◌^◌, Bool, false, List, length, replicate, slice_index_or, slice_set, take, if◌then◌else◌, Result, IsErrOf}
+use Rattle.std.specs.Prelude.{◌≡◌, ◌↔◌, ℕ, ◌+◌, ◌<◌, ◌≤◌, ◌^◌, Bool, false, List, length, replicate, slice_index_or, slice_set, take, if◌then◌else◌, Result, OnOk, OnErr, IsErrOf}
 use Rattle.model.specs.declared.capability.Cap.{Cap}
 use Rattle.model.specs.declared.frame.Frame.{Frame}
 use Rattle.model.specs.declared.frame.ObjectHeader.{ObjectHeader}
@@ -10,6 +10,7 @@ use Rattle.model.specs.declared.object.State.TheVariants.{Available}
 use Rattle.model.specs.declared.object.Object.{Object}
 use Rattle.model.specs.Frame.{frame_at, frames_in, header_at, held_at, given_up, objects_of}
 use Rattle.model.specs.Keepable.{IsSoundFrames}
+use Rattle.model.specs.Machine.{touching, touched_count}
 use Rattle.model.specs.Object.{all_slots, role_of, zero_words}
 use Rattle.model.specs.Revoke.{is_given_up, is_member}
 use Rattle.capability.specs.declared.present.Fresh.{Fresh}
@@ -101,6 +102,20 @@ pub record Looks {S T : Type 0} (parts : S → Parts) (Leads : S → S → Type 
   pub later : (parts old).failures ≤ (parts new).failures
   pub cause : IsErrOf result prepare.Failed ↔ ((parts old).failures < (parts new).failures)
   pub room : IsErrOf result prepare.LogFull → ⊥
+
+-- Frames were fetched, and numbers announced that are to be written; after an error none of them is. The parameters are
+-- ghost members of a store of present frames.
+pub record Prepares {S T : Type 0} (parts : S → Parts) (Leads : S → S → Type 0) (old new : S) (written : List ℕ) (result : Result T PrepareFault) : Type 0 where
+  pub touched : OnOk result ((parts new).touched ≡ touching (parts old).touched written)
+  pub within : touched_count (parts new).touched ≤ (parts new).geometry.log
+  pub headers : (parts new).headers ≡ (parts old).headers
+  pub contents : (parts new).contents ≡ (parts old).contents
+  pub geometry : (parts new).geometry ≡ (parts old).geometry
+  pub untouched : OnErr result ((parts new).touched ≡ (parts old).touched)
+  pub full : IsErrOf result prepare.LogFull → (parts old).geometry.log < touched_count (touching (parts old).touched written)
+  pub cause : IsErrOf result prepare.Failed ↔ ((parts old).failures < (parts new).failures)
+  pub later : (parts old).failures ≤ (parts new).failures
+  pub leads : Leads old new
 
 -- no object and no number written is another
 pub record IsUnchanged (old new : Parts) : Type 0 where

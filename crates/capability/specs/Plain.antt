@@ -1,23 +1,22 @@
 -- The store in memory.
-use Rattle.std.specs.Prelude.{◌≡◌, ℕ, ◌<◌, ◌≤◌, nat_lt, if◌then◌else◌, Bool, List, length, slice_set}
+use Rattle.std.specs.Prelude.{◌≡◌, ◌≢◌, ◌↔◌, ℕ, ◌<◌, ◌≤◌, nat_lt, if◌then◌else◌, Bool, List, length, slice_set, Result, OnOk, OnErr, IsErrOf}
+use Rattle.std.specs.List.{All, Contains}
 use Rattle.model.specs.declared.capability.Cap.{Cap}
 use Rattle.model.specs.declared.capability.Capability.{Capability}
-use Rattle.model.specs.declared.frame.Frame.{Frame}
 use Rattle.model.specs.declared.frame.ObjectHeader.{ObjectHeader}
 use Rattle.model.specs.declared.geometry.Geometry.{Geometry}
 use Rattle.model.specs.declared.object.Content.{Content}
 use Rattle.model.specs.declared.object.Content.TheVariants as content
-use Rattle.model.specs.declared.object.Object.{Object}
 use Rattle.model.specs.declared.object.Role.TheVariants as role
 use Rattle.model.specs.Frame.{header_at, held_at, void_held}
-use Rattle.model.specs.Keepable.{world_at}
-use Rattle.model.specs.Machine.{touched_count}
-use Rattle.model.specs.Object.{all_slots, map_content, role_of, zero_words}
+use Rattle.model.specs.Machine.{touched_count, touching}
+use Rattle.model.specs.Object.{all_slots, zero_words}
 use Rattle.model.specs.Sound.{object_count}
-use Rattle.model.specs.World.{World}
 use Rattle.capability.specs.declared.present.Fresh.{Fresh}
 use Rattle.capability.specs.declared.present.Fresh.TheVariants as fresh
-use Rattle.capability.specs.Parts.{Parts, frames_of}
+use Rattle.capability.specs.declared.present.PrepareFault.{PrepareFault}
+use Rattle.capability.specs.declared.present.PrepareFault.TheVariants as prepare
+use Rattle.capability.specs.Parts.{Parts}
 
 -- what it holds by number: headers, contents, which were written, and blank bodies for free numbers
 pub record PlainState : Type 0 where
@@ -26,9 +25,8 @@ pub record PlainState : Type 0 where
   pub contents : List (Content Cap)
   pub touched : List Bool
   pub rooms : List (Content Cap)
-  pub age : ℕ
 
--- its parts, and the world that it stands for
+-- its parts
 abbrev pub parts_of : PlainState → Parts
 parts_of s = record {
   geometry = s.geometry;
@@ -37,9 +35,6 @@ parts_of s = record {
   touched = s.touched;
   failures = 0;
 }
-
-abbrev pub world_of : PlainState → World
-world_of s = world_at s.age (frames_of (parts_of s))
 
 -- what its fields keep: one of each for each number, and how many are marked
 pub record IsWholeStore (geometry : Geometry) (headers : List ObjectHeader) (contents : List (Content Cap))
@@ -68,27 +63,28 @@ pub record HasRoom (s : PlainState) (n : ℕ) : Type 0 where
   pub there : IsThere s n
   pub room : (header_at s.headers n).role ≡ role.Free → held_at s.rooms n ≡ room_at s.geometry n
 
+-- numbers were announced or, after an error, none of them
+pub record Announces {T : Type 0} (old new : PlainState) (written : List ℕ) (result : Result T PrepareFault) : Type 0 where
+  pub announced : OnOk result ((n : ℕ) → Contains written n → HasRoom new n)
+  pub touched : OnOk result (new.touched ≡ touching old.touched written)
+  pub within : touched_count new.touched ≤ new.geometry.log
+  pub before : touched_count old.touched ≤ old.geometry.log
+  pub headers : new.headers ≡ old.headers
+  pub contents : new.contents ≡ old.contents
+  pub geometry : new.geometry ≡ old.geometry
+  pub untouched : OnErr result (new.touched ≡ old.touched)
+  pub full : IsErrOf result prepare.LogFull ↔ (old.geometry.log < touched_count (touching old.touched written))
+  pub no_memory : All (λ n. (header_at old.headers n).role ≢ role.Free) written → IsErrOf result prepare.NoMemory → ⊥
+  pub cause : IsErrOf result prepare.Failed → ⊥
+
 -- the store with another content at a number
 abbrev pub with_content_at : PlainState → ℕ → Content Cap → PlainState
 with_content_at s n c = record s { contents = slice_set s.contents n c }
 
--- geometry and age are as they were
+-- the geometry is as it was
 abbrev pub GoesOn : PlainState → PlainState → Type 0
-GoesOn s t = (t.geometry ≡ s.geometry) × (t.age ≡ s.age)
+GoesOn s t = t.geometry ≡ s.geometry
 
--- a capability as it is held, and an object's header and content, where nothing was ever given up
+-- a capability as it is held, where nothing was ever given up
 abbrev pub fresh_cap : Capability → Cap
 fresh_cap c = record { what = c; count = 0 }
-
-abbrev pub fresh_header : Object → ObjectHeader
-fresh_header o = record { role = role_of o.content; allocations = 0; calls = 0; owner = o.owner }
-
-abbrev pub fresh_held : Object → Content Cap
-fresh_held o = map_content fresh_cap o.content
-
-abbrev pub fresh_frame : Object → Frame
-fresh_frame o = record { header = fresh_header o; content = fresh_held o }
-
--- the header of an object of the prime bank that was never given up
-abbrev pub prime_header : Content Cap → ObjectHeader
-prime_header c = record { role = role_of c; allocations = 0; calls = 0; owner = 0 }

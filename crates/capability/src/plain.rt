@@ -1,13 +1,12 @@
 // The store in memory.
-ghost use Rattle.std.specs.Prelude.{◌≡◌, ◌≢◌, ℕ, ◌+◌, ◌<◌, ◌≤◌, ◌^◌, ◌↔◌, length, replicate, None, IfSome, IfOk, OnOk, OnErr, IsErrOf};
+ghost use Rattle.std.specs.Prelude.{◌≡◌, ℕ, ◌+◌, ◌<◌, ◌≤◌, ◌^◌, length, replicate, None, IfSome, IfOk, OnOk};
 ghost use Rattle.std.specs.List.{All, Contains};
-ghost use Rattle.model.specs.Frame.{header_at};
 ghost use Rattle.model.specs.Keepable.{AreKeepable};
-ghost use Rattle.model.specs.Machine.{touching, touched_count, untouched};
+ghost use Rattle.model.specs.Machine.{touched_count, untouched};
 ghost use Rattle.model.specs.Sound.{object_count};
 ghost use Rattle.number_set.specs.Marks.{IsNextMarked, HasNoneMarked};
 ghost use Rattle.capability.specs.Parts.{frames_of};
-ghost use Rattle.capability.specs.Plain.{GoesOn, HasRoom, IsThere, parts_of, with_content_at};
+ghost use Rattle.capability.specs.Plain.{Announces, GoesOn, HasRoom, IsThere, parts_of, with_content_at};
 
 use crate::plain::rooms::{filled, push_free, put_aside};
 use crate::plain::touched::{fresh_count, mark};
@@ -21,9 +20,8 @@ use std::mem;
 
 pub mod rooms;
 pub mod touched;
-mod worlds;
 
-/// All objects in memory, by number, which numbers were written, and the age.
+/// All objects in memory, by number, and which numbers were written.
 ///
 /// All objects are always there, and a number may be written wherever it exists. So the limit of
 /// the log, and memory for new objects, are all that is ever in the way of a change.
@@ -37,7 +35,6 @@ pub struct Plain {
     rooms: Vec<Content<Cap>>,
     /// How many numbers are in `touched`.
     count: u64,
-    age: u64,
 }
 
 impl Model for Plain {
@@ -51,7 +48,6 @@ impl Model for Plain {
       contents = p.contents.items;
       touched = p.touched;
       rooms = p.rooms.items;
-      age = p.age;
     } };
 
     ghost invariant = { λ p.
@@ -60,7 +56,7 @@ impl Model for Plain {
 
 impl Plain {
     /// A store of objects with these headers and contents, one of each for every number, of which
-    /// none was written, at age 0. Fails only where memory runs out.
+    /// none was written. Fails only where memory runs out.
     pub fn new(
         alloc: Global,
         geometry: Geometry,
@@ -75,7 +71,6 @@ impl Plain {
           contents = contents.items;
           touched = untouched geometry;
           rooms = replicate (object_count geometry) Content.Free;
-          age = 0;
         }) }
     {
         let count = contents.len();
@@ -89,8 +84,15 @@ impl Plain {
             touched,
             rooms,
             count: 0,
-            age: 0,
         })
+    }
+
+    /// The headers and the contents of all objects, by number.
+    pub fn into_parts(self) -> (Vec<ObjectHeader>, Vec<Content<Cap>>)
+        ensures headers { result.0.items ≡ self.headers }
+        ensures contents { result.1.items ≡ self.contents }
+    {
+        (self.table.into_headers(), self.contents)
     }
 
     /// The least number from a number on that was written since that was last forgotten.
@@ -122,39 +124,11 @@ impl Plain {
         self.count = 0;
     }
 
-    /// How many invocations and checkpoints there were.
-    pub fn age(&self) -> u64
-        ensures { result ≡ self.now.age }
-    {
-        self.age
-    }
-
-    /// Raises the age by one.
-    pub fn raise_age(&mut self)
-        requires { self.old.age < 2 ^ 62 }
-        ensures { self.new ≡ record self.old { age = self.old.age + 1 } }
-    {
-        self.age += 1;
-    }
-
     // Marks numbers that are to be written, and puts a blank body aside for each free one.
     #[inline(never)]
     fn announce(&mut self, alloc: Global, written: &[u64]) -> Result<(), PrepareFault>
         requires { All (λ n. n < length self.old.headers) written.now }
-        ensures announced { OnOk result ((n : ℕ) → Contains written.now n → HasRoom self.new n) }
-        ensures touched { OnOk result (self.new.touched ≡ touching self.old.touched written.now) }
-        ensures within { touched_count self.new.touched ≤ self.new.geometry.log }
-        ensures before { touched_count self.old.touched ≤ self.old.geometry.log }
-        ensures headers { self.new.headers ≡ self.old.headers }
-        ensures contents { self.new.contents ≡ self.old.contents }
-        ensures geometry { self.new.geometry ≡ self.old.geometry }
-        ensures age { self.new.age ≡ self.old.age }
-        ensures untouched { OnErr result (self.new.touched ≡ self.old.touched) }
-        ensures full { IsErrOf result PrepareFault.LogFull
-            ↔ (self.old.geometry.log < touched_count (touching self.old.touched written.now)) }
-        ensures no_memory { All (λ n. (header_at self.old.headers n).role ≢ Role.Free) written.now
-            → IsErrOf result PrepareFault.NoMemory → ⊥ }
-        ensures cause { IsErrOf result PrepareFault.Failed → ⊥ }
+        ensures { Announces self.old self.new written.now result }
     {
         let fresh = fresh_count(&self.touched, written);
         if fresh > self.geometry.log - self.count {
@@ -211,21 +185,7 @@ impl PresentFrames for Plain {
         requires keepable { AreKeepable self.old.geometry u64.MAX (frames_of (parts_of self.old)) }
 
         ensures fetched { OnOk result ((n : ℕ) → Contains fetched.now n → IsThere self.new n) }
-        ensures announced { OnOk result ((n : ℕ) → Contains written.now n → HasRoom self.new n) }
-        ensures touched { OnOk result (self.new.touched ≡ touching self.old.touched written.now) }
-        ensures within { touched_count self.new.touched ≤ self.new.geometry.log }
-        ensures before { touched_count self.old.touched ≤ self.old.geometry.log }
-
-        ensures headers { self.new.headers ≡ self.old.headers }
-        ensures contents { self.new.contents ≡ self.old.contents }
-        ensures geometry { self.new.geometry ≡ self.old.geometry }
-        ensures age { self.new.age ≡ self.old.age }
-        ensures untouched { OnErr result (self.new.touched ≡ self.old.touched) }
-        ensures full { IsErrOf result PrepareFault.LogFull
-            ↔ (self.old.geometry.log < touched_count (touching self.old.touched written.now)) }
-        ensures no_memory { All (λ n. (header_at self.old.headers n).role ≢ Role.Free) written.now
-            → IsErrOf result PrepareFault.NoMemory → ⊥ }
-        ensures cause { IsErrOf result PrepareFault.Failed → ⊥ }
+        ensures announces { Announces self.old self.new written.now result }
     {
         // A use of a field makes the invariant known here.
         let _count = self.count;
@@ -278,9 +238,9 @@ impl PresentFrames for Plain {
 
     ghost known_announced = { λ s n h. h.there };
 
-    ghost leads_same = { λ s. (refl, refl) };
+    ghost leads_same = { λ s. refl };
 
     ghost leads_with = { λ s t n c there h. h };
 
-    ghost leads_twice = { λ s t u h k. (k.0 ∙ h.0, k.1 ∙ h.1) };
+    ghost leads_twice = { λ s t u h k. k ∙ h };
 }

@@ -28,6 +28,13 @@ impl ObjectTable {
         ObjectTable { headers }
     }
 
+    /// The headers, by number.
+    pub fn into_headers(self) -> Vec<ObjectHeader>
+        ensures { result.items ≡ self }
+    {
+        self.headers
+    }
+
     /// How many objects there are.
     pub fn count(&self) -> u64
         ensures { result ≡ length self.now }

@@ -23,7 +23,8 @@ use Rattle.capability.specs.Parts.{HaveTheirRoles}
 use Rattle.capability.proofs.Keeping.{keepable_roles}
 use Rattle.consistency.specs.Consistency.{AreBanked, AreWholeProcesses, IsNamed}
 use Rattle.consistency.specs.Laws.{ConsistentIsSound}
-use Rattle.consistency.proofs.Standing.{annex_role, bank_role, content_is, free_role, kind_map, length_is, limit_is, names_kind, owner_is, process_of, role_annex, role_bank, role_free, root_of}
+use Rattle.capability.proofs.Mapped.{kind_map}
+use Rattle.consistency.proofs.Standing.{annex_role, bank_role, content_is, free_role, length_is, limit_is, names_kind, owner_is, process_of, role_annex, role_bank, role_free, root_of}
 
 -- what follows of a capability that is kept
 follows_formed : (g : Geometry) (age count : ℕ) (c : Capability) → Follows g age count c → IsWellFormed c

@@ -19,7 +19,7 @@ use Rattle.model.specs.Object.{is_annex, is_bank, is_free, is_node, is_page, is_
 use Rattle.model.specs.Sound.{IsOfKind, NamesItsKind}
 use Rattle.model.specs.World.{annex_at, content_at, is_process, owner_at, root_at}
 use Rattle.capability.specs.Parts.{HaveTheirRoles}
-use Rattle.capability.proofs.Roles.{role_of_map}
+use Rattle.capability.proofs.Mapped.{mapped}
 use Rattle.consistency.specs.Consistency.{IsRootOf, NamesItsRole, annex_in, is_waiting_root, owner_of, role_at}
 
 -- the header, the content and the owner at a number
@@ -96,22 +96,6 @@ waiting_map f (content.Root r) = refl
 waiting_map f (content.Annex registers) = refl
 waiting_map f (content.Bank limit) = refl
 
-limit_map : (f : Cap → Capability) (c : Content Cap) → limit_in (map_content f c) ≡ limit_in c
-limit_map f content.Free = refl
-limit_map f (content.Page words) = refl
-limit_map f (content.Node slots) = refl
-limit_map f (content.Root r) = refl
-limit_map f (content.Annex registers) = refl
-limit_map f (content.Bank limit) = refl
-
-pub kind_map : (g : Geometry) (n : ℕ) (f : Cap → Capability) (c : Content Cap) → IsOfKind g n c → IsOfKind g n (map_content f c)
-kind_map g n f content.Free kind = kind
-kind_map g n f (content.Page words) kind = kind
-kind_map g n f (content.Node slots) kind = kind
-kind_map g n f (content.Root r) kind = kind
-kind_map g n f (content.Annex registers) kind = kind
-kind_map g n f (content.Bank limit) kind = kind
-
 root_annex : (c : Content Capability) → is_root c ≡ true → annex_in c ≡ Some (root_in c).annex
 root_annex (content.Root r) root = refl
 root_annex content.Free root = cc
@@ -149,7 +133,7 @@ root_waiting (content.Annex registers) = refl
 root_waiting (content.Bank limit) = refl
 
 pub limit_is : (fs : List Frame) (n : ℕ) → limit_in (content_at (objects_of fs) n) ≡ limit_in (frame_at fs n).content
-limit_is fs n = ap (λ (c : Content Capability). limit_in c) (content_is fs n) ∙ limit_map (conveyed (headers fs)) (frame_at fs n).content
+limit_is fs n = ap (λ (c : Content Capability). limit_in c) (content_is fs n) ∙ (mapped (conveyed (headers fs)) (frame_at fs n).content).limit
 
 module _ (fs : List Frame) (p : ℕ) where
   annex_is : annex_in (content_at (objects_of fs) p) ≡ annex_in (frame_at fs p).content
@@ -174,7 +158,7 @@ module _ (fs : List Frame) (p : ℕ) where
 -- what the roles of frames say of objects, and the other way round
 module _ (fs : List Frame) (roles : HaveTheirRoles fs) (n : ℕ) where
   role_is : role_of (content_at (objects_of fs) n) ≡ role_at fs n
-  role_is = ap (λ (c : Content Capability). role_of c) (content_is fs n) ∙ role_of_map (conveyed (headers fs)) (frame_at fs n).content ∙ sym (roles n)
+  role_is = ap (λ (c : Content Capability). role_of c) (content_is fs n) ∙ (mapped (conveyed (headers fs)) (frame_at fs n).content).role ∙ sym (roles n)
 
   to_role : (r : Role) (b : Bool) → b ≡ is (role_of (content_at (objects_of fs) n)) r → b ≡ true → role_at fs n ≡ r
   to_role r b test passes = sym role_is ∙ is_same (role_of (content_at (objects_of fs) n)) r (sym test ∙ passes)

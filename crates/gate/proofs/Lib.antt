@@ -6,6 +6,7 @@ pub mod BankStates
 mod Effects
 mod Entering
 mod Fits
+mod Invoking
 pub mod Known
 mod Listed
 mod Messages

@@ -1,5 +1,5 @@
 -- What sound frames stand for.
-use Rattle.std.proofs.Common.{◌≡◌, ℕ, ◌+◌, ◌-◌, ◌^◌, ◌<◌, List, length, sym, subst, ap, ◌∙◌, arith}
+use Rattle.std.proofs.Common.{◌≡◌, ℕ, ◌+◌, ◌-◌, ◌^◌, ◌<◌, List, length, Result, sym, subst, ap, ◌∙◌, arith}
 use Rattle.std.specs.Prelude.{IsTrue}
 use Rattle.model.specs.declared.capability.Capability.{Capability}
 use Rattle.model.specs.declared.frame.Frame.{Frame}
@@ -12,7 +12,8 @@ use Rattle.model.specs.Sound.{NamesItsKind, object_count}
 use Rattle.model.specs.World.{annex_at, content_at, is_process, register_at}
 use Rattle.model_laws.proofs.SoundOrders.{IsNow}
 use Rattle.model_laws.proofs.SoundParts.{nearly_from}
-use Rattle.capability.specs.Parts.{AreSound, Parts, frames_of, objects_in}
+use Rattle.capability.specs.declared.present.PrepareFault.{PrepareFault}
+use Rattle.capability.specs.Parts.{AreSound, LooksUp, Parts, Prepares, frames_of, objects_in}
 use Rattle.capability.proofs.Frames.{length_objects}
 use Rattle.capability.proofs.Keeping.{keepable_count, keepable_later}
 use Rattle.gate.specs.Invoke.{KeepsSoundFrames}
@@ -44,6 +45,14 @@ pub record LooksAs (old now : Parts) : Type 0 where
   pub headers : now.headers ≡ old.headers
   pub contents : now.contents ≡ old.contents
   pub geometry : now.geometry ≡ old.geometry
+
+-- frames that were looked at, or announced
+module _ {S : Type 0} {parts : S → Parts} {Leads : S → S → Type 0} {s t : S} where
+  pub looked_as : LooksUp parts Leads s t → LooksAs (parts s) (parts t)
+  looked_as looks = record { headers = looks.headers; contents = looks.contents; geometry = looks.geometry }
+
+  pub prepared_as : {T : Type 0} {ns : List ℕ} {r : Result T PrepareFault} → Prepares parts Leads s t ns r → LooksAs (parts s) (parts t)
+  prepared_as told = record { headers = told.headers; contents = told.contents; geometry = told.geometry }
 
 module _ (old now : Parts) (looks : LooksAs old now) where
   pub looked_frames : frames_of now ≡ frames_of old

@@ -1,5 +1,5 @@
 -- What an invocation comes to over a store of present frames.
-use Rattle.std.specs.Prelude.{◌≡◌, ℕ, ◌+◌, ◌^◌, ◌<◌, ◌≤◌, Bool, List, [], ◌∷◌, ◌++◌, length, Some, if◌then◌else◌, slice_set}
+use Rattle.std.specs.Prelude.{◌≡◌, ◌↔◌, ℕ, ◌+◌, ◌^◌, ◌<◌, ◌≤◌, Bool, List, [], ◌∷◌, ◌++◌, length, None, Some, if◌then◌else◌, slice_set, Result, OnOk, OnErr, IsErrOf}
 use Rattle.std.specs.Option.{option_to_list}
 use Rattle.model.specs.declared.capability.Capability.{Capability}
 use Rattle.model.specs.declared.capability.Capability.TheVariants.{Start, Resume}
@@ -16,7 +16,7 @@ use Rattle.model.specs.Revoke.{consume}
 use Rattle.model.specs.World.{annex_at, register_at, is_running_process, with_state}
 use Rattle.capability.specs.declared.present.PrepareFault.{PrepareFault}
 use Rattle.capability.specs.declared.present.PrepareFault.TheVariants as prepare
-use Rattle.capability.specs.Parts.{Parts, frames_of}
+use Rattle.capability.specs.Parts.{IsUnchanged, Parts, Renews, frames_of, objects_in}
 use Rattle.gate.specs.declared.fault.InvokeFault.{InvokeFault}
 use Rattle.gate.specs.declared.fault.InvokeFault.TheVariants as fault
 use Rattle.gate.specs.declared.gates.Gate.{Gate}
@@ -94,6 +94,20 @@ pub record IsPlanned (g : Geometry) (os : List Object) (i : Invocation) (plan : 
 -- frames that are sound at an age are sound at the next
 abbrev pub KeepsSoundFrames : Parts → Parts → Type 0
 KeepsSoundFrames old new = (age : ℕ) → age < 2 ^ 62 → IsSoundFrames old.geometry age (frames_of old) → IsSoundFrames old.geometry (age + 1) (frames_of new)
+
+-- What comes of an invocation, which changes nothing where it isn't carried out. The parameters are ghost members of a
+-- store of present frames.
+pub record Invoked {S : Type 0} (parts : S → Parts) (Leads : S → S → Type 0) (old new : S) (i : Invocation) (result : Result (Unit {0}) InvokeFault) : Type 0 where
+  pub done : OnOk result (Invokes (parts old).geometry i (objects_in (parts old)) (parts old).touched (objects_in (parts new)) (parts new).touched)
+  pub stalled : IsErrOf result fault.Stalled → invoke (parts old).geometry (objects_in (parts old)) i ≡ None
+  pub full : IsErrOf result fault.LogFull → Overfills (parts old).geometry i (objects_in (parts old)) (parts old).touched
+  pub sound : OnOk result (KeepsSoundFrames (parts old) (parts new))
+  pub renews : OnOk result (Renews (parts old) (parts new))
+  pub unchanged : OnErr result (IsUnchanged (parts old) (parts new))
+  pub cause : IsErrOf result fault.Failed ↔ ((parts old).failures < (parts new).failures)
+  pub later : (parts old).failures ≤ (parts new).failures
+  pub geometry : (parts new).geometry ≡ (parts old).geometry
+  pub leads : Leads old new
 
 -- the capabilities that a gate receives of those that are sent: with a call the last is the right to answer
 abbrev pub received : Invocation → List Capability → List Capability

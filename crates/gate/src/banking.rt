@@ -1,18 +1,17 @@
 // Invocations of banks.
-ghost use Rattle.std.specs.Prelude.{◌≡◌, ◌↔◌, ◌+◌, ◌<◌, ◌≤◌, ◌^◌, ℕ, drop, length, slice_index, true, OnOk, OnErr, IsErrOf, IsTrue};
+ghost use Rattle.std.specs.Prelude.{◌≡◌, ◌+◌, ◌<◌, ◌≤◌, ◌^◌, ℕ, drop, length, slice_index, true, OnOk, IsErrOf, IsTrue};
 ghost use Rattle.std.specs.List.{All, Contains};
 ghost use Rattle.model.specs.declared.command.Command.TheVariants as command;
 ghost use Rattle.model.specs.OrderOutcome.{OrderOutcome};
 ghost use Rattle.model.specs.Keepable.{AreCurrent, AreKeepable};
-ghost use Rattle.model.specs.Machine.{touching, touched_count};
 ghost use Rattle.model.specs.Order.{bank_order};
 ghost use Rattle.model.specs.Sound.{IsSound};
 ghost use Rattle.model.specs.Text.{Fits};
 ghost use Rattle.model.specs.World.{annex_at, is_process, is_running_process};
-ghost use Rattle.capability.specs.Parts.{AreSound, KeepsAside, HaveTheirRoles, IsUnchanged, Looks, Renews, frames_of, objects_in};
+ghost use Rattle.capability.specs.Parts.{AreSound, KeepsAside, HaveTheirRoles, Looks, frames_of, objects_in, Prepares};
 ghost use Rattle.space_bank.specs.Banks.{AreCounted, IsPlanned, KeepsObjects, MayAsk, is_new};
 ghost use Rattle.gate.specs.Banking.{answered, banked, ordered_at, outcome_at, writer_count, writers, AsksBank, GoesOnBeside};
-ghost use Rattle.gate.specs.Invoke.{Invokes, KeepsSoundFrames, Overfills};
+ghost use Rattle.gate.specs.Invoke.{Invoked};
 ghost use Rattle.gate.specs.Plan.{FitsCap};
 
 use crate::fault::InvokeFault;
@@ -144,19 +143,8 @@ fn announce_call<F: PresentFrames>(
     ensures fetched { OnOk result (F.IsFetched store.new call.process × F.IsFetched store.new call.annex
         × (is_new call.order ≡ true → All (F.IsFetched store.new) (drop (writer_count call.operation) listed.now))) }
     ensures announced { OnOk result (All (F.IsAnnounced store.new) listed.now) }
-    ensures touched { OnOk result ((F.parts store.new).touched
-        ≡ touching (F.parts store.old).touched listed.now) }
-    ensures within { touched_count (F.parts store.new).touched ≤ (F.parts store.new).geometry.log }
-    ensures headers { (F.parts store.new).headers ≡ (F.parts store.old).headers }
-    ensures contents { (F.parts store.new).contents ≡ (F.parts store.old).contents }
-    ensures geometry { (F.parts store.new).geometry ≡ (F.parts store.old).geometry }
-    ensures untouched { OnErr result ((F.parts store.new).touched ≡ (F.parts store.old).touched) }
-    ensures full { IsErrOf result PrepareFault.LogFull → (F.parts store.old).geometry.log
-        < touched_count (touching (F.parts store.old).touched listed.now) }
-    ensures cause { IsErrOf result PrepareFault.Failed
-        ↔ ((F.parts store.old).failures < (F.parts store.new).failures) }
-    ensures later { (F.parts store.old).failures ≤ (F.parts store.new).failures }
-    ensures leads { F.LeadsTo store.old store.new }
+    ensures prepares { Prepares F.parts F.LeadsTo store.old store.new
+        listed.now result }
 {
     let fetched = fetched_for(call, &listed[writer_count(call.operation)..]);
     store.prepare(alloc, &fetched, listed)
@@ -284,23 +272,10 @@ pub fn invoke_bank<F: PresentFrames>(
     requires asked { AsksBank (objects_in (F.parts store.old)) invocation.now call }
     requires counted { AreCounted (F.parts store.old).geometry
         (objects_in (F.parts store.old)) banks.old }
-    ensures done { OnOk result (Invokes (F.parts store.old).geometry invocation.now
-        (objects_in (F.parts store.old)) (F.parts store.old).touched
-        (objects_in (F.parts store.new)) (F.parts store.new).touched) }
+    ensures invoked { Invoked F.parts F.LeadsTo store.old store.new invocation.now result }
     ensures stalled { IsErrOf result InvokeFault.Stalled → ⊥ }
-    ensures full { IsErrOf result InvokeFault.LogFull
-        → Overfills (F.parts store.old).geometry invocation.now
-        (objects_in (F.parts store.old)) (F.parts store.old).touched }
-    ensures sound { OnOk result (KeepsSoundFrames (F.parts store.old) (F.parts store.new)) }
-    ensures renews { OnOk result (Renews (F.parts store.old) (F.parts store.new)) }
     ensures counted { AreCounted (F.parts store.old).geometry
         (objects_in (F.parts store.new)) banks.new }
-    ensures unchanged { OnErr result (IsUnchanged (F.parts store.old) (F.parts store.new)) }
-    ensures cause { IsErrOf result InvokeFault.Failed
-        ↔ ((F.parts store.old).failures < (F.parts store.new).failures) }
-    ensures later { (F.parts store.old).failures ≤ (F.parts store.new).failures }
-    ensures geometry { (F.parts store.new).geometry ≡ (F.parts store.old).geometry }
-    ensures leads { F.LeadsTo store.old store.new }
 {
     look_at_freed(alloc, store, call.arguments.capability)?;
     let plan = plan_call(store, banks, call);

@@ -1,15 +1,14 @@
 // Invocations through gates: start and resume capabilities.
-ghost use Rattle.std.specs.Prelude.{◌≡◌, ◌↔◌, ◌+◌, ◌<◌, ◌≤◌, ◌^◌, ℕ, length, None, true, ◌||◌, OnOk, OnErr, IsErrOf, IsTrue};
+ghost use Rattle.std.specs.Prelude.{◌≡◌, ◌+◌, ◌<◌, ◌^◌, ℕ, length, true, ◌||◌, OnOk, IsTrue};
 ghost use Rattle.model.specs.declared.command.Command.TheVariants as command;
 ghost use Rattle.model.specs.Frame.{header_at};
-ghost use Rattle.model.specs.Invoke.{after_gate, can_start, invoke};
+ghost use Rattle.model.specs.Invoke.{after_gate, can_start};
 ghost use Rattle.model.specs.Keepable.{AreCurrent, AreKeepable};
-ghost use Rattle.model.specs.Machine.{touching, touched_count};
 ghost use Rattle.model.specs.Text.{Fits};
 ghost use Rattle.model.specs.World.{annex_at, is_process, is_running_process};
-ghost use Rattle.capability.specs.Parts.{AreSound, IsUnchanged, KeepsAside, Renews, frames_of, objects_in};
+ghost use Rattle.capability.specs.Parts.{AreSound, KeepsAside, frames_of, objects_in, Prepares};
 ghost use Rattle.std.specs.List.{All};
-ghost use Rattle.gate.specs.Invoke.{entered, gate_capability, received, written_through, Invokes, IsAsked, KeepsSoundFrames, Overfills};
+ghost use Rattle.gate.specs.Invoke.{entered, gate_capability, received, written_through, IsAsked, Invoked};
 ghost use Rattle.gate.specs.Plan.{FitsCap};
 
 use crate::delivery::deliver;
@@ -64,21 +63,8 @@ fn announce<F: PresentFrames>(
         (F.IsAnnounced store.new receiver × F.IsAnnounced store.new annex
         × ((invocation.now.operation ≡ Operation.Send → ⊥)
         → F.IsAnnounced store.new invocation.now.process)) }
-    ensures touched { OnOk result ((F.parts store.new).touched
-        ≡ touching (F.parts store.old).touched
-        (written_through invocation.now.operation invocation.now.process receiver annex)) }
-    ensures within { touched_count (F.parts store.new).touched ≤ (F.parts store.new).geometry.log }
-    ensures headers { (F.parts store.new).headers ≡ (F.parts store.old).headers }
-    ensures contents { (F.parts store.new).contents ≡ (F.parts store.old).contents }
-    ensures geometry { (F.parts store.new).geometry ≡ (F.parts store.old).geometry }
-    ensures untouched { OnErr result ((F.parts store.new).touched ≡ (F.parts store.old).touched) }
-    ensures full { IsErrOf result PrepareFault.LogFull → (F.parts store.old).geometry.log
-        < touched_count (touching (F.parts store.old).touched
-        (written_through invocation.now.operation invocation.now.process receiver annex)) }
-    ensures cause { IsErrOf result PrepareFault.Failed
-        ↔ ((F.parts store.old).failures < (F.parts store.new).failures) }
-    ensures later { (F.parts store.old).failures ≤ (F.parts store.new).failures }
-    ensures leads { F.LeadsTo store.old store.new }
+    ensures prepares { Prepares F.parts F.LeadsTo store.old store.new
+        (written_through invocation.now.operation invocation.now.process receiver annex) result }
 {
     let process = invocation.process;
     let fetched = [process, receiver, annex];
@@ -185,22 +171,7 @@ pub fn invoke_gate<F: PresentFrames>(
     requires fetched { F.IsFetched store.old asked.annex }
     requires gate { asked.invoked ≡ gate_capability gate }
     requires key { gate.is_resume ≡ true → gate.key ≡ 0 }
-    ensures done { OnOk result (Invokes (F.parts store.old).geometry invocation.now
-        (objects_in (F.parts store.old)) (F.parts store.old).touched
-        (objects_in (F.parts store.new)) (F.parts store.new).touched) }
-    ensures stalled { IsErrOf result InvokeFault.Stalled
-        → invoke (F.parts store.old).geometry (objects_in (F.parts store.old)) invocation.now ≡ None }
-    ensures full { IsErrOf result InvokeFault.LogFull
-        → Overfills (F.parts store.old).geometry invocation.now
-        (objects_in (F.parts store.old)) (F.parts store.old).touched }
-    ensures sound { OnOk result (KeepsSoundFrames (F.parts store.old) (F.parts store.new)) }
-    ensures renews { OnOk result (Renews (F.parts store.old) (F.parts store.new)) }
-    ensures unchanged { OnErr result (IsUnchanged (F.parts store.old) (F.parts store.new)) }
-    ensures cause { IsErrOf result InvokeFault.Failed
-        ↔ ((F.parts store.old).failures < (F.parts store.new).failures) }
-    ensures later { (F.parts store.old).failures ≤ (F.parts store.new).failures }
-    ensures geometry { (F.parts store.new).geometry ≡ (F.parts store.old).geometry }
-    ensures leads { F.LeadsTo store.old store.new }
+    ensures { Invoked F.parts F.LeadsTo store.old store.new invocation.now result }
 {
     let sent = all_sent(store, invocation, asked.annex);
     let annex = look_at_process(alloc, store, gate.process)?;

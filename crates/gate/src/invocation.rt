@@ -1,10 +1,10 @@
 // Invocations.
-ghost use Rattle.std.specs.Prelude.{◌≡◌, ◌↔◌, ◌<◌, ◌≤◌, None, OnOk, OnErr, IsErrOf, IsTrue};
+ghost use Rattle.std.specs.Prelude.{IsTrue};
 ghost use Rattle.model.specs.Invoke.{invoke};
 ghost use Rattle.model.specs.World.{is_running_process};
-ghost use Rattle.capability.specs.Parts.{AreSound, IsUnchanged, Renews, objects_in};
+ghost use Rattle.capability.specs.Parts.{AreSound, objects_in};
 ghost use Rattle.space_bank.specs.Banks.{AreCounted};
-ghost use Rattle.gate.specs.Invoke.{Invokes, KeepsSoundFrames, Overfills};
+ghost use Rattle.gate.specs.Invoke.{Invoked};
 
 use crate::banking::{bank_order, invoke_bank};
 use crate::fault::InvokeFault;
@@ -41,24 +41,9 @@ pub fn invoke<F: PresentFrames>(
     requires counted { AreCounted (F.parts store.old).geometry
         (objects_in (F.parts store.old)) banks.old }
 
-    ensures done { OnOk result (Invokes (F.parts store.old).geometry invocation
-        (objects_in (F.parts store.old)) (F.parts store.old).touched
-        (objects_in (F.parts store.new)) (F.parts store.new).touched) }
-    ensures stalled { IsErrOf result InvokeFault.Stalled
-        → invoke (F.parts store.old).geometry (objects_in (F.parts store.old)) invocation ≡ None }
-    ensures full { IsErrOf result InvokeFault.LogFull
-        → Overfills (F.parts store.old).geometry invocation
-        (objects_in (F.parts store.old)) (F.parts store.old).touched }
-    ensures sound { OnOk result (KeepsSoundFrames (F.parts store.old) (F.parts store.new)) }
-    ensures renews { OnOk result (Renews (F.parts store.old) (F.parts store.new)) }
+    ensures invoked { Invoked F.parts F.LeadsTo store.old store.new invocation result }
     ensures counted { AreCounted (F.parts store.new).geometry
         (objects_in (F.parts store.new)) banks.new }
-    ensures unchanged { OnErr result (IsUnchanged (F.parts store.old) (F.parts store.new)) }
-    ensures cause { IsErrOf result InvokeFault.Failed
-        ↔ ((F.parts store.old).failures < (F.parts store.new).failures) }
-    ensures later { (F.parts store.old).failures ≤ (F.parts store.new).failures }
-    ensures geometry { (F.parts store.new).geometry ≡ (F.parts store.old).geometry }
-    ensures leads { F.LeadsTo store.old store.new }
 {
     invocation.can_be_spelt();
     numbers_fit(store);

@@ -1,15 +1,14 @@
 // Invocations of kernel objects.
-ghost use Rattle.std.specs.Prelude.{◌≡◌, ◌↔◌, ◌+◌, ◌<◌, ◌≤◌, ◌^◌, ℕ, [], length, slice_index, Some, IfOk, OnOk, OnErr, IsErrOf, IsTrue};
+ghost use Rattle.std.specs.Prelude.{◌≡◌, ◌+◌, ◌<◌, ◌^◌, ℕ, [], length, slice_index, Some, IfOk, OnOk, IsErrOf, IsTrue};
 ghost use Rattle.model.specs.declared.command.Command.TheVariants as command;
 ghost use Rattle.model.specs.Frame.{header_at};
 ghost use Rattle.model.specs.Invoke.{deliver};
 ghost use Rattle.model.specs.Keepable.{AreCurrent, AreKeepable};
-ghost use Rattle.model.specs.Machine.{touching, touched_count};
 ghost use Rattle.model.specs.Order.{IsNoBankOrder};
 ghost use Rattle.model.specs.Text.{Fits};
 ghost use Rattle.model.specs.World.{annex_at, is_process, is_running_process};
-ghost use Rattle.capability.specs.Parts.{AreSound, IsUnchanged, KeepsAside, Looks, Renews, frames_of, objects_in};
-ghost use Rattle.gate.specs.Invoke.{finished, replied_to, written_by, AreAnnounced, Invokes, IsAsked, IsKernelObject, IsPlanned, KeepsSoundFrames, Overfills};
+ghost use Rattle.capability.specs.Parts.{AreSound, KeepsAside, Looks, frames_of, objects_in, Prepares};
+ghost use Rattle.gate.specs.Invoke.{finished, replied_to, written_by, AreAnnounced, IsAsked, IsKernelObject, IsPlanned, Invoked};
 ghost use Rattle.gate.specs.Plan.{target_of, FitsCap, IsOfProcess, IsWithinObject, MayHold};
 
 use crate::change::make;
@@ -40,20 +39,8 @@ fn announce<F: PresentFrames>(
         × ((n : ℕ) → target_of change ≡ Some n → F.IsFetched store.new n)) }
     ensures announced { OnOk result
         (AreAnnounced F.IsAnnounced store.new operation process annex change) }
-    ensures touched { OnOk result ((F.parts store.new).touched
-        ≡ touching (F.parts store.old).touched (written_by operation process annex change)) }
-    ensures within { touched_count (F.parts store.new).touched ≤ (F.parts store.new).geometry.log }
-    ensures headers { (F.parts store.new).headers ≡ (F.parts store.old).headers }
-    ensures contents { (F.parts store.new).contents ≡ (F.parts store.old).contents }
-    ensures geometry { (F.parts store.new).geometry ≡ (F.parts store.old).geometry }
-    ensures untouched { OnErr result ((F.parts store.new).touched ≡ (F.parts store.old).touched) }
-    ensures full { IsErrOf result PrepareFault.LogFull → (F.parts store.old).geometry.log
-        < touched_count (touching (F.parts store.old).touched
-        (written_by operation process annex change)) }
-    ensures cause { IsErrOf result PrepareFault.Failed
-        ↔ ((F.parts store.old).failures < (F.parts store.new).failures) }
-    ensures later { (F.parts store.old).failures ≤ (F.parts store.new).failures }
-    ensures leads { F.LeadsTo store.old store.new }
+    ensures prepares { Prepares F.parts F.LeadsTo store.old store.new
+        (written_by operation process annex change) result }
 {
     let target = change.target();
     let fetched = [process, annex, target.unwrap_or(process)];
@@ -187,21 +174,8 @@ pub fn invoke_object<F: PresentFrames>(
     requires fetched { F.IsFetched store.old asked.annex }
     requires object { IsKernelObject asked.invoked }
     requires order { IsNoBankOrder asked.invoked (slice_index invocation.now.words 0) }
-    ensures done { OnOk result (Invokes (F.parts store.old).geometry invocation.now
-        (objects_in (F.parts store.old)) (F.parts store.old).touched
-        (objects_in (F.parts store.new)) (F.parts store.new).touched) }
+    ensures invoked { Invoked F.parts F.LeadsTo store.old store.new invocation.now result }
     ensures stalled { IsErrOf result InvokeFault.Stalled → ⊥ }
-    ensures full { IsErrOf result InvokeFault.LogFull
-        → Overfills (F.parts store.old).geometry invocation.now
-        (objects_in (F.parts store.old)) (F.parts store.old).touched }
-    ensures sound { OnOk result (KeepsSoundFrames (F.parts store.old) (F.parts store.new)) }
-    ensures renews { OnOk result (Renews (F.parts store.old) (F.parts store.new)) }
-    ensures unchanged { OnErr result (IsUnchanged (F.parts store.old) (F.parts store.new)) }
-    ensures cause { IsErrOf result InvokeFault.Failed
-        ↔ ((F.parts store.old).failures < (F.parts store.new).failures) }
-    ensures later { (F.parts store.old).failures ≤ (F.parts store.new).failures }
-    ensures geometry { (F.parts store.new).geometry ≡ (F.parts store.old).geometry }
-    ensures leads { F.LeadsTo store.old store.new }
 {
     let operation = invocation.operation;
     let process = invocation.process;

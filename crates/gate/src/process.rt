@@ -13,9 +13,6 @@ use model::{Arguments, Capability, ProcessOrder, REGISTERS, ResultCode, State};
 // How many words a process is delivered.
 const ROOT_WORDS: u64 = 4;
 
-// The greatest key of a start capability.
-const MAX_KEY: u64 = 65535;
-
 /// The order that a word asks of a process.
 pub fn process_order(word: u64) -> Option<ProcessOrder>
     ensures { result ≡ process_order word }
@@ -114,10 +111,12 @@ pub fn on_process<F: PresentFrames>(
             index: first as usize,
             word: arguments.second,
         }),
-        ProcessOrder::MakeStart if first <= MAX_KEY => OrderPlan::given(Capability::Start {
-            process,
-            key: first as u16,
-        }),
+        ProcessOrder::MakeStart if first <= u16::MAX as u64 => OrderPlan::given(
+            Capability::Start {
+                process,
+                key: first as u16,
+            },
+        ),
         ProcessOrder::GetState => {
             let state = roots::state(store, process);
             OrderPlan::told(state.number(), roots::key(store, process) as u64)

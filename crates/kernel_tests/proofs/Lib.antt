@@ -1,1 +1,3 @@
+mod FreshSound
+mod FreshWorlds
 mod Worlds

@@ -7,6 +7,7 @@ ghost use Rattle.device.specs.Disk.{Image};
 ghost use Rattle.migrator.specs.Saved.{Holds};
 ghost use Rattle.image_writer.specs.Written.{first_saved};
 
+use crate::worlds::{f0, i0};
 use capability::{Plain, PresentFrames};
 use device::Device;
 use image_writer::{NumberRange, lay_out, write_image};
@@ -16,19 +17,19 @@ use std::test::Fail;
 
 /// World F0: process 1 runs, and holds node 5 in register 5 and page 16 in register 6.
 pub fn first_world(alloc: Global) -> Result<Plain, AllocError>
-    ensures sound { IfOk result (λ p. IsSoundFrames p.geometry p.age (frames_of (parts_of p))) }
+    ensures sound { IfOk result (λ p. IsSoundFrames p.geometry 0 (frames_of (parts_of p))) }
     ensures keepable { IfOk result (λ p. AreKeepable p.geometry 0 (frames_of (parts_of p))) }
 {
-    Plain::f0(alloc)
+    f0(alloc)
 }
 
 /// World I0: process 1 runs, and holds itself, the prime bank, the right to start process 3 with
 /// key 7 and that process, which is available, in registers 1 to 4.
 pub fn second_world(alloc: Global) -> Result<Plain, AllocError>
-    ensures sound { IfOk result (λ p. IsSoundFrames p.geometry p.age (frames_of (parts_of p))) }
+    ensures sound { IfOk result (λ p. IsSoundFrames p.geometry 0 (frames_of (parts_of p))) }
     ensures keepable { IfOk result (λ p. AreKeepable p.geometry 0 (frames_of (parts_of p))) }
 {
-    Plain::i0(alloc)
+    i0(alloc)
 }
 
 // The headers of all objects.

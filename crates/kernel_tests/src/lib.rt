@@ -9,6 +9,7 @@ mod kernels;
 mod layouts;
 #[cfg(test)]
 mod stops;
+mod worlds;
 
 pub use images::{first_world, second_world, written};
 pub use kernels::opened;

@@ -20,6 +20,7 @@ use Rattle.model.specs.Sound.{object_count}
 use Rattle.model.specs.World.{content_at}
 use Rattle.capability.specs.Parts.{Parts, objects_in}
 use Rattle.capability.proofs.Frames.{content_there}
+use Rattle.capability.proofs.Mapped.{mapped}
 use Rattle.space_bank.specs.Banks.{AreCounted, BanksState}
 use Rattle.space_bank.specs.Counting.{AreMarked}
 
@@ -31,14 +32,6 @@ limit_of_other (content.Node slots) other = refl
 limit_of_other (content.Root r) other = refl
 limit_of_other (content.Annex registers) other = refl
 limit_of_other (content.Bank limit) other = cc
-
-limit_of_map : (f : Cap → Capability) (c : Content Cap) → limit_in (map_content f c) ≡ limit_in c
-limit_of_map f content.Free = refl
-limit_of_map f (content.Page words) = refl
-limit_of_map f (content.Node slots) = refl
-limit_of_map f (content.Root r) = refl
-limit_of_map f (content.Annex registers) = refl
-limit_of_map f (content.Bank limit) = refl
 
 pub no_limit : (c : Content Cap) → ((x : ℕ) → c ≡ content.Bank x → ⊥) → limit_in c ≡ 0
 no_limit content.Free bank = refl
@@ -52,7 +45,7 @@ no_limit (content.Bank limit) bank = absurd (bank limit refl)
 pub limit_held : (p : Parts) (n : ℕ) (c : Content Cap) → n < length p.headers → c ≡ held_at p.contents n →
     limit_in c ≡ limit_in (content_at (objects_in p) n)
 limit_held p n c known is =
-    sym (limit_of_map (conveyed p.headers) c) ∙ sym (ap (λ (d : Content Capability). limit_in d) (content_there p n known c (sym is)))
+    sym ((mapped (conveyed p.headers) c).limit) ∙ sym (ap (λ (d : Content Capability). limit_in d) (content_there p n known c (sym is)))
 
 -- a look leaves the objects as they were
 pub objects_looked : (old now : Parts) → now.headers ≡ old.headers → now.contents ≡ old.contents → objects_in now ≡ objects_in old

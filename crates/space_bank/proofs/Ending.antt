@@ -21,6 +21,7 @@ use Rattle.model_laws.proofs.BankTree.{chain_banks, member_tail}
 use Rattle.model_laws.proofs.GivenUp.{free_rescinded}
 use Rattle.model_laws.proofs.Revoking.{at_rescind}
 use Rattle.capability.specs.Parts.{AreGivenUp, IsOnce, KeepsAside, Parts, frames_of, objects_in}
+use Rattle.capability.proofs.Mapped.{mapped}
 use Rattle.space_bank.specs.Banks.{AreCounted, BanksState, KeepsObjects}
 use Rattle.space_bank.specs.Carrying.{CarriesOut, MayGiveUp, MayServe, marks_of}
 use Rattle.space_bank.specs.Chains.{IsRaised}
@@ -44,22 +45,6 @@ once_of_differ (n ∷ ns) differ (suc i) inside =
 
 -- contents after a rescind
 
-bank_mapped : (f : Capability → Capability) (c : Content Capability) → is_bank (map_content f c) ≡ is_bank c
-bank_mapped f content.Free = refl
-bank_mapped f (content.Page words) = refl
-bank_mapped f (content.Node slots) = refl
-bank_mapped f (content.Root r) = refl
-bank_mapped f (content.Annex registers) = refl
-bank_mapped f (content.Bank limit) = refl
-
-limit_mapped : (f : Capability → Capability) (c : Content Capability) → limit_in (map_content f c) ≡ limit_in c
-limit_mapped f content.Free = refl
-limit_mapped f (content.Page words) = refl
-limit_mapped f (content.Node slots) = refl
-limit_mapped f (content.Root r) = refl
-limit_mapped f (content.Annex registers) = refl
-limit_mapped f (content.Bank limit) = refl
-
 module _ (set : List ℕ) (os : List Object) (n : ℕ) where
   went : is_member set n ≡ true → object_at (rescind set os) n ≡ free
   went e = at_rescind set os n ∙ ap (λ (b : Bool). if b then free else without (names_member set) (object_at os n)) e
@@ -75,11 +60,11 @@ module _ (set : List ℕ) (os : List Object) (n : ℕ) where
 
   pub bank_was : IsTrue (is_bank (content_at (rescind set os) n)) → IsTrue (is_bank (content_at os n))
   bank_was is =
-      sym (ap (λ (o : Object). is_bank o.content) (kept (bank_stays is)) ∙ bank_mapped (void_where (names_member set)) (content_at os n)) ∙ is
+      sym (ap (λ (o : Object). is_bank o.content) (kept (bank_stays is)) ∙ (mapped (void_where (names_member set)) (content_at os n)).bank) ∙ is
 
   pub limit_was : IsTrue (is_bank (content_at (rescind set os) n)) → limit_in (content_at (rescind set os) n) ≡ limit_in (content_at os n)
   limit_was is =
-      ap (λ (o : Object). limit_in o.content) (kept (bank_stays is)) ∙ limit_mapped (void_where (names_member set)) (content_at os n)
+      ap (λ (o : Object). limit_in o.content) (kept (bank_stays is)) ∙ (mapped (void_where (names_member set)) (content_at os n)).limit
 
 -- The chain of a bank accounts for so many fewer, and a set is marked as free.
 pub record IsReleased (banks : List ℕ) (count : ℕ) (s t : BanksState) (set : List ℕ) : Type 0 where

@@ -45,7 +45,13 @@ impl Banks {
 
     /// Makes two free numbers, fetched and announced, the root and the annex of a process of a bank
     /// in whose chain each limit leaves two.
-    pub fn new_process<F: PresentFrames>(&mut self, store: &mut F, root: u64, annex: u64, bank: u64)
+    pub(crate) fn new_process<F: PresentFrames>(
+        &mut self,
+        store: &mut F,
+        root: u64,
+        annex: u64,
+        bank: u64,
+    )
         requires asks { MayServe (F.parts store.old) self.old bank }
         requires room { IsTrue (has_room (objects_in (F.parts store.old)) bank 2) }
         requires free { IsTrue

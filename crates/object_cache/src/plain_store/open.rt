@@ -155,7 +155,6 @@ fn read_objects<D: Device>(
           (range_with_len 0 (object_count durable.old.books.plan.geometry));
       touched = untouched durable.old.books.plan.geometry;
       rooms = replicate (object_count durable.old.books.plan.geometry) Content.Free;
-      age = 0;
     }) }
     ensures snapshots { IfOk result (λ objects. objects.snapshots
         ≡ replicate (object_count durable.old.books.plan.geometry) Below) }

@@ -1,3 +1,4 @@
+use Rattle.std.proofs.Common.{rules}
 use Rattle.capability.specs.Parts.{frames_of}
 use Rattle.address_space.proofs.Known.{sound_keepable, sound_onward}
 use Rattle.address_space.proofs.Stored.{word_stays_sound}
@@ -8,11 +9,19 @@ prepare-requires-clause-keepable g c =
     let p = g.F.PresentFrames.parts c.args.frames.now in
     sound_keepable p.geometry c.requires.sound.0 (frames_of p) c.requires.sound.1
 
-pub returns-clause-sound : goal.returns-clause-sound
-returns-clause-sound g c =
+pub returns-clause-writes : goal.returns-clause-writes
+returns-clause-writes g c =
     let p = g.F.PresentFrames.parts c.args.frames.now in
     let q = g.F.PresentFrames.parts c.prepare.new.self in
     let done = c.set_word.ensures in
     let fs = frames_of (g.F.PresentFrames.parts c.set_word.new.store) in
-    sound_onward p q c.prepare.ensures.headers c.prepare.ensures.contents c.prepare.ensures.geometry fs
-    (λ age. word_stays_sound q.geometry age (frames_of q) fs c.args.page c.args.index c.args.word c.ranges.word.fits done.objects done.current (done.keepable age))
+    record {
+      sound = sound_onward p q c.prepare.ensures.headers c.prepare.ensures.contents c.prepare.ensures.geometry fs
+          (λ age. word_stays_sound q.geometry age (frames_of q) fs c.args.page c.args.index c.args.word c.ranges.word.fits done.objects done.current (done.keepable age));
+      headers = search rules;
+      unchanged = tt;
+      cause = search rules;
+      later = search rules;
+      geometry = search rules;
+      leads = search rules;
+    }

@@ -1,9 +1,18 @@
+use Rattle.std.proofs.Common.{rules}
 use Rattle.capability.specs.Parts.{frames_of}
 use Rattle.address_space.proofs.Known.{sound_onward}
 use Rattle.address_space.proofs.reference.store.Goals as goal
 
-pub returns-in_ok-put-in-Ok-clause-sound : goal.returns-in_ok-put-in-Ok-clause-sound
-returns-in_ok-put-in-Ok-clause-sound g c =
+pub returns-in_ok-put-in-Ok-clause-writes : goal.returns-in_ok-put-in-Ok-clause-writes
+returns-in_ok-put-in-Ok-clause-writes g c =
     let aside = c.in_ok-found.ensures.looks.aside in
-    sound_onward (g.F.PresentFrames.parts c.args.frames.now) (g.F.PresentFrames.parts c.reach.new.frames) aside.headers aside.contents aside.geometry
-    (frames_of (g.F.PresentFrames.parts c.put.new.frames)) c.in_ok-put-in-Ok.ensures.sound
+    record {
+      sound = sound_onward (g.F.PresentFrames.parts c.args.frames.now) (g.F.PresentFrames.parts c.reach.new.frames) aside.headers aside.contents aside.geometry
+          (frames_of (g.F.PresentFrames.parts c.put.new.frames)) c.in_ok-put-in-Ok.ensures.writes.sound;
+      headers = search rules;
+      unchanged = tt;
+      cause = search rules;
+      later = search rules;
+      geometry = search rules;
+      leads = search rules;
+    }

@@ -1,10 +1,10 @@
 use Rattle.model.specs.Worlds.{i0}
 use Rattle.model_laws.proofs.SoundWorlds.{i0_sound}
-use Rattle.kernel_tests.proofs.Worlds.{made_sound, made_keepable, i0_young}
+use Rattle.kernel_tests.proofs.Worlds.{made_sound, made_keepable}
 use Rattle.kernel_tests.proofs.images.second_world.Goals as goal
 
 pub returns : goal.returns
 returns c = record {
   sound = made_sound i0 i0_sound c.i0.result c.i0.ensures.world c.i0.ensures.headers c.i0.ensures.contents c.i0.ensures.geometry;
-  keepable = made_keepable i0 i0_sound i0_young c.i0.result c.i0.ensures.world c.i0.ensures.headers c.i0.ensures.contents c.i0.ensures.geometry;
+  keepable = made_keepable i0 i0_sound c.i0.result c.i0.ensures.world c.i0.ensures.headers c.i0.ensures.contents c.i0.ensures.geometry;
 }

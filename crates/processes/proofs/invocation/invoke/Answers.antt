@@ -4,7 +4,7 @@ use Rattle.model.specs.declared.command.Command.TheVariants as command
 use Rattle.capability.specs.Parts.{objects_in}
 use Rattle.gate.specs.declared.fault.InvokeFault.TheVariants as fault
 use Rattle.gate.proofs.BankStates.{counted_looked}
-use Rattle.gate.proofs.Standing.{LooksAs}
+use Rattle.gate.proofs.Standing.{LooksAs, looked_as}
 use Rattle.processes.specs.Machine.{IsEarly}
 use Rattle.processes.proofs.Serving.{AreSame, done_after, done_unfailed, fault_is, fault_unfailed, full_after, no_memory_after, ok_stayed, refused_serves, stalled_after, told_cause, unfailed}
 use Rattle.processes.proofs.Steps.{early_fine, early_none, early_step, worn_step}
@@ -41,7 +41,7 @@ returns-in-Ok-clause-serves g c =
     let same : AreSame old mid = record { headers = aside.headers; contents = aside.contents; touched = aside.touched; geometry = aside.geometry } in
     let failures = unfailed old.failures mid.failures c.early.ensures.later (ok_stayed c.in_ok-refusal.field-0 c.in_ok-refusal.ensures.cause) in
     let runs = early_none (objects_in old) c.args.invocation.process c.in_ok-refusal.field-0 c.in_default.not-Some c.in_ok-refusal.ensures.why in
-    let said = c.in-Ok.ensures in
+    let said = c.in-Ok.ensures.invoked in
     done_after c.args.age.now old mid new c.args.invocation same failures runs.0 runs.1 c.requires.sound c.if-age-ge-MAX_AGE.false
     said.done said.sound said.renews said.geometry said.later (λ rose. done_unfailed (said.cause.1 rose))
 
@@ -54,7 +54,7 @@ returns-in-Err-Stalled-clause-serves g c =
     let same : AreSame old mid = record { headers = aside.headers; contents = aside.contents; touched = aside.touched; geometry = aside.geometry } in
     let failures = unfailed old.failures mid.failures c.early.ensures.later (ok_stayed c.in_ok-refusal.field-0 c.in_ok-refusal.ensures.cause) in
     let runs = early_none (objects_in old) c.args.invocation.process c.in_ok-refusal.field-0 c.in_default.not-Some c.in_ok-refusal.ensures.why in
-    let said = c.in-Err-Stalled.ensures in
+    let said = c.in-Err-Stalled.ensures.invoked in
     let unchanged : AreSame mid new = record { headers = said.unchanged.headers; contents = said.unchanged.contents; touched = said.unchanged.touched; geometry = said.geometry } in
     stalled_after c.args.age.now old mid new c.args.invocation same failures runs.0 runs.1 c.requires.sound c.if-age-ge-MAX_AGE.false
     (said.stalled (fault_is c.in-Err-Stalled.field-0 fault.Stalled c.in-Err-Stalled.field-0-is)) unchanged said.later (λ rose. fault_unfailed c.in-Err-Stalled.field-0 fault.Stalled c.in-Err-Stalled.field-0-is (λ e. cc) (said.cause.1 rose))
@@ -68,7 +68,7 @@ returns-in-Err-LogFull-clause-serves g c =
     let same : AreSame old mid = record { headers = aside.headers; contents = aside.contents; touched = aside.touched; geometry = aside.geometry } in
     let failures = unfailed old.failures mid.failures c.early.ensures.later (ok_stayed c.in_ok-refusal.field-0 c.in_ok-refusal.ensures.cause) in
     let runs = early_none (objects_in old) c.args.invocation.process c.in_ok-refusal.field-0 c.in_default.not-Some c.in_ok-refusal.ensures.why in
-    let said = c.in-Err-LogFull.ensures in
+    let said = c.in-Err-LogFull.ensures.invoked in
     let unchanged : AreSame mid new = record { headers = said.unchanged.headers; contents = said.unchanged.contents; touched = said.unchanged.touched; geometry = said.geometry } in
     full_after c.args.age.now old mid new c.args.invocation same failures runs.0 runs.1 c.requires.sound c.if-age-ge-MAX_AGE.false
     (said.full (fault_is c.in-Err-LogFull.field-0 fault.LogFull c.in-Err-LogFull.field-0-is)) unchanged said.later (λ rose. fault_unfailed c.in-Err-LogFull.field-0 fault.LogFull c.in-Err-LogFull.field-0-is (λ e. cc) (said.cause.1 rose))
@@ -82,7 +82,7 @@ returns-in-Err-NoMemory-clause-serves g c =
     let same : AreSame old mid = record { headers = aside.headers; contents = aside.contents; touched = aside.touched; geometry = aside.geometry } in
     let failures = unfailed old.failures mid.failures c.early.ensures.later (ok_stayed c.in_ok-refusal.field-0 c.in_ok-refusal.ensures.cause) in
     let runs = early_none (objects_in old) c.args.invocation.process c.in_ok-refusal.field-0 c.in_default.not-Some c.in_ok-refusal.ensures.why in
-    let said = c.in-Err-NoMemory.ensures in
+    let said = c.in-Err-NoMemory.ensures.invoked in
     let unchanged : AreSame mid new = record { headers = said.unchanged.headers; contents = said.unchanged.contents; touched = said.unchanged.touched; geometry = said.geometry } in
     no_memory_after c.args.age.now old mid new c.args.invocation same failures runs.0 runs.1 c.requires.sound c.if-age-ge-MAX_AGE.false
     unchanged said.later (λ rose. fault_unfailed c.in-Err-NoMemory.field-0 fault.NoMemory c.in-Err-NoMemory.field-0-is (λ e. cc) (said.cause.1 rose))
@@ -92,7 +92,7 @@ returns-in-Some-clause-counted g c =
     let old = g.F.PresentFrames.parts c.args.store.now in
     let mid = g.F.PresentFrames.parts c.early.new.store in
     let aside = c.early.ensures.aside in
-    let looks : LooksAs old mid = record { headers = aside.headers; contents = aside.contents; geometry = aside.geometry } in
+    let looks : LooksAs old mid = looked_as aside in
     counted_looked old mid c.args.banks.now looks c.requires.counted
 
 pub returns-then-age-ge-MAX_AGE-clause-counted : goal.returns-then-age-ge-MAX_AGE-clause-counted
@@ -100,7 +100,7 @@ returns-then-age-ge-MAX_AGE-clause-counted g c =
     let old = g.F.PresentFrames.parts c.args.store.now in
     let mid = g.F.PresentFrames.parts c.early.new.store in
     let aside = c.early.ensures.aside in
-    let looks : LooksAs old mid = record { headers = aside.headers; contents = aside.contents; geometry = aside.geometry } in
+    let looks : LooksAs old mid = looked_as aside in
     counted_looked old mid c.args.banks.now looks c.requires.counted
 
 pub invoke-requires-clause-counted : goal.invoke-requires-clause-counted
@@ -108,5 +108,5 @@ invoke-requires-clause-counted g c =
     let old = g.F.PresentFrames.parts c.args.store.now in
     let mid = g.F.PresentFrames.parts c.early.new.store in
     let aside = c.early.ensures.aside in
-    let looks : LooksAs old mid = record { headers = aside.headers; contents = aside.contents; geometry = aside.geometry } in
+    let looks : LooksAs old mid = looked_as aside in
     counted_looked old mid c.args.banks.now looks c.requires.counted

@@ -18,7 +18,6 @@ returns c =
       contents = c.self.inside.contents.items;
       touched = c.self.inside.touched;
       rooms = c.self.inside.rooms.items;
-      age = c.self.inside.age;
     } in
     let count : length c.self.inside.touched ≡ object_count c.self.inside.geometry = search rules in
     forgotten state c.args.self.now c.clear.new.self c.self.view_is (c.clear.ensures ∙ ap (λ (n : ℕ). replicate n false) count)

@@ -10,7 +10,7 @@ use Rattle.capability.specs.Plain.{PlainState}
 use Rattle.capability.proofs.plain.Plain.new.Goals as goal
 
 abbrev made : Geometry → List ObjectHeader → List (Content Cap) → List Bool → List (Content Cap) → PlainState
-made g hs cs ts rs = record { geometry = g; headers = hs; contents = cs; touched = ts; rooms = rs; age = 0 }
+made g hs cs ts rs = record { geometry = g; headers = hs; contents = cs; touched = ts; rooms = rs }
 
 of_parts : (g : Geometry) (hs ks : List ObjectHeader) (cs : List (Content Cap)) (ts us : List Bool) (rs qs : List (Content Cap)) → hs ≡ ks → ts ≡ us → rs ≡ qs → made g hs cs ts rs ≡ made g ks cs us qs
 of_parts g hs ks cs ts us rs qs headers touched rooms =

@@ -11,14 +11,14 @@ pub invariant_of-self : goal.invariant_of-self
 invariant_of-self g c =
     let p = c.self.inside.present in
     let q = c.prepare.new.self in
-    let e = c.prepare.ensures in
+    let e = c.prepare.ensures.announces in
     stands_announced (stored_of g.D.Device.disk c.self.inside.durable) p q c.self.inside.snapshots e.headers e.contents e.geometry
     (grows c.prepare.result p.touched q.touched c.args.written.now e.touched e.untouched) e.within c.self.invariant
 
 pub returns-clause-announced : goal.returns-clause-announced
 returns-clause-announced g c =
     let p = c.self.inside.present in
-    let e = c.prepare.ensures in
+    let e = c.prepare.ensures.announces in
     let new : StoreState g.row.D.Denot = record {
       durable = c.self.inside.durable;
       present = c.prepare.new.self;

@@ -4,7 +4,7 @@ use Rattle.model.specs.declared.capability.Cap.{Cap}
 use Rattle.model.specs.declared.capability.Capability.TheVariants.{Void}
 use Rattle.model.specs.Object.{all_slots}
 use Rattle.capability.specs.Plain.{fresh_cap}
-use Rattle.capability.proofs.plain.worlds.void_slots.Goals as goal
+use Rattle.kernel_tests.proofs.worlds.void_slots.Goals as goal
 
 pub returns : goal.returns
 unfolding all_slots

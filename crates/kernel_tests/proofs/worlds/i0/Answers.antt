@@ -1,14 +1,17 @@
 use Rattle.std.proofs.Common.{◌≡◌, ◌∙◌, ap, length, map, replicate}
 use Rattle.std.proofs.lemmas.Result.{IfOk-weaker}
 use Rattle.model.specs.declared.object.Content.TheVariants as content
+use Rattle.model.specs.Keepable.{world_at}
 use Rattle.model.specs.Machine.{untouched}
 use Rattle.model.specs.Worlds.{i0, small}
-use Rattle.capability.specs.Plain.{PlainState, fresh_header, prime_header, world_of}
-use Rattle.capability.proofs.FreshWorlds.{i0_count, i0_headers, i0_of_fresh}
-use Rattle.capability.proofs.plain.Plain.i0.Goals as goal
+use Rattle.capability.specs.Parts.{frames_of}
+use Rattle.capability.specs.Plain.{PlainState, parts_of}
+use Rattle.kernel_tests.specs.Fresh.{fresh_header, prime_header}
+use Rattle.kernel_tests.proofs.FreshWorlds.{i0_count, i0_headers, i0_of_fresh}
+use Rattle.kernel_tests.proofs.worlds.i0.Goals as goal
 
-pub small-requires : goal.small-requires
-small-requires c = ap length c.in_ok-i0_contents.ensures ∙ i0_count
+pub prime_world-requires : goal.prime_world-requires
+prime_world-requires c = ap length c.in_ok-i0_contents.ensures ∙ i0_count
 
 pub returns-clause-world : goal.returns-clause-world
 returns-clause-world c =
@@ -19,11 +22,10 @@ returns-clause-world c =
       contents = cs;
       touched = untouched small;
       rooms = replicate 24 content.Free;
-      age = 0;
     } in
-    IfOk-weaker c.small.result (λ (p : PlainState). p ≡ made) (λ (p : PlainState). world_of p ≡ i0)
-    (λ p is. ap world_of is ∙ i0_of_fresh cs c.in_ok-i0_contents.ensures)
-    c.small.ensures
+    IfOk-weaker c.prime_world.result (λ (p : PlainState). p ≡ made) (λ (p : PlainState). world_at 0 (frames_of (parts_of p)) ≡ i0)
+    (λ p is. ap (λ (q : PlainState). world_at 0 (frames_of (parts_of q))) is ∙ i0_of_fresh cs c.in_ok-i0_contents.ensures)
+    c.prime_world.ensures
 
 pub returns-clause-headers : goal.returns-clause-headers
 returns-clause-headers c =
@@ -34,8 +36,7 @@ returns-clause-headers c =
       contents = cs;
       touched = untouched small;
       rooms = replicate 24 content.Free;
-      age = 0;
     } in
-    IfOk-weaker c.small.result (λ (p : PlainState). p ≡ made) (λ (p : PlainState). p.headers ≡ map fresh_header i0.objects)
+    IfOk-weaker c.prime_world.result (λ (p : PlainState). p ≡ made) (λ (p : PlainState). p.headers ≡ map fresh_header i0.objects)
     (λ p is. ap (λ (q : PlainState). q.headers) is ∙ i0_headers cs c.in_ok-i0_contents.ensures)
-    c.small.ensures
+    c.prime_world.ensures

@@ -1,7 +1,7 @@
 use Rattle.std.proofs.Common.{refl}
 use Rattle.model.specs.Worlds.{f0}
 use Rattle.model.specs.Object.{zero_words}
-use Rattle.capability.proofs.plain.worlds.f0_contents.Goals as goal
+use Rattle.kernel_tests.proofs.worlds.f0_contents.Goals as goal
 
 pub returns : goal.returns
 unfolding f0 zero_words

@@ -1,4 +1,4 @@
-// The two worlds that are there from the start, as stores in memory.
+// The two worlds that tests begin with, as stores in memory.
 ghost use Rattle.std.specs.Prelude.{◌≡◌, [], ◌∷◌, length, map, replicate, slice_set, IfOk};
 ghost use Rattle.model.specs.declared.capability.Capability.TheVariants.{Void, Node, Page, Process, Start, Bank};
 ghost use Rattle.model.specs.declared.object.Content.TheVariants as content;
@@ -7,10 +7,13 @@ ghost use Rattle.model.specs.Capability.{full};
 ghost use Rattle.model.specs.Machine.{untouched};
 ghost use Rattle.model.specs.Object.{all_slots, free};
 ghost use Rattle.model.specs.Worlds.{small, f0, i0, prime_bank, fresh_root};
-ghost use Rattle.capability.specs.Plain.{world_of, fresh_cap, fresh_header, fresh_held, prime_header};
+ghost use Rattle.model.specs.Keepable.{world_at};
+ghost use Rattle.capability.specs.Parts.{frames_of};
+ghost use Rattle.capability.specs.Plain.{parts_of, fresh_cap};
+ghost use Rattle.kernel_tests.specs.Fresh.{fresh_header, fresh_held, prime_header};
 
-use crate::plain::Plain;
-use crate::plain::rooms::push_free;
+use capability::Plain;
+use capability::plain::rooms::push_free;
 use model::{Access, Cap, Capability, Content, Geometry, ObjectHeader, Root, Slots, State, Words};
 use std::alloc::{AllocError, Global};
 
@@ -24,46 +27,43 @@ const SMALL: Geometry = Geometry {
 // How many objects they have.
 const SMALL_COUNT: usize = 24;
 
-impl Plain {
-    /// A world of one running process, which holds a node and a page. Fails only where memory runs
-    /// out.
-    pub fn f0(alloc: Global) -> Result<Plain, AllocError>
-        ensures world { IfOk result (λ p. world_of p ≡ f0) }
-        ensures headers { IfOk result (λ p. p.headers ≡ map fresh_header f0.objects) }
-        ensures contents { IfOk result (λ p. p.contents ≡ map fresh_held f0.objects) }
-        ensures geometry { IfOk result (λ p. p.geometry ≡ small) }
-        ensures touched { IfOk result (λ p. p.touched ≡ untouched small) }
-    {
-        Plain::small(alloc, f0_contents(alloc)?)
-    }
+/// A world of one running process, which holds a node and a page. Fails only where memory runs
+/// out.
+pub fn f0(alloc: Global) -> Result<Plain, AllocError>
+    ensures world { IfOk result (λ p. world_at 0 (frames_of (parts_of p)) ≡ f0) }
+    ensures headers { IfOk result (λ p. p.headers ≡ map fresh_header f0.objects) }
+    ensures contents { IfOk result (λ p. p.contents ≡ map fresh_held f0.objects) }
+    ensures geometry { IfOk result (λ p. p.geometry ≡ small) }
+    ensures touched { IfOk result (λ p. p.touched ≡ untouched small) }
+{
+    prime_world(alloc, f0_contents(alloc)?)
+}
 
-    /// A world of two processes: one runs, and holds itself, the prime bank, the other and the
-    /// right to start it. Fails only where memory runs out.
-    pub fn i0(alloc: Global) -> Result<Plain, AllocError>
-        ensures world { IfOk result (λ p. world_of p ≡ i0) }
-        ensures headers { IfOk result (λ p. p.headers ≡ map fresh_header i0.objects) }
-        ensures contents { IfOk result (λ p. p.contents ≡ map fresh_held i0.objects) }
-        ensures geometry { IfOk result (λ p. p.geometry ≡ small) }
-        ensures touched { IfOk result (λ p. p.touched ≡ untouched small) }
-    {
-        Plain::small(alloc, i0_contents(alloc)?)
-    }
+/// A world of two processes: one runs, and holds itself, the prime bank, the other and the
+/// right to start it. Fails only where memory runs out.
+pub fn i0(alloc: Global) -> Result<Plain, AllocError>
+    ensures world { IfOk result (λ p. world_at 0 (frames_of (parts_of p)) ≡ i0) }
+    ensures headers { IfOk result (λ p. p.headers ≡ map fresh_header i0.objects) }
+    ensures contents { IfOk result (λ p. p.contents ≡ map fresh_held i0.objects) }
+    ensures geometry { IfOk result (λ p. p.geometry ≡ small) }
+    ensures touched { IfOk result (λ p. p.touched ≡ untouched small) }
+{
+    prime_world(alloc, i0_contents(alloc)?)
+}
 
-    // Objects of the prime bank that were never given up or written.
-    fn small(alloc: Global, contents: Vec<Content<Cap>>) -> Result<Plain, AllocError>
-        requires { length contents.items ≡ 24 }
-        ensures { IfOk result (λ p. p ≡ record {
-          geometry = small;
-          headers = map prime_header contents.items;
-          contents = contents.items;
-          touched = untouched small;
-          rooms = replicate 24 content.Free;
-          age = 0;
-        }) }
-    {
-        let headers = prime_headers(alloc, &contents)?;
-        Plain::new(alloc, SMALL, headers, contents)
-    }
+// Objects of the prime bank that were never given up or written.
+fn prime_world(alloc: Global, contents: Vec<Content<Cap>>) -> Result<Plain, AllocError>
+    requires { length contents.items ≡ 24 }
+    ensures { IfOk result (λ p. p ≡ record {
+      geometry = small;
+      headers = map prime_header contents.items;
+      contents = contents.items;
+      touched = untouched small;
+      rooms = replicate 24 content.Free;
+    }) }
+{
+    let headers = prime_headers(alloc, &contents)?;
+    Plain::new(alloc, SMALL, headers, contents)
 }
 
 // The headers of objects of the prime bank, and of free numbers.

@@ -1,6 +1,6 @@
 use Rattle.std.proofs.Common.{refl}
 use Rattle.model.specs.Worlds.{i0}
-use Rattle.capability.proofs.plain.worlds.i0_contents.Goals as goal
+use Rattle.kernel_tests.proofs.worlds.i0_contents.Goals as goal
 
 pub returns : goal.returns
 unfolding i0

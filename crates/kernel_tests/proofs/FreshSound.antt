@@ -19,18 +19,12 @@ use Rattle.model.specs.Object.{free, is_annex, is_free, is_root, map_content, ro
 use Rattle.model.specs.Sound.{HasShape, IsOfKind, IsSound, IsSpace, MayBeHeld, object_count}
 use Rattle.model.specs.World.{World, annex_at, content_at, object_at, owner_at}
 use Rattle.capability.specs.Parts.{Parts, frames_of}
-use Rattle.capability.specs.Plain.{fresh_cap, fresh_frame, fresh_header, fresh_held}
-use Rattle.capability.proofs.FreshWorlds.{frames_fresh, objects_of_fresh}
+use Rattle.capability.specs.Plain.{fresh_cap}
+use Rattle.kernel_tests.specs.Fresh.{fresh_frame, fresh_header, fresh_held}
+use Rattle.kernel_tests.proofs.FreshWorlds.{frames_fresh, objects_of_fresh}
 use Rattle.capability.proofs.KindNumbers.{annex_number, bank_number, node_number, page_number, root_number}
-use Rattle.capability.proofs.Roles.{role_free, role_of_map}
-
-kind_map : (g : Geometry) (n : ℕ) (c : Content Capability) → IsOfKind g n c → IsOfKind g n (map_content fresh_cap c)
-kind_map g n content.Free kind = kind
-kind_map g n (content.Page words) kind = kind
-kind_map g n (content.Node slots) kind = kind
-kind_map g n (content.Root r) kind = kind
-kind_map g n (content.Annex registers) kind = kind
-kind_map g n (content.Bank limit) kind = kind
+use Rattle.capability.proofs.Mapped.{kind_map, mapped}
+use Rattle.capability.proofs.Roles.{role_free}
 
 none_above : (hs : List ObjectHeader) (cs : List Capability) → All (IsCurrent hs) (map fresh_cap cs)
 none_above hs cs = All-map (IsCurrent hs) fresh_cap cs (λ k d inside. omega arith)
@@ -116,9 +110,9 @@ module _ (g : Geometry) (w : World) (few : object_count g < 2 ^ 64) (sound : IsS
 
   frame_kept : (n : ℕ) → IsKeepable g w.age n (fresh_frame (object_at w.objects n))
   frame_kept n = record {
-    kind = kind_map g n (content_at w.objects n) (sound.kinds n);
+    kind = kind_map g n fresh_cap (content_at w.objects n) (sound.kinds n);
     kept = record {
-      role = sym (role_of_map fresh_cap (content_at w.objects n));
+      role = sym ((mapped fresh_cap (content_at w.objects n)).role);
       allocations = (omega arith, omega arith);
       calls = (omega arith, omega arith);
       owner = owner_fits n (is_free (content_at w.objects n)) refl;

@@ -14,7 +14,8 @@ use Rattle.model.specs.Keepable.{world_at}
 use Rattle.model.specs.Object.{map_content, free}
 use Rattle.model.specs.Worlds.{f0, i0}
 use Rattle.model.specs.World.{World}
-use Rattle.capability.specs.Plain.{fresh_cap, fresh_frame, fresh_header, fresh_held, prime_header}
+use Rattle.capability.specs.Plain.{fresh_cap}
+use Rattle.kernel_tests.specs.Fresh.{fresh_frame, fresh_header, fresh_held, prime_header}
 
 -- what is undone for each element is undone for all
 map_back : {A B : Type 0} (f : A → B) (back : B → A) → ((x : A) → back (f x) ≡ x) → (xs : List A) → map back (map f xs) ≡ xs

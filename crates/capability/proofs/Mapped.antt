@@ -1,0 +1,32 @@
+-- A content with each capability in it changed is as it was in all else.
+use Rattle.std.proofs.Common.{◌≡◌, ℕ, map, refl}
+use Rattle.model.specs.declared.geometry.Geometry.{Geometry}
+use Rattle.model.specs.declared.object.Content.{Content}
+use Rattle.model.specs.declared.object.Content.TheVariants as content
+use Rattle.model.specs.Object.{is_annex, is_bank, is_root, limit_in, map_content, role_of, slots_in, words_in}
+use Rattle.model.specs.Sound.{IsOfKind}
+
+pub record IsMapped {B C : Type 0} (f : B → C) (c : Content B) (d : Content C) : Type 0 where
+  pub role : role_of d ≡ role_of c
+  pub root : is_root d ≡ is_root c
+  pub annex : is_annex d ≡ is_annex c
+  pub bank : is_bank d ≡ is_bank c
+  pub words : words_in d ≡ words_in c
+  pub limit : limit_in d ≡ limit_in c
+  pub slots : slots_in d ≡ map f (slots_in c)
+
+pub mapped : {B C : Type 0} (f : B → C) (c : Content B) → IsMapped f c (map_content f c)
+mapped f content.Free = record { role = refl; root = refl; annex = refl; bank = refl; words = refl; limit = refl; slots = refl }
+mapped f (content.Page words) = record { role = refl; root = refl; annex = refl; bank = refl; words = refl; limit = refl; slots = refl }
+mapped f (content.Node slots) = record { role = refl; root = refl; annex = refl; bank = refl; words = refl; limit = refl; slots = refl }
+mapped f (content.Root r) = record { role = refl; root = refl; annex = refl; bank = refl; words = refl; limit = refl; slots = refl }
+mapped f (content.Annex registers) = record { role = refl; root = refl; annex = refl; bank = refl; words = refl; limit = refl; slots = refl }
+mapped f (content.Bank limit) = record { role = refl; root = refl; annex = refl; bank = refl; words = refl; limit = refl; slots = refl }
+
+pub kind_map : {B C : Type 0} (g : Geometry) (n : ℕ) (f : B → C) (c : Content B) → IsOfKind g n c → IsOfKind g n (map_content f c)
+kind_map g n f content.Free kind = kind
+kind_map g n f (content.Page words) kind = kind
+kind_map g n f (content.Node slots) kind = kind
+kind_map g n f (content.Root r) kind = kind
+kind_map g n f (content.Annex registers) kind = kind
+kind_map g n f (content.Bank limit) kind = kind

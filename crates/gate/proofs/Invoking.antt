@@ -1,0 +1,165 @@
+-- What comes of an invocation, from what its looks, its announcing and its change told.
+use Rattle.std.proofs.Common.{◌≡◌, ℕ, ◌+◌, ◌^◌, ◌<◌, ◌≤◌, Bool, List, None, Some, Result, Ok, Err, refl, sym, ap, ◌∙◌, subst, ⊎_elim, arith}
+use Rattle.std.proofs.lemmas.Bool.{cases_lt}
+use Rattle.std.specs.Prelude.{IsErrOf, IsTrue, OnErr}
+use Rattle.model.specs.declared.command.Command.TheVariants as command
+use Rattle.model.specs.declared.command.Invocation.{Invocation}
+use Rattle.model.specs.declared.geometry.Geometry.{Geometry}
+use Rattle.model.specs.declared.object.Object.{Object}
+use Rattle.model.specs.Invoke.{Effect, invoke}
+use Rattle.model.specs.Keepable.{AreCurrent, AreKeepable}
+use Rattle.model.specs.Machine.{touching, touched_count}
+use Rattle.model.specs.Text.{Fits}
+use Rattle.model.specs.World.{is_running_process}
+use Rattle.capability.specs.declared.present.PrepareFault.{PrepareFault}
+use Rattle.capability.specs.declared.present.PrepareFault.TheVariants as prepare
+use Rattle.capability.specs.Parts.{IsUnchanged, Looks, Parts, Prepares, Renews, frames_of, objects_in}
+use Rattle.gate.specs.declared.fault.InvokeFault.{InvokeFault}
+use Rattle.gate.specs.declared.fault.InvokeFault.TheVariants as fault
+use Rattle.gate.specs.Invoke.{Invoked, Invokes, Overfills, fault_of}
+use Rattle.gate.proofs.Effects.{invokes_by, overfills_by, sound_after}
+use Rattle.gate.proofs.Fits.{in_geometry}
+use Rattle.gate.proofs.Listed.{full_fault, on_ok}
+use Rattle.gate.proofs.Renewing.{renews_looked}
+use Rattle.gate.proofs.Standing.{LooksAs, keeps_looked, looked_as, looked_keepable, looked_objects, looks_again, prepared_as}
+
+-- no want of memory or failure is told as a process that isn't available
+never_stalled : (e : PrepareFault) → IsErrOf {T = Unit {0}} (Err (fault_of e)) fault.Stalled → ⊥
+never_stalled prepare.NoMemory is = cc
+never_stalled prepare.LogFull is = cc
+never_stalled prepare.Failed is = cc
+
+failed_fault : {T U : Type 0} (e : PrepareFault) → IsErrOf {T = U} (Err (fault_of e)) fault.Failed → IsErrOf {T = T} (Err e) prepare.Failed
+failed_fault prepare.Failed is = refl
+failed_fault prepare.NoMemory is = cc
+failed_fault prepare.LogFull is = cc
+
+fault_failed : {T U : Type 0} (e : PrepareFault) → IsErrOf {T = T} (Err e) prepare.Failed → IsErrOf {T = U} (Err (fault_of e)) fault.Failed
+fault_failed prepare.Failed is = refl
+fault_failed prepare.NoMemory is = cc
+fault_failed prepare.LogFull is = cc
+
+ok_no_failure : {T : Type 0} (x : T) → (let r : Result T PrepareFault = Ok x in IsErrOf r prepare.Failed) → ⊥
+ok_no_failure x is = cc
+
+on_err : {T E : Type 0} (r : Result T E) {P Q : Type 0} → (P → Q) → OnErr r P → OnErr r Q
+on_err (Ok x) f p = tt
+on_err (Err e) f p = f p
+
+-- what rose by no failure stayed
+unrisen : (m n : ℕ) → m ≤ n → (m < n → ⊥) → n ≡ m
+unrisen m n later stayed = ⊎_elim (λ (rose : m < n). absurd (stayed rose)) (λ (within : n ≤ m). omega arith) (cases_lt m n)
+
+module _ {S : Type 0} (parts : S → Parts) (Leads : S → S → Type 0) (i : Invocation) where
+  -- objects that couldn't be looked at
+  pub unlooked : {T : Type 0} (s t : S) (e : PrepareFault) → Looks {T = T} parts Leads s t (Err e) → Invoked parts Leads s t i (Err (fault_of e))
+  unlooked s t e looks = record {
+    done = tt;
+    stalled = λ is. absurd (never_stalled e is);
+    full = λ is. absurd (looks.room (full_fault e is));
+    sound = tt;
+    renews = tt;
+    unchanged = record { headers = looks.aside.headers; contents = looks.aside.contents; touched = looks.aside.touched };
+    cause = (λ is. looks.cause.0 (failed_fault e is), λ rose. fault_failed e (looks.cause.1 rose));
+    later = looks.later;
+    geometry = looks.aside.geometry;
+    leads = looks.aside.leads;
+  }
+
+  -- an invocation after a look
+  module _ (twice : (s t u : S) → Leads s t → Leads t u → Leads s u) (s t u : S) {T : Type 0} (x : T) (looks : Looks {T = T} parts Leads s t (Ok x)) where
+    still : (parts t).failures ≡ (parts s).failures
+    still = unrisen (parts s).failures (parts t).failures looks.later (λ rose. ok_no_failure x (looks.cause.1 rose))
+
+    before : (P : Geometry → List Object → List Bool → Type 0) → P (parts t).geometry (objects_in (parts t)) (parts t).touched → P (parts s).geometry (objects_in (parts s)) (parts s).touched
+    before P p =
+        subst (λ (g : Geometry). P g (objects_in (parts s)) (parts s).touched) looks.aside.geometry
+        (subst (λ (os : List Object). P (parts t).geometry os (parts s).touched) (looked_objects (parts s) (parts t) (looked_as looks.aside))
+        (subst (λ (ts : List Bool). P (parts t).geometry (objects_in (parts t)) ts) looks.aside.touched p))
+
+    -- a process that isn't available
+    pub found_stalled : invoke (parts s).geometry (objects_in (parts s)) i ≡ None → Invoked parts Leads s t i (Err fault.Stalled)
+    found_stalled none = record {
+      done = tt;
+      stalled = λ is. none;
+      full = λ is. cc;
+      sound = tt;
+      renews = tt;
+      unchanged = record { headers = looks.aside.headers; contents = looks.aside.contents; touched = looks.aside.touched };
+      cause = (λ is. cc, λ rose. absurd (ok_no_failure x (looks.cause.1 rose)));
+      later = looks.later;
+      geometry = looks.aside.geometry;
+      leads = looks.aside.leads;
+    }
+
+    pub invoked_looked : (r : Result (Unit {0}) InvokeFault) → Invoked parts Leads t u i r → Invoked parts Leads s u i r
+    invoked_looked r is = record {
+      done = on_ok r (before (λ g os ts. Invokes g i os ts (objects_in (parts u)) (parts u).touched)) is.done;
+      stalled = λ e. before (λ g os ts. invoke g os i ≡ None) (is.stalled e);
+      full = λ e. before (λ g os ts. Overfills g i os ts) (is.full e);
+      sound = on_ok r (keeps_looked (parts s) (parts t) (parts u) (looked_as looks.aside)) is.sound;
+      renews = on_ok r (renews_looked (parts s) (parts t) (parts u) (looked_as looks.aside)) is.renews;
+      unchanged = on_err r (λ (same : IsUnchanged (parts t) (parts u)). record {
+        headers = same.headers ∙ looks.aside.headers;
+        contents = same.contents ∙ looks.aside.contents;
+        touched = same.touched ∙ looks.aside.touched;
+      }) is.unchanged;
+      cause = (λ e. subst (λ (n : ℕ). n < (parts u).failures) still (is.cause.0 e), λ rose. is.cause.1 (subst (λ (n : ℕ). n < (parts u).failures) (sym still) rose));
+      later = subst (λ (n : ℕ). n ≤ (parts u).failures) still is.later;
+      geometry = is.geometry ∙ looks.aside.geometry;
+      leads = twice s t u looks.aside.leads is.leads;
+    }
+
+    -- an invocation that is known, and the numbers that it writes
+    module _ (ns : List ℕ) (e : Effect) (invoked : invoke (parts s).geometry (objects_in (parts s)) i ≡ Some e) (written : ns ≡ e.written) where
+      -- numbers that couldn't be announced
+      pub unannounced : {U : Type 0} (f : PrepareFault) → Prepares {T = U} parts Leads t u ns (Err f) → Invoked parts Leads s u i (Err (fault_of f))
+      unannounced f told = record {
+        done = tt;
+        stalled = λ is. absurd (never_stalled f is);
+        full = λ is. overfills_by (parts s).geometry i (objects_in (parts s)) (parts s).touched e invoked
+            (subst (λ (ms : List ℕ). (parts s).geometry.log < touched_count (touching (parts s).touched ms)) written
+            (before (λ g os ts. g.log < touched_count (touching ts ns)) (told.full (full_fault f is))));
+        sound = tt;
+        renews = tt;
+        unchanged = record {
+          headers = told.headers ∙ looks.aside.headers;
+          contents = told.contents ∙ looks.aside.contents;
+          touched = told.untouched ∙ looks.aside.touched;
+        };
+        cause = (λ is. subst (λ (n : ℕ). n < (parts u).failures) still (told.cause.0 (failed_fault f is)), λ rose. fault_failed f (told.cause.1 (subst (λ (n : ℕ). n < (parts u).failures) (sym still) rose)));
+        later = subst (λ (n : ℕ). n ≤ (parts u).failures) still told.later;
+        geometry = told.geometry ∙ looks.aside.geometry;
+        leads = twice s t u looks.aside.leads told.leads;
+      }
+
+      -- and numbers that were, and then written
+      module _ {U : Type 0} (m : S) (y : U) (told : Prepares {T = U} parts Leads t m ns (Ok y)) (failures : (parts u).failures ≡ (parts m).failures) where
+        all_still : (parts u).failures ≡ (parts s).failures
+        all_still = failures ∙ unrisen (parts t).failures (parts m).failures told.later (λ rose. ok_no_failure y (told.cause.1 rose)) ∙ still
+
+        there : LooksAs (parts s) (parts m)
+        there = looks_again (parts s) (parts t) (parts m) (looked_as looks.aside) (prepared_as told)
+
+        pub carried_out : (parts u).touched ≡ (parts m).touched → (parts u).geometry ≡ (parts m).geometry → Leads m u → objects_in (parts u) ≡ e.objects
+            → Fits (command.Invoke i) → IsTrue (is_running_process (objects_in (parts s)) i.process) → AreCurrent (frames_of (parts u))
+            → ((age : ℕ) → age + 1 < 2 ^ 64 → AreKeepable (parts m).geometry age (frames_of (parts m)) → AreKeepable (parts m).geometry (age + 1) (frames_of (parts u)))
+            → Renews (parts s) (parts u) → Invoked parts Leads s u i (Ok tt)
+        carried_out touched geometry leads objects fits running current keepable renews = record {
+          done = invokes_by (parts s).geometry i (objects_in (parts s)) (objects_in (parts u)) (parts s).touched (parts u).touched e invoked objects
+              (touched ∙ told.touched ∙ ap (λ (ts : List Bool). touching ts ns) looks.aside.touched ∙ ap (touching (parts s).touched) written)
+              (subst (λ (ts : List Bool). touched_count ts ≤ (parts s).geometry.log) (sym touched)
+              (subst (λ (g : Geometry). touched_count (parts m).touched ≤ g.log) there.geometry told.within));
+          stalled = λ is. cc;
+          full = λ is. cc;
+          sound = λ age young sound. sound_after (parts s).geometry age (frames_of (parts s)) (frames_of (parts u)) i e young fits running invoked objects sound
+              (in_geometry (parts s).geometry (parts m).geometry (age + 1) (frames_of (parts u)) (sym there.geometry)
+              (keepable age (omega (arith, young)) (looked_keepable (parts s) (parts m) there age sound.keepable)))
+              current;
+          renews = renews;
+          unchanged = tt;
+          cause = (λ is. cc, λ rose. absurd (omega (arith, rose, all_still)));
+          later = omega (arith, all_still);
+          geometry = geometry ∙ there.geometry;
+          leads = twice s t u looks.aside.leads (twice t m u told.leads leads);
+        }
