@@ -1,10 +1,11 @@
 -- A directory without entries.
-use Rattle.std.proofs.Common.{◌≡◌, ℕ, List, [], ◌∷◌, length, refl, arith}
+use Rattle.std.proofs.Common.{◌≡◌, ◌+◌, ◌-◌, ◌*◌, ◌/◌, ◌≤◌, ℕ, List, [], ◌∷◌, length, take, drop, replicate, refl, ap, subst, ◌∙◌, arith}
+use Rattle.std.proofs.lemmas.List.{drop-replicate, take-replicate}
 use Rattle.device.specs.Disk.{Image}
 use Rattle.layout.specs.declared.directory.Entry.{Entry}
 use Rattle.layout.specs.Directory.{directory_bytes, IsDirectory}
 use Rattle.layout.specs.Superblock.{Plan}
-use Rattle.layout.specs.Image.{directory_in}
+use Rattle.layout.specs.Image.{directory_in, directory_length, sectors_from}
 
 -- it is spelt by no bytes
 pub no_entries : (p : Plan) (generation : ℕ) (image : Image) (es : List Entry) → length es ≡ 0 → IsDirectory p.geometry es × (directory_in image p generation (length es) ≡ directory_bytes es)
@@ -18,3 +19,21 @@ no_entries p generation image [] none = (
   refl,
 )
 no_entries p generation image (e ∷ es) none = absurd (omega (arith, none))
+
+-- and its sectors, of which there are none, have nothing behind it
+nothing_behind : (image : Image) (at : ℕ) → drop (16 * 0) (sectors_from image at (directory_length 0)) ≡ replicate (512 * directory_length 0 - 16 * 0) 0
+unfolding sectors_from
+nothing_behind image at = refl
+
+pub none_behind : (image : Image) (at n : ℕ) → n ≡ 0 → drop (16 * n) (sectors_from image at (directory_length n)) ≡ replicate (512 * directory_length n - 16 * n) 0
+none_behind image at n none = rw none (nothing_behind image at)
+
+-- behind the entries of one that is written over zeros there are zeros
+pub zeros_behind : (image : Image) (at n : ℕ) (run : List ℕ) → n ≤ 4096 → sectors_from image at ((n + 32 - 1) / 32) ≡ run
+    → drop (16 * n) run ≡ drop (16 * n) (take (512 * ((n + 32 - 1) / 32)) (replicate 65536 0)) → drop (16 * n) (sectors_from image at (directory_length n)) ≡ replicate (512 * directory_length n - 16 * n) 0
+zeros_behind image at n run few written rest =
+    let same : (n + 32 - 1) / 32 ≡ directory_length n = omega arith in
+    subst (λ (k : ℕ). drop (16 * n) (sectors_from image at k) ≡ replicate (512 * k - 16 * n) 0) same
+    (ap (drop (16 * n)) written ∙ rest
+    ∙ ap (drop (16 * n)) (take-replicate (512 * ((n + 32 - 1) / 32)) 65536 0 (omega (arith, few)))
+    ∙ drop-replicate (16 * n) (512 * ((n + 32 - 1) / 32)) 0)

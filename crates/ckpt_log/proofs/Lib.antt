@@ -1,4 +1,5 @@
 pub mod BesideHeaders
+pub mod Closings
 pub mod Commits
 pub mod Denoted
 mod Directories

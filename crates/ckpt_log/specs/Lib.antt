@@ -1,3 +1,4 @@
+pub mod Closing
 pub mod Commit
 pub mod CommitLaws
 pub mod HeaderLaws

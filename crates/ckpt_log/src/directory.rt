@@ -1,7 +1,7 @@
 // The directories of the log.
-ghost use Rattle.std.specs.Prelude.{◌≡◌, ◌+◌, ◌*◌, ◌<◌, ◌≤◌, List, length, take, IfErr, OnOk};
+ghost use Rattle.std.specs.Prelude.{◌≡◌, ◌+◌, ◌-◌, ◌*◌, ◌<◌, ◌≤◌, List, length, replicate, take, drop, IfErr, OnOk};
 ghost use Rattle.layout.specs.Directory.{directory_bytes, IsDirectory};
-ghost use Rattle.layout.specs.Image.{directory_sector, directory_length, directory_in};
+ghost use Rattle.layout.specs.Image.{directory_sector, directory_length, directory_in, sectors_from};
 ghost use Rattle.device.specs.Calls.{Counts};
 ghost use Rattle.frame_io.specs.Calls.{ReadsOnly, WritesAt};
 ghost use Rattle.frame_io.specs.Fault.{CountsFailed};
@@ -22,6 +22,8 @@ const ENTRIES_IN_SECTOR: usize = 32;
 fn put_entries(entries: &[Entry], into: &mut [u8])
     requires room { 16 * length entries.now ≤ length into.old }
     ensures front { take (16 * length entries.now) into.new ≡ directory_bytes entries.now }
+    ensures rest { drop (16 * length entries.now) into.new
+        ≡ drop (16 * length entries.now) into.old }
     ensures size { length into.new ≡ length into.old }
 {
     encode_directory(entries, &mut into[..ENTRY_BYTES * entries.len()]);
@@ -42,9 +44,10 @@ fn entries_in(bytes: &[u8], geometry: Geometry, into: &mut [Entry]) -> Result<()
 
 impl Log {
     /// Writes the directory of the half of a generation, and touches its sectors alone: a crash at
-    /// any moment leaves all other sectors as they could have been left before. It is refused
-    /// exactly where the device fails, and the sectors may then hold any bytes. It takes no memory,
-    /// and where there are no entries it makes no call of the device.
+    /// any moment leaves all other sectors as they could have been left before. The bytes behind the
+    /// last entry of its last sector are 0. It is refused exactly where the device fails, and the
+    /// sectors may then hold any bytes. It takes no memory, and where there are no entries it makes
+    /// no call of the device.
     pub fn write_directory<D: Device>(
         &self,
         device: &mut D,
@@ -56,6 +59,10 @@ impl Log {
         ensures written { OnOk result
             (directory_in (D.disk device.new).seen self.now generation (length entries.now)
             ≡ directory_bytes entries.now) }
+        ensures rest { OnOk result (drop (16 * length entries.now)
+            (sectors_from (D.disk device.new).seen (directory_sector self.now generation)
+            (directory_length (length entries.now)))
+            ≡ replicate (512 * directory_length (length entries.now) - 16 * length entries.now) 0) }
         ensures writes { WritesAt (directory_sector self.now generation)
             (directory_length (length entries.now)) (D.disk device.old) (D.disk device.new) }
         ensures untouched { length entries.now ≡ 0 → device.new ≡ device.old }

@@ -2,6 +2,7 @@
 //! committed header is the one before or the next.
 #![tactic(auto)]
 
+mod closing;
 mod committed;
 mod directory;
 mod header_slot;
@@ -11,6 +12,7 @@ mod publish;
 mod sector;
 mod slots;
 
+pub use closing::close_gates;
 pub use laws::{
     a_commit_leaves_either_state, headers_spare_the_rest, keep_halves_apart,
     saved_is_read_from_its_sectors, what_is_written_is_read,

@@ -15,7 +15,7 @@ use layout::{CheckpointHeader, Gate, decode_gate, encode_gate, encode_header};
 
 // Closes the gate in a sector where it is open. A closed gate isn't written: a torn write could
 // open it.
-fn close_gate<D: Device>(device: &mut D, at: u64) -> Result<(), Failed>
+pub(crate) fn close_gate<D: Device>(device: &mut D, at: u64) -> Result<(), Failed>
     requires inside { at < (D.disk device.old).sectors }
     requires durable { Only (D.disk device.old).seen (D.disk device.old) }
 

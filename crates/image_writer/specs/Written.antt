@@ -1,20 +1,19 @@
 -- What a fresh image saves, and its parts.
-use Rattle.std.specs.Prelude.{◌≡◌, ℕ, ◌<◌, List, []}
+use Rattle.std.specs.Prelude.{◌≡◌, ◌⊎◌, ℕ, ◌<◌, List, []}
 use Rattle.model.specs.declared.frame.Frame.{Frame}
 use Rattle.model.specs.declared.geometry.Geometry.{Geometry}
 use Rattle.model.specs.Frame.{frame_at}
 use Rattle.model.specs.Sound.{object_count}
-use Rattle.device.specs.Disk.{Image}
-use Rattle.layout.specs.declared.gate.Gate.TheVariants.{Closed}
+use Rattle.device.specs.Disk.{Disk, Image}
 use Rattle.layout.specs.declared.header.CheckpointHeader.{CheckpointHeader}
 use Rattle.layout.specs.Frame.{frame_bytes}
-use Rattle.layout.specs.Gate.{gate_bytes}
 use Rattle.layout.specs.Header.{header_bytes}
-use Rattle.layout.specs.Image.{SavedState}
+use Rattle.layout.specs.Image.{HasNoHeader, SavedState}
 use Rattle.layout.specs.Superblock.{Plan, IsPlan, superblock_bytes}
 use Rattle.frame_io.specs.Frames.{bytes_at}
 use Rattle.home_ranges.specs.Home.{home_place}
-use Rattle.migrator.specs.Saved.{SavedFrames}
+use Rattle.ckpt_log.specs.Closing.{AreClosed, KeepsImage}
+use Rattle.migrator.specs.Saved.{Holds, SavedFrames}
 
 -- the header of a checkpoint of generation 0, all of which is home
 abbrev pub first_header : ℕ → CheckpointHeader
@@ -28,19 +27,36 @@ first_state p age frames = record { plan = p; header = first_header age; directo
 abbrev pub first_saved : Geometry → ℕ → List Frame → SavedFrames
 first_saved g age frames = record { geometry = g; frames = frames; generation = 0; entries = 0; age = age }
 
--- a superblock, and the first header under a closed gate; the other gate is closed too
+-- a superblock, and the first header
 pub record HasFront (p : Plan) (age : ℕ) (image : Image) : Type 0 where
   pub superblock : image 0 ≡ superblock_bytes p
   pub header : image 1 ≡ header_bytes (first_header age)
-  pub shut : image 2 ≡ gate_bytes Closed
-  pub other_shut : image 4 ≡ gate_bytes Closed
 
 -- the frames of the first n numbers lie at home
 abbrev pub AreHome : Plan → List Frame → ℕ → Image → Type 0
 AreHome p frames n image = (a : ℕ) → a < n → bytes_at image (home_place p a) p.geometry a ≡ frame_bytes p.geometry a (frame_at frames a)
 
--- all of a fresh image but that its gate is open
+-- all of a fresh image, under closed gates
 pub record IsWritten (p : Plan) (age : ℕ) (frames : List Frame) (image : Image) : Type 0 where
   pub plan : IsPlan p
   pub front : HasFront p age image
+  pub closed : AreClosed image
   pub home : AreHome p frames (object_count p.geometry) image
+
+-- ---- what a crash leaves on the way
+
+-- both gates are closed
+abbrev pub LeavesClosed : Disk → Type 0
+LeavesClosed disk = (c : Image) → disk.may_leave c → AreClosed c
+
+-- what a crash could have left before: the gates alone may be others, and the committed header is the same
+abbrev pub WasBefore : Disk → Image → Type 0
+WasBefore disk c = (d : Image) × disk.may_leave d × KeepsImage d c
+
+-- that, or what has no committed header and so can't be opened
+abbrev pub IsBeforeOrNone : Disk → Image → Type 0
+IsBeforeOrNone disk c = WasBefore disk c ⊎ HasNoHeader c
+
+-- or the fresh image, whole
+abbrev pub IsLeftWriting : Disk → SavedFrames → Image → Type 0
+IsLeftWriting disk saved c = WasBefore disk c ⊎ HasNoHeader c ⊎ Holds disk.sectors c saved

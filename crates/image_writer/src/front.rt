@@ -1,55 +1,50 @@
-// The sectors before the home ranges: the superblock, the headers and their gates.
-ghost use Rattle.std.specs.Prelude.{◌≡◌, ◌+◌, ◌≤◌, length, OnOk};
+// The sectors before the home ranges: the superblock, the first header and its gate.
+ghost use Rattle.std.specs.Prelude.{◌≡◌, ◌+◌, ◌<◌, ◌≤◌, length, OnOk};
 ghost use Rattle.device.specs.Calls.{Counts, Elsewhere, Only};
+ghost use Rattle.device.specs.Moments.{LeavesOnly};
+ghost use Rattle.frame_io.specs.Calls.{WritesAt};
 ghost use Rattle.layout.specs.Gate.{gate_bytes};
 ghost use Rattle.layout.specs.Header.{header_bytes};
 ghost use Rattle.layout.specs.Superblock.{superblock_bytes};
-ghost use Rattle.image_writer.specs.Written.{HasFront, first_header};
+ghost use Rattle.ckpt_log.specs.Closing.{AreClosed};
+ghost use Rattle.image_writer.specs.Written.{HasFront, LeavesClosed, first_header};
 
 use device::{Device, Failed, SECTOR_SIZE};
 use frame_io::write_sectors;
 use layout::{CheckpointHeader, Gate, Superblock, encode_gate, encode_header, encode_superblock};
 
-// Where the first header and the gates of both headers lie.
+// Where the first header and its gate lie.
 const FIRST_HEADER: u64 = 1;
 
 const FIRST_GATE: u64 = 2;
 
-const SECOND_GATE: u64 = 4;
-
-// Writes a sector, and touches no other.
+// Writes a sector before the gates, which are closed, and touches no other.
 #[tactic(auto, using(crate::proofs::Fronts::alone))]
 fn write_sector<D: Device>(device: &mut D, at: u64, bytes: &[u8]) -> Result<(), Failed>
     requires one { length bytes.now ≡ 512 }
-    requires inside { at + 1 ≤ (D.disk device.old).sectors }
+    requires before { at < 2 }
+    requires inside { 5 ≤ (D.disk device.old).sectors }
+    requires closed { LeavesClosed (D.disk device.old) }
     ensures written { OnOk result ((D.disk device.new).seen at ≡ bytes.now) }
+    ensures closed { LeavesClosed (D.disk device.new) }
     ensures elsewhere { Elsewhere at 1 (D.disk device.old).seen (D.disk device.new).seen }
     ensures size { (D.disk device.new).sectors ≡ (D.disk device.old).sectors }
+    ensures any_moment { LeavesOnly (D.disk device.old) (D.disk device.new) (λ c. AreClosed c) }
     ensures cause { Counts (D.disk device.old) (D.disk device.new) result }
 {
     write_sectors(device, at, 1, bytes)
 }
 
-// Writes a gate.
-fn write_gate<D: Device>(device: &mut D, at: u64, gate: Gate) -> Result<(), Failed>
-    requires inside { at + 1 ≤ (D.disk device.old).sectors }
-    ensures written { OnOk result ((D.disk device.new).seen at ≡ gate_bytes gate) }
-    ensures elsewhere { Elsewhere at 1 (D.disk device.old).seen (D.disk device.new).seen }
-    ensures size { (D.disk device.new).sectors ≡ (D.disk device.old).sectors }
-    ensures cause { Counts (D.disk device.old) (D.disk device.new) result }
-{
-    let mut sector = [0; SECTOR_SIZE];
-    encode_gate(gate, &mut sector);
-    write_sector(device, at, &sector)
-}
-
 // Writes the superblock.
 fn write_superblock<D: Device>(device: &mut D, superblock: &Superblock) -> Result<(), Failed>
     requires inside { 5 ≤ (D.disk device.old).sectors }
+    requires closed { LeavesClosed (D.disk device.old) }
     ensures written { OnOk result
         ((D.disk device.new).seen 0 ≡ superblock_bytes superblock.now) }
+    ensures closed { LeavesClosed (D.disk device.new) }
     ensures elsewhere { Elsewhere 0 1 (D.disk device.old).seen (D.disk device.new).seen }
     ensures size { (D.disk device.new).sectors ≡ (D.disk device.old).sectors }
+    ensures any_moment { LeavesOnly (D.disk device.old) (D.disk device.new) (λ c. AreClosed c) }
     ensures cause { Counts (D.disk device.old) (D.disk device.new) result }
 {
     let mut sector = [0; SECTOR_SIZE];
@@ -60,10 +55,13 @@ fn write_superblock<D: Device>(device: &mut D, superblock: &Superblock) -> Resul
 // Writes the header of generation 0.
 fn write_header<D: Device>(device: &mut D, age: u64) -> Result<(), Failed>
     requires inside { 5 ≤ (D.disk device.old).sectors }
+    requires closed { LeavesClosed (D.disk device.old) }
     ensures written { OnOk result
         ((D.disk device.new).seen 1 ≡ header_bytes (first_header age)) }
+    ensures closed { LeavesClosed (D.disk device.new) }
     ensures elsewhere { Elsewhere 1 1 (D.disk device.old).seen (D.disk device.new).seen }
     ensures size { (D.disk device.new).sectors ≡ (D.disk device.old).sectors }
+    ensures any_moment { LeavesOnly (D.disk device.old) (D.disk device.new) (λ c. AreClosed c) }
     ensures cause { Counts (D.disk device.old) (D.disk device.new) result }
 {
     let header = CheckpointHeader {
@@ -77,34 +75,52 @@ fn write_header<D: Device>(device: &mut D, age: u64) -> Result<(), Failed>
     write_sector(device, FIRST_HEADER, &sector)
 }
 
-/// Writes the superblock, and the header of generation 0 under a closed gate. The gate of the other
-/// header is closed too.
+/// Writes the superblock, and the header of generation 0, under closed gates. A crash at any moment
+/// leaves these closed.
 pub(crate) fn write_front<D: Device>(
     device: &mut D,
     superblock: &Superblock,
     age: u64,
 ) -> Result<(), Failed>
     requires inside { 5 ≤ (D.disk device.old).sectors }
+    requires closed { LeavesClosed (D.disk device.old) }
     ensures front { OnOk result (HasFront superblock.now age (D.disk device.new).seen) }
+    ensures closed { LeavesClosed (D.disk device.new) }
     ensures elsewhere { Elsewhere 0 5 (D.disk device.old).seen (D.disk device.new).seen }
     ensures size { (D.disk device.new).sectors ≡ (D.disk device.old).sectors }
+    ensures any_moment { LeavesOnly (D.disk device.old) (D.disk device.new) (λ c. AreClosed c) }
     ensures cause { Counts (D.disk device.old) (D.disk device.new) result }
 {
-    write_gate(device, FIRST_GATE, Gate::Closed)?;
-    write_gate(device, SECOND_GATE, Gate::Closed)?;
     write_superblock(device, superblock)?;
     write_header(device, age)
 }
 
-/// Opens the gate of the first header, and makes durable what was written.
+// Writes the gate of the first header, and touches no other sector.
+#[tactic(auto, using(crate::proofs::Fronts::alone))]
+fn write_gate<D: Device>(device: &mut D, gate: Gate) -> Result<(), Failed>
+    requires inside { 5 ≤ (D.disk device.old).sectors }
+    ensures written { OnOk result ((D.disk device.new).seen 2 ≡ gate_bytes gate) }
+    ensures writes { WritesAt 2 1 (D.disk device.old) (D.disk device.new) }
+    ensures cause { Counts (D.disk device.old) (D.disk device.new) result }
+{
+    let mut sector = [0; SECTOR_SIZE];
+    encode_gate(gate, &mut sector);
+    write_sectors(device, FIRST_GATE, 1, &sector)
+}
+
+/// Opens the gate of the first header, where all that was written is durable. A crash at any moment
+/// leaves all else.
 pub(crate) fn open_gate<D: Device>(device: &mut D) -> Result<(), Failed>
     requires inside { 5 ≤ (D.disk device.old).sectors }
+    requires durable { Only (D.disk device.old).seen (D.disk device.old) }
     ensures written { OnOk result ((D.disk device.new).seen 2 ≡ gate_bytes Gate.Open) }
     ensures durable { OnOk result (Only (D.disk device.new).seen (D.disk device.new)) }
     ensures elsewhere { Elsewhere 2 1 (D.disk device.old).seen (D.disk device.new).seen }
     ensures size { (D.disk device.new).sectors ≡ (D.disk device.old).sectors }
+    ensures any_moment { LeavesOnly (D.disk device.old) (D.disk device.new)
+        (λ c. Elsewhere 2 1 (D.disk device.old).seen c) }
     ensures cause { Counts (D.disk device.old) (D.disk device.new) result }
 {
-    write_gate(device, FIRST_GATE, Gate::Open)?;
+    write_gate(device, Gate::Open)?;
     device.sync()
 }

@@ -1,17 +1,20 @@
 // The home frames of all objects.
 ghost use Rattle.std.specs.Prelude.{◌≡◌, ◌-◌, ◌≤◌, length, OnOk};
 ghost use Rattle.device.specs.Calls.{Counts, Elsewhere};
+ghost use Rattle.device.specs.Moments.{LeavesOnly};
 ghost use Rattle.layout.specs.Superblock.{IsPlan};
 ghost use Rattle.model.specs.Frame.{frames_in};
 ghost use Rattle.model.specs.Sound.{object_count};
-ghost use Rattle.image_writer.specs.Written.{AreHome};
+ghost use Rattle.ckpt_log.specs.Closing.{AreClosed};
+ghost use Rattle.image_writer.specs.Written.{AreHome, LeavesClosed};
 
 use device::{Device, Failed};
 use home_ranges::Home;
 use model::{Cap, Content, ObjectHeader};
 
 /// Writes the home frames of so many objects, which are all there are: each from the header and the
-/// content of its number.
+/// content of its number. The gates of both headers are closed, and a crash at any moment leaves
+/// them so.
 pub(crate) fn write_homes<D: Device>(
     device: &mut D,
     home: &Home,
@@ -24,11 +27,14 @@ pub(crate) fn write_homes<D: Device>(
     requires headers { length headers.now ≡ count }
     requires contents { length contents.now ≡ count }
     requires inside { home.now.total ≤ (D.disk device.old).sectors }
+    requires closed { LeavesClosed (D.disk device.old) }
     ensures home { OnOk result (AreHome home.now (frames_in headers.now contents.now) count
         (D.disk device.new).seen) }
+    ensures closed { LeavesClosed (D.disk device.new) }
     ensures elsewhere { Elsewhere 5 (home.now.total - 5)
         (D.disk device.old).seen (D.disk device.new).seen }
     ensures size { (D.disk device.new).sectors ≡ (D.disk device.old).sectors }
+    ensures any_moment { LeavesOnly (D.disk device.old) (D.disk device.new) (λ c. AreClosed c) }
     ensures cause { Counts (D.disk device.old) (D.disk device.new) result }
 {
     for number in 0..count {

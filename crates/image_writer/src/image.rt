@@ -1,21 +1,24 @@
 // Writing a fresh image.
 ghost use Rattle.std.specs.Prelude.{◌≡◌, ◌^◌, ◌≤◌, length, OnOk};
 ghost use Rattle.device.specs.Disk.{Image};
-ghost use Rattle.device.specs.Calls.{Counts, Elsewhere};
+ghost use Rattle.device.specs.Calls.{Counts, Elsewhere, Only};
+ghost use Rattle.device.specs.Moments.{LeavesOnly};
 ghost use Rattle.layout.specs.Image.{Encodes};
 ghost use Rattle.migrator.specs.Saved.{Holds};
 ghost use Rattle.model.specs.Frame.{frames_in};
 ghost use Rattle.model.specs.Keepable.{AreKeepable};
-ghost use Rattle.image_writer.specs.Written.{IsWritten, first_state, first_saved};
+ghost use Rattle.image_writer.specs.Written.{IsBeforeOrNone, IsLeftWriting, IsWritten, first_state, first_saved};
 
 use crate::front::{open_gate, write_front};
 use crate::homes::write_homes;
+use ckpt_log::close_gates;
 use device::{Device, Failed};
 use home_ranges::Home;
 use layout::Superblock;
 use model::{Cap, Content, Geometry, ObjectHeader};
 
-// Writes all of an image under a closed gate, and makes it durable.
+// Closes the gates of what the device holds, writes all of an image but that its gate is open, and
+// makes that durable. A crash at any moment leaves what the device held, or nothing that opens.
 fn write_parts<D: Device>(
     device: &mut D,
     superblock: &Superblock,
@@ -29,13 +32,17 @@ fn write_parts<D: Device>(
         (frames_in headers.now contents.now) }
     ensures written { OnOk result (IsWritten superblock.now age
         (frames_in headers.now contents.now) (D.disk device.new).seen) }
+    ensures durable { OnOk result (Only (D.disk device.new).seen (D.disk device.new)) }
     ensures elsewhere { Elsewhere 0 superblock.now.total
         (D.disk device.old).seen (D.disk device.new).seen }
     ensures size { (D.disk device.new).sectors ≡ (D.disk device.old).sectors }
+    ensures any_moment { LeavesOnly (D.disk device.old) (D.disk device.new)
+        (λ c. IsBeforeOrNone (D.disk device.old) c) }
     ensures cause { Counts (D.disk device.old) (D.disk device.new) result }
 {
     let home = Home::new(superblock);
     let Geometry { nodes, pages, .. } = home.geometry();
+    close_gates(device)?;
     write_front(device, superblock, age)?;
     write_homes(device, &home, nodes + pages, headers, contents)?;
     device.sync()
@@ -46,9 +53,14 @@ fn write_parts<D: Device>(
 /// no entries, sequence number 0 and this age. From `Ok` on a read gives that state, and so does
 /// each crash.
 ///
-/// It is refused exactly where the device fails, and the image's sectors may then hold any bytes.
-/// Sectors behind its total hold what they held. No memory is taken. The first header's gate is
-/// opened once all else is durable.
+/// The gates of what the device held are closed first, the committed header's last: until then a
+/// crash leaves that image as it was. From then on, until the gate of the new header is written, it
+/// leaves nothing that can be opened, since no header is committed; and then that, or the new image.
+/// Each of the three steps is durable before the next begins.
+///
+/// It is refused exactly where the device fails, and the image's sectors may then hold any bytes,
+/// but at no moment such that a crash leaves anything else that can be opened. Sectors behind its
+/// total hold what they held. No memory is taken.
 ///
 /// The device has at least as many sectors as the superblock tells, and each frame can be kept at
 /// the age, which is at most `MAX_AGE`.
@@ -74,6 +86,12 @@ pub fn write_image<D: Device>(
     ensures elsewhere { Elsewhere 0 superblock.now.total
         (D.disk device.old).seen (D.disk device.new).seen }
     ensures size { (D.disk device.new).sectors ≡ (D.disk device.old).sectors }
+
+    // A crash at any moment leaves what it could have left before but for the gates, with the same
+    // committed header; or no committed header; or the fresh image.
+    ensures any_moment { LeavesOnly (D.disk device.old) (D.disk device.new)
+        (λ c. IsLeftWriting (D.disk device.old)
+        (first_saved superblock.now.geometry age (frames_in headers.now contents.now)) c) }
     ensures cause { Counts (D.disk device.old) (D.disk device.new) result }
 {
     write_parts(device, superblock, age, headers, contents)?;

@@ -4,6 +4,7 @@
 mod front;
 mod homes;
 mod image;
+pub mod laws;
 mod number_range;
 mod plan;
 

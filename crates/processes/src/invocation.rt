@@ -1,5 +1,5 @@
 // The step of an invocation.
-ghost use Rattle.std.specs.Prelude.{◌≤◌};
+ghost use Rattle.std.specs.Prelude.{◌≡◌, ◌≤◌, Ok};
 ghost use Rattle.model.specs.declared.command.Command.TheVariants as command;
 ghost use Rattle.model.specs.Keepable.{IsSoundFrames};
 ghost use Rattle.capability.specs.Parts.{frames_of, objects_in};
@@ -18,7 +18,8 @@ use std::alloc::Global;
 ///
 /// It is refused, and changes nothing, by the first that applies of `NoProcess`, `NotRunning`,
 /// `Worn` at the greatest age, `Stalled` and `LogFull`; or by `NoMemory` where memory ran out. It
-/// fails exactly where the device does, and then nothing was changed. What is counted of banks
+/// fails exactly where the device does, and then nothing was changed. `NoProcess` is told by the
+/// table of headers alone, and the store isn't touched. What is counted of banks
 /// stays what there is.
 pub fn invoke<F: PresentFrames>(
     alloc: Global,
@@ -33,6 +34,7 @@ pub fn invoke<F: PresentFrames>(
         (objects_in (F.parts store.old)) banks.old }
     ensures serves { Performs age.old (F.parts store.old) (command.Invoke invocation) (answer_of result)
         age.new (F.parts store.new) }
+    ensures untouched { result ≡ Ok (Answer.Refused Refusal.NoProcess) → store.new ≡ store.old }
     ensures told_once { IsToldOnce result }
     ensures later { age.old ≤ age.new }
     ensures counted { AreCounted (F.parts store.new).geometry

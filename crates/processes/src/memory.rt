@@ -1,5 +1,5 @@
 // The steps of loads and stores.
-ghost use Rattle.std.specs.Prelude.{◌≡◌};
+ghost use Rattle.std.specs.Prelude.{◌≡◌, Ok};
 ghost use Rattle.model.specs.declared.command.Command.TheVariants as command;
 ghost use Rattle.model.specs.Keepable.{IsSoundFrames};
 ghost use Rattle.capability.specs.Parts.{LooksUp, frames_of, objects_in};
@@ -29,7 +29,7 @@ pub(crate) fn refused(fault: PrepareFault) -> Result<Answer, Failed>
 ///
 /// The answer is `Value`, or `MemoryFault` where the walk stops. It is refused by the first that
 /// applies of `NoProcess` and `NotRunning`; or by `NoMemory` where memory ran out. It fails exactly
-/// where the device does. Nothing is changed.
+/// where the device does. Nothing is changed, and at `NoProcess` the store isn't touched.
 pub fn load<F: PresentFrames>(
     alloc: Global,
     store: &mut F,
@@ -40,6 +40,7 @@ pub fn load<F: PresentFrames>(
     requires { IsSoundFrames (F.parts store.old).geometry age (frames_of (F.parts store.old)) }
     ensures serves { Performs age (F.parts store.old) (command.Load process address) (answer_of result)
         age (F.parts store.new) }
+    ensures untouched { result ≡ Ok (Answer.Refused Refusal.NoProcess) → store.new ≡ store.old }
     ensures told_once { IsToldOnce result }
     ensures aside { LooksUp F.parts F.LeadsTo store.old store.new }
     ensures leads { F.LeadsTo store.old store.new }
@@ -59,7 +60,7 @@ pub fn load<F: PresentFrames>(
 /// The answer is `Done`, or `MemoryFault` where the walk stops or the page is read-only, also where
 /// the log is full. It is refused, and changes nothing, by the first that applies of `NoProcess`,
 /// `NotRunning` and `LogFull`; or by `NoMemory` where memory ran out. It fails exactly where the
-/// device does. What is counted of banks stays what there is.
+/// device does. At `NoProcess` the store isn't touched. What is counted of banks stays what there is.
 pub fn store<F: PresentFrames>(
     alloc: Global,
     store: &mut F,
@@ -71,6 +72,7 @@ pub fn store<F: PresentFrames>(
     requires { IsSoundFrames (F.parts store.old).geometry age (frames_of (F.parts store.old)) }
     ensures serves { Performs age (F.parts store.old) (command.Store process address word)
         (answer_of result) age (F.parts store.new) }
+    ensures untouched { result ≡ Ok (Answer.Refused Refusal.NoProcess) → store.new ≡ store.old }
     ensures told_once { IsToldOnce result }
     ensures counted { (banks : BanksState) → AreCounted (F.parts store.old).geometry
         (objects_in (F.parts store.old)) banks

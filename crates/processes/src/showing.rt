@@ -1,5 +1,5 @@
 // The step of showing an object.
-ghost use Rattle.std.specs.Prelude.{◌≡◌, ◌<◌, IfOk, IsTrue, length, if◌then◌else◌, slice_index};
+ghost use Rattle.std.specs.Prelude.{◌≡◌, ◌<◌, IfOk, IsTrue, Ok, length, if◌then◌else◌, slice_index};
 ghost use Rattle.model.specs.declared.command.Command.TheVariants as command;
 ghost use Rattle.model.specs.Keepable.{AreKeepable, IsSoundFrames};
 ghost use Rattle.model.specs.Step.{shown};
@@ -82,7 +82,7 @@ fn shown<F: PresentFrames>(
 
 /// Tells of an object, by its number.
 ///
-/// It is refused by `BadNumber` where no object has the number, and by `NoMemory` where memory ran
+/// It is refused by `BadNumber` where no object has the number, and the store isn't touched then; and by `NoMemory` where memory ran
 /// out. It fails exactly where the device does.
 pub fn show<F: PresentFrames>(
     alloc: Global,
@@ -97,6 +97,7 @@ pub fn show<F: PresentFrames>(
         (objects_in (F.parts store.old)) banks.now }
     ensures serves { Performs age (F.parts store.old) (command.Show number) (answer_of result) age
         (F.parts store.new) }
+    ensures untouched { result ≡ Ok (Answer.Refused Refusal.BadNumber) → store.new ≡ store.old }
     ensures told_once { IsToldOnce result }
     ensures aside { LooksUp F.parts F.LeadsTo store.old store.new }
 {

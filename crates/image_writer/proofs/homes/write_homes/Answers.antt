@@ -1,4 +1,8 @@
-use Rattle.std.proofs.Common.{rules, ◌≡◌, ◌<◌, ◌∙◌}
+use Rattle.std.proofs.Common.{rules, ◌≡◌, ◌<◌, ◌∙◌, inr}
+use Rattle.layout.specs.Frame.{frame_length}
+use Rattle.home_ranges.specs.Home.{home_place}
+use Rattle.home_ranges.proofs.Places.{places_within}
+use Rattle.image_writer.proofs.ClosedGates.{closed_first, closed_on, leaves_closed}
 use Rattle.image_writer.proofs.HomeFrames.{stays_between, one_more}
 use Rattle.image_writer.proofs.homes.write_homes.Goals as goal
 
@@ -21,4 +25,22 @@ loop-number-preserved g c =
           c.requires.plan lt c.write_frame.ensures.writes.elsewhere c.loop-number.invariant.1,
       c.write_frame.ensures.writes.size ∙ c.loop-number.invariant.2,
       same ∙ c.loop-number.invariant.3,
+      leaves_closed (home_place c.args.home.now c.loop-number.number) (frame_length c.args.home.now.geometry c.loop-number.number) {old = g.D.Device.disk c.loop-number.device} {new = g.D.Device.disk c.write_frame.new.device}
+          (inr (places_within c.args.home.now c.loop-number.number c.requires.plan lt).0) c.loop-number.invariant.4 c.write_frame.ensures.writes,
+      closed_on (home_place c.args.home.now c.loop-number.number) (frame_length c.args.home.now.geometry c.loop-number.number) {old = g.D.Device.disk c.args.device.now} {mid = g.D.Device.disk c.loop-number.device} {new = g.D.Device.disk c.write_frame.new.device}
+          c.loop-number.invariant.5 (inr (places_within c.args.home.now c.loop-number.number c.requires.plan lt).0) c.loop-number.invariant.4 c.write_frame.ensures.writes,
     )
+
+pub returns-in_err-write_frame-clause-closed : goal.returns-in_err-write_frame-clause-closed
+returns-in_err-write_frame-clause-closed g c =
+    let below : c.loop-number.number < c.args.count = search rules in
+    let lt = rw c.requires.count at below in
+    leaves_closed (home_place c.args.home.now c.loop-number.number) (frame_length c.args.home.now.geometry c.loop-number.number) {old = g.D.Device.disk c.loop-number.device} {new = g.D.Device.disk c.write_frame.new.device}
+    (inr (places_within c.args.home.now c.loop-number.number c.requires.plan lt).0) c.loop-number.invariant.4 c.write_frame.ensures.writes
+
+pub returns-in_err-write_frame-clause-any_moment : goal.returns-in_err-write_frame-clause-any_moment
+returns-in_err-write_frame-clause-any_moment g c =
+    let below : c.loop-number.number < c.args.count = search rules in
+    let lt = rw c.requires.count at below in
+    closed_on (home_place c.args.home.now c.loop-number.number) (frame_length c.args.home.now.geometry c.loop-number.number) {old = g.D.Device.disk c.args.device.now} {mid = g.D.Device.disk c.loop-number.device} {new = g.D.Device.disk c.write_frame.new.device}
+    c.loop-number.invariant.5 (inr (places_within c.args.home.now c.loop-number.number c.requires.plan lt).0) c.loop-number.invariant.4 c.write_frame.ensures.writes

@@ -1,7 +1,9 @@
 use Rattle.std.proofs.Common.{◌≡◌, ◌-◌}
 use Rattle.device.specs.Calls.{Elsewhere}
 use Rattle.model.specs.Frame.{frames_in}
-use Rattle.image_writer.specs.Written.{AreHome}
+use Rattle.device.specs.Moments.{LeavesOnly}
+use Rattle.ckpt_log.specs.Closing.{AreClosed}
+use Rattle.image_writer.specs.Written.{AreHome, LeavesClosed}
 use Rattle.image_writer.proofs.homes.write_homes.Given as goal
 
 abbrev pub invariant-loop-number : goal.invariant-loop-number
@@ -10,3 +12,5 @@ invariant-loop-number g l =
     × Elsewhere 5 (l.home.total - 5) (g.D.Device.disk l.fn.device).seen (g.D.Device.disk l.device).seen
     × ((g.D.Device.disk l.device).sectors ≡ (g.D.Device.disk l.fn.device).sectors)
     × ((g.D.Device.disk l.device).failures ≡ (g.D.Device.disk l.fn.device).failures)
+    × LeavesClosed (g.D.Device.disk l.device)
+    × LeavesOnly (g.D.Device.disk l.fn.device) (g.D.Device.disk l.device) (λ c. AreClosed c)

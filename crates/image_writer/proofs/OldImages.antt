@@ -1,0 +1,59 @@
+-- What is left of an image whose gates are closed.
+use Rattle.std.proofs.Common.{◌≡◌, ℕ, ◌+◌, ◌*◌, ◌<◌, ◌≤◌, Option, Some, None, List, take, sym, ap, subst, ◌∙◌, arith}
+use Rattle.model.specs.Frame.{frame_at}
+use Rattle.device.specs.Disk.{Image}
+use Rattle.layout.specs.declared.header.CheckpointHeader.{CheckpointHeader}
+use Rattle.layout.specs.declared.directory.Entry.{Entry}
+use Rattle.layout.specs.Frame.{IsFrameOf, frame_length}
+use Rattle.layout.specs.Header.{header_bytes}
+use Rattle.layout.specs.Image.{Encodes, HasNoHeader, SavedState, committed_bytes, directory_in, directory_length, directory_sector, frame_in, frame_sector, option_at, sectors_from}
+use Rattle.layout.specs.Superblock.{Plan, IsPlan}
+use Rattle.layout.proofs.Sectors.{same_sectors}
+use Rattle.home_ranges.proofs.Places.{places_within}
+use Rattle.ckpt_log.specs.Closing.{KeepsImage}
+use Rattle.ckpt_log.proofs.BesideHeaders.{half_behind}
+use Rattle.ckpt_log.proofs.Denoted.{frames_behind}
+use Rattle.migrator.specs.Saved.{Holds, SavedFrames}
+use Rattle.image_writer.specs.Laws.{KeptHoldsTheSame, NoneIsHeld}
+
+module _ (old new : Image) (kept : KeepsImage old new) where
+  -- behind the headers all is as it was
+  behind : (at n : ℕ) → 5 ≤ at → sectors_from new at n ≡ sectors_from old at n
+  behind at n low = same_sectors at n old new (λ i lt. kept.elsewhere (at + i) (λ is. omega (arith, low, is)) (λ is. omega (arith, low, is)))
+
+  same_directory : (p : Plan) (generation n : ℕ) → IsPlan p → directory_in new p generation n ≡ directory_in old p generation n
+  same_directory p generation n fits =
+      let half = half_behind p generation fits in
+      ap (λ (bytes : List ℕ). take (16 * n) bytes) (behind (directory_sector p generation) (directory_length n) (omega (arith, half)))
+
+  same_frame : (p : Plan) (generation : ℕ) (es : List Entry) (object : ℕ) → IsPlan p → object < p.geometry.nodes + p.geometry.pages → frame_in new p generation es object ≡ frame_in old p generation es object
+  same_frame p generation es object fits lt =
+      behind (frame_sector p generation es object) (frame_length p.geometry object) (frames_behind p generation es object fits (places_within p object fits lt).0)
+
+  encodes : (size : ℕ) (s : SavedState) → Encodes old size s → Encodes new size s
+  encodes size s is = record {
+    plan = record { least = is.plan.least; whole = is.plan.whole; fits = is.plan.fits; spelt = kept.elsewhere 0 (λ is. omega (arith, is)) (λ is. omega (arith, is)) ∙ is.plan.spelt };
+    header = record { fits = is.header.fits; spelt = kept.committed ∙ is.header.spelt };
+    directory = record { count = is.directory.count; fits = is.directory.fits; spelt = same_directory s.plan s.header.generation s.header.entries is.plan.fits ∙ is.directory.spelt };
+    count = is.count;
+    each = λ object lt. subst (λ (b : List ℕ). IsFrameOf s.plan.geometry s.header.age object b (frame_at s.frames object))
+        (sym (same_frame s.plan s.header.generation s.directory object is.plan.fits lt)) (is.each object lt);
+  }
+
+  holds : (size : ℕ) (saved : SavedFrames) → Holds size old saved → Holds size new saved
+  holds size saved (s, is, told) = (s, encodes size s is, told)
+
+-- it is the same the other way round
+back : (old new : Image) → KeepsImage old new → KeepsImage new old
+back old new kept = record { elsewhere = λ i two four. sym (kept.elsewhere i two four); committed = sym kept.committed }
+
+pub kept_holds_the_same : KeptHoldsTheSame
+kept_holds_the_same size old new saved kept = (holds old new kept size saved, holds new old (back old new kept) size saved)
+
+-- no header is spelt by no bytes
+no_bytes : (bytes : Option (List ℕ)) (b : List ℕ) → bytes ≡ None → bytes ≡ Some b → ⊥
+no_bytes None b is some = let never : None ≡ Some b = some in cc
+no_bytes (Some a) b is some = let never : Some a ≡ None = is in cc
+
+pub none_is_held : NoneIsHeld
+none_is_held size c saved none (s, is, told) = no_bytes (committed_bytes c) (header_bytes s.header) (ap (option_at c) none) is.header.spelt
