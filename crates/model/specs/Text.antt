@@ -63,13 +63,10 @@ Fits (command.Load p address) = (p < 2 ^ 64) × (address < 2 ^ 64)
 Fits (command.Store p address value) = (p < 2 ^ 64) × (address < 2 ^ 64) × (value < 2 ^ 64)
 Fits (command.Show n) = n < 2 ^ 64
 Fits (command.Evict n) = n < 2 ^ 64
-Fits command.Checkpoint = Unit {0}
 Fits (command.Stabilize n) = n < 2 ^ 64
-Fits command.Commit = Unit {0}
 Fits (command.Migrate n) = n < 2 ^ 64
 Fits (command.Journal n) = n < 2 ^ 64
-Fits command.Restart = Unit {0}
-Fits command.Cut = Unit {0}
+Fits _ = Unit {0}
 
 -- an empty line, or a comment
 abbrev pub IsSkipped : List ℕ → Type 0
