@@ -48,7 +48,7 @@ module _ {D S : Type 0} (disk : D → Disk) (view : S → View D) (parts : S →
     (only_now : (d : D) (c : Image) → (disk d).left_since (disk d).moment c → (disk d).may_leave c)
     (sound_holds : (s : S) (c : Image) → (view s).is_sound → (disk (view s).beneath).may_leave c → Holds (disk (view s).beneath).sectors c (view s).aside.saved) where
   -- a store that is sound serves
-  is_up : (g : Geometry) (l : Live S) → (view l.store).is_sound → AreSoundTogether g (parts l.store) (view l.store).aside l.banks l.age l.frozen_age → IsUp disk view parts g l
+  pub is_up : (g : Geometry) (l : Live S) → (view l.store).is_sound → AreSoundTogether g (parts l.store) (view l.store).aside l.banks l.age l.frozen_age → IsUp disk view parts g l
   is_up g l store sound = record {
     store = store;
     sound = sound;
@@ -65,12 +65,12 @@ module _ {D S : Type 0} (disk : D → Disk) (view : S → View D) (parts : S →
   }
 
   -- one of a store that is as it was
-  refused_again : (l : Live S) (s : S) (c : Command) (why : Refusal) → s ≡ l.store → ((g : Geometry) → IsUp disk view parts g l → refusal_of g (running disk view parts l) c ≡ Some why) →
+  pub refused_again : (l : Live S) (s : S) (c : Command) (why : Refusal) → s ≡ l.store → ((g : Geometry) → IsUp disk view parts g l → refusal_of g (running disk view parts l) c ≡ Some why) →
       ServesUp disk view parts l c (answer.Refused why) (with_store l s)
   refused_again l s c why same applies = subst (λ (x : S). ServesUp disk view parts l c (answer.Refused why) (with_store l x)) (sym same) (refused l c why applies)
 
   -- a failure of the device
-  failed : (old new : Live S) (c : Command) →
+  pub failed : (old new : Live S) (c : Command) →
       ((g : Geometry) → IsUp disk view parts g old → LeavesOne g (disk_at disk view parts old) (disk_at disk view parts new)
       (saved_of (view old.store).aside.saved ∷ second (Up (running disk view parts old)) c)) →
       ServesUp disk view parts old c (answer.Refused refusal.Fault) new

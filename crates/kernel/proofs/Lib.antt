@@ -1,6 +1,8 @@
 mod Acts
 pub mod Denoted
 mod Crashes
+mod Journaling
+mod Journals
 mod Machines
 mod Opened
 mod Renewed

@@ -41,6 +41,7 @@ down_step g saved command.Checkpoint other = inl (refl, refl)
 down_step g saved (command.Stabilize n) other = inl (refl, refl)
 down_step g saved command.Commit other = inl (refl, refl)
 down_step g saved (command.Migrate n) other = inl (refl, refl)
+down_step g saved (command.Journal n) other = inl (refl, refl)
 down_step g saved command.Restart other = cc
 down_step g saved command.Cut other = cc
 

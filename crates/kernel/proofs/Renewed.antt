@@ -24,7 +24,7 @@ use Rattle.kernel.specs.Standing.{base_of, renewed_since}
 abbrev pub allocations_at : List Frame → ℕ → ℕ
 allocations_at fs n = (frame_at fs n).header.allocations
 
-header_in : (hs : List ObjectHeader) (cs : List (Content Cap)) (n : ℕ) → (frame_at (frames_in hs cs) n).header ≡ header_at hs n
+pub header_in : (hs : List ObjectHeader) (cs : List (Content Cap)) (n : ℕ) → (frame_at (frames_in hs cs) n).header ≡ header_at hs n
 header_in hs cs n = sym (get_or-map (λ (f : Frame). f.header) (frames_in hs cs) n blank_frame) ∙ ap (λ (ks : List ObjectHeader). header_at ks n) (headers_in hs cs)
 
 -- whether a number was renewed since

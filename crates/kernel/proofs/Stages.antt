@@ -42,7 +42,7 @@ world_later g age later fs within w = record {
   age = within;
 }
 
-frames_later : (g : Geometry) (age later : ℕ) (fs : List Frame) → age ≤ later → later ≤ 2 ^ 62 → IsSoundFrames g age fs → IsSoundFrames g later fs
+pub frames_later : (g : Geometry) (age later : ℕ) (fs : List Frame) → age ≤ later → later ≤ 2 ^ 62 → IsSoundFrames g age fs → IsSoundFrames g later fs
 frames_later g age later fs le within f = record {
   keepable = keepable_later g age later fs le f.keepable;
   current = f.current;

@@ -1,4 +1,5 @@
 pub mod Denotes
 pub mod Standing
 pub mod Opening
+pub mod Journaling
 pub mod Laws

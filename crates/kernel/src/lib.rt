@@ -2,6 +2,7 @@
 #![tactic(auto)]
 
 mod checkpoints;
+mod journaling;
 mod kernel;
 pub mod laws;
 mod machine;

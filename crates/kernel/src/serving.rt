@@ -6,6 +6,7 @@ ghost use Rattle.processes.specs.Machine.{IsToldOnce, answer_of};
 ghost use Rattle.kernel.specs.Standing.{IsCaused, IsSomeUp, ServesUp, disk_at};
 
 use crate::checkpoints;
+use crate::journaling;
 use crate::power::Live;
 use device::{Device, Failed};
 use model::{Answer, Command, Refusal};
@@ -67,6 +68,7 @@ pub fn serve<D: Device, S: ObjectStore<D>>(
         Command::Stabilize { count } => checkpoints::stabilize::<D, S>(live, count),
         Command::Commit => checkpoints::commit::<D, S>(live),
         Command::Migrate { count } => checkpoints::migrate::<D, S>(live, count),
+        Command::Journal { number } => journaling::journal::<D, S>(live, number),
         Command::Restart | Command::Cut => unreachable!(),
     }
 }

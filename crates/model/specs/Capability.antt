@@ -40,16 +40,11 @@ access_bits _ = 0
 
 -- what is left of a capability that is fetched through a weak one (EROS: weak, KeyKOS: sense)
 abbrev pub diminished : Capability → Capability
-diminished Void = Void
 diminished (Number n) = Number n
 diminished (Page o a) = Page o weak
 diminished (Node o a) = Node o weak
 diminished (Space o h a) = Space o h weak
-diminished (Process p) = Void
-diminished (Start p key) = Void
-diminished (Resume p) = Void
-diminished (Bank b) = Void
-diminished Discrim = Void
+diminished _ = Void
 
 -- it names nothing, or is read-only and weak
 abbrev pub IsWeak : Capability → Type 0
@@ -79,13 +74,9 @@ tag_of Discrim = 9
 
 -- its fields are within their bounds
 abbrev pub IsWellFormed : Capability → Type 0
-IsWellFormed Void = Unit {0}
 IsWellFormed (Number n) = n < 2 ^ 64
 IsWellFormed (Page o a) = IsAccess a
 IsWellFormed (Node o a) = IsAccess a
 IsWellFormed (Space o h a) = (1 ≤ h) × (h ≤ 4) × IsAccess a
-IsWellFormed (Process p) = Unit {0}
 IsWellFormed (Start p key) = key < 2 ^ 16
-IsWellFormed (Resume p) = Unit {0}
-IsWellFormed (Bank b) = Unit {0}
-IsWellFormed Discrim = Unit {0}
+IsWellFormed _ = Unit {0}

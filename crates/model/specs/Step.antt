@@ -1,4 +1,4 @@
-use Rattle.std.specs.Prelude.{◌≡◌, ◌⊎◌, ℕ, ◌+◌, ◌-◌, ◌/◌, ◌%◌, ◌^◌, ◌==◌, nat_lt, Bool, true, false, not, ◌&&◌, if◌then◌else◌, Option, None, Some, Result, Ok, Err, List, [], ◌∷◌, ◌++◌, IsTrue}
+use Rattle.std.specs.Prelude.{◌≡◌, ◌⊎◌, ℕ, ◌+◌, ◌-◌, ◌/◌, ◌%◌, ◌^◌, ◌==◌, nat_lt, Bool, true, false, not, ◌&&◌, if◌then◌else◌, Option, None, Some, Result, Ok, Err, List, [], ◌∷◌, ◌++◌, slice_index_or, IsTrue}
 use Rattle.std.specs.List.{Contains}
 use Rattle.model.specs.declared.access.Access.{Access}
 use Rattle.model.specs.declared.answer.Answer.{Answer}
@@ -7,13 +7,13 @@ use Rattle.model.specs.declared.answer.MemoryFault.{MemoryFault}
 use Rattle.model.specs.declared.answer.MemoryFault.TheVariants.{ReadOnly}
 use Rattle.model.specs.declared.answer.Refusal.{Refusal}
 use Rattle.model.specs.declared.answer.Refusal.TheVariants as refusal
+use Rattle.model.specs.declared.answer.Unjournaled.TheVariants.{NotPage, Renewed}
 use Rattle.model.specs.declared.command.Command.{Command}
 use Rattle.model.specs.declared.command.Command.TheVariants as command
 use Rattle.model.specs.declared.geometry.Geometry.{Geometry}
-use Rattle.model.specs.declared.object.Content.TheVariants as content
 use Rattle.model.specs.declared.object.Object.{Object}
-use Rattle.model.specs.Object.{is_bank, is_root, slots_in}
-use Rattle.model.specs.World.{World, object_at, content_at, annex_at, root_at, word_at, with_word, is_process, is_running_process}
+use Rattle.model.specs.Object.{is_bank, is_page, is_root, slots_in}
+use Rattle.model.specs.World.{World, object_at, content_at, annex_at, root_at, word_at, with_word, with_content, is_process, is_running_process}
 use Rattle.model.specs.Bank.{usage}
 use Rattle.model.specs.Sound.{object_count}
 use Rattle.model.specs.Walk.{walk}
@@ -41,6 +41,20 @@ writable (Err why) = Err why
 abbrev pub of_running : List Object → ℕ → Option Refusal → Option Refusal
 of_running os p next = unless (is_process os p) refusal.NoProcess (unless (is_running_process os p) refusal.NotRunning next)
 
+-- what refuses a checkpoint, and the journaling of a page, before anything else does
+abbrev pub when_home : Running → Option Refusal → Option Refusal
+when_home s next = unless (nat_lt s.now.age (2 ^ 62)) refusal.Worn
+    (elim s.frozen [ Some frozen ↦ Some refusal.CheckpointRunning | None ↦ unless (s.saved.entries == 0) refusal.MigrationPending next ])
+
+-- whether a page is saved at a number, and wasn't given up since
+abbrev pub is_saved_page : Running → ℕ → Bool
+is_saved_page s n = is_page (content_at s.saved.world.objects n) && not (slice_index_or s.renewed n false)
+
+-- why what has a number can't be journaled
+abbrev pub unjournaled : Running → ℕ → Option Refusal
+unjournaled s n =
+    unless (is_page (content_at s.now.objects n)) (refusal.NotJournaled NotPage) (unless (is_saved_page s n) (refusal.NotJournaled Renewed) None)
+
 -- the first refusal that applies, or none, of a command to a machine that is up
 unfoldable pub refusal_of : Geometry → Running → Command → Option Refusal
 refusal_of g s (command.Invoke i) =
@@ -56,25 +70,19 @@ refusal_of g s (command.Store p address value) =
     ])
 refusal_of g s (command.Show n) = unless (nat_lt n (object_count g)) refusal.BadNumber None
 refusal_of g s (command.Evict n) = unless (nat_lt n (object_count g)) refusal.BadNumber None
-refusal_of g s command.Checkpoint =
-    unless (nat_lt s.now.age (2 ^ 62)) refusal.Worn (elim s.frozen [
-      | Some frozen ↦ Some refusal.CheckpointRunning
-      | None ↦ unless (s.saved.entries == 0) refusal.MigrationPending None
-    ])
+refusal_of g s command.Checkpoint = when_home s None
 refusal_of g s (command.Stabilize n) = elim s.frozen [ None ↦ Some refusal.NoCheckpoint | Some frozen ↦ None ]
 refusal_of g s command.Commit =
     elim s.frozen [ None ↦ Some refusal.NoCheckpoint | Some frozen ↦ unless (frozen.left == 0) (refusal.NotStable frozen.left) None ]
-refusal_of g s (command.Migrate n) = None
-refusal_of g s command.Restart = None
-refusal_of g s command.Cut = None
+refusal_of g s (command.Journal n) = when_home s (unless (nat_lt n (object_count g)) refusal.BadNumber (unjournaled s n))
+refusal_of g s _ = None
 
 -- the text of an object: with a process its registers, with a bank its usage
 abbrev pub shown : List Object → ℕ → Answer
 shown os n =
-    let c = content_at os n in
-    answer.Shown n (object_at os n)
-    (if is_root c then Some (slots_in (content_at os (annex_at os n))) else None)
-    (if is_bank c then usage os n else 0)
+    let registers = if is_root (content_at os n) then Some (slots_in (content_at os (annex_at os n))) else None in
+    let used = if is_bank (content_at os n) then usage os n else 0 in
+    answer.Shown (record { number = n; object = object_at os n; registers = registers; used = used })
 
 -- the saved part that a commit gives
 abbrev pub committed : Running → Frozen → Saved
@@ -88,6 +96,12 @@ at_home saved = record { world = saved.world; generation = saved.generation; ent
 abbrev pub moved : Running → ℕ → Saved
 moved s n = if s.to_move - n == 0 then at_home s.saved else s.saved
 
+-- the saved part with the words that a page has now; its owner there stays
+abbrev pub journaled : Running → ℕ → Saved
+journaled s n =
+    let world : World = record { objects = with_content s.saved.world.objects n (content_at s.now.objects n); age = s.saved.world.age + 1 } in
+    record { world = world; generation = s.saved.generation + 2; entries = 1 }
+
 -- what carrying a command out tells, and the machine after it
 pub record Outcome : Type 0 where
   pub answer : Answer
@@ -99,25 +113,19 @@ outcome a s = record { answer = a; after = s }
 -- a machine with other objects now, these numbers written, and these renewed
 abbrev pub writing : Running → List Object → ℕ → List ℕ → List Bool → Running
 writing s os age written renewed =
-    record { now = record { objects = os; age = age }; touched = touching s.touched written; renewed = renewed; frozen = s.frozen; saved = s.saved; to_move = s.to_move }
+    record s { now = record { objects = os; age = age }; touched = touching s.touched written; renewed = renewed }
 
 -- a machine with another checkpoint on its way
 abbrev pub freezing : Running → Option Frozen → Running
-freezing s frozen = record { now = s.now; touched = s.touched; renewed = s.renewed; frozen = frozen; saved = s.saved; to_move = s.to_move }
+freezing s frozen = record s { frozen = frozen }
 
 -- a checkpoint begins: the age rises, all is frozen as it is, and nothing is written since
 abbrev pub frozen_now : Geometry → Running → Outcome
 frozen_now g s =
     let size = touched_count s.touched in
     let now : World = record { objects = s.now.objects; age = s.now.age + 1 } in
-    outcome (answer.Frozen size) (record {
-      now = now;
-      touched = untouched g;
-      renewed = untouched g;
-      frozen = Some (record { world = now; size = size; left = size });
-      saved = s.saved;
-      to_move = s.to_move;
-    })
+    let frozen : Frozen = record { world = now; size = size; left = size } in
+    outcome (answer.Frozen size) (record s { now = now; touched = untouched g; renewed = untouched g; frozen = Some frozen })
 
 abbrev pub stabilized : Running → ℕ → Outcome
 stabilized s n = elim s.frozen [
@@ -128,8 +136,7 @@ stabilized s n = elim s.frozen [
 abbrev pub commits : Running → Outcome
 commits s = elim s.frozen [
   | None ↦ outcome answer.Done s
-  | Some f ↦ outcome (answer.Committed (s.saved.generation + 1))
-      (record { now = s.now; touched = s.touched; renewed = s.renewed; frozen = None; saved = committed s f; to_move = f.size })
+  | Some f ↦ outcome (answer.Committed (s.saved.generation + 1)) (record s { frozen = None; saved = committed s f; to_move = f.size })
 ]
 
 -- a command that isn't refused, carried out
@@ -151,9 +158,10 @@ carried_out g s (command.Evict n) = outcome answer.Done s
 carried_out g s command.Checkpoint = frozen_now g s
 carried_out g s (command.Stabilize n) = stabilized s n
 carried_out g s command.Commit = commits s
-carried_out g s (command.Migrate n) =
-    outcome (answer.Left (s.to_move - n))
-    (record { now = s.now; touched = s.touched; renewed = s.renewed; frozen = s.frozen; saved = moved s n; to_move = s.to_move - n })
+carried_out g s (command.Migrate n) = outcome (answer.Left (s.to_move - n)) (record s { saved = moved s n; to_move = s.to_move - n })
+carried_out g s (command.Journal n) =
+    let now : World = record { objects = s.now.objects; age = s.now.age + 1 } in
+    outcome (answer.Journaled (s.saved.generation + 2)) (record s { now = now; saved = journaled s n; to_move = 1 })
 carried_out g s command.Restart = outcome (answer.At s.saved.generation s.saved.world.age) (opened g s.saved)
 carried_out g s command.Cut = outcome (answer.At s.saved.generation s.saved.world.age) (opened g s.saved)
 
@@ -169,20 +177,18 @@ abbrev pub Reopens : Geometry → List Saved → Answer → Machine → Type 0
 Reopens g saved a after =
     (at : Saved) × Contains saved at × (a ≡ answer.At at.generation at.world.age) × (after ≡ Up (opened g at))
 
--- the commands that may want memory
+-- the commands that open the device again, and those that may want memory
+abbrev pub opens : Command → Bool
+opens command.Restart = true
+opens command.Cut = true
+opens _ = false
+
 abbrev pub takes_memory : Command → Bool
 takes_memory (command.Invoke i) = true
 takes_memory (command.Load p address) = true
 takes_memory (command.Store p address value) = true
 takes_memory (command.Show n) = true
-takes_memory command.Restart = true
-takes_memory command.Cut = true
-takes_memory _ = false
-
-abbrev pub opens : Command → Bool
-opens command.Restart = true
-opens command.Cut = true
-opens _ = false
+takes_memory c = opens c
 
 -- whether want of memory may stand in place of a refusal
 abbrev pub gives_way : Option Refusal → Bool
@@ -202,6 +208,7 @@ without_memory m c = if opens c then Down (candidates m) else m
 abbrev pub second : Machine → Command → List Saved
 second (Up s) command.Commit = elim s.frozen [ None ↦ [] | Some frozen ↦ if frozen.left == 0 then committed s frozen ∷ [] else [] ]
 second (Up s) (command.Migrate n) = if s.saved.entries == 0 then [] else if s.to_move - n == 0 then at_home s.saved ∷ [] else []
+second (Up s) (command.Journal n) = elim (when_home s (unjournaled s n)) [ None ↦ journaled s n ∷ [] | Some why ↦ [] ]
 second _ _ = []
 
 -- a machine that is down takes only what opens it

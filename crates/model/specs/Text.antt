@@ -1,4 +1,4 @@
-use Rattle.std.specs.Prelude.{◌≡◌, ◌≢◌, ◌⊎◌, ℕ, ◌+◌, ◌^◌, ◌<◌, ◌≤◌, ◌==◌, if◌then◌else◌, Option, None, Some, List, [], ◌∷◌, ◌++◌, map, length, codes, decimal}
+use Rattle.std.specs.Prelude.{◌≡◌, ◌≢◌, ◌⊎◌, ℕ, ◌^◌, ◌<◌, ◌≤◌, ◌==◌, if◌then◌else◌, Option, None, Some, List, [], ◌∷◌, ◌++◌, map, length, codes, decimal}
 use Rattle.std.specs.List.{All, join_with_byte, flat_map, enumerate_from}
 use Rattle.model.specs.declared.access.Access.{Access}
 use Rattle.model.specs.declared.answer.Answer.{Answer}
@@ -7,6 +7,8 @@ use Rattle.model.specs.declared.answer.MemoryFault.{MemoryFault}
 use Rattle.model.specs.declared.answer.MemoryFault.TheVariants as fault
 use Rattle.model.specs.declared.answer.Refusal.{Refusal}
 use Rattle.model.specs.declared.answer.Refusal.TheVariants as refusal
+use Rattle.model.specs.declared.answer.Unjournaled.{Unjournaled}
+use Rattle.model.specs.declared.answer.Unjournaled.TheVariants.{NotPage, Renewed}
 use Rattle.model.specs.declared.capability.Capability.{Capability}
 use Rattle.model.specs.declared.capability.Capability.TheVariants.{Void, Number, Page, Node, Space, Process, Start, Resume, Bank, Discrim}
 use Rattle.model.specs.declared.command.Command.{Command}
@@ -43,6 +45,7 @@ command_words command.Checkpoint = codes "checkpoint" ∷ []
 command_words (command.Stabilize n) = codes "stabilize" ∷ decimal n ∷ []
 command_words command.Commit = codes "commit" ∷ []
 command_words (command.Migrate n) = codes "migrate" ∷ decimal n ∷ []
+command_words (command.Journal n) = codes "journal" ∷ decimal n ∷ []
 command_words command.Restart = codes "restart" ∷ []
 command_words command.Cut = codes "cut" ∷ []
 
@@ -60,12 +63,10 @@ Fits (command.Load p address) = (p < 2 ^ 64) × (address < 2 ^ 64)
 Fits (command.Store p address value) = (p < 2 ^ 64) × (address < 2 ^ 64) × (value < 2 ^ 64)
 Fits (command.Show n) = n < 2 ^ 64
 Fits (command.Evict n) = n < 2 ^ 64
-Fits command.Checkpoint = Unit {0}
 Fits (command.Stabilize n) = n < 2 ^ 64
-Fits command.Commit = Unit {0}
 Fits (command.Migrate n) = n < 2 ^ 64
-Fits command.Restart = Unit {0}
-Fits command.Cut = Unit {0}
+Fits (command.Journal n) = n < 2 ^ 64
+Fits _ = Unit {0}
 
 -- an empty line, or a comment
 abbrev pub IsSkipped : List ℕ → Type 0
@@ -148,6 +149,10 @@ fault_number fault.Hole = 3
 fault_number fault.Malformed = 4
 fault_number fault.ReadOnly = 5
 
+abbrev pub unjournaled_number : Unjournaled → ℕ
+unjournaled_number NotPage = 1
+unjournaled_number Renewed = 2
+
 abbrev pub refusal_text : Refusal → List ℕ
 refusal_text refusal.Down = codes "down"
 refusal_text refusal.NoProcess = codes "no process"
@@ -162,6 +167,7 @@ refusal_text refusal.NoCheckpoint = codes "no checkpoint"
 refusal_text refusal.NoMemory = codes "no memory"
 refusal_text refusal.Fault = codes "fault"
 refusal_text refusal.BadNumber = codes "bad number"
+refusal_text (refusal.NotJournaled why) = codes "not journaled " ++ decimal (unjournaled_number why)
 
 -- what is written for an answer
 unfoldable pub printed : Answer → List ℕ
@@ -171,8 +177,9 @@ printed (answer.MemoryFault f) = line_of (spaced (codes "memory" ∷ codes "faul
 printed (answer.Frozen n) = line_of (spaced (codes "frozen" ∷ decimal n ∷ []))
 printed (answer.Left n) = line_of (spaced (codes "left" ∷ decimal n ∷ []))
 printed (answer.Committed g) = line_of (spaced (codes "committed" ∷ decimal g ∷ []))
+printed (answer.Journaled g) = line_of (spaced (codes "journaled" ∷ decimal g ∷ []))
 printed (answer.At g age) = line_of (spaced (codes "at" ∷ decimal g ∷ decimal age ∷ []))
-printed (answer.Shown n o registers used) = object_text n o registers used ++ line_of (codes "end")
+printed (answer.Shown d) = object_text d.number d.object d.registers d.used ++ line_of (codes "end")
 printed (answer.Refused why) = line_of (refusal_text why)
 
 -- what is written for a bad line

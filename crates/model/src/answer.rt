@@ -1,7 +1,11 @@
 // Answers to commands.
+ghost use Rattle.std.specs.Prelude.{◌≡◌, IfOk};
+
 use crate::capability::Capability;
 use crate::object::Object;
 use contents::Slots;
+use std::alloc::{AllocError, Global};
+use std::marker::Model;
 
 /// Why a memory reference reached no word.
 #[derive(Clone, Copy, PartialEq, Eq, Debug)]
@@ -16,6 +20,15 @@ pub enum MemoryFault {
     Malformed = 4,
     /// It is a store, and the way isn't writable.
     ReadOnly = 5,
+}
+
+/// Why a page wasn't journaled. Where both apply, the first here is given.
+#[derive(Clone, Copy, PartialEq, Eq, Debug)]
+pub enum Unjournaled {
+    /// The object isn't a page.
+    NotPage = 1,
+    /// No page is saved at its number, or the one that is was given up since.
+    Renewed = 2,
 }
 
 /// Why a command wasn't carried out. Where several apply, the first here is given, but for
@@ -48,6 +61,50 @@ pub enum Refusal {
     Fault,
     /// No object has the number.
     BadNumber,
+    /// What has the number can't be journaled.
+    NotJournaled(Unjournaled),
+}
+
+/// What is shown of an object. With that of a process come the registers in its annex. The usage is
+/// that of a bank, and 0 for other objects.
+#[derive(Drop)]
+pub struct Description {
+    pub number: u64,
+    pub object: Object,
+    pub registers: Option<Slots<Capability>>,
+    pub used: u64,
+}
+
+/// A description in a place of its own, so that an answer, which holds one seldom, stays small.
+#[derive(Drop)]
+pub struct Shown {
+    description: Box<Description>,
+}
+
+impl Model for Shown {
+    ghost use Rattle.model.specs.declared.answer.Description.{Description};
+
+    ghost Value = { Description };
+
+    ghost view = { λ s. s.description.value };
+}
+
+impl Shown {
+    /// Takes a place for a description. Fails only where memory runs out.
+    pub fn new(alloc: Global, description: Description) -> Result<Self, AllocError>
+        ensures { IfOk result (λ shown. shown ≡ description) }
+    {
+        Ok(Shown {
+            description: Box::new(alloc, description)?,
+        })
+    }
+
+    /// The description.
+    pub fn get(&self) -> &Description
+        ensures { result.now ≡ self.now }
+    {
+        &self.description
+    }
 }
 
 /// The answer to a command.
@@ -63,18 +120,11 @@ pub enum Answer {
     Left(u64),
     /// The frozen state is the saved one, and this its generation.
     Committed(u64),
+    /// The page is saved as it is, and this is the generation of what is saved.
+    Journaled(u64),
     /// The machine was opened, and stands at this generation and age.
-    At {
-        generation: u64,
-        age: u64,
-    },
-    /// An object. With that of a process come the registers in its annex. The usage is that of a
-    /// bank, and 0 for other objects.
-    Shown {
-        number: u64,
-        object: Object,
-        registers: Option<Slots<Capability>>,
-        used: u64,
-    },
+    At { generation: u64, age: u64 },
+    /// An object.
+    Shown(Shown),
     Refused(Refusal),
 }

@@ -132,6 +132,10 @@ pub enum Command {
     Migrate {
         count: u64,
     },
+    /// Saves a page as it is, without a checkpoint.
+    Journal {
+        number: u64,
+    },
     /// Opens the device again.
     Restart,
     /// Cuts the power, and opens the device again.

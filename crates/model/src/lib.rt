@@ -12,7 +12,7 @@ pub mod object;
 pub mod order;
 
 pub use access::Access;
-pub use answer::{Answer, MemoryFault, Refusal};
+pub use answer::{Answer, Description, MemoryFault, Refusal, Shown, Unjournaled};
 pub use capability::{Cap, Capability};
 pub use command::{Command, Invocation, Message, Operation, REGISTERS, Register};
 pub use contents::{SLOTS, Slots, WORDS, Words};

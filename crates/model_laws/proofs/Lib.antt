@@ -1,4 +1,5 @@
 pub mod InvocationFrame
+pub mod Journaling
 pub mod SoundEdits
 pub mod SoundGates
 pub mod SoundOrders

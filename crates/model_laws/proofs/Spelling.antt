@@ -110,6 +110,7 @@ words_are_words command.Checkpoint fits = one_word (codes "checkpoint") (name_is
 words_are_words (command.Stabilize n) fits = named_number (codes "stabilize") n (name_is_word (codes "stabilize") refl refl) fits
 words_are_words command.Commit fits = one_word (codes "commit") (name_is_word (codes "commit") refl refl)
 words_are_words (command.Migrate n) fits = named_number (codes "migrate") n (name_is_word (codes "migrate") refl refl) fits
+words_are_words (command.Journal n) fits = named_number (codes "journal") n (name_is_word (codes "journal") refl refl) fits
 words_are_words command.Restart fits = one_word (codes "restart") (name_is_word (codes "restart") refl refl)
 words_are_words command.Cut fits = one_word (codes "cut") (name_is_word (codes "cut") refl refl)
 
@@ -129,6 +130,7 @@ words_count command.Checkpoint fits = (omega arith, omega arith)
 words_count (command.Stabilize n) fits = (omega arith, omega arith)
 words_count command.Commit fits = (omega arith, omega arith)
 words_count (command.Migrate n) fits = (omega arith, omega arith)
+words_count (command.Journal n) fits = (omega arith, omega arith)
 words_count command.Restart fits = (omega arith, omega arith)
 words_count command.Cut fits = (omega arith, omega arith)
 
@@ -187,6 +189,7 @@ command_of words =
     else if bytes_eq name (codes "stabilize") then command.Stabilize (number_at words 1)
     else if bytes_eq name (codes "commit") then command.Commit
     else if bytes_eq name (codes "migrate") then command.Migrate (number_at words 1)
+    else if bytes_eq name (codes "journal") then command.Journal (number_at words 1)
     else if bytes_eq name (codes "restart") then command.Restart
     else command.Cut
 
@@ -246,6 +249,7 @@ reads_words command.Checkpoint fits = refl
 reads_words (command.Stabilize n) fits = ap command.Stabilize (value_of n fits)
 reads_words command.Commit fits = refl
 reads_words (command.Migrate n) fits = ap command.Migrate (value_of n fits)
+reads_words (command.Journal n) fits = ap command.Journal (value_of n fits)
 reads_words command.Restart fits = refl
 reads_words command.Cut fits = refl
 
@@ -275,6 +279,7 @@ spelling_is_no_skip command.Checkpoint skipped = omega arith
 spelling_is_no_skip (command.Stabilize n) skipped = omega arith
 spelling_is_no_skip command.Commit skipped = omega arith
 spelling_is_no_skip (command.Migrate n) skipped = omega arith
+spelling_is_no_skip (command.Journal n) skipped = omega arith
 spelling_is_no_skip command.Restart skipped = omega arith
 spelling_is_no_skip command.Cut skipped = omega arith
 

@@ -3,11 +3,12 @@ use Rattle.std.specs.Fmt.{digits}
 use Rattle.model.specs.Object.{all_slots, zero_words}
 use Rattle.model.specs.World.{with_content, with_word, with_slot, with_root, with_state}
 use Rattle.model.specs.Bank.{chain, usage}
+use Rattle.model.specs.Banking.{on_bank, has_room, free_nodes, free_pages, with_new, owned_by, inherited}
 use Rattle.model.specs.Revoke.{rescind, consume}
 use Rattle.model.specs.Walk.{walk}
 use Rattle.model.specs.Order.{on_page, on_node, on_process, order}
 use Rattle.model.specs.Invoke.{deliver, through_gate, on_kernel_object, invoke}
-use Rattle.model.specs.Machine.{Running as Machine, Machine as UpOrDown, Up, untouched}
+use Rattle.model.specs.Machine.{Running as Machine, Machine as UpOrDown, Up, renewing, untouched}
 use Rattle.std.proofs.lemmas.List.Elements.{All-from_recursion}
 use Rattle.model.specs.declared.answer.Answer.{Answer}
 use Rattle.model.specs.declared.answer.Answer.TheVariants as answer
@@ -22,13 +23,13 @@ use Rattle.model_laws.proofs.Spelling.{split, command_of, reads_spelling}
 use Rattle.model.specs.Text.{Fits, command_words, spelling, capability_text, word_lines, capability_lines, object_text, printed, bad_line}
 use Rattle.model_laws.specs.Worked.{s0, b0, WritesPage, DiminishesPage, StartsProcess, AnswersOnce, Stalls, SetsState, StartsItself, AsksProcesses, AsksNodes, Classifies, DiminishesAll, SetsStateOnce, ResetsKey, ClearsRegisters, ReducesFurther, DiminishesKinds}
 use Rattle.model_laws.specs.WorkedMemory.{RefusesReferences, FindsHoles, FindsPages, ReachesDeep, DescendsByOne, FillsLogByStore, RestrictsWays}
-use Rattle.model_laws.specs.WorkedSaves.{RefusesNumbers, Wears, AgesOnceMore, FillsLog, Saves, SavesStores, Forgets, ShowsBanks, RefusesInOrder, CountsWritten}
+use Rattle.model_laws.specs.WorkedSaves.{RefusesNumbers, Wears, AgesOnceMore, FillsLog, Saves, SavesStores, Forgets, ShowsBanks, RefusesInOrder, CountsWritten, Journals, JournalsSaved, JournalsWords}
 use Rattle.model_laws.specs.WorkedSteps.{AnswersBySteps, FailsBetween, OpensAgain, WantsMemory, RescindsProcess, ChainsBanks, RevokesOnly}
 use Rattle.model_laws.specs.WorkedTexts.{SaysCommands, SaysNothing, SaysBad, CutsLines, RunsScript, PrintsRefusals}
 
 -- `unfolding machine` lets `refl` compute what a command comes to
 unfoldable machine : Unit {0}
-unfolding digits all_slots zero_words with_content with_word with_slot with_root with_state chain usage rescind consume walk on_page on_node on_process order deliver through_gate on_kernel_object invoke untouched refusal_of carried_out command_words spelling capability_text word_lines capability_lines object_text printed bad_line f0 i0 s0 b0
+unfolding digits all_slots zero_words with_content with_word with_slot with_root with_state chain usage rescind consume walk on_page on_node on_process order deliver through_gate on_kernel_object invoke untouched renewing refusal_of carried_out command_words spelling capability_text word_lines capability_lines object_text printed bad_line f0 i0 s0 b0
 machine = tt
 
 pub writes_page : WritesPage
@@ -163,6 +164,18 @@ pub counts_written : CountsWritten
 unfolding machine
 counts_written = (refl, refl)
 
+pub journals : Journals
+unfolding machine on_bank has_room free_pages with_new
+journals = (refl, refl)
+
+pub journals_saved : JournalsSaved
+unfolding machine on_bank has_room free_pages with_new
+journals_saved = (refl, refl)
+
+pub journals_words : JournalsWords
+unfolding machine on_bank has_room free_nodes free_pages with_new owned_by inherited
+journals_words = (refl, refl)
+
 -- the answer that a refusal or an outcome gives is that of a step
 abbrev comes_to : Machine → Outcome → Option Refusal → Outcome
 comes_to s o r = elim r [ Some why ↦ outcome (answer.Refused why) s | None ↦ o ]
@@ -182,7 +195,7 @@ answers_by_steps s c = inl (answers_of s (carried_out small s c) (refusal_of sma
 
 pub fails_between : FailsBetween
 unfolding machine
-fails_between = (refl, refl, refl, refl, refl, refl)
+fails_between = (refl, refl, refl, refl, refl, refl, refl, refl, refl, refl)
 
 pub opens_again : OpensAgain
 opens_again a b = ((refl, refl), (b, (1, omega arith, refl), refl, refl), (a, (0, omega arith, refl), refl, refl))
@@ -202,6 +215,7 @@ fit a b c d limit p q r s = All-from_recursion (λ n. n < limit) (a ∷ b ∷ c 
 pub says_commands : SaysCommands
 unfolding machine
 says_commands = (
+  (omega arith, refl),
   (omega arith, refl),
   (omega arith, refl),
   (omega arith, refl),
@@ -276,6 +290,7 @@ unfolding machine
 wants_memory = (
   inr (inl (refl, refl, refl)),
   inr (inl (refl, refl, refl)),
+  λ m step. elim step [ inl told ↦ cc | inr other ↦ elim other [ inl want ↦ cc | inr fault ↦ cc ] ],
   λ m step. elim step [ inl told ↦ cc | inr other ↦ elim other [ inl want ↦ cc | inr fault ↦ cc ] ],
   λ m step. elim step [ inl told ↦ cc | inr other ↦ elim other [ inl want ↦ cc | inr fault ↦ cc ] ],
   λ m step. elim step [ inl told ↦ cc | inr other ↦ elim other [ inl want ↦ cc | inr fault ↦ cc ] ],

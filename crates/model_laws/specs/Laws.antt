@@ -23,7 +23,7 @@ use Rattle.model.specs.Revoke.{rescind, consume, is_given_up, is_member, names_m
 use Rattle.model.specs.Order.{IsNoBankOrder, fetched}
 use Rattle.model.specs.Invoke.{Effect, invoke}
 use Rattle.model.specs.Machine.{Running, touching, touched_count}
-use Rattle.model.specs.Step.{reached, refusal_of, writable}
+use Rattle.model.specs.Step.{journaled, reached, refusal_of, unjournaled, writable}
 use Rattle.model.specs.Text.{Fits, spelling, Says}
 use Rattle.model.specs.Worlds.{small, f0, i0}
 
@@ -32,6 +32,11 @@ abbrev pub InvocationKeepsSound : Type 0
 InvocationKeepsSound = (g : Geometry) (w : World) (i : Invocation) (e : Effect) →
     IsSound g w → Fits (command.Invoke i) → IsTrue (is_running_process w.objects i.process) → w.age < 2 ^ 62 →
     invoke g w.objects i ≡ Some e → IsSound g (record { objects = e.objects; age = w.age + 1 })
+
+-- a saved world stays sound where a page of it is journaled
+abbrev pub JournalKeepsSound : Type 0
+JournalKeepsSound = (g : Geometry) (s : Running) (n : ℕ) →
+    IsSound g s.now → IsSound g s.saved.world → s.saved.world.age < 2 ^ 62 → unjournaled s n ≡ None → IsSound g (journaled s n).world
 
 -- to diminish twice is to diminish once
 abbrev pub DiminishesOnce : Type 0

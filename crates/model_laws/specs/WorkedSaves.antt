@@ -1,4 +1,5 @@
-use Rattle.std.specs.Prelude.{◌^◌, ◌-◌, [], ◌∷◌, codes}
+use Rattle.std.specs.Prelude.{ℕ, ◌^◌, ◌-◌, List, [], ◌∷◌, codes}
+use Rattle.model.specs.declared.command.Command.{Command}
 use Rattle.model.specs.declared.command.Command.TheVariants as command
 use Rattle.model.specs.declared.command.Operation.TheVariants.{Call, Return, Send}
 use Rattle.model.specs.Worlds.{f0, i0}
@@ -20,6 +21,7 @@ abbrev pub Wears : Type 0
 Wears = IsRow (at_world (aged (2 ^ 62))) (
     (codes "call 1 2 1 0 0 0 0 0 0 0", does Call 1 2 (1 ∷ 0 ∷ 0 ∷ 0 ∷ []) 0, codes "worn" ∷ []) ∷
     (codes "checkpoint", command.Checkpoint, codes "worn" ∷ []) ∷
+    (codes "journal 24", command.Journal 24, codes "worn" ∷ []) ∷
     (codes "show 5", command.Show 5, codes "free 5" ∷ codes "end" ∷ []) ∷
     (codes "restart", command.Restart, codes "at 0 4611686018427387904" ∷ []) ∷
     [])
@@ -169,4 +171,65 @@ CountsWritten = IsRow (at_world i0) (
     (codes "store 1 0 9", command.Store 1 0 9, codes "memory fault 1" ∷ []) ∷
     (codes "checkpoint", command.Checkpoint, codes "frozen 0" ∷ []) ∷
     (codes "cut", command.Cut, codes "at 0 0" ∷ []) ∷
+    [])
+
+-- a page is written, saved, and written again
+abbrev pub SavesPage : List (List ℕ × Command × List (List ℕ)) → Type 0
+SavesPage turns = IsRow (at_world i0) (
+    (codes "call 1 2 1 0 0 0 0 0 0 0", does Call 1 2 (1 ∷ 0 ∷ 0 ∷ 0 ∷ []) 0, codes "done" ∷ []) ∷
+    (codes "send 1 28 2 0 42 0 0 0 0 0", does Send 1 28 (2 ∷ 0 ∷ 42 ∷ 0 ∷ []) 0, codes "done" ∷ []) ∷
+    (codes "checkpoint", command.Checkpoint, codes "frozen 3" ∷ []) ∷
+    (codes "send 1 28 2 0 43 0 0 0 0 0", does Send 1 28 (2 ∷ 0 ∷ 43 ∷ 0 ∷ []) 0, codes "done" ∷ []) ∷
+    (codes "stabilize 5", command.Stabilize 5, codes "left 0" ∷ []) ∷
+    (codes "commit", command.Commit, codes "committed 1" ∷ []) ∷
+    (codes "migrate 9", command.Migrate 9, codes "left 0" ∷ []) ∷
+    turns)
+
+-- a page is saved as it is, without a checkpoint, and goes home before the next
+abbrev pub Journals : Type 0
+Journals = SavesPage (
+    (codes "journal 16", command.Journal 16, codes "journaled 3" ∷ []) ∷
+    (codes "cut", command.Cut, codes "at 3 4" ∷ []) ∷
+    (codes "show 16", command.Show 16, codes "page 16 owner 0" ∷ codes "word 0 43" ∷ codes "end" ∷ []) ∷
+    (codes "journal 16", command.Journal 16, codes "migration pending" ∷ []) ∷
+    (codes "migrate 1", command.Migrate 1, codes "left 0" ∷ []) ∷
+    (codes "journal 16", command.Journal 16, codes "journaled 5" ∷ []) ∷
+    (codes "cut", command.Cut, codes "at 5 5" ∷ []) ∷
+    [])
+
+-- a page that was given up and made again isn't journaled before it is saved
+abbrev pub JournalsSaved : Type 0
+JournalsSaved = SavesPage (
+    (codes "send 1 2 5 0 0 0 28 0 0 0", does Send 1 2 (5 ∷ 0 ∷ 0 ∷ 0 ∷ []) 28, codes "done" ∷ []) ∷
+    (codes "call 1 2 1 0 0 0 0 0 0 0", does Call 1 2 (1 ∷ 0 ∷ 0 ∷ 0 ∷ []) 0, codes "done" ∷ []) ∷
+    (codes "journal 16", command.Journal 16, codes "not journaled 2" ∷ []) ∷
+    (codes "journal 17", command.Journal 17, codes "not journaled 1" ∷ []) ∷
+    (codes "journal 24", command.Journal 24, codes "bad number" ∷ []) ∷
+    (codes "checkpoint", command.Checkpoint, codes "frozen 3" ∷ []) ∷
+    (codes "journal 16", command.Journal 16, codes "checkpoint running" ∷ []) ∷
+    (codes "stabilize 3", command.Stabilize 3, codes "left 0" ∷ []) ∷
+    (codes "commit", command.Commit, codes "committed 2" ∷ []) ∷
+    (codes "journal 24", command.Journal 24, codes "migration pending" ∷ []) ∷
+    (codes "migrate 3", command.Migrate 3, codes "left 0" ∷ []) ∷
+    (codes "journal 16", command.Journal 16, codes "journaled 4" ∷ []) ∷
+    [])
+
+-- a page keeps the owner that is saved, and what else was written isn't saved with it
+abbrev pub JournalsWords : Type 0
+JournalsWords = IsRow (at_world i0) (
+    (codes "call 1 2 4 10 0 0 0 0 0 0", does Call 1 2 (4 ∷ 10 ∷ 0 ∷ 0 ∷ []) 0, codes "done" ∷ []) ∷
+    (codes "send 1 1 2 5 0 0 28 0 0 0", does Send 1 1 (2 ∷ 5 ∷ 0 ∷ 0 ∷ []) 28, codes "done" ∷ []) ∷
+    (codes "call 1 5 1 0 0 0 0 0 0 0", does Call 1 5 (1 ∷ 0 ∷ 0 ∷ 0 ∷ []) 0, codes "done" ∷ []) ∷
+    (codes "checkpoint", command.Checkpoint, codes "frozen 4" ∷ []) ∷
+    (codes "stabilize 4", command.Stabilize 4, codes "left 0" ∷ []) ∷
+    (codes "commit", command.Commit, codes "committed 1" ∷ []) ∷
+    (codes "migrate 4", command.Migrate 4, codes "left 0" ∷ []) ∷
+    (codes "send 1 28 2 0 42 0 0 0 0 0", does Send 1 28 (2 ∷ 0 ∷ 42 ∷ 0 ∷ []) 0, codes "done" ∷ []) ∷
+    (codes "send 1 5 7 0 0 0 0 0 0 0", does Send 1 5 (7 ∷ 0 ∷ 0 ∷ 0 ∷ []) 0, codes "done" ∷ []) ∷
+    (codes "show 5", command.Show 5, codes "free 5" ∷ codes "end" ∷ []) ∷
+    (codes "show 16", command.Show 16, codes "page 16 owner 0" ∷ codes "word 0 42" ∷ codes "end" ∷ []) ∷
+    (codes "journal 16", command.Journal 16, codes "journaled 3" ∷ []) ∷
+    (codes "cut", command.Cut, codes "at 3 5" ∷ []) ∷
+    (codes "show 5", command.Show 5, codes "bank 5 owner 0 limit 10 used 1" ∷ codes "end" ∷ []) ∷
+    (codes "show 16", command.Show 16, codes "page 16 owner 5" ∷ codes "word 0 42" ∷ codes "end" ∷ []) ∷
     [])

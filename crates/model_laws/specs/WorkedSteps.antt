@@ -38,7 +38,7 @@ abbrev pub stable : Machine
 stable = after (at_world f0)
     (does Call 1 6 (2 ∷ 0 ∷ 42 ∷ 0 ∷ []) 0 ∷ command.Checkpoint ∷ does Send 1 6 (2 ∷ 0 ∷ 43 ∷ 0 ∷ []) 0 ∷ command.Stabilize 5 ∷ [])
 
--- where the device fails in a commit, the saved part is the old or the new one; where it fails in the
+-- where the device fails in a commit or a journal, the saved part is the old or the new one; where it fails in the
 -- migration of the last object, its entries are counted or not; elsewhere nothing is in doubt
 abbrev pub FailsBetween : Type 0
 FailsBetween =
@@ -48,6 +48,10 @@ FailsBetween =
     × (told_saved (second (Up (after stable (command.Commit ∷ []))) (command.Migrate 2)) ≡ [])
     × (told_saved (second (Up (after stable (command.Commit ∷ []))) (command.Migrate 9)) ≡ (1, 2, 0) ∷ [])
     × (told_saved (second (Up (at_world f0)) (command.Migrate 9)) ≡ [])
+    × (told_saved (second (Up stable) (command.Journal 16)) ≡ [])
+    × (told_saved (second (Up (after stable (command.Commit ∷ []))) (command.Journal 16)) ≡ [])
+    × (told_saved (second (Up (after stable (command.Commit ∷ command.Migrate 9 ∷ []))) (command.Journal 16)) ≡ (3, 3, 1) ∷ [])
+    × (told_saved (second (Up (at_world f0)) (command.Journal 5)) ≡ [])
 
 -- a machine that is down says so, and is opened at one of its saved parts
 abbrev pub OpensAgain : Type 0
@@ -57,7 +61,7 @@ OpensAgain = (a b : Saved) →
     × Proceeds small (Down (a ∷ b ∷ [])) command.Restart (answer.At a.generation a.world.age) (Up (opened small a))
 
 -- want of memory may stand in place of the text of an object, and leaves a machine down that was to be
--- opened; it never stands in place of `bad number`, `no process` or `down`, nor of an answer to `evict`
+-- opened; it never stands in place of `bad number`, `no process` or `down`, nor of an answer to `evict` or `journal`
 abbrev pub WantsMemory : Type 0
 WantsMemory =
     let none : Answer = answer.Refused refusal.NoMemory in
@@ -67,6 +71,7 @@ WantsMemory =
     × ((m : UpOrDown) → Step small (Up s) (command.Show 24) none m → ⊥)
     × ((m : UpOrDown) → Step small (Up s) (command.Load 5 0) none m → ⊥)
     × ((m : UpOrDown) → Step small (Up s) (command.Evict 5) none m → ⊥)
+    × ((m : UpOrDown) → Step small (Up s) (command.Journal 16) none m → ⊥)
     × ((m : UpOrDown) → Step small (Down (s.saved ∷ [])) (command.Show 5) none m → ⊥)
 
 -- World I0 without process 3: registers 3 and 4 of process 1 are void

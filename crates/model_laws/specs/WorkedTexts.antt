@@ -4,6 +4,7 @@ use Rattle.model.specs.declared.answer.Answer.TheVariants as answer
 use Rattle.model.specs.declared.command.Command.TheVariants as command
 use Rattle.model.specs.declared.command.Operation.TheVariants.{Return}
 use Rattle.model.specs.declared.answer.Refusal.TheVariants as refusal
+use Rattle.model.specs.declared.answer.Unjournaled.TheVariants.{NotPage, Renewed}
 use Rattle.model.specs.declared.line.Line.TheVariants as line
 use Rattle.model.specs.Machine.{Up}
 use Rattle.model.specs.Run.{Turn, Reply, BadLine, Told, IsRun, output_of, lines_of}
@@ -18,6 +19,7 @@ SaysCommands =
     Says (codes "show 5") (line.Command (command.Show 5))
     × Says (codes "show 0") (line.Command (command.Show 0))
     × Says (codes "show 18446744073709551615") (line.Command (command.Show (2 ^ 64 - 1)))
+    × Says (codes "journal 16") (line.Command (command.Journal 16))
     × Says (codes "return 3 31 9 0 0 0 5 0 0 31") (line.Command (sends Return 3 31 (9 ∷ 0 ∷ 0 ∷ 0 ∷ []) (5 ∷ 0 ∷ 0 ∷ 31 ∷ [])))
 
 -- lines that are skipped
@@ -66,8 +68,8 @@ PrintsRefusals =
     map (λ why. printed (answer.Refused why))
     (refusal.Down ∷ refusal.NoProcess ∷ refusal.NotRunning ∷ refusal.Worn ∷ refusal.Stalled ∷ refusal.LogFull
     ∷ refusal.CheckpointRunning ∷ refusal.MigrationPending ∷ refusal.NotStable 3 ∷ refusal.NoCheckpoint
-    ∷ refusal.NoMemory ∷ refusal.Fault ∷ refusal.BadNumber ∷ [])
+    ∷ refusal.NoMemory ∷ refusal.Fault ∷ refusal.BadNumber ∷ refusal.NotJournaled NotPage ∷ refusal.NotJournaled Renewed ∷ [])
     ≡ map line_of
     (codes "down" ∷ codes "no process" ∷ codes "not running" ∷ codes "worn" ∷ codes "stalled" ∷ codes "log full"
     ∷ codes "checkpoint running" ∷ codes "migration pending" ∷ codes "not stable 3" ∷ codes "no checkpoint"
-    ∷ codes "no memory" ∷ codes "fault" ∷ codes "bad number" ∷ [])
+    ∷ codes "no memory" ∷ codes "fault" ∷ codes "bad number" ∷ codes "not journaled 1" ∷ codes "not journaled 2" ∷ [])

@@ -2,7 +2,7 @@
 
 ghost use Rattle.model_laws.specs.Worked.{WritesPage, DiminishesPage, StartsProcess, AnswersOnce, Stalls, SetsState, StartsItself, AsksProcesses, AsksNodes, Classifies, DiminishesAll, SetsStateOnce, ResetsKey, ClearsRegisters, ReducesFurther, DiminishesKinds};
 ghost use Rattle.model_laws.specs.WorkedMemory.{RefusesReferences, FindsHoles, FindsPages, ReachesDeep, DescendsByOne, FillsLogByStore, RestrictsWays};
-ghost use Rattle.model_laws.specs.WorkedSaves.{RefusesNumbers, Wears, AgesOnceMore, FillsLog, Saves, SavesStores, Forgets, ShowsBanks, RefusesInOrder, CountsWritten};
+ghost use Rattle.model_laws.specs.WorkedSaves.{RefusesNumbers, Wears, AgesOnceMore, FillsLog, Saves, SavesStores, Forgets, ShowsBanks, RefusesInOrder, CountsWritten, Journals, JournalsSaved, JournalsWords};
 ghost use Rattle.model_laws.specs.WorkedSteps.{AnswersBySteps, FailsBetween, OpensAgain, WantsMemory, RescindsProcess, ChainsBanks, RevokesOnly};
 ghost use Rattle.model_laws.specs.WorkedTexts.{SaysCommands, SaysNothing, SaysBad, CutsLines, RunsScript, PrintsRefusals};
 
@@ -171,12 +171,28 @@ pub fn counts_written()
     ensures { CountsWritten }
 {}
 
+/// A page is saved as it is, without a checkpoint, and goes home before the next.
+pub fn journals()
+    ensures { Journals }
+{}
+
+/// A page that was given up and made again isn't journaled before it is saved.
+pub fn journals_saved()
+    ensures { JournalsSaved }
+{}
+
+/// A page keeps the owner that is saved, and what else was written isn't saved with it.
+pub fn journals_words()
+    ensures { JournalsWords }
+{}
+
 /// What a command comes to in these rows is a step of the machine.
 pub fn answers_by_steps()
     ensures { AnswersBySteps }
 {}
 
-/// Where the device fails in a commit or in the last migration, two saved parts are possible.
+/// Where the device fails in a commit, a journal or the last migration, two saved parts are
+/// possible.
 pub fn fails_between()
     ensures { FailsBetween }
 {}

@@ -1,4 +1,5 @@
 mod Copies
+mod Journaling
 mod Keeping
 mod Counts
 mod Putting

@@ -2,11 +2,13 @@
 //! saved.
 #![tactic(auto)]
 
+mod journal_fault;
 mod plain_store;
 mod snapshot;
 mod snapshots;
 mod store;
 
 pub use migrator::{Checkpoint, CheckpointFault, OpenFault, OpenRefused};
+pub use journal_fault::JournalFault;
 pub use plain_store::{PlainStore, held};
 pub use store::ObjectStore;

@@ -16,6 +16,7 @@ use std::alloc::{AllocError, Global};
 use std::marker::Model;
 
 mod checkpoint;
+mod journal;
 mod open;
 mod stages;
 

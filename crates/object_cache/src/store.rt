@@ -1,16 +1,18 @@
 // The trait of object stores.
-ghost use Rattle.std.specs.Prelude.{◌≡◌, ℕ, ◌-◌, ◌<◌, ◌≤◌, None, Some, length, IfOk, IfErr, OnOk, OnErr};
+ghost use Rattle.std.specs.Prelude.{◌≡◌, ◌⊎◌, ℕ, ◌-◌, ◌<◌, ◌≤◌, ◌^◌, None, Some, length, IfOk, IfErr, OnOk, OnErr, IsErrOf};
 ghost use Rattle.model.specs.Keepable.{AreKeepable};
 ghost use Rattle.model.specs.Machine.{untouched, touched_count};
 ghost use Rattle.device.specs.Disk.{Image};
 ghost use Rattle.device.specs.Calls.{Counts};
 ghost use Rattle.device.specs.Moments.{Peeks};
-ghost use Rattle.migrator.specs.Saved.{Holds, LeavesSaved, LeavesEither};
+ghost use Rattle.migrator.specs.Saved.{Holds, LeavesSaved, LeavesEither, LeavesOneOf};
+ghost use Rattle.object_cache.specs.Journal.{IsJournalAnswer, IsTurnedAway, is_page_now, is_saved_page, journaled, next_journaled, words_now};
 ghost use Rattle.migrator.specs.Opened.{Refuses};
 ghost use Rattle.capability.specs.Parts.{frames_of};
 ghost use Rattle.migrator.specs.Refused.{IsCommitAnswer, IsFreezeAnswer, IsRefused};
 ghost use Rattle.object_cache.specs.Store.{FrozenFrames, View, Leads, OpensStore, freezing, stabilized, next_saved, aside_after_commit, IsStabilizeAnswer, MayCommit, left_in, moved, moved_saved};
 
+use crate::journal_fault::JournalFault;
 use capability::PresentFrames;
 use device::{Device, Failed};
 use migrator::{Checkpoint, CheckpointFault, OpenRefused};
@@ -19,8 +21,8 @@ use std::alloc::Global;
 /// The present objects, those of a checkpoint on its way as they were when it began, and those that
 /// the committed checkpoint saves, over a device.
 ///
-/// Until a `commit`, or the `migrate` that brings the last object home, fails, a crash leaves what
-/// is saved, whatever else fails. After a failure of the device the store is to be opened again.
+/// Until a `commit`, a `journal`, or the `migrate` that brings the last object home, fails, a crash
+/// leaves what is saved, whatever else fails. After a failure of the device the store is to be opened again.
 pub trait ObjectStore<D: Device>: PresentFrames + Sized {
     /// How a store is set up.
     type Setting: Copy;
@@ -149,6 +151,42 @@ pub trait ObjectStore<D: Device>: PresentFrames + Sized {
         ensures any_moment { LeavesEither (D.disk (view self.old).beneath) (D.disk (view self.new).beneath)
             (view self.old).aside.saved (moved_saved count (view self.old).aside) }
         ensures cause { Counts (D.disk (view self.old).beneath) (D.disk (view self.new).beneath) result };
+
+    /// Saves a page with the words that it has now, at an age; of the page nothing else, and of the
+    /// other objects what was saved: one page is durable without a checkpoint. Answers the new
+    /// generation. It takes no memory.
+    ///
+    /// It is refused by `CheckpointRunning` exactly where a checkpoint is on its way, else by
+    /// `MigrationPending` exactly where something saved isn't home, else by `NotPage` exactly where
+    /// the number isn't that of a page, else by `Renewed` exactly where no page is saved, or the
+    /// one that is was given up since; nothing is written then, and before `Renewed` nothing is
+    /// asked of the device. `Failed` is told exactly where the device failed, and then a crash
+    /// leaves what was saved or, where nothing else refuses it, that with the page.
+    fn journal(&mut self, number: u64, age: u64) -> Result<u64, JournalFault>
+        requires keepable { AreKeepable (Self.parts self.old).geometry u64.MAX
+            (frames_of (Self.parts self.old)) }
+        requires sound { (view self.old).is_sound }
+        requires later { (view self.old).aside.saved.age < age }
+        requires most { age ≤ 2 ^ 62 }
+        ensures answer { IsJournalAnswer (D.disk (view self.old).beneath) (D.disk (view self.new).beneath)
+            (left_in (view self.old).aside) (view self.old).aside.saved
+            (is_page_now (Self.parts self.old) number)
+            (is_saved_page (Self.parts self.old) (view self.old).aside.saved number) result }
+        ensures turned_away { IsTurnedAway result → self.new ≡ self.old }
+        ensures headers { (Self.parts self.new).headers ≡ (Self.parts self.old).headers }
+        ensures contents { (Self.parts self.new).contents ≡ (Self.parts self.old).contents }
+        ensures touched { (Self.parts self.new).touched ≡ (Self.parts self.old).touched }
+        ensures geometry { (Self.parts self.new).geometry ≡ (Self.parts self.old).geometry }
+        ensures aside { OnOk result ((view self.new).aside ≡ journaled age number
+            (words_now (Self.parts self.old) number) (view self.old).aside) }
+        ensures unchanged { OnErr result ((view self.new).aside ≡ (view self.old).aside) }
+        ensures sound { IsErrOf result JournalFault.Failed ⊎ (view self.new).is_sound }
+        ensures size { (D.disk (view self.new).beneath).sectors ≡ (D.disk (view self.old).beneath).sectors }
+        ensures any_moment { LeavesOneOf (D.disk (view self.old).beneath) (D.disk (view self.new).beneath)
+            (view self.old).aside.saved (next_journaled age number
+            (words_now (Self.parts self.old) number) (view self.old).aside.frozen
+            (view self.old).aside.saved (is_page_now (Self.parts self.old) number)
+            (is_saved_page (Self.parts self.old) (view self.old).aside.saved number)) };
 
     /// What happens to the present objects leaves the rest alone.
     ghost leads: { (s t : Self) → Self.LeadsTo s t → Leads D.disk (view s) (view t) };

@@ -12,7 +12,7 @@ ghost use Rattle.processes.specs.Machine.{IsToldOnce, Performs, answer_of};
 use crate::memory::refused;
 use capability::{PrepareFault, PresentFrames, objects, view};
 use device::Failed;
-use model::{Answer, Capability, Content, Refusal, Slots};
+use model::{Answer, Capability, Content, Description, Refusal, Shown, Slots};
 use space_bank::Banks;
 use std::alloc::Global;
 
@@ -72,12 +72,16 @@ fn shown<F: PresentFrames>(
         Content::Root(root) => Some(registers_of(alloc, store, root.annex)?),
         _ => None,
     };
-    Ok(Answer::Shown {
+    let description = Description {
         number,
         object,
         registers,
         used,
-    })
+    };
+    match Shown::new(alloc, description) {
+        Ok(shown) => Ok(Answer::Shown(shown)),
+        Err(_) => Err(PrepareFault::NoMemory),
+    }
 }
 
 /// Tells of an object, by its number.

@@ -157,6 +157,7 @@ keyword_for command.Checkpoint = keyword.Checkpoint
 keyword_for (command.Stabilize n) = keyword.Stabilize
 keyword_for command.Commit = keyword.Commit
 keyword_for (command.Migrate n) = keyword.Migrate
+keyword_for (command.Journal n) = keyword.Journal
 keyword_for command.Restart = keyword.Restart
 keyword_for command.Cut = keyword.Cut
 
@@ -183,6 +184,7 @@ command_again command.Checkpoint fits = ([], refl, refl)
 command_again (command.Stabilize n) fits = (decimal n ∷ [], refl, rw (number_again n [] fits) refl)
 command_again command.Commit fits = ([], refl, refl)
 command_again (command.Migrate n) fits = (decimal n ∷ [], refl, rw (number_again n [] fits) refl)
+command_again (command.Journal n) fits = (decimal n ∷ [], refl, rw (number_again n [] fits) refl)
 command_again command.Restart fits = ([], refl, refl)
 command_again command.Cut fits = ([], refl, refl)
 
@@ -256,6 +258,7 @@ arguments_takes keyword.Checkpoint words p e = subst (IsReadFrom keyword.Checkpo
 arguments_takes keyword.Stabilize words p e = let t = one_takes (λ n. command.Stabilize n) words p e in one_read keyword.Stabilize words p (command.Stabilize t.0) t.2 t.1 (ap (λ (w : Words). codes "stabilize" ∷ w) t.3)
 arguments_takes keyword.Commit words p e = subst (IsReadFrom keyword.Commit words) (some_is _ _ e) (tt, refl)
 arguments_takes keyword.Migrate words p e = let t = one_takes (λ n. command.Migrate n) words p e in one_read keyword.Migrate words p (command.Migrate t.0) t.2 t.1 (ap (λ (w : Words). codes "migrate" ∷ w) t.3)
+arguments_takes keyword.Journal words p e = let t = one_takes (λ n. command.Journal n) words p e in one_read keyword.Journal words p (command.Journal t.0) t.2 t.1 (ap (λ (w : Words). codes "journal" ∷ w) t.3)
 arguments_takes keyword.Restart words p e = subst (IsReadFrom keyword.Restart words) (some_is _ _ e) (tt, refl)
 arguments_takes keyword.Cut words p e = subst (IsReadFrom keyword.Cut words) (some_is _ _ e) (tt, refl)
 
@@ -274,8 +277,9 @@ keyword_at word =
     (if bytes_eq word (codes "stabilize") then Some keyword.Stabilize else
     (if bytes_eq word (codes "commit") then Some keyword.Commit else
     (if bytes_eq word (codes "migrate") then Some keyword.Migrate else
+    (if bytes_eq word (codes "journal") then Some keyword.Journal else
     (if bytes_eq word (codes "restart") then Some keyword.Restart else
-    (if bytes_eq word (codes "cut") then Some keyword.Cut else None))))))))))))
+    (if bytes_eq word (codes "cut") then Some keyword.Cut else None)))))))))))))
 
 keyword_at_name : (k : Keyword) → keyword_at (keyword_name k) ≡ Some k
 unfolding keyword_at
@@ -290,6 +294,7 @@ keyword_at_name keyword.Checkpoint = refl
 keyword_at_name keyword.Stabilize = refl
 keyword_at_name keyword.Commit = refl
 keyword_at_name keyword.Migrate = refl
+keyword_at_name keyword.Journal = refl
 keyword_at_name keyword.Restart = refl
 keyword_at_name keyword.Cut = refl
 

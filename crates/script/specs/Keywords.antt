@@ -1,7 +1,7 @@
 use Rattle.std.specs.Prelude.{ℕ, List, codes}
 use Rattle.model.specs.Text.{operation_name}
 use Rattle.script.specs.declared.keyword.Keyword.{Keyword}
-use Rattle.script.specs.declared.keyword.Keyword.TheVariants.{Invoke, Load, Store, Show, Evict, Checkpoint, Stabilize, Commit, Migrate, Restart, Cut}
+use Rattle.script.specs.declared.keyword.Keyword.TheVariants.{Invoke, Load, Store, Show, Evict, Checkpoint, Stabilize, Commit, Migrate, Journal, Restart, Cut}
 
 -- the first word of a command
 abbrev pub keyword_name : Keyword → List ℕ
@@ -14,5 +14,6 @@ keyword_name Checkpoint = codes "checkpoint"
 keyword_name Stabilize = codes "stabilize"
 keyword_name Commit = codes "commit"
 keyword_name Migrate = codes "migrate"
+keyword_name Journal = codes "journal"
 keyword_name Restart = codes "restart"
 keyword_name Cut = codes "cut"

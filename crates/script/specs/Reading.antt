@@ -100,5 +100,6 @@ arguments_at keyword.Checkpoint words = Some (command.Checkpoint, words)
 arguments_at keyword.Stabilize words = one_at (λ n. command.Stabilize n) words
 arguments_at keyword.Commit words = Some (command.Commit, words)
 arguments_at keyword.Migrate words = one_at (λ n. command.Migrate n) words
+arguments_at keyword.Journal words = one_at (λ n. command.Journal n) words
 arguments_at keyword.Restart words = Some (command.Restart, words)
 arguments_at keyword.Cut words = Some (command.Cut, words)

@@ -17,6 +17,7 @@ pub enum Keyword {
     Stabilize,
     Commit,
     Migrate,
+    Journal,
     Restart,
     Cut,
 }
@@ -38,6 +39,7 @@ pub fn keyword_of(word: &[u8]) -> Option<Keyword>
         b"stabilize" => Some(Keyword::Stabilize),
         b"commit" => Some(Keyword::Commit),
         b"migrate" => Some(Keyword::Migrate),
+        b"journal" => Some(Keyword::Journal),
         b"restart" => Some(Keyword::Restart),
         b"cut" => Some(Keyword::Cut),
         _ => None,

@@ -55,6 +55,9 @@ fn arguments(keyword: Keyword, words: &mut Words<'_>) -> Option<Command>
         Keyword::Migrate => Some(Command::Migrate {
             count: words.number()?,
         }),
+        Keyword::Journal => Some(Command::Journal {
+            number: words.number()?,
+        }),
         Keyword::Restart => Some(Command::Restart),
         Keyword::Cut => Some(Command::Cut),
     }

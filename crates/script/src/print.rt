@@ -1,13 +1,13 @@
 // The text of an answer.
-ghost use Rattle.std.specs.Prelude.{◌≡◌, ◌≤◌, [], ◌∷◌, codes, length, decimal};
-ghost use Rattle.model.specs.Text.{bad_line, line_of, printed, refusal_text, spaced};
+ghost use Rattle.std.specs.Prelude.{◌≡◌, ◌≤◌, [], ◌∷◌, ◌++◌, codes, length, decimal};
+ghost use Rattle.model.specs.Text.{bad_line, line_of, object_text, printed, refusal_text, spaced};
 ghost use Rattle.script.specs.Writing.{Writes};
 
 use crate::fault::RunFault;
 use crate::line_text::LineText;
 use crate::shown::print_object;
 use crate::writing::write_fully;
-use model::{Answer, Refusal};
+use model::{Answer, Description, Refusal, Unjournaled};
 use std::io::Write;
 
 // The line of a refusal.
@@ -29,6 +29,8 @@ fn refusal_line(refusal: Refusal) -> LineText
         Refusal::NoMemory => LineText::new(b"no memory"),
         Refusal::Fault => LineText::new(b"fault"),
         Refusal::BadNumber => LineText::new(b"bad number"),
+        Refusal::NotJournaled(Unjournaled::NotPage) => LineText::new(b"not journaled 1"),
+        Refusal::NotJournaled(Unjournaled::Renewed) => LineText::new(b"not journaled 2"),
     }
 }
 
@@ -62,6 +64,22 @@ fn print_refusal<W: Write>(refusal: Refusal, writer: &mut W) -> Result<(), RunFa
     refusal_line(refusal).write_to(writer)
 }
 
+// Writes the lines of an object, the last of which is `end`.
+#[inline(never)]
+fn print_shown<W: Write>(shown: &Description, writer: &mut W) -> Result<(), RunFault>
+    ensures { Writes (W.contents writer.old) (W.contents writer.new) result (object_text
+        shown.now.number shown.now.object shown.now.registers shown.now.used ++ line_of (codes "end")) }
+{
+    print_object(
+        shown.number,
+        &shown.object,
+        &shown.registers,
+        shown.used,
+        writer,
+    )?;
+    write_fully(writer, b"end\n")
+}
+
 /// Writes the text of an answer: one line, or for an object several, the last of which is `end`.
 ///
 /// `Err(RunFault::Write)` where the writer fails or takes nothing: what was written is then a
@@ -77,16 +95,9 @@ pub fn print_answer<W: Write>(answer: &Answer, writer: &mut W) -> Result<(), Run
         Answer::Frozen(count) => print_numbered(b"frozen", *count, writer),
         Answer::Left(count) => print_numbered(b"left", *count, writer),
         Answer::Committed(generation) => print_numbered(b"committed", *generation, writer),
+        Answer::Journaled(generation) => print_numbered(b"journaled", *generation, writer),
         Answer::At { generation, age } => print_place(*generation, *age, writer),
-        Answer::Shown {
-            number,
-            object,
-            registers,
-            used,
-        } => {
-            print_object(*number, object, registers, *used, writer)?;
-            write_fully(writer, b"end\n")
-        }
+        Answer::Shown(shown) => print_shown(shown.get(), writer),
         Answer::Refused(refusal) => print_refusal(*refusal, writer),
     }
 }

@@ -2,8 +2,8 @@
 use capability::{ObjectTable, PrepareFault};
 use gate::InvokeFault;
 use model::{
-    Access, Answer, Capability, Command, Content, Invocation, Line, Object, ObjectHeader,
-    Operation, Refusal, Register, Role, Root, State,
+    Access, Answer, Capability, Command, Content, Description, Invocation, Line, Object,
+    ObjectHeader, Operation, Refusal, Register, Role, Root, Shown, State,
 };
 use script::{RunFault, parse_line, print_answer};
 use std::process::Abort;
@@ -48,7 +48,7 @@ fn lines_say_one_thing(rt: HostRuntime) {
 // The longest line, and what is answered where memory runs out or the device fails.
 #[test]
 fn answers_have_texts(rt: HostRuntime) -> Result<(), Fail> {
-    let longest = Answer::Shown {
+    let root = Description {
         number: u64::MAX,
         object: Object {
             owner: u64::MAX,
@@ -69,7 +69,7 @@ fn answers_have_texts(rt: HostRuntime) -> Result<(), Fail> {
     };
     let rows: [(Answer, &[u8]); 4] = [
         (
-            longest,
+            Answer::Shown(Shown::new(rt.alloc(), root)?),
             b"process 18446744073709551615 owner 18446744073709551615 annex 18446744073709551615 \
 available key 65535 words 18446744073709551615 18446744073709551615 18446744073709551615 \
 18446744073709551615 space space 18446744073709551615 4 weak\nend\n",

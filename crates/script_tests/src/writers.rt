@@ -7,7 +7,7 @@ ghost use Rattle.capability.specs.Plain.{parts_of};
 use crate::worlds::{device_of, run_over};
 use capability::Plain;
 use kernel_tests::first_world;
-use model::{Answer, Content, Object, Words};
+use model::{Answer, Content, Description, Object, Shown, Words};
 use runs::Output;
 use script::{RunFault, print_answer};
 use std::alloc::Global;
@@ -104,7 +104,7 @@ fn narrow_writers_take_an_answer(rt: HostRuntime) -> Result<(), Fail> {
     is_written(&rt, rt.alloc(), &at, b"at 12 345\n", 1);
     let mut words = Words::new(rt.alloc())?;
     words.set(0, 42);
-    let shown = Answer::Shown {
+    let page = Description {
         number: 16,
         object: Object {
             owner: 0,
@@ -113,6 +113,7 @@ fn narrow_writers_take_an_answer(rt: HostRuntime) -> Result<(), Fail> {
         registers: None,
         used: 0,
     };
+    let shown = Answer::Shown(Shown::new(rt.alloc(), page)?);
     is_written(
         &rt,
         rt.alloc(),

@@ -1,7 +1,9 @@
 // The stages of a checkpoint.
 ghost use Rattle.object_cache.specs.PlainStore.{view_of};
 
+use crate::journal_fault::JournalFault;
 use crate::plain_store::PlainStore;
+use crate::plain_store::journal::journal_page;
 use crate::plain_store::open::open_plain;
 use crate::snapshots::freeze_written;
 use crate::store::ObjectStore;
@@ -60,6 +62,10 @@ impl<D: Device> ObjectStore<D> for PlainStore<D> {
 
     fn migrate(&mut self, count: u64) -> Result<u64, Failed> {
         self.durable.migrate(count)
+    }
+
+    fn journal(&mut self, number: u64, age: u64) -> Result<u64, JournalFault> {
+        journal_page(&mut self.durable, &self.present, number, age)
     }
 
     ghost use Rattle.std.proofs.Common.{refl};

@@ -114,6 +114,10 @@ pub returns-in-Commit-clause-serves : goal.returns-in-Commit-clause-serves
 returns-in-Commit-clause-serves g c =
     subst (λ (x : Command). ServesUp g.D.Device.disk g.S.ObjectStore.view g.S.PresentFrames.parts c.args.live.now x (answer_of c.commit.result) c.commit.new.live) (sym c.in-Commit.is) c.commit.ensures.serves
 
+pub returns-in-Journal-clause-serves : goal.returns-in-Journal-clause-serves
+returns-in-Journal-clause-serves g c =
+    subst (λ (x : Command). ServesUp g.D.Device.disk g.S.ObjectStore.view g.S.PresentFrames.parts c.args.live.now x (answer_of c.journal.result) c.journal.new.live) (sym c.in-Journal.is) c.journal.ensures.serves
+
 pub returns-in-Migrate-clause-serves : goal.returns-in-Migrate-clause-serves
 returns-in-Migrate-clause-serves g c =
     subst (λ (x : Command). ServesUp g.D.Device.disk g.S.ObjectStore.view g.S.PresentFrames.parts c.args.live.now x (answer_of c.migrate.result) c.migrate.new.live) (sym c.in-Migrate.is) c.migrate.ensures.serves

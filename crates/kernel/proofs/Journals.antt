@@ -1,0 +1,171 @@
+-- How the journaling of a page ends: refused, done, or in a failure of the device.
+use Rattle.std.proofs.Common.{◌≡◌, ◌⊎◌, inl, inr, ℕ, ◌+◌, ◌^◌, ◌<◌, ◌≤◌, ◌==◌, Bool, true, false, Option, None, Some, Err, List, [], ◌∷◌, length, refl, sym, ap, ◌∙◌, subst, arith}
+use Rattle.std.specs.Prelude.{if◌then◌else◌}
+use Rattle.std.proofs.lemmas.Bool.{cases_lt}
+use Rattle.model.specs.declared.answer.Answer.{Answer}
+use Rattle.model.specs.declared.answer.Answer.TheVariants as answer
+use Rattle.model.specs.declared.answer.Refusal.{Refusal}
+use Rattle.model.specs.declared.answer.Refusal.TheVariants as refusal
+use Rattle.model.specs.declared.answer.Unjournaled.TheVariants.{NotPage, Renewed}
+use Rattle.model.specs.declared.command.Command.TheVariants as command
+use Rattle.model.specs.declared.geometry.Geometry.{Geometry}
+use Rattle.model.specs.Machine.{Running, Saved, Up}
+use Rattle.model.specs.Sound.{object_count}
+use Rattle.model.specs.Step.{Step, second}
+use Rattle.model.specs.Step as machine
+use Rattle.model.specs.World.{World}
+use Rattle.device.specs.Disk.{Image, Disk}
+use Rattle.migrator.specs.Durable.{journaled_saved}
+use Rattle.migrator.specs.Saved.{SavedFrames, Holds, LeavesSaved, LeavesEither, LeavesOneOf}
+use Rattle.capability.specs.Parts.{Parts}
+use Rattle.capability.proofs.Keeping.{keepable_count}
+use Rattle.object_cache.specs.declared.journal_fault.JournalFault.{JournalFault}
+use Rattle.object_cache.specs.declared.journal_fault.JournalFault.TheVariants as fault
+use Rattle.object_cache.specs.Journal.{IsJournalAnswer, IsTurnedAway, is_page_now, is_saved_page, journaled, next_journaled, words_now}
+use Rattle.object_cache.specs.Store.{Aside, View, left_in}
+use Rattle.processes.proofs.Serving.{AreSame}
+use Rattle.processes.proofs.Steps.{refused_step}
+use Rattle.kernel.specs.declared.power.Live.{Live}
+use Rattle.kernel.specs.Denotes.{saved_of, LeavesOne}
+use Rattle.kernel.specs.Journaling.{unjournaled_by}
+use Rattle.kernel.specs.Standing.{AreSoundTogether, IsCaused, IsUp, ServesUp, disk_at, running, running_of}
+use Rattle.kernel.proofs.Acts.{failed, is_up, refused, refused_again, with_store}
+use Rattle.kernel.proofs.Crashes.{leaves_along, leaves_either}
+use Rattle.kernel.proofs.Journaling.{journal_no_page, journal_pending, journal_renewed, journal_running, journal_step, journal_unknown, journal_worn, known_now, next_is, now_is, page_now, running_next, saved_is, saved_next, saved_too, second_of_journal, sound_next, together_next}
+use Rattle.kernel.proofs.Stages.{frozen_none, frozen_some, none_there, same_running, some_there, stays_sound}
+
+-- the same but for the store and the age
+abbrev pub with_age : {S : Type 0} → Live S → S → ℕ → Live S
+with_age l s age = record { store = s; banks = l.banks; age = age; frozen_age = l.frozen_age }
+
+module _ {D S : Type 0} (disk : D → Disk) (view : S → View D) (parts : S → Parts)
+    (only_now : (d : D) (c : Image) → (disk d).left_since (disk d).moment c → (disk d).may_leave c)
+    (sound_holds : (s : S) (c : Image) → (view s).is_sound → (disk (view s).beneath).may_leave c → Holds (disk (view s).beneath).sectors c (view s).aside.saved) where
+  pub too_old : (l : Live S) (n : ℕ) → 2 ^ 62 ≤ l.age → ServesUp disk view parts l (command.Journal n) (answer.Refused refusal.Worn) l
+  too_old l n old = refused disk view parts only_now sound_holds l (command.Journal n) refusal.Worn (λ g up. journal_worn g (running disk view parts l) n old)
+
+  module _ (l : Live S) (s : S) (n : ℕ) (young : l.age < 2 ^ 62) where
+    abbrev a : Aside
+    a = (view l.store).aside
+
+    abbrev age : ℕ
+    age = a.saved.age + 1
+
+    abbrev old : Disk
+    old = disk (view l.store).beneath
+
+    abbrev new : Disk
+    new = disk (view s).beneath
+
+    abbrev moments : Type 0
+    moments = LeavesOneOf old new a.saved (next_journaled age n (words_now (parts l.store) n) a.frozen a.saved (is_page_now (parts l.store) n) (is_saved_page (parts l.store) a.saved n))
+
+    -- nothing was asked of the device
+    turned_away : (why : Refusal) → s ≡ l.store → ((g : Geometry) → IsUp disk view parts g l → machine.refusal_of g (running disk view parts l) (command.Journal n) ≡ Some why) →
+        ServesUp disk view parts l (command.Journal n) (answer.Refused why) (with_store l s)
+    turned_away why same applies = refused_again disk view parts only_now sound_holds l s (command.Journal n) why same applies
+
+    module _ (same : AreSame (parts l.store) (parts s)) (size : new.sectors ≡ old.sectors) (run : LeavesOneOf (disk (view l.store).beneath) (disk (view s).beneath) (view l.store).aside.saved
+        (next_journaled ((view l.store).aside.saved.age + 1) n (words_now (parts l.store) n) (view l.store).aside.frozen (view l.store).aside.saved (is_page_now (parts l.store) n) (is_saved_page (parts l.store) (view l.store).aside.saved n)))
+        (none : (view l.store).aside.frozen ≡ None) (home : (view l.store).aside.saved.entries ≡ 0) (page : is_page_now (parts l.store) n ≡ true) where
+      run_by : (b : Bool) → is_saved_page (parts l.store) a.saved n ≡ b → LeavesOneOf old new a.saved (if b then Some (journaled_saved age n (words_now (parts l.store) n) a.saved) else None)
+      run_by b is = subst (λ (o : Option SavedFrames). LeavesOneOf old new a.saved o)
+          (next_is age n (words_now (parts l.store) n) a.frozen a.saved (is_page_now (parts l.store) n) (is_saved_page (parts l.store) a.saved n) b none home page is) run
+
+      -- what a crash leaves of it
+      along : (b : Bool) → is_saved_page (parts l.store) a.saved n ≡ b → (g : Geometry) → IsUp disk view parts g l →
+          LeavesOne g (disk_at disk view parts l) (disk (view s).beneath) (saved_of (view l.store).aside.saved ∷ second (Up (running disk view parts l)) (command.Journal n))
+      along false is g up = leaves_along g old new a.saved (second (Up (running disk view parts l)) (command.Journal n)) up.sound.saved size (run_by false is)
+      along true is g up =
+          let sound = up.sound in
+          let p = parts l.store in
+          subst (λ (ss : List Saved). LeavesOne g old new (saved_of a.saved ∷ ss))
+          (ap (λ (x : Saved). x ∷ []) (saved_next g p a l.banks l.age l.frozen_age sound n none page is young)
+          ∙ sym (second_of_journal g (running disk view parts l) n young (frozen_none a.frozen l.frozen_age none) home
+          (page_now g p a l.banks l.age l.frozen_age sound n none page) (saved_too g p a l.banks l.age l.frozen_age sound n none page is young)))
+          (leaves_either g old new a.saved (journaled_saved age n (words_now p n) a.saved) sound.saved (sound_next g p a l.banks l.age l.frozen_age sound n none page is young) size (run_by true is))
+
+      pub journal_failed : ServesUp disk view parts l (command.Journal n) (answer.Refused refusal.Fault) (with_store l s)
+      journal_failed = failed disk view parts only_now sound_holds l (with_store l s) (command.Journal n) (along (is_saved_page (parts l.store) a.saved n) refl)
+
+      -- it isn't saved, or was given up since
+      pub not_saved : is_saved_page (parts l.store) (view l.store).aside.saved n ≡ false → (view s).aside ≡ (view l.store).aside → (view s).is_sound →
+          ServesUp disk view parts l (command.Journal n) (answer.Refused (refusal.NotJournaled Renewed)) (with_store l s)
+      not_saved other beside sound g up =
+          let p = parts l.store in
+          let r = running disk view parts l in
+          let known = known_now g p a l.banks l.age l.frozen_age up.sound n none page in
+          record {
+            step = λ not_fault.
+                subst (λ (x : Running). Step g (Up r) (command.Journal n) (answer.Refused (refusal.NotJournaled Renewed)) (Up x)) (sym (same_running g p (parts s) same a (view s).aside beside l.age l.frozen_age))
+                (refused_step g r (command.Journal n) (refusal.NotJournaled Renewed)
+                (journal_renewed g r n young (frozen_none a.frozen l.frozen_age none) home known (page_now g p a l.banks l.age l.frozen_age up.sound n none page)
+                (sym (saved_is g p a l.banks l.age l.frozen_age up.sound n none known) ∙ other)));
+            up = λ not_fault. is_up disk view parts only_now sound_holds g (with_store l s) sound (stays_sound g p (parts s) same a (view s).aside beside l.banks l.age l.frozen_age up.sound);
+            leaves = along false other g up;
+          }
+
+      -- it is saved
+      pub journal_went : is_saved_page (parts l.store) (view l.store).aside.saved n ≡ true → (generation : ℕ) → generation ≡ (view l.store).aside.saved.generation + 2 →
+          (view s).aside ≡ journaled ((view l.store).aside.saved.age + 1) n (words_now (parts l.store) n) (view l.store).aside → (view s).is_sound →
+          ServesUp disk view parts l (command.Journal n) (answer.Journaled generation) (with_age l s (l.age + 1))
+      journal_went is generation told beside sound g up =
+          let p = parts l.store in
+          let r = running disk view parts l in
+          let b = journaled age n (words_now p n) a in
+          record {
+            step = λ not_fault.
+                subst (λ (x : Running). Step g (Up r) (command.Journal n) (answer.Journaled generation) (Up x))
+                (sym (same_running g p (parts s) same b (view s).aside beside (l.age + 1) l.frozen_age ∙ running_next g p a l.banks l.age l.frozen_age up.sound n none page is young))
+                (subst (λ (k : ℕ). Step g (Up r) (command.Journal n) (answer.Journaled k) (let now : World = record { objects = r.now.objects; age = r.now.age + 1 } in Up (record r { now = now; saved = machine.journaled r n; to_move = 1 }))) (sym told)
+                (journal_step g r n young (frozen_none a.frozen l.frozen_age none) home (known_now g p a l.banks l.age l.frozen_age up.sound n none page)
+                (page_now g p a l.banks l.age l.frozen_age up.sound n none page) (saved_too g p a l.banks l.age l.frozen_age up.sound n none page is young)));
+            up = λ not_fault. is_up disk view parts only_now sound_holds g (with_age l s (l.age + 1)) sound
+                (stays_sound g p (parts s) same b (view s).aside beside l.banks (l.age + 1) l.frozen_age (together_next g p a l.banks l.age l.frozen_age up.sound n none page is young));
+            leaves = along true is g up;
+          }
+
+    -- it is refused
+    pub journal_refused : (why : JournalFault) (known : Bool) → AreSame (parts l.store) (parts s) → (disk (view s).beneath).sectors ≡ (disk (view l.store).beneath).sectors →
+        IsJournalAnswer (disk (view l.store).beneath) (disk (view s).beneath) (left_in (view l.store).aside) (view l.store).aside.saved (is_page_now (parts l.store) n) (is_saved_page (parts l.store) (view l.store).aside.saved n) (Err why) →
+        (IsTurnedAway (Err why) → s ≡ l.store) → (known ≡ true → n < length (parts l.store).headers) → (known ≡ false → length (parts l.store).headers ≤ n) →
+        (view s).aside ≡ (view l.store).aside → ((why ≡ fault.Failed) ⊎ (view s).is_sound) →
+        LeavesOneOf (disk (view l.store).beneath) (disk (view s).beneath) (view l.store).aside.saved
+        (next_journaled ((view l.store).aside.saved.age + 1) n (words_now (parts l.store) n) (view l.store).aside.frozen (view l.store).aside.saved (is_page_now (parts l.store) n) (is_saved_page (parts l.store) (view l.store).aside.saved n)) →
+        ServesUp disk view parts l (command.Journal n) (answer.Refused (unjournaled_by known why)) (with_store l s)
+    journal_refused fault.CheckpointRunning known same size told away within past beside sound run =
+        let f = some_there a.frozen told.1 in
+        turned_away refusal.CheckpointRunning (away tt) (λ g up. journal_running g (running disk view parts l) n young _ (frozen_some a.frozen f.0 l.frozen_age f.1))
+    journal_refused fault.MigrationPending known same size told away within past beside sound run =
+        turned_away refusal.MigrationPending (away tt)
+        (λ g up. journal_pending g (running disk view parts l) n young (frozen_none a.frozen l.frozen_age (none_there a.frozen told.1)) told.2)
+    journal_refused fault.NotPage true same size told away within past beside sound run =
+        turned_away (refusal.NotJournaled NotPage) (away tt)
+        (λ g up. journal_no_page g (running disk view parts l) n young (frozen_none a.frozen l.frozen_age (none_there a.frozen told.1)) told.2
+        (subst (λ (m : ℕ). n < m) (keepable_count g l.age (parts l.store) up.sound.now.keepable) (within refl))
+        (sym (now_is g (parts l.store) a l.banks l.age l.frozen_age up.sound n) ∙ told.3))
+    journal_refused fault.NotPage false same size told away within past beside sound run =
+        turned_away refusal.BadNumber (away tt)
+        (λ g up. journal_unknown g (running disk view parts l) n young (frozen_none a.frozen l.frozen_age (none_there a.frozen told.1)) told.2
+        (subst (λ (m : ℕ). m ≤ n) (keepable_count g l.age (parts l.store) up.sound.now.keepable) (past refl)))
+    journal_refused fault.Renewed known same size told away within past beside sound run =
+        not_saved same size run (none_there a.frozen told.1) told.2 told.3 told.4 beside (elim sound [ inl fails ↦ absurd cc | inr is ↦ is ])
+    journal_refused fault.Failed known same size told away within past beside sound run = journal_failed same size run (none_there a.frozen told.1) told.2 told.3
+
+other_cause : (old new : Disk) (why : Refusal) → new.failures ≡ old.failures → (answer.Refused why ≡ answer.Refused refusal.Fault → ⊥) → IsCaused old new (answer.Refused why)
+other_cause old new why same other = record {
+  later = omega (arith, same);
+  exact = (λ e. absurd (other e), λ rose. absurd (omega (arith, same, rose)));
+}
+
+-- who failed is told where a store refuses
+pub journal_cause : (old new : Disk) (left : Option ℕ) (s : SavedFrames) (page saved known : Bool) (why : JournalFault) → IsJournalAnswer old new left s page saved (Err why) → IsCaused old new (answer.Refused (unjournaled_by known why))
+journal_cause old new left s page saved known fault.Failed told = record {
+  later = let more = told.0 in omega (arith, more);
+  exact = (λ e. told.0, λ rose. refl);
+}
+journal_cause old new left s page saved known fault.CheckpointRunning told = other_cause old new refusal.CheckpointRunning told.0 (λ e. cc)
+journal_cause old new left s page saved known fault.MigrationPending told = other_cause old new refusal.MigrationPending told.0 (λ e. cc)
+journal_cause old new left s page saved true fault.NotPage told = other_cause old new (refusal.NotJournaled NotPage) told.0 (λ e. cc)
+journal_cause old new left s page saved false fault.NotPage told = other_cause old new refusal.BadNumber told.0 (λ e. cc)
+journal_cause old new left s page saved known fault.Renewed told = other_cause old new (refusal.NotJournaled Renewed) told.0 (λ e. cc)

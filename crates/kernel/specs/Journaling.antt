@@ -1,0 +1,15 @@
+-- What is answered where a page isn't journaled.
+use Rattle.std.specs.Prelude.{if◌then◌else◌, Bool}
+use Rattle.model.specs.declared.answer.Refusal.{Refusal}
+use Rattle.model.specs.declared.answer.Refusal.TheVariants as refusal
+use Rattle.model.specs.declared.answer.Unjournaled.TheVariants.{NotPage, Renewed}
+use Rattle.object_cache.specs.declared.journal_fault.JournalFault.{JournalFault}
+use Rattle.object_cache.specs.declared.journal_fault.JournalFault.TheVariants as fault
+
+-- the machine's refusal where its store refuses, by whether an object has the number
+abbrev pub unjournaled_by : Bool → JournalFault → Refusal
+unjournaled_by known fault.CheckpointRunning = refusal.CheckpointRunning
+unjournaled_by known fault.MigrationPending = refusal.MigrationPending
+unjournaled_by known fault.NotPage = if known then refusal.NotJournaled NotPage else refusal.BadNumber
+unjournaled_by known fault.Renewed = refusal.NotJournaled Renewed
+unjournaled_by known fault.Failed = refusal.Fault

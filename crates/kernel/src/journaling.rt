@@ -1,0 +1,65 @@
+// One page is saved beside the checkpoints. It takes no memory.
+ghost use Rattle.std.specs.Prelude.{◌≡◌};
+ghost use Rattle.model.specs.declared.command.Command.TheVariants as command;
+ghost use Rattle.processes.specs.Machine.{IsToldOnce, answer_of};
+ghost use Rattle.kernel.specs.Standing.{IsCaused, IsSomeUp, ServesUp, disk_at};
+ghost use Rattle.kernel.specs.Journaling.{unjournaled_by};
+
+use crate::power::Live;
+use device::{Device, Failed};
+use model::{Answer, MAX_AGE, Refusal, Unjournaled};
+use object_cache::{JournalFault, ObjectStore};
+
+// What is answered where the store refuses, by whether an object has the number.
+fn refused(fault: JournalFault, is_known: bool) -> Result<Answer, Failed>
+    ensures answer { answer_of result ≡ Answer.Refused (unjournaled_by is_known fault) }
+    ensures told_once { IsToldOnce result }
+{
+    let refusal = match fault {
+        JournalFault::CheckpointRunning => Refusal::CheckpointRunning,
+        JournalFault::MigrationPending => Refusal::MigrationPending,
+        JournalFault::NotPage => {
+            if is_known {
+                Refusal::NotJournaled(Unjournaled::NotPage)
+            } else {
+                Refusal::BadNumber
+            }
+        }
+        JournalFault::Renewed => Refusal::NotJournaled(Unjournaled::Renewed),
+        JournalFault::Failed => return Err(Failed),
+    };
+    Ok(Answer::Refused(refusal))
+}
+
+/// Saves a page as it is, without a checkpoint: of the page what is saved else stays, and so do all
+/// other objects. The age rises by one.
+///
+/// It is refused by the first that applies of `Worn` at the greatest age, `CheckpointRunning` where
+/// a checkpoint is on its way, `MigrationPending` where what is saved isn't home, `BadNumber` where
+/// no object has the number, and `NotJournaled`, with `NotPage` where the object isn't a page, else
+/// with `Renewed` where none is saved, or the one that is was given up since. Where it fails, as
+/// the device does, what is saved is that before or that with the page.
+#[inline(never)]
+pub fn journal<D: Device, S: ObjectStore<D>>(
+    live: &mut Live<S>,
+    number: u64,
+) -> Result<Answer, Failed>
+    requires { IsSomeUp D.disk S.view S.parts live.old }
+    ensures serves { ServesUp D.disk S.view S.parts live.old (command.Journal number) (answer_of result) live.new }
+    ensures cause { IsCaused (disk_at D.disk S.view S.parts live.old)
+        (disk_at D.disk S.view S.parts live.new) (answer_of result) }
+    ensures told_once { IsToldOnce result }
+{
+    if live.age >= MAX_AGE {
+        return Ok(Answer::Refused(Refusal::Worn));
+    }
+    let is_known = number < live.store.table().count();
+    let age = live.store.saved().age + 1;
+    match live.store.journal(number, age) {
+        Ok(generation) => {
+            live.age += 1;
+            Ok(Answer::Journaled(generation))
+        }
+        Err(fault) => refused(fault, is_known),
+    }
+}

@@ -1,0 +1,99 @@
+-- A saved world stays sound where a page of it has other words.
+use Rattle.std.proofs.Common.{◌≡◌, ℕ, ◌+◌, ◌^◌, ◌<◌, ◌≤◌, Bool, true, false, not, ◌&&◌, Option, None, List, length, refl, sym, ap, ◌∙◌, subst, arith}
+use Rattle.std.specs.Prelude.{slice_index, slice_index_or}
+use Rattle.model.specs.declared.answer.Refusal.{Refusal}
+use Rattle.model.specs.declared.capability.Capability.{Capability}
+use Rattle.model.specs.declared.geometry.Geometry.{Geometry}
+use Rattle.model.specs.declared.object.Content.{Content}
+use Rattle.model.specs.declared.object.Content.TheVariants as content
+use Rattle.model.specs.declared.object.Object.{Object}
+use Rattle.model.specs.declared.object.State.TheVariants.{Available}
+use Rattle.model.specs.Machine.{Running}
+use Rattle.model.specs.Object.{is_page, is_waiting, root_in, words_in}
+use Rattle.model.specs.Sound.{HasShape, IsSound}
+use Rattle.model.specs.Step.{unjournaled, unless}
+use Rattle.model.specs.World.{World, content_at, owner_at, with_content}
+use Rattle.model_laws.specs.Laws.{JournalKeepsSound}
+use Rattle.model_laws.proofs.SoundEdits.{IsEdited, at_content, frame_content, nearly_content}
+use Rattle.model_laws.proofs.SoundParts.{IsFilled, IsNearlySound, Waits, held_void, nearly_from, nearly_to, nearly_weaken, state_at}
+use Rattle.model_laws.proofs.Usage.{AreAlike}
+
+alike_page : (b : ℕ) (words : List ℕ) (c : Content Capability) → is_page c ≡ true
+    → AreAlike (record { owner = b; content = c }) (record { owner = b; content = content.Page words })
+alike_page b words (content.Page old) is = record { owner = refl; role = refl; annex = refl; limit = refl }
+alike_page b words c is = cc
+
+-- a page is no process
+state_of_page : (c : Content Capability) → is_page c ≡ true → Available ≡ (root_in c).state
+state_of_page (content.Page words) is = refl
+state_of_page c is = cc
+
+pub page_is : {C : Type 0} (c : Content C) → is_page c ≡ true → c ≡ content.Page (words_in c)
+page_is (content.Page words) is = refl
+page_is c is = cc
+
+filled_page : (os : List Object) (W : ℕ → Type 0) (words : List ℕ) → length words ≡ 512 → ((i : ℕ) → slice_index words i < 2 ^ 64) → IsFilled os W (content.Page words)
+filled_page os W words count fit = record {
+  shape = count;
+  words = fit;
+  slots = λ i. held_void os W;
+  register_0 = λ e. refl;
+  space = held_void os W;
+  is_space = tt;
+}
+
+-- another page in place of one
+pub edited_page : (g : Geometry) (W : ℕ → Type 0) (os : List Object) (n : ℕ) (words : List ℕ) → IsNearlySound g W os → is_page (content_at os n) ≡ true
+    → length words ≡ 512 → ((i : ℕ) → slice_index words i < 2 ^ 64) → IsEdited g W os (with_content os n (content.Page words))
+edited_page g W os n words h is count fit =
+    let c = content.Page words in
+    let a = alike_page (owner_at os n) words (content_at os n) is in
+    record {
+      frame = frame_content os n c a;
+      sound = nearly_content g W os n c h a (filled_page os W words count fit);
+      states = λ q. at_content (λ m d. (root_in d).state ≡ state_at os m) os n q c (state_of_page (content_at os n) is) refl;
+    }
+
+-- in a sound world, at another age
+pub world_with_page : (g : Geometry) (w : World) (n age : ℕ) (words : List ℕ) → IsSound g w → is_page (content_at w.objects n) ≡ true
+    → length words ≡ 512 → ((i : ℕ) → slice_index words i < 2 ^ 64) → age ≤ 2 ^ 62
+    → IsSound g (record { objects = with_content w.objects n (content.Page words); age = age })
+world_with_page g w n age words sound is count fit most =
+    let us = with_content w.objects n (content.Page words) in
+    let edited = edited_page g (Waits w.objects) w.objects n words (nearly_from g w sound) is count fit in
+    nearly_to g us age
+    (nearly_weaken g (Waits w.objects) (Waits us) us (λ p waits. ap is_waiting (edited.states p) ∙ waits) edited.sound)
+    most
+
+-- where nothing refuses it, both are pages
+pub both_pages : (s : Running) (n : ℕ) → unjournaled s n ≡ None →
+    (is_page (content_at s.now.objects n) ≡ true) × (is_page (content_at s.saved.world.objects n) ≡ true)
+    × (slice_index_or s.renewed n false ≡ false)
+both_pages s n none =
+    let saved = passes _ _ _ (passes _ _ _ none).1 in
+    let parts = both _ _ saved.0 in
+    ((passes _ _ _ none).0, parts.0, not_true _ parts.1)
+  where
+    passes : (b : Bool) (why : Refusal) (next : Option Refusal) → unless b why next ≡ None → (b ≡ true) × (next ≡ None)
+    passes true why next e = (refl, e)
+    passes false why next e = cc
+
+    both : (b c : Bool) → (b && c) ≡ true → (b ≡ true) × (c ≡ true)
+    both true c e = (refl, e)
+    both false c e = cc
+
+    not_true : (b : Bool) → not b ≡ true → b ≡ false
+    not_true true e = cc
+    not_true false e = refl
+
+page_shape : (c : Content Capability) → is_page c ≡ true → HasShape c → length (words_in c) ≡ 512
+page_shape (content.Page words) is shape = shape
+page_shape c is shape = cc
+
+pub journal_keeps_sound : JournalKeepsSound
+journal_keeps_sound g s n now saved young none =
+    let c = content_at s.now.objects n in
+    let pages = both_pages s n none in
+    subst (λ (d : Content Capability). IsSound g (record { objects = with_content s.saved.world.objects n d; age = s.saved.world.age + 1 }))
+    (sym (page_is c pages.0))
+    (world_with_page g s.saved.world n (s.saved.world.age + 1) (words_in c) saved pages.1 (page_shape c pages.0 (now.shapes n)) (now.words n) (omega arith))
