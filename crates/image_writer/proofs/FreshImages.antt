@@ -49,7 +49,7 @@ five p fits = let within = half_within p 0 fits in omega (arith, within.0, withi
 
 module _ (p : Plan) (age : ℕ) (frames : List Frame) (old new : Image) (is : IsWritten p age frames old) (change : Elsewhere 2 1 old new) (gate : new 2 ≡ gate_bytes Open) where
   header_is : new 1 ≡ header_bytes (first_header age)
-  header_is = change.before 1 (omega arith) ∙ is.front.header
+  header_is = change.before 1 (omega arith) ∙ is.opening.header
 
   header_counts : does_count (new 1) (new 2) 0 ≡ true
   header_counts =
@@ -57,7 +57,7 @@ module _ (p : Plan) (age : ℕ) (frames : List Frame) (old new : Image) (is : Is
       ∙ ap (λ (n : ℕ). is_open (gate_bytes Open) && (n % 2 == 0)) (sequences_told (first_header age) (omega arith))
 
   other_does_not : does_count (new 3) (new 4) 1 ≡ false
-  other_does_not = ap (λ (b : List ℕ). does_count (new 3) b 1) (change.after 4 (omega arith) ∙ is.front.other_shut)
+  other_does_not = ap (λ (b : List ℕ). does_count (new 3) b 1) (change.after 4 (omega arith) ∙ is.opening.other_shut)
 
   committed : committed_bytes new ≡ Some (header_bytes (first_header age))
   committed =
@@ -71,7 +71,7 @@ module _ (p : Plan) (age : ℕ) (frames : List Frame) (old new : Image) (is : Is
 
   pub denotes : (size : ℕ) → age ≤ 2 ^ 62 → p.total ≤ size → AreKeepable p.geometry age frames → Encodes new size (first_state p age frames)
   denotes size most whole keepable = record {
-    plan = record { least = omega (arith, whole, five p is.plan); whole = whole; fits = is.plan; spelt = change.before 0 (omega arith) ∙ is.front.superblock };
+    plan = record { least = omega (arith, whole, five p is.plan); whole = whole; fits = is.plan; spelt = change.before 0 (omega arith) ∙ is.opening.superblock };
     header = record { fits = header_fits p.geometry.log age most; spelt = committed };
     directory = no_entries new p age;
     count = keepable.count;

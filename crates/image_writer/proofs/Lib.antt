@@ -1,5 +1,5 @@
 mod FreshImages
-mod Fronts
 mod HomeFrames
-mod Laying
 mod LaidPlans
+mod Laying
+mod SingleSectors

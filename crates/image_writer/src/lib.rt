@@ -1,10 +1,10 @@
 //! A fresh image: where its parts lie on a device, and writing it there.
 #![tactic(auto)]
 
-mod front;
 mod homes;
 mod image;
 mod number_range;
+mod opening_sectors;
 mod plan;
 
 pub use image::write_image;

@@ -20,8 +20,8 @@ pub returns-in_err-write_homes-clause-elsewhere : goal.returns-in_err-write_home
 returns-in_err-write_homes-clause-elsewhere g c =
     let enough = five c.args.superblock.now (subst IsPlan c.new-home.ensures c.geometry-nodes.ensures.fits) in
     let change = rw c.new-home.ensures at c.write_homes.ensures.elsewhere in
-    elsewhere_on 0 c.args.superblock.now.total (g.D.Device.disk c.args.device.now).seen (g.D.Device.disk c.write_front.new.device).seen (g.D.Device.disk c.write_homes.new.device).seen
-    (widened c.args.superblock.now.total 0 5 _ _ (omega (arith, enough)) c.write_front.ensures.elsewhere)
+    elsewhere_on 0 c.args.superblock.now.total (g.D.Device.disk c.args.device.now).seen (g.D.Device.disk c.write_opening_sectors.new.device).seen (g.D.Device.disk c.write_homes.new.device).seen
+    (widened c.args.superblock.now.total 0 5 _ _ (omega (arith, enough)) c.write_opening_sectors.ensures.elsewhere)
     (widened c.args.superblock.now.total 5 (c.args.superblock.now.total - 5) _ _ (omega (arith, enough)) change)
 
 pub returns-clause-elsewhere : goal.returns-clause-elsewhere
@@ -29,7 +29,7 @@ returns-clause-elsewhere g c =
     let enough = five c.args.superblock.now (subst IsPlan c.new-home.ensures c.geometry-nodes.ensures.fits) in
     let change = rw c.new-home.ensures at c.write_homes.ensures.elsewhere in
     elsewhere_on 0 c.args.superblock.now.total (g.D.Device.disk c.args.device.now).seen (g.D.Device.disk c.write_homes.new.device).seen (g.D.Device.disk c.sync.new.self).seen
-    (elsewhere_on 0 c.args.superblock.now.total (g.D.Device.disk c.args.device.now).seen (g.D.Device.disk c.write_front.new.device).seen (g.D.Device.disk c.write_homes.new.device).seen
-    (widened c.args.superblock.now.total 0 5 _ _ (omega (arith, enough)) c.write_front.ensures.elsewhere)
+    (elsewhere_on 0 c.args.superblock.now.total (g.D.Device.disk c.args.device.now).seen (g.D.Device.disk c.write_opening_sectors.new.device).seen (g.D.Device.disk c.write_homes.new.device).seen
+    (widened c.args.superblock.now.total 0 5 _ _ (omega (arith, enough)) c.write_opening_sectors.ensures.elsewhere)
     (widened c.args.superblock.now.total 5 (c.args.superblock.now.total - 5) _ _ (omega (arith, enough)) change))
     (elsewhere_same 0 c.args.superblock.now.total (g.D.Device.disk c.write_homes.new.device).seen (g.D.Device.disk c.sync.new.self).seen c.sync.ensures.seen)

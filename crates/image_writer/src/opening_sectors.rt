@@ -4,21 +4,15 @@ ghost use Rattle.device.specs.Calls.{Counts, Elsewhere, Only};
 ghost use Rattle.layout.specs.Gate.{gate_bytes};
 ghost use Rattle.layout.specs.Header.{header_bytes};
 ghost use Rattle.layout.specs.Superblock.{superblock_bytes};
-ghost use Rattle.image_writer.specs.Written.{HasFront, first_header};
+ghost use Rattle.image_writer.specs.Written.{HasOpeningSectors, first_header};
 
+use ckpt_log::HeaderSlot;
 use device::{Device, Failed, SECTOR_SIZE};
 use frame_io::write_sectors;
 use layout::{CheckpointHeader, Gate, Superblock, encode_gate, encode_header, encode_superblock};
 
-// Where the first header and the gates of both headers lie.
-const FIRST_HEADER: u64 = 1;
-
-const FIRST_GATE: u64 = 2;
-
-const SECOND_GATE: u64 = 4;
-
 // Writes a sector, and touches no other.
-#[tactic(auto, using(crate::proofs::Fronts::alone))]
+#[tactic(auto, using(crate::proofs::SingleSectors::alone))]
 fn write_sector<D: Device>(device: &mut D, at: u64, bytes: &[u8]) -> Result<(), Failed>
     requires one { length bytes.now ≡ 512 }
     requires inside { at + 1 ≤ (D.disk device.old).sectors }
@@ -74,24 +68,25 @@ fn write_header<D: Device>(device: &mut D, age: u64) -> Result<(), Failed>
     };
     let mut sector = [0; SECTOR_SIZE];
     encode_header(header, &mut sector);
-    write_sector(device, FIRST_HEADER, &sector)
+    write_sector(device, HeaderSlot::First.header(), &sector)
 }
 
 /// Writes the superblock, and the header of generation 0 under a closed gate. The gate of the other
 /// header is closed too.
-pub(crate) fn write_front<D: Device>(
+pub(crate) fn write_opening_sectors<D: Device>(
     device: &mut D,
     superblock: &Superblock,
     age: u64,
 ) -> Result<(), Failed>
     requires inside { 5 ≤ (D.disk device.old).sectors }
-    ensures front { OnOk result (HasFront superblock.now age (D.disk device.new).seen) }
+    ensures written { OnOk result
+        (HasOpeningSectors superblock.now age (D.disk device.new).seen) }
     ensures elsewhere { Elsewhere 0 5 (D.disk device.old).seen (D.disk device.new).seen }
     ensures size { (D.disk device.new).sectors ≡ (D.disk device.old).sectors }
     ensures cause { Counts (D.disk device.old) (D.disk device.new) result }
 {
-    write_gate(device, FIRST_GATE, Gate::Closed)?;
-    write_gate(device, SECOND_GATE, Gate::Closed)?;
+    write_gate(device, HeaderSlot::First.gate(), Gate::Closed)?;
+    write_gate(device, HeaderSlot::Second.gate(), Gate::Closed)?;
     write_superblock(device, superblock)?;
     write_header(device, age)
 }
@@ -105,6 +100,6 @@ pub(crate) fn open_gate<D: Device>(device: &mut D) -> Result<(), Failed>
     ensures size { (D.disk device.new).sectors ≡ (D.disk device.old).sectors }
     ensures cause { Counts (D.disk device.old) (D.disk device.new) result }
 {
-    write_gate(device, FIRST_GATE, Gate::Open)?;
+    write_gate(device, HeaderSlot::First.gate(), Gate::Open)?;
     device.sync()
 }
