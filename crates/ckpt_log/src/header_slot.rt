@@ -6,7 +6,7 @@ use layout::CheckpointHeader;
 
 /// One of the two places of a header, each with its gate behind it: headers take turns.
 #[derive(Clone, Copy, PartialEq, Eq, Debug)]
-pub(crate) enum HeaderSlot {
+pub enum HeaderSlot {
     First,
     Second,
 }
@@ -34,8 +34,8 @@ impl HeaderSlot {
         }
     }
 
-    // The sector of the header.
-    pub(crate) fn header(self) -> u64
+    /// The sector of the header.
+    pub fn header(self) -> u64
         ensures value { result ≡ header_at self }
         ensures inside { result < 5 }
     {
@@ -45,8 +45,8 @@ impl HeaderSlot {
         }
     }
 
-    // The sector of its gate.
-    pub(crate) fn gate(self) -> u64
+    /// The sector of its gate.
+    pub fn gate(self) -> u64
         ensures value { result ≡ gate_at self }
         ensures inside { result < 5 }
     {

@@ -13,6 +13,7 @@ mod sector;
 mod slots;
 
 pub use closing::close_gates;
+pub use header_slot::HeaderSlot;
 pub use laws::{
     a_commit_leaves_either_state, headers_spare_the_rest, keep_halves_apart,
     saved_is_read_from_its_sectors, what_is_written_is_read,

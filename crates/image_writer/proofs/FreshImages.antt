@@ -24,7 +24,7 @@ use Rattle.ckpt_log.specs.Closing.{AreClosed}
 use Rattle.ckpt_log.proofs.Closings.{none_committed}
 use Rattle.migrator.specs.Saved.{Holds, SavedFrames}
 use Rattle.ckpt_log.proofs.BesideHeaders.{sequences_told}
-use Rattle.image_writer.specs.Written.{AreHome, HasFront, IsBeforeOrNone, IsLeftWriting, IsWritten, first_header, first_saved, first_state}
+use Rattle.image_writer.specs.Written.{AreHome, HasOpeningSectors, IsBeforeOrNone, IsLeftWriting, IsWritten, first_header, first_saved, first_state}
 
 -- no entries
 no_entries : (image : Image) (p : Plan) (age : ℕ) → HasDirectory image p (first_header age) []
@@ -53,7 +53,7 @@ five p fits = let within = half_within p 0 fits in omega (arith, within.0, withi
 
 module _ (p : Plan) (age : ℕ) (frames : List Frame) (old new : Image) (is : IsWritten p age frames old) (change : Elsewhere 2 1 old new) (gate : is_open (new 2) ≡ true) where
   header_is : new 1 ≡ header_bytes (first_header age)
-  header_is = change.before 1 (omega arith) ∙ is.front.header
+  header_is = change.before 1 (omega arith) ∙ is.opening.header
 
   header_counts : does_count (new 1) (new 2) 0 ≡ true
   header_counts =
@@ -75,7 +75,7 @@ module _ (p : Plan) (age : ℕ) (frames : List Frame) (old new : Image) (is : Is
 
   pub denotes : (size : ℕ) → age ≤ 2 ^ 62 → p.total ≤ size → AreKeepable p.geometry age frames → Encodes new size (first_state p age frames)
   denotes size most whole keepable = record {
-    plan = record { least = omega (arith, whole, five p is.plan); whole = whole; fits = is.plan; spelt = change.before 0 (omega arith) ∙ is.front.superblock };
+    plan = record { least = omega (arith, whole, five p is.plan); whole = whole; fits = is.plan; spelt = change.before 0 (omega arith) ∙ is.opening.superblock };
     header = record { fits = header_fits p.geometry.log age most; spelt = committed };
     directory = no_entries new p age;
     count = keepable.count;
@@ -118,11 +118,11 @@ durable_is (Ok value) left P seen is only = λ c may. subst P (sym (agrees_is c 
 durable_is (Err error) left P seen is only = tt
 
 -- what was written is whole once it is durable
-pub all_written : (p : Plan) (age : ℕ) (frames : List Frame) (front homes now : Image) → IsPlan p → HasFront p age front → Elsewhere 5 (p.total - 5) front homes
+pub all_written : (p : Plan) (age : ℕ) (frames : List Frame) (front homes now : Image) → IsPlan p → HasOpeningSectors p age front → Elsewhere 5 (p.total - 5) front homes
     → AreHome p frames (object_count p.geometry) homes → AreClosed homes → Agrees now homes → IsWritten p age frames now
 all_written p age frames front homes now fits has change home closed same = subst (λ (i : Image). IsWritten p age frames i) (sym (agrees_is now homes same)) (record {
   plan = fits;
-  front = record { superblock = change.before 0 (omega arith) ∙ has.superblock; header = change.before 1 (omega arith) ∙ has.header };
+  opening = record { superblock = change.before 0 (omega arith) ∙ has.superblock; header = change.before 1 (omega arith) ∙ has.header };
   closed = closed;
   home = home;
 })

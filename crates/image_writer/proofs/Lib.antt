@@ -1,7 +1,7 @@
 mod ClosedGates
 mod FreshImages
-mod Fronts
 mod HomeFrames
-mod Laying
 mod LaidPlans
+mod Laying
 pub mod OldImages
+mod SingleSectors

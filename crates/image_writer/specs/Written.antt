@@ -28,7 +28,7 @@ abbrev pub first_saved : Geometry → ℕ → List Frame → SavedFrames
 first_saved g age frames = record { geometry = g; frames = frames; generation = 0; entries = 0; age = age }
 
 -- a superblock, and the first header
-pub record HasFront (p : Plan) (age : ℕ) (image : Image) : Type 0 where
+pub record HasOpeningSectors (p : Plan) (age : ℕ) (image : Image) : Type 0 where
   pub superblock : image 0 ≡ superblock_bytes p
   pub header : image 1 ≡ header_bytes (first_header age)
 
@@ -39,7 +39,7 @@ AreHome p frames n image = (a : ℕ) → a < n → bytes_at image (home_place p 
 -- all of a fresh image, under closed gates
 pub record IsWritten (p : Plan) (age : ℕ) (frames : List Frame) (image : Image) : Type 0 where
   pub plan : IsPlan p
-  pub front : HasFront p age image
+  pub opening : HasOpeningSectors p age image
   pub closed : AreClosed image
   pub home : AreHome p frames (object_count p.geometry) image
 

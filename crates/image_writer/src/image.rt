@@ -9,8 +9,8 @@ ghost use Rattle.model.specs.Frame.{frames_in};
 ghost use Rattle.model.specs.Keepable.{AreKeepable};
 ghost use Rattle.image_writer.specs.Written.{IsBeforeOrNone, IsLeftWriting, IsWritten, first_state, first_saved};
 
-use crate::front::{open_gate, write_front};
 use crate::homes::write_homes;
+use crate::opening_sectors::{open_gate, write_opening_sectors};
 use ckpt_log::close_gates;
 use device::{Device, Failed};
 use home_ranges::Home;
@@ -43,7 +43,7 @@ fn write_parts<D: Device>(
     let home = Home::new(superblock);
     let Geometry { nodes, pages, .. } = home.geometry();
     close_gates(device)?;
-    write_front(device, superblock, age)?;
+    write_opening_sectors(device, superblock, age)?;
     write_homes(device, &home, nodes + pages, headers, contents)?;
     device.sync()
 }

@@ -1,11 +1,11 @@
 //! A fresh image: where its parts lie on a device, and writing it there.
 #![tactic(auto)]
 
-mod front;
 mod homes;
 mod image;
 pub mod laws;
 mod number_range;
+mod opening_sectors;
 mod plan;
 
 pub use image::write_image;

@@ -112,7 +112,6 @@ module _ {D : Type 0} (disk : D → Disk) (device : D) (d0 d : DurableState D) (
       contents = map (λ n. (newest (stored_of disk d0) n).content) (range_with_len 0 (object_count (stored_of disk d0).saved.geometry));
       touched = untouched (stored_of disk d0).saved.geometry;
       rooms = replicate (object_count (stored_of disk d0).saved.geometry) content.Free;
-      age = 0;
     })
     (blank : ss ≡ replicate (object_count (stored_of disk d0).saved.geometry) Below) where
   s0 : Stored

@@ -1,4 +1,4 @@
--- The sectors before the home ranges.
+-- One sector.
 use Rattle.std.proofs.Common.{◌≡◌, ℕ, ◌++◌, [], refl, ◌∙◌, append-nil}
 use Rattle.device.specs.Disk.{Image}
 use Rattle.layout.specs.Image.{sectors_from}

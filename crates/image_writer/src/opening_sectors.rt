@@ -7,19 +7,15 @@ ghost use Rattle.layout.specs.Gate.{gate_bytes};
 ghost use Rattle.layout.specs.Header.{header_bytes};
 ghost use Rattle.layout.specs.Superblock.{superblock_bytes};
 ghost use Rattle.ckpt_log.specs.Closing.{AreClosed};
-ghost use Rattle.image_writer.specs.Written.{HasFront, LeavesClosed, first_header};
+ghost use Rattle.image_writer.specs.Written.{HasOpeningSectors, LeavesClosed, first_header};
 
+use ckpt_log::HeaderSlot;
 use device::{Device, Failed, SECTOR_SIZE};
 use frame_io::write_sectors;
 use layout::{CheckpointHeader, Gate, Superblock, encode_gate, encode_header, encode_superblock};
 
-// Where the first header and its gate lie.
-const FIRST_HEADER: u64 = 1;
-
-const FIRST_GATE: u64 = 2;
-
 // Writes a sector before the gates, which are closed, and touches no other.
-#[tactic(auto, using(crate::proofs::Fronts::alone))]
+#[tactic(auto, using(crate::proofs::SingleSectors::alone))]
 fn write_sector<D: Device>(device: &mut D, at: u64, bytes: &[u8]) -> Result<(), Failed>
     requires one { length bytes.now ≡ 512 }
     requires before { at < 2 }
@@ -72,19 +68,20 @@ fn write_header<D: Device>(device: &mut D, age: u64) -> Result<(), Failed>
     };
     let mut sector = [0; SECTOR_SIZE];
     encode_header(header, &mut sector);
-    write_sector(device, FIRST_HEADER, &sector)
+    write_sector(device, HeaderSlot::First.header(), &sector)
 }
 
 /// Writes the superblock, and the header of generation 0, under closed gates. A crash at any moment
 /// leaves these closed.
-pub(crate) fn write_front<D: Device>(
+pub(crate) fn write_opening_sectors<D: Device>(
     device: &mut D,
     superblock: &Superblock,
     age: u64,
 ) -> Result<(), Failed>
     requires inside { 5 ≤ (D.disk device.old).sectors }
     requires closed { LeavesClosed (D.disk device.old) }
-    ensures front { OnOk result (HasFront superblock.now age (D.disk device.new).seen) }
+    ensures written { OnOk result
+        (HasOpeningSectors superblock.now age (D.disk device.new).seen) }
     ensures closed { LeavesClosed (D.disk device.new) }
     ensures elsewhere { Elsewhere 0 5 (D.disk device.old).seen (D.disk device.new).seen }
     ensures size { (D.disk device.new).sectors ≡ (D.disk device.old).sectors }
@@ -96,7 +93,7 @@ pub(crate) fn write_front<D: Device>(
 }
 
 // Writes the gate of the first header, and touches no other sector.
-#[tactic(auto, using(crate::proofs::Fronts::alone))]
+#[tactic(auto, using(crate::proofs::SingleSectors::alone))]
 fn write_gate<D: Device>(device: &mut D, gate: Gate) -> Result<(), Failed>
     requires inside { 5 ≤ (D.disk device.old).sectors }
     ensures written { OnOk result ((D.disk device.new).seen 2 ≡ gate_bytes gate) }
@@ -105,7 +102,7 @@ fn write_gate<D: Device>(device: &mut D, gate: Gate) -> Result<(), Failed>
 {
     let mut sector = [0; SECTOR_SIZE];
     encode_gate(gate, &mut sector);
-    write_sectors(device, FIRST_GATE, 1, &sector)
+    write_sectors(device, HeaderSlot::First.gate(), 1, &sector)
 }
 
 /// Opens the gate of the first header, where all that was written is durable. A crash at any moment
