@@ -1,5 +1,6 @@
 -- What is written is an image of a description.
-use Rattle.std.proofs.Common.{◌≡◌, ◌≤◌, List, subst, sym}
+use Rattle.std.proofs.Common.{◌≡◌, ◌≤◌, ℕ, List, ap, inl, inr, subst, sym, ◌∙◌, ⊎_elim}
+use Rattle.toml.specs.Data.{Members}
 use Rattle.model.specs.declared.capability.Cap.{Cap}
 use Rattle.model.specs.declared.frame.Frame.{Frame}
 use Rattle.model.specs.declared.frame.ObjectHeader.{ObjectHeader}
@@ -8,15 +9,24 @@ use Rattle.model.specs.Frame.{frames_in}
 use Rattle.model.specs.Keepable.{AreKeepable, IsSoundFrames}
 use Rattle.device.specs.Disk.{Disk, Image}
 use Rattle.device.specs.Calls.{Elsewhere}
+use Rattle.device.specs.Moments.{LeavesOnly}
+use Rattle.device.proofs.Moments.{OnlyNow, leaves_weaker, started}
 use Rattle.layout.specs.Image.{Encodes}
 use Rattle.layout.specs.Superblock.{Plan}
-use Rattle.migrator.specs.Saved.{Holds}
-use Rattle.image_writer.specs.Written.{first_saved, first_state}
+use Rattle.layout.proofs.Images.{one_state}
+use Rattle.migrator.specs.Saved.{Holds, SavedFrames, kept_of}
+use Rattle.image_writer.specs.Written.{IsLeftWriting, first_saved, first_state}
+use Rattle.image_writer.proofs.OldImages.{kept_holds_the_same, none_is_held}
+use Rattle.description.specs.Reading.{IsDescription}
 use Rattle.description.specs.declared.entry.Description.{Description}
-use Rattle.image_builder.specs.Built.{Builds, IsWithinLimits, plan_for}
-use Rattle.image_builder.specs.Checked.{AreLaid, IsSoundDescription}
+use Rattle.image_builder.specs.Built.{Builds, IsLeftOf, IsWithinLimits, plan_for}
+use Rattle.image_builder.specs.Checked.{AreLaid, IsLeftBuilding, IsSoundDescription}
 use Rattle.image_builder.proofs.DescribedOnce.{described_once}
 use Rattle.image_builder.proofs.Refusals.{accepted}
+
+-- an image holds one state
+holds_one : (size : ℕ) (c : Image) (a b : SavedFrames) → Holds size c a → Holds size c b → a ≡ b
+holds_one size c a b in_a in_b = sym in_a.2 ∙ ap kept_of (one_state c size in_a.0 in_b.0 in_a.1 in_b.1) ∙ in_b.2
 
 module _ (d : Description) (hs : List ObjectHeader) (cs : List (Content Cap)) (laid : AreLaid d hs cs) where
   pub keepable_in : (p : Plan) → p ≡ plan_for d → AreKeepable p.geometry d.age (frames_in hs cs)
@@ -36,3 +46,32 @@ module _ (d : Description) (hs : List ObjectHeader) (cs : List (Content Cap)) (l
       crash = λ c left. subst (λ (q : Plan). Holds new.sectors c (first_saved q.geometry d.age (frames_in hs cs))) is (crash c left);
       elsewhere = subst (λ (q : Plan). Elsewhere 0 q.total old.seen new.seen) is elsewhere;
     }
+
+    -- what a crash leaves on the way
+    left_by : (p : Plan) → p ≡ plan_for d → (c : Image) → IsLeftWriting old (first_saved p.geometry d.age (frames_in hs cs)) c → IsLeftBuilding d old c
+    left_by p is c (inl (before, left, kept)) saved holds = inl (before, left, (kept_holds_the_same old.sectors before c saved kept).1 holds)
+    left_by p is c (inr (inl none)) saved holds = absurd (none_is_held old.sectors c saved none holds)
+    left_by p is c (inr (inr whole)) saved holds = inr (
+      frames_in hs cs,
+      laid.described,
+      subst (λ (fs : List Frame). IsSoundFrames d.geometry d.age fs) (described_once d s.frames (frames_in hs cs) s.described laid.described) s.sound,
+      holds_one old.sectors c saved (first_saved p.geometry d.age (frames_in hs cs)) holds whole ∙ ap (λ (q : Plan). first_saved q.geometry d.age (frames_in hs cs)) is,
+    )
+
+    pub left_writing : (p : Plan) → p ≡ plan_for d → LeavesOnly old new (λ c. IsLeftWriting old (first_saved p.geometry d.age (frames_in hs cs)) c) → LeavesOnly old new (λ c. IsLeftBuilding d old c)
+    left_writing p is run =
+        leaves_weaker {old = old} {new = new} {P = λ c. IsLeftWriting old (first_saved p.geometry d.age (frames_in hs cs)) c} (λ c. IsLeftBuilding d old c) (λ c left. left_by p is c left) run
+
+-- ---- where nothing was written
+
+pub nothing_written : (d : Description) (disk : Disk) → OnlyNow disk → LeavesOnly disk disk (λ c. IsLeftBuilding d disk c)
+nothing_written d disk only_now = started disk (λ c. IsLeftBuilding d disk c) only_now (λ c left saved holds. inl (c, left, holds))
+
+pub nothing_written_of : (ms : Members) (disk : Disk) → OnlyNow disk → LeavesOnly disk disk (λ c. IsLeftOf ms disk c)
+nothing_written_of ms disk only_now = started disk (λ c. IsLeftOf ms disk c) only_now (λ c left saved holds. inl (c, left, holds))
+
+-- what is left of a description is left of its table
+pub left_of : (ms : Members) (d : Description) {old new : Disk} → IsDescription ms d → LeavesOnly old new (λ c. IsLeftBuilding d old c) → LeavesOnly old new (λ c. IsLeftOf ms old c)
+left_of ms d {old} {new} is run =
+    leaves_weaker {old = old} {new = new} {P = λ c. IsLeftBuilding d old c} (λ c. IsLeftOf ms old c)
+    (λ c left saved holds. ⊎_elim (λ before. inl before) (λ described. inr (d, is, described)) (left saved holds)) run

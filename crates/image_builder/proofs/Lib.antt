@@ -1,4 +1,4 @@
 mod DescribedOnce
 mod Rules
 mod Refusals
-mod Images
+pub mod Images

@@ -1,5 +1,5 @@
 -- What `build` answers, and what the device then holds.
-use Rattle.std.specs.Prelude.{ℕ, ◌^◌, ◌<◌, ◌≤◌, List}
+use Rattle.std.specs.Prelude.{◌≡◌, ◌⊎◌, ℕ, ◌^◌, ◌<◌, ◌≤◌, List}
 use Rattle.toml.specs.Data.{Members}
 use Rattle.model.specs.declared.frame.Frame.{Frame}
 use Rattle.model.specs.Keepable.{IsSoundFrames}
@@ -7,7 +7,7 @@ use Rattle.device.specs.Disk.{Disk, Image}
 use Rattle.device.specs.Calls.{Elsewhere}
 use Rattle.layout.specs.Image.{Encodes}
 use Rattle.layout.specs.Superblock.{Plan}
-use Rattle.migrator.specs.Saved.{Holds}
+use Rattle.migrator.specs.Saved.{Holds, SavedFrames}
 use Rattle.image_writer.specs.Laid.{MayBeLaid, plan_from}
 use Rattle.image_writer.specs.Written.{first_saved, first_state}
 use Rattle.consistency.specs.Consistency.{AreBanked, AreNamed}
@@ -87,6 +87,17 @@ pub record Builds (d : Description) (old new : Disk) : Type 0 where
   pub crash : (c : Image) → new.may_leave c → Holds new.sectors c (first_saved d.geometry d.age frames)
   pub elsewhere : Elsewhere 0 (plan_for d).total old.seen new.seen
 
+-- frames are those described, which stand for a sound world, saved as `build` does
+abbrev pub IsSavedOf : Description → SavedFrames → Type 0
+IsSavedOf d saved = (frames : List Frame) × IsDescribed d frames × IsSoundFrames d.geometry d.age frames × (saved ≡ first_saved d.geometry d.age frames)
+
 -- so is that of a table
 abbrev pub BuildsFrom : Members → Disk → Disk → Type 0
 BuildsFrom ms old new = (d : Description) × IsDescription ms d × Builds d old new
+
+-- What a crash leaves while an image of a table is built: what saved frames it holds, if any, it could have left before,
+-- or they are those described.
+abbrev pub IsLeftOf : Members → Disk → Image → Type 0
+IsLeftOf ms old c = (saved : SavedFrames) → Holds old.sectors c saved →
+    ((before : Image) × old.may_leave before × Holds old.sectors before saved)
+    ⊎ ((d : Description) × IsDescription ms d × IsSavedOf d saved)

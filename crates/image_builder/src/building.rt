@@ -1,9 +1,10 @@
 // Building images.
 ghost use Rattle.std.specs.Prelude.{◌≡◌, ◌≢◌, ◌<◌, ◌≤◌, ◌↔◌, IfOk, IfErr, IsErrOf, OnOk};
 ghost use Rattle.toml.specs.View.{table_view};
+ghost use Rattle.device.specs.Moments.{LeavesOnly};
 ghost use Rattle.description.specs.Reading.{IsDescription};
-ghost use Rattle.image_builder.specs.Built.{Builds, BuildsFrom, IsRefused, IsWithinLimits, Refuses, TellsNoSize, plan_for};
-ghost use Rattle.image_builder.specs.Checked.{AreLaid, IsSoundDescription};
+ghost use Rattle.image_builder.specs.Built.{Builds, BuildsFrom, IsLeftOf, IsRefused, IsWithinLimits, Refuses, TellsNoSize, plan_for};
+ghost use Rattle.image_builder.specs.Checked.{AreLaid, IsLeftBuilding, IsSoundDescription};
 
 use crate::fault::BuildFault;
 use crate::reading::{plan, read};
@@ -46,6 +47,8 @@ fn write<D: Device>(
     requires sound { IsSoundDescription description.now }
     ensures built { OnOk result (Builds description.now (D.disk device.old) (D.disk device.new)) }
     ensures refused { IfErr result (λ fault. fault ≡ BuildFault.Failed) }
+    ensures any_moment { LeavesOnly (D.disk device.old) (D.disk device.new)
+        (λ c. IsLeftBuilding description.now (D.disk device.old) c) }
     ensures size { (D.disk device.new).sectors ≡ (D.disk device.old).sectors }
     ensures later { (D.disk device.old).failures ≤ (D.disk device.new).failures }
     ensures cause { IsErrOf result BuildFault.Failed
@@ -74,6 +77,8 @@ fn build_described<D: Device>(
         IsRefused description.now (D.disk device.old).sectors fault) }
     ensures untouched { IfErr result (λ fault.
         fault ≢ BuildFault.Failed → device.new ≡ device.old) }
+    ensures any_moment { LeavesOnly (D.disk device.old) (D.disk device.new)
+        (λ c. IsLeftBuilding description.now (D.disk device.old) c) }
     ensures size { (D.disk device.new).sectors ≡ (D.disk device.old).sectors }
     ensures later { (D.disk device.old).failures ≤ (D.disk device.new).failures }
     ensures cause { IsErrOf result BuildFault.Failed
@@ -104,6 +109,9 @@ fn build_described<D: Device>(
 /// tells; `Failed` exactly where the device failed; and `NoMemory` where memory ran out.
 ///
 /// The device is as it was, but after `Failed`: then the image's sectors may hold any bytes.
+///
+/// A crash at any moment leaves the image that it could have left before; or nothing that can be
+/// opened, as no header is committed; or the described one, whole. So it is after `Failed` too.
 pub fn build<D: Device>(alloc: Global, table: &Table, device: &mut D) -> Result<(), BuildFault>
     ensures built { OnOk result
         (BuildsFrom (table_view table.now) (D.disk device.old) (D.disk device.new)) }
@@ -111,6 +119,8 @@ pub fn build<D: Device>(alloc: Global, table: &Table, device: &mut D) -> Result<
         Refuses (table_view table.now) (D.disk device.old).sectors fault) }
     ensures untouched { IfErr result (λ fault.
         fault ≢ BuildFault.Failed → device.new ≡ device.old) }
+    ensures any_moment { LeavesOnly (D.disk device.old) (D.disk device.new)
+        (λ c. IsLeftOf (table_view table.now) (D.disk device.old) c) }
     ensures size { (D.disk device.new).sectors ≡ (D.disk device.old).sectors }
     ensures later { (D.disk device.old).failures ≤ (D.disk device.new).failures }
     ensures cause { IsErrOf result BuildFault.Failed

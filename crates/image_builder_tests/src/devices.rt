@@ -38,12 +38,13 @@ fn a_small_device_is_told_last(rt: HostRuntime) -> Result<(), Fail> {
     Ok(())
 }
 
-// The front of an image is 5 writes, its frames are 24, and there are 2 syncs.
+// The closed gates are found by a sync and 4 reads; the front of an image is 3 writes, its frames are
+// 24, and there are 2 more syncs.
 #[test]
 fn a_device_that_stops_is_told(rt: HostRuntime) -> Result<(), Fail> {
     for calls in 0..40 {
         let device = Memory::new(rt.alloc(), 399, 2000, Outcome::Keep)?;
-        let told = if calls < 31 { 8 } else { 0 };
+        let told = if calls < 34 { 8 } else { 0 };
         let found = fault(rt.alloc(), PRIME, &mut Fuse::new(device, calls))?;
         assert_eq!(rt; found, told, "after {calls} calls");
     }

@@ -32,6 +32,18 @@ abbrev pub IsToldOnce : Result Answer Failed → Type 0
 IsToldOnce (Ok a) = a ≢ answer.Refused refusal.Fault
 IsToldOnce (Err failed) = Unit {0}
 
+-- a refusal that is told without a look at an object: there is no such number, process or machine
+abbrev pub NeedsNoLook : Refusal → Type 0
+NeedsNoLook refusal.BadNumber = Unit {0}
+NeedsNoLook refusal.NoProcess = Unit {0}
+NeedsNoLook refusal.Down = Unit {0}
+NeedsNoLook _ = ⊥
+
+-- so is an answer
+abbrev pub IsUnlooked : Answer → Type 0
+IsUnlooked (answer.Refused why) = NeedsNoLook why
+IsUnlooked _ = ⊥
+
 -- from parts at an age to parts at an age a command is answered as the machine answers it, whatever was renewed and is
 -- frozen and saved; a failure of the device aside, after which the machine is down
 pub record Performs (old_age : ℕ) (old : Parts) (c : Command) (a : Answer) (new_age : ℕ) (new : Parts) : Type 0 where

@@ -1,8 +1,8 @@
 // Why a process can't act.
-ghost use Rattle.std.specs.Prelude.{◌≡◌, ◌↔◌, ◌<◌, ◌≤◌, IfOk, IsErr, Ok, Some};
+ghost use Rattle.std.specs.Prelude.{◌≡◌, ◌↔◌, ◌<◌, ◌≤◌, IfOk, IfSome, IsErr};
 ghost use Rattle.model.specs.Keepable.{IsSoundFrames};
 ghost use Rattle.capability.specs.Parts.{LooksUp, frames_of, objects_in};
-ghost use Rattle.processes.specs.Machine.{IsEarly};
+ghost use Rattle.processes.specs.Machine.{IsEarly, NeedsNoLook};
 
 use capability::{PrepareFault, PresentFrames, objects, roots};
 use device::Failed;
@@ -20,7 +20,8 @@ pub fn early<F: PresentFrames>(
     requires sound { IsSoundFrames (F.parts store.old).geometry age
         (frames_of (F.parts store.old)) }
     ensures why { IfOk result (λ why. IsEarly (objects_in (F.parts store.old)) process why) }
-    ensures untouched { result ≡ Ok (Some Refusal.NoProcess) → store.new ≡ store.old }
+    ensures untouched { IfOk result (λ why. IfSome why (λ told. NeedsNoLook told
+        → store.new ≡ store.old)) }
     ensures aside { LooksUp F.parts F.LeadsTo store.old store.new }
     ensures later { (F.parts store.old).failures ≤ (F.parts store.new).failures }
     ensures cause { IsErr result ↔ ((F.parts store.old).failures < (F.parts store.new).failures) }

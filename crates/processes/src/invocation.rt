@@ -1,10 +1,10 @@
 // The step of an invocation.
-ghost use Rattle.std.specs.Prelude.{◌≡◌, ◌≤◌, Ok};
+ghost use Rattle.std.specs.Prelude.{◌≡◌, ◌≤◌};
 ghost use Rattle.model.specs.declared.command.Command.TheVariants as command;
 ghost use Rattle.model.specs.Keepable.{IsSoundFrames};
 ghost use Rattle.capability.specs.Parts.{frames_of, objects_in};
 ghost use Rattle.space_bank.specs.Banks.{AreCounted};
-ghost use Rattle.processes.specs.Machine.{IsToldOnce, Performs, answer_of};
+ghost use Rattle.processes.specs.Machine.{IsToldOnce, IsUnlooked, Performs, answer_of};
 
 use crate::early::early;
 use capability::PresentFrames;
@@ -34,7 +34,7 @@ pub fn invoke<F: PresentFrames>(
         (objects_in (F.parts store.old)) banks.old }
     ensures serves { Performs age.old (F.parts store.old) (command.Invoke invocation) (answer_of result)
         age.new (F.parts store.new) }
-    ensures untouched { result ≡ Ok (Answer.Refused Refusal.NoProcess) → store.new ≡ store.old }
+    ensures untouched { IsUnlooked (answer_of result) → store.new ≡ store.old }
     ensures told_once { IsToldOnce result }
     ensures later { age.old ≤ age.new }
     ensures counted { AreCounted (F.parts store.new).geometry

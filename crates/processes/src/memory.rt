@@ -1,10 +1,10 @@
 // The steps of loads and stores.
-ghost use Rattle.std.specs.Prelude.{◌≡◌, Ok};
+ghost use Rattle.std.specs.Prelude.{◌≡◌};
 ghost use Rattle.model.specs.declared.command.Command.TheVariants as command;
 ghost use Rattle.model.specs.Keepable.{IsSoundFrames};
 ghost use Rattle.capability.specs.Parts.{LooksUp, frames_of, objects_in};
 ghost use Rattle.space_bank.specs.Banks.{AreCounted, BanksState};
-ghost use Rattle.processes.specs.Machine.{IsToldOnce, Performs, answer_of};
+ghost use Rattle.processes.specs.Machine.{IsToldOnce, IsUnlooked, Performs, answer_of};
 ghost use Rattle.processes.specs.Prepared.{refused_by};
 
 use crate::early::early;
@@ -16,6 +16,7 @@ use std::alloc::Global;
 /// What is answered where objects weren't prepared.
 pub(crate) fn refused(fault: PrepareFault) -> Result<Answer, Failed>
     ensures answer { answer_of result ≡ Answer.Refused (refused_by fault) }
+    ensures looks { IsUnlooked (answer_of result) → ⊥ }
     ensures told_once { IsToldOnce result }
 {
     match fault {
@@ -40,7 +41,7 @@ pub fn load<F: PresentFrames>(
     requires { IsSoundFrames (F.parts store.old).geometry age (frames_of (F.parts store.old)) }
     ensures serves { Performs age (F.parts store.old) (command.Load process address) (answer_of result)
         age (F.parts store.new) }
-    ensures untouched { result ≡ Ok (Answer.Refused Refusal.NoProcess) → store.new ≡ store.old }
+    ensures untouched { IsUnlooked (answer_of result) → store.new ≡ store.old }
     ensures told_once { IsToldOnce result }
     ensures aside { LooksUp F.parts F.LeadsTo store.old store.new }
     ensures leads { F.LeadsTo store.old store.new }
@@ -72,7 +73,7 @@ pub fn store<F: PresentFrames>(
     requires { IsSoundFrames (F.parts store.old).geometry age (frames_of (F.parts store.old)) }
     ensures serves { Performs age (F.parts store.old) (command.Store process address word)
         (answer_of result) age (F.parts store.new) }
-    ensures untouched { result ≡ Ok (Answer.Refused Refusal.NoProcess) → store.new ≡ store.old }
+    ensures untouched { IsUnlooked (answer_of result) → store.new ≡ store.old }
     ensures told_once { IsToldOnce result }
     ensures counted { (banks : BanksState) → AreCounted (F.parts store.old).geometry
         (objects_in (F.parts store.old)) banks

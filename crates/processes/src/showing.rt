@@ -1,5 +1,5 @@
 // The step of showing an object.
-ghost use Rattle.std.specs.Prelude.{◌≡◌, ◌<◌, IfOk, IsTrue, Ok, length, if◌then◌else◌, slice_index};
+ghost use Rattle.std.specs.Prelude.{◌≡◌, ◌<◌, IfOk, IsTrue, length, if◌then◌else◌, slice_index};
 ghost use Rattle.model.specs.declared.command.Command.TheVariants as command;
 ghost use Rattle.model.specs.Keepable.{AreKeepable, IsSoundFrames};
 ghost use Rattle.model.specs.Step.{shown};
@@ -7,7 +7,7 @@ ghost use Rattle.model.specs.Object.{is_annex, is_bank, slots_in};
 ghost use Rattle.model.specs.World.{content_at};
 ghost use Rattle.capability.specs.Parts.{Looks, LooksUp, frames_of, objects_in};
 ghost use Rattle.space_bank.specs.Banks.{AreCounted};
-ghost use Rattle.processes.specs.Machine.{IsToldOnce, Performs, answer_of};
+ghost use Rattle.processes.specs.Machine.{IsToldOnce, IsUnlooked, Performs, answer_of};
 
 use crate::memory::refused;
 use capability::{PrepareFault, PresentFrames, objects, view};
@@ -101,7 +101,7 @@ pub fn show<F: PresentFrames>(
         (objects_in (F.parts store.old)) banks.now }
     ensures serves { Performs age (F.parts store.old) (command.Show number) (answer_of result) age
         (F.parts store.new) }
-    ensures untouched { result ≡ Ok (Answer.Refused Refusal.BadNumber) → store.new ≡ store.old }
+    ensures untouched { IsUnlooked (answer_of result) → store.new ≡ store.old }
     ensures told_once { IsToldOnce result }
     ensures aside { LooksUp F.parts F.LeadsTo store.old store.new }
 {

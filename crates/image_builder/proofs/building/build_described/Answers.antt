@@ -1,6 +1,7 @@
 use Rattle.std.proofs.Common.{ap, arith}
 use Rattle.std.proofs.lemmas.Result.{err_from_is_err_and}
 use Rattle.layout.specs.Superblock.{Plan}
+use Rattle.image_builder.proofs.Images.{nothing_written}
 use Rattle.image_builder.proofs.Refusals.{accepted, failed_refused, small_refused}
 use Rattle.image_builder.proofs.building.build_described.Goals as goal
 
@@ -29,3 +30,15 @@ returns-clause-refused g c =
     (accepted d c.in_ok-superblock.ensures.allowed c.in_ok-check_described.ensures.sound sectors
     (omega (arith, total, c.total.ensures.value, c.sectors-sectors.ensures.count, c.if-sectors-total.false)))
     c.write.ensures.refused
+
+pub returns-in_err-superblock-clause-any_moment : goal.returns-in_err-superblock-clause-any_moment
+returns-in_err-superblock-clause-any_moment g c = nothing_written c.args.description.now (g.D.Device.disk c.args.device.now) (g.met.D.Device.only_now c.args.device.now)
+
+pub returns-in_err-check_described-clause-any_moment : goal.returns-in_err-check_described-clause-any_moment
+returns-in_err-check_described-clause-any_moment g c = nothing_written c.args.description.now (g.D.Device.disk c.args.device.now) (g.met.D.Device.only_now c.args.device.now)
+
+pub returns-then-sectors-total-clause-any_moment : goal.returns-then-sectors-total-clause-any_moment
+returns-then-sectors-total-clause-any_moment g c = nothing_written c.args.description.now (g.D.Device.disk c.args.device.now) (g.met.D.Device.only_now c.args.device.now)
+
+pub returns-in_err-world-clause-any_moment : goal.returns-in_err-world-clause-any_moment
+returns-in_err-world-clause-any_moment g c = nothing_written c.args.description.now (g.D.Device.disk c.args.device.now) (g.met.D.Device.only_now c.args.device.now)
