@@ -1,6 +1,7 @@
 -- How the journaling of a page ends: refused, done, or in a failure of the device.
-use Rattle.std.proofs.Common.{◌≡◌, ◌⊎◌, inl, inr, ℕ, ◌+◌, ◌^◌, ◌<◌, ◌≤◌, ◌==◌, Bool, true, false, Option, None, Some, Err, List, [], ◌∷◌, length, refl, sym, ap, ◌∙◌, subst, arith}
-use Rattle.std.specs.Prelude.{if◌then◌else◌}
+use Rattle.std.proofs.Common.{◌≡◌, ◌⊎◌, inl, inr, ℕ, ◌+◌, ◌^◌, ◌<◌, ◌≤◌, ◌==◌, Bool, true, false, Option, None, Some, Ok, Err, List, [], ◌∷◌, length, refl, sym, ap, ◌∙◌, subst, arith}
+use Rattle.std.specs.Prelude.{if◌then◌else◌, nat_lt, IsErrOf}
+use Rattle.std.proofs.lemmas.Bool.Decides.{nat_tests}
 use Rattle.std.proofs.lemmas.Bool.{cases_lt}
 use Rattle.model.specs.declared.answer.Answer.{Answer}
 use Rattle.model.specs.declared.answer.Answer.TheVariants as answer
@@ -27,16 +28,32 @@ use Rattle.processes.proofs.Serving.{AreSame}
 use Rattle.processes.proofs.Steps.{refused_step}
 use Rattle.kernel.specs.declared.power.Live.{Live}
 use Rattle.kernel.specs.Denotes.{saved_of, LeavesOne}
-use Rattle.kernel.specs.Journaling.{unjournaled_by}
+use Rattle.kernel.specs.Journal.{unjournaled_by}
 use Rattle.kernel.specs.Standing.{AreSoundTogether, IsCaused, IsUp, ServesUp, disk_at, running, running_of}
 use Rattle.kernel.proofs.Acts.{failed, is_up, refused, refused_again, with_store}
 use Rattle.kernel.proofs.Crashes.{leaves_along, leaves_either}
-use Rattle.kernel.proofs.Journaling.{journal_no_page, journal_pending, journal_renewed, journal_running, journal_step, journal_unknown, journal_worn, known_now, next_is, now_is, page_now, running_next, saved_is, saved_next, saved_too, second_of_journal, sound_next, together_next}
+use Rattle.kernel.proofs.JournalSteps.{journal_no_page, journal_pending, journal_renewed, journal_running, journal_step, journal_unknown, journal_worn, known_now, next_is, now_is, page_now, running_next, saved_is, saved_next, saved_too, second_of_journal, sound_next, together_next}
 use Rattle.kernel.proofs.Stages.{frozen_none, frozen_some, none_there, same_running, some_there, stays_sound}
 
 -- the same but for the store and the age
 abbrev pub with_age : {S : Type 0} → Live S → S → ℕ → Live S
 with_age l s age = record { store = s; banks = l.banks; age = age; frozen_age = l.frozen_age }
+
+-- whether an object has a number
+pub lies_within : (n count size : ℕ) → count ≡ size → nat_lt n count ≡ true → n < size
+lies_within n count size is known = let less : n < count = grind (arith, nat_tests) in omega (arith, less, is)
+
+pub lies_past : (n count size : ℕ) → count ≡ size → nat_lt n count ≡ false → size ≤ n
+lies_past n count size is past = let more : count ≤ n = grind (arith, nat_tests) in omega (arith, more, is)
+
+-- what was done left a sound store
+pub sound_done : {P : Type 0} (n : ℕ) → IsErrOf {T = ℕ} (Ok n) fault.Failed ⊎ P → P
+sound_done n (inl failed) = absurd cc
+sound_done n (inr sound) = sound
+
+sound_still : {P : Type 0} → IsErrOf {T = ℕ} (Err fault.Renewed) fault.Failed ⊎ P → P
+sound_still (inl failed) = absurd cc
+sound_still (inr sound) = sound
 
 module _ {D S : Type 0} (disk : D → Disk) (view : S → View D) (parts : S → Parts)
     (only_now : (d : D) (c : Image) → (disk d).left_since (disk d).moment c → (disk d).may_leave c)
@@ -129,7 +146,7 @@ module _ {D S : Type 0} (disk : D → Disk) (view : S → View D) (parts : S →
     pub journal_refused : (why : JournalFault) (known : Bool) → AreSame (parts l.store) (parts s) → (disk (view s).beneath).sectors ≡ (disk (view l.store).beneath).sectors →
         IsJournalAnswer (disk (view l.store).beneath) (disk (view s).beneath) (left_in (view l.store).aside) (view l.store).aside.saved (is_page_now (parts l.store) n) (is_saved_page (parts l.store) (view l.store).aside.saved n) (Err why) →
         (IsTurnedAway (Err why) → s ≡ l.store) → (known ≡ true → n < length (parts l.store).headers) → (known ≡ false → length (parts l.store).headers ≤ n) →
-        (view s).aside ≡ (view l.store).aside → ((why ≡ fault.Failed) ⊎ (view s).is_sound) →
+        (view s).aside ≡ (view l.store).aside → (IsErrOf {T = ℕ} (Err why) fault.Failed ⊎ (view s).is_sound) →
         LeavesOneOf (disk (view l.store).beneath) (disk (view s).beneath) (view l.store).aside.saved
         (next_journaled ((view l.store).aside.saved.age + 1) n (words_now (parts l.store) n) (view l.store).aside.frozen (view l.store).aside.saved (is_page_now (parts l.store) n) (is_saved_page (parts l.store) (view l.store).aside.saved n)) →
         ServesUp disk view parts l (command.Journal n) (answer.Refused (unjournaled_by known why)) (with_store l s)
@@ -149,7 +166,7 @@ module _ {D S : Type 0} (disk : D → Disk) (view : S → View D) (parts : S →
         (λ g up. journal_unknown g (running disk view parts l) n young (frozen_none a.frozen l.frozen_age (none_there a.frozen told.1)) told.2
         (subst (λ (m : ℕ). m ≤ n) (keepable_count g l.age (parts l.store) up.sound.now.keepable) (past refl)))
     journal_refused fault.Renewed known same size told away within past beside sound run =
-        not_saved same size run (none_there a.frozen told.1) told.2 told.3 told.4 beside (elim sound [ inl fails ↦ absurd cc | inr is ↦ is ])
+        not_saved same size run (none_there a.frozen told.1) told.2 told.3 told.4 beside (sound_still sound)
     journal_refused fault.Failed known same size told away within past beside sound run = journal_failed same size run (none_there a.frozen told.1) told.2 told.3
 
 other_cause : (old new : Disk) (why : Refusal) → new.failures ≡ old.failures → (answer.Refused why ≡ answer.Refused refusal.Fault → ⊥) → IsCaused old new (answer.Refused why)

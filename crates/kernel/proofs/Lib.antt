@@ -1,7 +1,7 @@
 mod Acts
 pub mod Denoted
 mod Crashes
-mod Journaling
+mod JournalSteps
 mod Journals
 mod Machines
 mod Opened

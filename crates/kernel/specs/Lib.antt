@@ -1,5 +1,5 @@
 pub mod Denotes
 pub mod Standing
 pub mod Opening
-pub mod Journaling
+pub mod Journal
 pub mod Laws

@@ -3,7 +3,7 @@ ghost use Rattle.std.specs.Prelude.{◌≡◌};
 ghost use Rattle.model.specs.declared.command.Command.TheVariants as command;
 ghost use Rattle.processes.specs.Machine.{IsToldOnce, answer_of};
 ghost use Rattle.kernel.specs.Standing.{IsCaused, IsSomeUp, ServesUp, disk_at};
-ghost use Rattle.kernel.specs.Journaling.{unjournaled_by};
+ghost use Rattle.kernel.specs.Journal.{unjournaled_by};
 
 use crate::power::Live;
 use device::{Device, Failed};

@@ -51,8 +51,7 @@ module _ {D S : Type 0} (disk : D → Disk) (view : S → View D) (parts : S →
   abbrev pub RunsAreConfined : Type 0
   RunsAreConfined = (g : Geometry) (s t : Running) (old new : Power D S) (turns : List Turn) (inside : ℕ → Bool) →
       Stands disk view parts g old (Up s) → Stands disk view parts g new (Up t) → IsRunOf disk view parts g (Up s) old new turns →
-      IsClosed s.now.objects inside → AreBy (with_free s.now.objects inside) turns →
-      (n : ℕ) → with_free s.now.objects inside n ≡ false → IsKept inside (object_at s.now.objects n) (object_at t.now.objects n)
+      IsClosed s.now.objects inside → AreBy (with_free s.now.objects inside) turns → (n : ℕ) → with_free s.now.objects inside n ≡ false → IsKept inside (object_at s.now.objects n) (object_at t.now.objects n)
 
   -- a device that holds an image is opened at a saved part, or is told to have failed or to lack memory
   abbrev pub IsOpenedAt : Geometry → ℕ → Image → Saved → Type 0

@@ -1,6 +1,6 @@
 // The text of an answer.
 ghost use Rattle.std.specs.Prelude.{◌≡◌, ◌≤◌, [], ◌∷◌, ◌++◌, codes, length, decimal};
-ghost use Rattle.model.specs.Text.{bad_line, line_of, object_text, printed, refusal_text, spaced};
+ghost use Rattle.model.specs.Text.{bad_line, line_of, object_text, printed, refusal_text, spaced, unjournaled_number};
 ghost use Rattle.script.specs.Writing.{Writes};
 
 use crate::fault::RunFault;
@@ -9,6 +9,17 @@ use crate::shown::print_object;
 use crate::writing::write_fully;
 use model::{Answer, Description, Refusal, Unjournaled};
 use std::io::Write;
+
+// The line of the refusal to journal a page.
+fn unjournaled_line(why: Unjournaled) -> LineText
+    ensures text { result ≡ codes "not journaled " ++ decimal (unjournaled_number why) }
+    ensures short { length result ≤ 41 }
+{
+    match why {
+        Unjournaled::NotPage => LineText::new(b"not journaled 1"),
+        Unjournaled::Renewed => LineText::new(b"not journaled 2"),
+    }
+}
 
 // The line of a refusal.
 fn refusal_line(refusal: Refusal) -> LineText
@@ -29,8 +40,7 @@ fn refusal_line(refusal: Refusal) -> LineText
         Refusal::NoMemory => LineText::new(b"no memory"),
         Refusal::Fault => LineText::new(b"fault"),
         Refusal::BadNumber => LineText::new(b"bad number"),
-        Refusal::NotJournaled(Unjournaled::NotPage) => LineText::new(b"not journaled 1"),
-        Refusal::NotJournaled(Unjournaled::Renewed) => LineText::new(b"not journaled 2"),
+        Refusal::NotJournaled(why) => unjournaled_line(why),
     }
 }
 

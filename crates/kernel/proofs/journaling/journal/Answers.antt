@@ -1,18 +1,25 @@
-use Rattle.std.proofs.Common.{ap, sym, subst}
+use Rattle.std.proofs.Common.{ℕ, ◌≡◌, ◌+◌, ◌∙◌, ap, length, sym, subst}
+use Rattle.std.specs.Prelude.{nat_lt}
 use Rattle.model.specs.declared.answer.Answer.{Answer}
 use Rattle.model.specs.declared.command.Command.TheVariants as command
+use Rattle.migrator.specs.Saved.{LeavesOneOf}
 use Rattle.processes.proofs.Serving.{AreSame}
 use Rattle.object_cache.specs.Store.{left_in}
-use Rattle.object_cache.specs.Journal.{is_page_now, is_saved_page}
+use Rattle.object_cache.specs.Journal.{is_page_now, is_saved_page, journaled, next_journaled, words_now}
 use Rattle.kernel.specs.Standing.{IsCaused, ServesUp}
 use Rattle.kernel.proofs.Acts.{with_store}
-use Rattle.kernel.proofs.Journals.{journal_cause, journal_refused, journal_went, too_old}
+use Rattle.kernel.proofs.Journals.{journal_cause, journal_refused, journal_went, lies_past, lies_within, sound_done, too_old}
 use Rattle.kernel.proofs.Stages.{keepable_most, none_there}
 use Rattle.kernel.proofs.journaling.journal.Goals as goal
 
 pub returns-then-live-ge-MAX_AGE-clause-serves : goal.returns-then-live-ge-MAX_AGE-clause-serves
 returns-then-live-ge-MAX_AGE-clause-serves g c =
     too_old g.D.Device.disk g.S.ObjectStore.view g.S.PresentFrames.parts g.met.D.Device.only_now g.met.S.ObjectStore.sound_holds c.args.live.now c.args.number c.if-live-ge-MAX_AGE.true
+
+pub journal-requires-clause-keepable : goal.journal-requires-clause-keepable
+journal-requires-clause-keepable g c =
+    let up = c.requires in
+    keepable_most up.0 (g.S.PresentFrames.parts c.args.live.now.store) c.args.live.now.age up.1.sound.geometry up.1.sound.now
 
 pub returns-in-Ok-clause-serves : goal.returns-in-Ok-clause-serves
 returns-in-Ok-clause-serves g c =
@@ -21,11 +28,19 @@ returns-in-Ok-clause-serves g c =
     let parts = g.S.PresentFrames.parts in
     let only = g.met.D.Device.only_now in
     let holds = g.met.S.ObjectStore.sound_holds in
+    let p = parts c.args.live.now.store in
+    let aside = (view c.args.live.now.store).aside in
+    let n = c.args.number in
     let said = c.in-Ok.ensures in
     let told = said.answer in
+    let age = c.saved-age.ensures.age in
     let same : AreSame (parts c.args.live.now.store) (parts c.journal.new.self) = record { headers = said.headers; contents = said.contents; touched = said.touched; geometry = said.geometry } in
-    journal_went disk view parts only holds c.args.live.now c.journal.new.self c.args.number c.if-live-ge-MAX_AGE.false same said.size said.any_moment
-    (none_there (view c.args.live.now.store).aside.frozen told.1) told.2 told.3 told.4 c.in-Ok.generation told.5 said.aside said.sound
+    journal_went disk view parts only holds c.args.live.now c.journal.new.self n c.if-live-ge-MAX_AGE.false same said.size
+    (subst (λ (k : ℕ). LeavesOneOf (disk (view c.args.live.now.store).beneath) (disk (view c.journal.new.self).beneath) aside.saved
+    (next_journaled (k + 1) n (words_now p n) aside.frozen aside.saved (is_page_now p n) (is_saved_page p aside.saved n))) age said.any_moment)
+    (none_there aside.frozen told.1) told.2 told.3 told.4 c.in-Ok.generation told.5
+    (subst (λ (k : ℕ). (view c.journal.new.self).aside ≡ journaled (k + 1) n (words_now p n) aside) age said.aside)
+    (sound_done c.in-Ok.generation said.sound)
 
 pub returns-in-Err-clause-serves : goal.returns-in-Err-clause-serves
 returns-in-Err-clause-serves g c =
@@ -34,11 +49,17 @@ returns-in-Err-clause-serves g c =
     let parts = g.S.PresentFrames.parts in
     let only = g.met.D.Device.only_now in
     let holds = g.met.S.ObjectStore.sound_holds in
+    let p = parts c.args.live.now.store in
+    let aside = (view c.args.live.now.store).aside in
+    let n = c.args.number in
     let said = c.in-Err.ensures in
+    let count : c.count.result ≡ length p.headers = c.count.ensures ∙ ap length c.table.ensures in
     let same : AreSame (parts c.args.live.now.store) (parts c.journal.new.self) = record { headers = said.headers; contents = said.contents; touched = said.touched; geometry = said.geometry } in
-    subst (λ (a : Answer). ServesUp disk view parts c.args.live.now (command.Journal c.args.number) a (with_store c.args.live.now c.journal.new.self)) (sym c.refused.ensures.answer)
-    (journal_refused disk view parts only holds c.args.live.now c.journal.new.self c.args.number c.if-live-ge-MAX_AGE.false c.in-Err.fault c.is_known same said.size said.answer said.turned_away
-    ? ? said.unchanged ? said.any_moment)
+    subst (λ (a : Answer). ServesUp disk view parts c.args.live.now (command.Journal n) a (with_store c.args.live.now c.journal.new.self)) (sym c.refused.ensures.answer)
+    (journal_refused disk view parts only holds c.args.live.now c.journal.new.self n c.if-live-ge-MAX_AGE.false c.in-Err.fault (nat_lt n c.count.result) same said.size said.answer said.turned_away
+    (lies_within n c.count.result (length p.headers) count) (lies_past n c.count.result (length p.headers) count) said.unchanged said.sound
+    (subst (λ (k : ℕ). LeavesOneOf (disk (view c.args.live.now.store).beneath) (disk (view c.journal.new.self).beneath) aside.saved
+    (next_journaled (k + 1) n (words_now p n) aside.frozen aside.saved (is_page_now p n) (is_saved_page p aside.saved n))) c.saved-age.ensures.age said.any_moment))
 
 pub returns-in-Err-clause-cause : goal.returns-in-Err-clause-cause
 returns-in-Err-clause-cause g c =
@@ -47,4 +68,5 @@ returns-in-Err-clause-cause g c =
     let old = g.D.Device.disk (g.S.ObjectStore.view c.args.live.now.store).beneath in
     let new = g.D.Device.disk (g.S.ObjectStore.view c.journal.new.self).beneath in
     subst (λ (a : Answer). IsCaused old new a) (sym c.refused.ensures.answer)
-    (journal_cause old new (left_in aside) aside.saved (is_page_now (parts c.args.live.now.store) c.args.number) (is_saved_page (parts c.args.live.now.store) aside.saved c.args.number) c.is_known c.in-Err.fault c.in-Err.ensures.answer)
+    (journal_cause old new (left_in aside) aside.saved (is_page_now (parts c.args.live.now.store) c.args.number) (is_saved_page (parts c.args.live.now.store) aside.saved c.args.number)
+    (nat_lt c.args.number c.count.result) c.in-Err.fault c.in-Err.ensures.answer)

@@ -1,0 +1,13 @@
+use Rattle.std.specs.Fmt.{digits}
+use Rattle.std.proofs.Common.{◌++◌, ◌∙◌, ap, sym, codes, decimal}
+use Rattle.model.specs.declared.answer.Unjournaled.{Unjournaled}
+use Rattle.model.specs.Text.{unjournaled_number}
+use Rattle.script.proofs.print.unjournaled_line.Goals as goal
+
+pub returns-in-NotPage-clause-text : goal.returns-in-NotPage-clause-text
+unfolding digits
+returns-in-NotPage-clause-text c = c.new.ensures ∙ ap (λ (why : Unjournaled). codes "not journaled " ++ decimal (unjournaled_number why)) (sym c.in-NotPage.is)
+
+pub returns-in-Renewed-clause-text : goal.returns-in-Renewed-clause-text
+unfolding digits
+returns-in-Renewed-clause-text c = c.new-in-Renewed.ensures ∙ ap (λ (why : Unjournaled). codes "not journaled " ++ decimal (unjournaled_number why)) (sym c.in-Renewed.is)
