@@ -31,7 +31,7 @@ room_keeps : (k : Option (Content Cap)) (o : Option Entry) → option_map room_o
 room_keeps k None = refl
 room_keeps k (Some e) = refl
 
-seats_keep : (k : Option (Content Cap)) (n : ℕ) (es : List (Option Entry)) → seats_in (with_entry (keeping k) n es) ≡ seats_in es
+pub seats_keep : (k : Option (Content Cap)) (n : ℕ) (es : List (Option Entry)) → seats_in (with_entry (keeping k) n es) ≡ seats_in es
 unfolding seats_in
 seats_keep k n es =
     map-set (option_map room_of) es n (option_map (keeping k) (entry_at es n))

@@ -1,5 +1,5 @@
--- The frozen frame of an object whose frozen body is in its entry is put.
-use Rattle.std.proofs.Common.{◌≡◌, ◌≢◌, inl, inr, ℕ, zero, suc, ◌<◌, ◌≤◌, Bool, true, false, cond, ◌||◌, List, [], ◌∷◌, length, map, set, Option, Some, None, option_map, sym, ap, subst, ◌∙◌, arith, length-set}
+-- The frozen frame of an object is put, or was to be.
+use Rattle.std.proofs.Common.{◌≡◌, ◌≢◌, inl, inr, ℕ, zero, suc, ◌<◌, ◌≤◌, Bool, true, false, true≢false, cond, ◌||◌, List, [], ◌∷◌, length, map, set, Option, Some, None, option_map, refl, sym, ap, subst, ◌∙◌, arith, length-set}
 use Rattle.std.specs.Prelude.{count_by}
 use Rattle.std.specs.List.{range_with_len}
 use Rattle.std.proofs.lemmas.Bool.{cases_eq}
@@ -13,12 +13,12 @@ use Rattle.model.specs.Frame.{frame_at, header_at}
 use Rattle.model.specs.Keepable.{AreKeepable}
 use Rattle.migrator.specs.Put.{Put, Absent, Broken, Kept, put_at, put_or, most}
 use Rattle.migrator.specs.Durable.{FrozenPuts, Stored, below_at, frozen_put, with_frozen, with_put}
-use Rattle.migrator.proofs.Kept.{maps_same}
+use Rattle.migrator.proofs.Kept.{maps_same, map_set}
 use Rattle.bounded_cache.specs.declared.entry.Entry.{Entry}
 use Rattle.bounded_cache.specs.declared.held.Held.{Held}
 use Rattle.bounded_cache.specs.Entries.{entry_at, with_entry, keeping}
-use Rattle.bounded_cache.specs.Memory.{Memory, mark_at, in_hand, put_body, present_body, content_at, present_at, newest_body, below_body, frozen_body, frozen_frame, frozen_at, contents_in, frozen_in}
-use Rattle.bounded_cache.specs.Cache.{IsCache, AreFrozen, is_kept}
+use Rattle.bounded_cache.specs.Memory.{Memory, Nothing, owed_of, owed_in_memory, owed_in, mark_at, in_hand, put_body, present_body, content_at, present_at, newest_body, below_body, frozen_body, frozen_frame, frozen_at, contents_in, frozen_in}
+use Rattle.bounded_cache.specs.Cache.{IsCache, AreFrozen, is_kept, frozen_seen}
 
 -- one mark less
 fewer_marked : (ts : List Bool) (n : ℕ) → count_by (λ b. b) (set ts n false) ≤ count_by (λ b. b) ts
@@ -31,27 +31,43 @@ fewer_marked (t ∷ ts) (suc n) =
     let rest = fewer_marked ts n in
     omega (arith, a, b, rest)
 
-module _ (s : Stored) (m : Memory) (left count : ℕ) (is : IsCache s m left count) (n : ℕ) (within : n < length m.headers) (e : Entry) (at : entry_at m.entries n ≡ Some e)
+none_owed : (o : Option Entry) (touched : Bool) → owed_of o false touched ≡ Nothing
+none_owed None touched = refl
+none_owed (Some e) touched = refl
+
+-- it is put: what is left of it in memory is what is given
+abbrev pub with_frame : ℕ → Stored → Memory → Stored
+with_frame n s m = with_frozen n (Kept (frozen_at s m n)) s
+
+abbrev pub without_pending : ℕ → List (Option Entry) → Option Held → Memory → Memory
+without_pending n es hand m = record m { pending = set m.pending n false; entries = es; hand = hand }
+
+-- what is left in memory of a number of which the frozen frame was put: what it holds stays, and nothing is kept apart
+pub record Releases (s : Stored) (m : Memory) (n : ℕ) (es : List (Option Entry)) (hand : Option Held) : Type 0 where
+  pub count : length es ≡ length m.entries
+  pub entries : (k : ℕ) → k ≢ n → entry_at es k ≡ entry_at m.entries k
+  pub kept : (e : Entry) → entry_at es n ≡ Some e → e.kept ≡ None
+  pub others : (k : ℕ) (c : Content Cap) → k ≢ n → in_hand hand k c ≡ in_hand m.hand k c
+  pub let_go : (h : Held) → hand ≡ Some h → (h.number ≢ n) × (mark_at m.pending h.number ≡ true)
+  pub content : content_at (with_frame n s m) (without_pending n es hand m) n ≡ content_at s m n
+
+module _ (s : Stored) (m : Memory) (left count : ℕ) (is : IsCache s m left count) (n : ℕ) (within : n < length m.headers)
     (f : FrozenPuts) (f_is : s.frozen ≡ Some f) (pending : mark_at m.pending n ≡ true)
-    (hand : Option Held) (released : (c : Content Cap) → in_hand hand n c ≡ c) (others_hand : (k : ℕ) (c : Content Cap) → k ≢ n → in_hand hand k c ≡ in_hand m.hand k c)
-    (no_other : (h : Held) → hand ≡ Some h → (h.number ≢ n) × (mark_at m.pending h.number ≡ true)) where
+    (es : List (Option Entry)) (hand : Option Held) (rest : Releases s m n es hand) where
   abbrev frame : Frame
   frame = frozen_at s m n
 
   abbrev after : Stored
-  after = with_frozen n (Kept frame) s
+  after = with_frame n s m
 
   abbrev memory : Memory
-  memory = record m { pending = set m.pending n false; entries = with_entry (keeping None) n m.entries; hand = hand }
+  memory = without_pending n es hand m
 
   frozen_now : after.frozen ≡ Some (with_put n (Kept frame) f)
   frozen_now = ap (option_map (with_put n (Kept frame))) f_is
 
   in_puts : n < length f.put
   in_puts = omega (arith, within, is.headers, is.pending_marks, (is.running f f_is).each)
-
-  in_entries : n < length m.entries
-  in_entries = omega (arith, within, is.headers, is.entries)
 
   in_pending : n < length m.pending
   in_pending = omega (arith, within, is.headers, is.pending_marks)
@@ -69,13 +85,7 @@ module _ (s : Stored) (m : Memory) (left count : ℕ) (is : IsCache s m left cou
   below_elsewhere k other = ap (λ (p : Put). put_or p (frame_at s.saved.frames k)) (put_elsewhere k other)
 
   body_elsewhere : (k : ℕ) → k ≢ n → below_body after memory k ≡ below_body s m k
-  body_elsewhere k other = ap (λ (g : Frame). in_hand hand k g.content) (below_elsewhere k other) ∙ others_hand k (below_at s k).content other
-
-  entry_now : entry_at memory.entries n ≡ Some (keeping None e)
-  entry_now = get_or-set_same m.entries n (option_map (keeping None) (entry_at m.entries n)) None in_entries ∙ ap (option_map (keeping None)) at
-
-  entry_elsewhere : (k : ℕ) → k ≢ n → entry_at memory.entries k ≡ entry_at m.entries k
-  entry_elsewhere k other = get_or-set_other m.entries n k (option_map (keeping None) (entry_at m.entries n)) None other
+  body_elsewhere k other = ap (λ (g : Frame). in_hand hand k g.content) (below_elsewhere k other) ∙ rest.others k (below_at s k).content other
 
   pending_now : mark_at memory.pending n ≡ false
   pending_now = get_or-set_same m.pending n false false in_pending
@@ -85,13 +95,9 @@ module _ (s : Stored) (m : Memory) (left count : ℕ) (is : IsCache s m left cou
 
   content_stays : (k : ℕ) → content_at after memory k ≡ content_at s m k
   content_stays k = elim (cases_eq k n) [
-    | inl same ↦
-        ap (content_at after memory) same
-        ∙ ap (λ (o : Option Entry). present_body o (header_at m.headers n).role (newest_body after memory n)) entry_now
-        ∙ sym (ap (λ (o : Option Entry). present_body o (header_at m.headers n).role (newest_body s m n)) at)
-        ∙ ap (content_at s m) (sym same)
+    | inl same ↦ ap (content_at after memory) same ∙ rest.content ∙ ap (content_at s m) (sym same)
     | inr other ↦
-        ap (λ (o : Option Entry). present_body o (header_at m.headers k).role (newest_body after memory k)) (entry_elsewhere k other)
+        ap (λ (o : Option Entry). present_body o (header_at m.headers k).role (newest_body after memory k)) (rest.entries k other)
         ∙ ap (λ (c : Content Cap). present_body (entry_at m.entries k) (header_at m.headers k).role (put_body (put_at s.working k) c)) (body_elsewhere k other)
   ]
 
@@ -106,7 +112,7 @@ module _ (s : Stored) (m : Memory) (left count : ℕ) (is : IsCache s m left cou
         ∙ below_here ∙ ap (frozen_at s m) (sym same)
     | inr other ↦
         ap (λ (p : Bool). frozen_frame p (header_at m.frozen_headers k) (frozen_body (entry_at memory.entries k) (mark_at m.touched k) (below_body after memory k)) (below_at after k)) (pending_elsewhere k other)
-        ∙ ap (λ (o : Option Entry). frozen_frame (mark_at m.pending k) (header_at m.frozen_headers k) (frozen_body o (mark_at m.touched k) (below_body after memory k)) (below_at after k)) (entry_elsewhere k other)
+        ∙ ap (λ (o : Option Entry). frozen_frame (mark_at m.pending k) (header_at m.frozen_headers k) (frozen_body o (mark_at m.touched k) (below_body after memory k)) (below_at after k)) (rest.entries k other)
         ∙ ap (λ (c : Content Cap). frozen_frame (mark_at m.pending k) (header_at m.frozen_headers k) (frozen_body (entry_at m.entries k) (mark_at m.touched k) c) (below_at after k)) (body_elsewhere k other)
         ∙ ap (λ (g : Frame). frozen_frame (mark_at m.pending k) (header_at m.frozen_headers k) (frozen_body (entry_at m.entries k) (mark_at m.touched k) (below_body s m k)) g) (below_elsewhere k other)
   ]
@@ -118,6 +124,21 @@ module _ (s : Stored) (m : Memory) (left count : ℕ) (is : IsCache s m left cou
   pub contents_same : contents_in after memory ≡ contents_in s m
   unfolding contents_in
   contents_same = maps_same (content_at after memory) (content_at s m) (length m.headers) (λ k below. content_stays k)
+
+  pub frozen_seen_same : frozen_seen after memory left ≡ frozen_seen s m left
+  frozen_seen_same =
+      ap (option_map (λ (g : FrozenPuts). record { frames = frozen_in after memory; size = g.size; left = left })) frozen_now
+      ∙ ap (λ (fs : List Frame). Some (record { frames = fs; size = f.size; left = left })) frozen_same
+      ∙ sym (ap (option_map (λ (g : FrozenPuts). record { frames = frozen_in s m; size = g.size; left = left })) f_is)
+
+  -- nothing is owed of it any more
+  pub owed_now : owed_in memory ≡ set (owed_in m) n Nothing
+  unfolding owed_in
+  owed_now = map_set (owed_in_memory m) (owed_in_memory memory) (length m.headers) n Nothing within
+      (ap (λ (p : Bool). owed_of (entry_at es n) p (mark_at m.touched n)) pending_now ∙ none_owed (entry_at es n) (mark_at m.touched n))
+      (λ k below other.
+      ap (λ (p : Bool). owed_of (entry_at es k) p (mark_at m.touched k)) (pending_elsewhere k other)
+      ∙ ap (λ (o : Option Entry). owed_of o (mark_at m.pending k) (mark_at m.touched k)) (rest.entries k other))
 
   -- each number that the checkpoint writes is pending or was put, as before
   written_stays : (k : ℕ) → (mark_at memory.pending k || is_kept (put_at (set f.put n (Kept frame)) k)) ≡ (mark_at m.pending k || is_kept (put_at f.put k))
@@ -159,7 +180,7 @@ module _ (s : Stored) (m : Memory) (left count : ℕ) (is : IsCache s m left cou
     marks = is.marks;
     dirty_marks = is.dirty_marks;
     pending_marks = length-set m.pending n false ∙ is.pending_marks;
-    entries = length-set m.entries n (option_map (keeping None) (entry_at m.entries n)) ∙ is.entries;
+    entries = rest.count ∙ is.entries;
     frames = is.frames;
     puts = is.puts;
     counted = is.counted;
@@ -171,16 +192,16 @@ module _ (s : Stored) (m : Memory) (left count : ℕ) (is : IsCache s m left cou
     idle = λ none. absurd (none-some (with_put n (Kept frame) f) (sym none ∙ frozen_now));
     running = λ g g_is. subst (λ (h : FrozenPuts). AreFrozen h memory.pending left) (same_Some (with_put n (Kept frame) f) g (sym frozen_now ∙ g_is)) still_frozen;
     keepable = λ g g_is. subst (AreKeepable s.saved.geometry most) (sym frozen_same) (is.keepable f f_is);
-    held = λ h h_is. pending_elsewhere h.number (no_other h h_is).0 ∙ (no_other h h_is).1;
+    held = λ h h_is. pending_elsewhere h.number (rest.let_go h h_is).0 ∙ (rest.let_go h h_is).1;
     apart = λ k g g_is. elim (cases_eq k n) [
-      | inl same ↦ inl (ap (λ (x : Entry). x.kept) (same_Some g (keeping None e) (sym g_is ∙ ap (entry_at memory.entries) same ∙ entry_now)))
-      | inr other ↦ elim (is.apart k g (sym (entry_elsewhere k other) ∙ g_is)) [
+      | inl same ↦ inl (rest.kept g (ap (entry_at es) (sym same) ∙ g_is))
+      | inr other ↦ elim (is.apart k g (sym (rest.entries k other) ∙ g_is)) [
         | inl none ↦ inl none
         | inr was ↦ inr (pending_elsewhere k other ∙ was)
       ]
     ];
     freed = λ k none now free. elim (cases_eq k n) [
-      | inl same ↦ absurd (none-some (keeping None e) (sym none ∙ ap (entry_at memory.entries) same ∙ entry_now))
-      | inr other ↦ is.freed k (sym (entry_elsewhere k other) ∙ none) (sym (pending_elsewhere k other) ∙ now) free
+      | inl same ↦ absurd (true≢false (sym now ∙ ap (mark_at memory.pending) same ∙ pending_now))
+      | inr other ↦ is.freed k (sym (rest.entries k other) ∙ none) (sym (pending_elsewhere k other) ∙ now) free
     ];
   }

@@ -9,3 +9,13 @@ mod Puts
 mod Claims
 mod Apart
 mod FrozenPuts
+mod FrozenTorn
+mod PutsOut
+mod Leading
+mod Recent
+mod Homes
+mod Marks
+mod Freezing
+mod Reserving
+mod Owing
+mod Copying

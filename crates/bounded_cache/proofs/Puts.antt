@@ -25,7 +25,7 @@ use Rattle.bounded_cache.proofs.Objects.{has_entry, fetched_known, content_in, p
 -- ---- slots
 
 -- no more have a slot than were written
-held_touched : (ps : List Put) (ts : List Bool) → length ps ≡ length ts → ((k : ℕ) → mark_at ts k ≡ false → put_at ps k ≡ Absent) → sum_of held_slot ps ≤ touched_count ts
+pub held_touched : (ps : List Put) (ts : List Bool) → length ps ≡ length ts → ((k : ℕ) → mark_at ts k ≡ false → put_at ps k ≡ Absent) → sum_of held_slot ps ≤ touched_count ts
 unfolding sum_of
 held_touched [] ts count each = omega arith
 held_touched (p ∷ ps) [] count each = absurd (omega (arith, count))

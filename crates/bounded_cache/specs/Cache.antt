@@ -20,6 +20,7 @@ use Rattle.object_cache.specs.Store.{FrozenFrames, Aside, View}
 use Rattle.bounded_cache.specs.declared.entry.Entry.{Entry}
 use Rattle.bounded_cache.specs.declared.held.Held.{Held}
 use Rattle.bounded_cache.specs.Entries.{entry_at, room_of}
+use Rattle.bounded_cache.specs.Order.{without}
 use Rattle.bounded_cache.specs.Memory.{Memory, Owed, Nothing, owed_body, mark_at, present_at, frozen_at, contents_in, frozen_in, owed_in}
 
 -- ---- what is seen of it
@@ -104,6 +105,14 @@ with_seat n s = record s {
   owed = slice_set s.owed n (newly_owed (mark_at s.pending n) (mark_at s.touched n));
   order = n ∷ s.order;
 }
+
+-- what is on the device of the one, and all else of the other
+abbrev pub on_device : {D : Type 0} → CacheState D → CacheState D → CacheState D
+on_device s t = record s { durable = t.durable; dirty = t.dirty; pending = t.pending; owed = t.owed }
+
+-- without the entry of a number
+abbrev pub without_seat : {D : Type 0} → ℕ → CacheState D → CacheState D
+without_seat n s = record s { seats = slice_set s.seats n None; order = without n s.order }
 
 -- a number is fetched where it has an entry
 pub record IsFetchedIn {D : Type 0} (s : CacheState D) (n : ℕ) : Type 0 where

@@ -51,6 +51,11 @@ abbrev pub in_hand : Option Held → ℕ → Content Cap → Content Cap
 in_hand None n c = c
 in_hand (Some h) n c = if h.number == n then h.content else c
 
+-- the hand once it has let go of a number
+abbrev pub let_go : ℕ → Option Held → Option Held
+let_go n None = None
+let_go n (Some h) = if h.number == n then None else Some h
+
 -- the body that was put, or else another
 abbrev pub put_body : Put → Content Cap → Content Cap
 put_body Absent c = c
@@ -86,6 +91,15 @@ abbrev pub frozen_body : Option Entry → Bool → Content Cap → Content Cap
 frozen_body None touched below = below
 frozen_body (Some e) touched below = apart_body e.kept touched e.present below
 
+-- the frozen body that an entry has, if it has one: kept apart, or else the present one
+abbrev pub own_body : Option (Content Cap) → Content Cap → Content Cap
+own_body (Some c) present = c
+own_body None present = present
+
+-- and the frame of it, under the header that was frozen
+abbrev pub own_frame : ObjectHeader → Entry → Frame
+own_frame h e = record { header = h; content = masked h.role (own_body e.kept e.present) }
+
 -- the frozen frame of an object, whether or not it is in its slot
 abbrev pub frozen_frame : Bool → ObjectHeader → Content Cap → Frame → Frame
 frozen_frame false h body below = below
@@ -107,6 +121,16 @@ pub data Owed : Type 0 where
   Nothing : Owed
   Shared : Owed
   Apart : Owed
+
+abbrev pub is_owing : Owed → Bool
+is_owing Nothing = false
+is_owing Shared = true
+is_owing Apart = true
+
+abbrev pub is_shared : Owed → Bool
+is_shared Nothing = false
+is_shared Shared = true
+is_shared Apart = false
 
 abbrev pub owed_body : Option (Content Cap) → Bool → Owed
 owed_body (Some c) touched = Apart

@@ -1,20 +1,23 @@
 // The object store that holds so many objects in memory.
-ghost use Rattle.std.specs.Prelude.{◌∷◌, ◌≡◌, ◌<◌, ◌≤◌, None, Some, false, true, length, slice_set, OnOk, OnErr};
+ghost use Rattle.std.specs.Prelude.{◌∷◌, ◌≡◌, ◌≢◌, ◌<◌, ◌≤◌, None, Some, false, true, ℕ, length, slice_set, take, OnOk, OnErr};
 ghost use Rattle.std.specs.Borrow.{Lends, sem};
 ghost use Rattle.model.specs.contracts.object.Content.{the_row as content_row};
 ghost use Rattle.model.specs.contracts.capability.Cap.{the_row as cap_row};
 ghost use Rattle.model.specs.Frame.{header_at, held_at, given_up, owned_by, called, claimed, void_held};
 ghost use Rattle.model.specs.Object.{role_of};
-ghost use Rattle.capability.specs.Parts.{fresh_content, IsFreshAt};
-ghost use Rattle.model.specs.Keepable.{IsKeepable};
+ghost use Rattle.capability.specs.Parts.{frames_of, fresh_content, IsFreshAt};
+ghost use Rattle.model.specs.Keepable.{AreKeepable, IsKeepable};
+ghost use Rattle.model.specs.Revoke.{is_member};
 ghost use Rattle.device.specs.Calls.{Counts};
 ghost use Rattle.migrator.specs.Put.{most};
 ghost use Rattle.model.specs.Machine.{touched_count};
 ghost use Rattle.migrator.specs.Durable.{stored_of};
 
 use crate::entries::Entries;
-use crate::entry::Entry;
-use crate::held::Held;
+use crate::entry::{Entry, is_owing};
+use crate::frozen::put_own;
+use crate::headers::Headers;
+use crate::held::{Held, release};
 use capability::plain::rooms::filled;
 use capability::{Fresh, ObjectTable};
 use device::{Device, Failed};
@@ -24,6 +27,9 @@ use model::{Cap, Content, Geometry, Role};
 use number_set::NumberSet;
 use std::alloc::{AllocError, Global};
 use std::marker::Model;
+
+mod prepare;
+mod stages;
 
 /// An object store that holds no more than so many objects in memory. The others lie on the device.
 ///
@@ -42,7 +48,7 @@ pub struct BoundedCache<D: Device> {
     /// The numbers whose frozen frame isn't in its slot.
     pending: NumberSet,
     /// The headers of all objects as they were frozen.
-    frozen_headers: ObjectTable,
+    frozen_headers: Headers,
     /// How many objects of a checkpoint on its way are said to be left.
     left: u64,
     /// A body that is in no entry, and perhaps no longer in its slot.
@@ -69,7 +75,7 @@ impl<D: Device> Model for BoundedCache<D> {
 
 impl<D: Device> BoundedCache<D> {
     ghost use Rattle.bounded_cache.specs.Memory.{Nothing, Shared, Apart, mark_at, masked};
-    ghost use Rattle.bounded_cache.specs.Cache.{GoesOnIn, IsFetchedIn, IsAnnouncedIn, owed_at, seat_at, with_content_in, with_seat};
+    ghost use Rattle.bounded_cache.specs.Cache.{GoesOnIn, IsFetchedIn, IsAnnouncedIn, on_device, owed_at, parts_of, seat_at, with_content_in, with_seat, without_seat};
     ghost use Rattle.bounded_cache.specs.Order.{without};
     ghost use Rattle.bounded_cache.specs.contracts.cache.BoundedCache.{the_row};
 
@@ -237,6 +243,157 @@ impl<D: Device> BoundedCache<D> {
         self.durable
             .put_working(number, header, self.entries.present(number))?;
         self.dirty.set(number as usize, false);
+        Ok(())
+    }
+
+    // Puts the frozen frame of an object whose frozen body is in its entry. At `Failed` it still is
+    // to be put.
+    pub(crate) fn put_own_frozen(&mut self, number: u64) -> Result<(), Failed>
+        requires fetched { IsFetchedIn self.old number }
+        requires owed { owed_at self.old.owed number ≢ Nothing }
+        ensures put { OnOk result (self.new ≡ record self.old {
+          durable = self.new.durable;
+          pending = slice_set self.old.pending number false;
+          owed = slice_set self.old.owed number Nothing;
+        }) }
+        ensures unput { OnErr result (self.new ≡ record self.old { durable = self.new.durable }) }
+        ensures leads { GoesOnIn D.disk self.old self.new }
+        ensures cause { Counts (D.disk self.old.durable.beneath) (D.disk self.new.durable.beneath) result }
+    {
+        let header = self.frozen_headers.header(number);
+        let Some(entry) = self.entries.get(number) else {
+            unreachable!()
+        };
+        put_own(&mut self.durable, number, header, entry)?;
+        self.pending.set(number as usize, false);
+        self.entries.set_kept(number, None);
+        release(&mut self.hand, number);
+        Ok(())
+    }
+
+    // Whether the entry of an object has a frozen body that is still to be put.
+    fn owes(&self, number: u64) -> bool
+        requires { number < length self.now.headers }
+        ensures yes { result ≡ true → owed_at self.now.owed number ≢ Nothing }
+        ensures none { result ≡ false → owed_at self.now.owed number ≡ Nothing }
+    {
+        let is_pending = self.pending.contains(number as usize);
+        let is_touched = self.touched.contains(number as usize);
+        match self.entries.get(number) {
+            Some(entry) => is_owing(entry, is_pending, is_touched),
+            None => false,
+        }
+    }
+
+    // Puts the frozen frame of an object, where its entry has the frozen body and it is still to be
+    // put.
+    fn pay(&mut self, number: u64) -> Result<(), Failed>
+        requires { IsFetchedIn self.old number }
+        ensures paid { OnOk result (owed_at self.new.owed number ≡ Nothing) }
+        ensures put { self.new ≡ on_device self.old self.new }
+        ensures leads { GoesOnIn D.disk self.old self.new }
+        ensures cause { Counts (D.disk self.old.durable.beneath) (D.disk self.new.durable.beneath) result }
+    {
+        if self.owes(number) {
+            return self.put_own_frozen(number);
+        }
+        Ok(())
+    }
+
+    // Puts what an object in an entry holds, where it is to be put.
+    fn write_back(&mut self, number: u64) -> Result<(), Failed>
+        requires fetched { IsFetchedIn self.old number }
+        requires keepable { IsKeepable (stored_of D.disk self.old.durable).saved.geometry most number
+            (record { header = header_at self.old.headers number; content = held_at self.old.contents number }) }
+        ensures clean { OnOk result (mark_at self.new.dirty number ≡ false) }
+        ensures owed { self.new.owed ≡ self.old.owed }
+        ensures put { self.new ≡ on_device self.old self.new }
+        ensures leads { GoesOnIn D.disk self.old self.new }
+        ensures cause { Counts (D.disk self.old.durable.beneath) (D.disk self.new.durable.beneath) result }
+    {
+        if self.dirty.contains(number as usize) {
+            return self.put_present(number);
+        }
+        Ok(())
+    }
+
+    // Puts what an entry has that isn't on the device, and drops it. At `Failed` it stays.
+    pub(crate) fn put_away(&mut self, number: u64) -> Result<(), Failed>
+        requires fetched { IsFetchedIn self.old number }
+        requires keepable { IsKeepable (stored_of D.disk self.old.durable).saved.geometry most number
+            (record { header = header_at self.old.headers number; content = held_at self.old.contents number }) }
+        ensures away { OnOk result (self.new ≡ without_seat number (on_device self.old self.new)) }
+        ensures stays { OnErr result (self.new ≡ on_device self.old self.new) }
+        ensures leads { GoesOnIn D.disk self.old self.new }
+        ensures cause { Counts (D.disk self.old.durable.beneath) (D.disk self.new.durable.beneath) result }
+    {
+        self.pay(number)?;
+        self.write_back(number)?;
+        self.drop_entry(number);
+        Ok(())
+    }
+
+    // Makes room for an entry, where there are as many as there may be: the one that was used
+    // longest ago is put away. The seven that were used last stay.
+    pub(crate) fn make_room(&mut self) -> Result<(), Failed>
+        requires keepable { AreKeepable (parts_of D.disk self.old).geometry most
+            (frames_of (parts_of D.disk self.old)) }
+        ensures room { OnOk result (length self.new.order < self.new.most) }
+        ensures others { (n : ℕ) → is_member (take 7 self.old.order) n ≡ true
+            → seat_at self.new.seats n ≡ seat_at self.old.seats n }
+        ensures order { take 7 self.new.order ≡ take 7 self.old.order }
+        ensures rest { self.new ≡ record (on_device self.old self.new) {
+          seats = self.new.seats;
+          order = self.new.order;
+        } }
+        ensures leads { GoesOnIn D.disk self.old self.new }
+        ensures cause { Counts (D.disk self.old.durable.beneath) (D.disk self.new.durable.beneath) result }
+    {
+        if self.entries.is_full() {
+            return self.put_least();
+        }
+        Ok(())
+    }
+
+    // Puts the entry away that was used longest ago, where there are as many as there may be.
+    fn put_least(&mut self) -> Result<(), Failed>
+        requires full { self.old.most ≤ length self.old.order }
+        requires keepable { AreKeepable (parts_of D.disk self.old).geometry most
+            (frames_of (parts_of D.disk self.old)) }
+        ensures room { OnOk result (length self.new.order < self.new.most) }
+        ensures others { (n : ℕ) → is_member (take 7 self.old.order) n ≡ true
+            → seat_at self.new.seats n ≡ seat_at self.old.seats n }
+        ensures order { take 7 self.new.order ≡ take 7 self.old.order }
+        ensures rest { self.new ≡ record (on_device self.old self.new) {
+          seats = self.new.seats;
+          order = self.new.order;
+        } }
+        ensures leads { GoesOnIn D.disk self.old self.new }
+        ensures cause { Counts (D.disk self.old.durable.beneath) (D.disk self.new.durable.beneath) result }
+    {
+        let Some(number) = self.entries.least() else {
+            unreachable!()
+        };
+        self.put_away(number)
+    }
+
+    /// Puts what an object holds out of memory, where it is there. Fails exactly where the device
+    /// does.
+    pub fn evict(&mut self, number: u64) -> Result<(), Failed>
+        requires known { number < length self.old.headers }
+        requires keepable { AreKeepable (parts_of D.disk self.old).geometry most
+            (frames_of (parts_of D.disk self.old)) }
+        ensures gone { OnOk result (seat_at self.new.seats number ≡ None) }
+        ensures rest { self.new ≡ record (on_device self.old self.new) {
+          seats = self.new.seats;
+          order = self.new.order;
+        } }
+        ensures leads { GoesOnIn D.disk self.old self.new }
+        ensures cause { Counts (D.disk self.old.durable.beneath) (D.disk self.new.durable.beneath) result }
+    {
+        if self.entries.holds(number) {
+            return self.put_away(number);
+        }
         Ok(())
     }
 }

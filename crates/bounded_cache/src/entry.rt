@@ -1,4 +1,7 @@
 // What is in memory of an object.
+ghost use Rattle.std.specs.Prelude.{◌≡◌, Some};
+ghost use Rattle.bounded_cache.specs.Memory.{owed_of, is_owing, is_shared};
+
 use model::{Cap, Content};
 
 /// What is in memory of an object.
@@ -12,4 +15,31 @@ pub struct Entry {
     pub kept: Option<Content<Cap>>,
     /// The blank body that a free number is made an object in. `Free` where there is none.
     pub room: Content<Cap>,
+}
+
+// Whether an entry has the frozen body of an object of which the frozen frame may be pending, and
+// which may have been written since.
+pub(crate) fn is_owing(entry: &Entry, is_pending: bool, is_touched: bool) -> bool
+    ensures { result ≡ is_owing (owed_of (Some entry.now) is_pending is_touched) }
+{
+    if !is_pending {
+        return false;
+    }
+    match &entry.kept {
+        Some(_) => true,
+        None => !is_touched,
+    }
+}
+
+// Whether it has no other than the present one.
+pub(crate) fn is_shared(entry: &Entry, is_pending: bool, is_touched: bool) -> bool
+    ensures { result ≡ is_shared (owed_of (Some entry.now) is_pending is_touched) }
+{
+    if !is_pending {
+        return false;
+    }
+    match &entry.kept {
+        Some(_) => false,
+        None => !is_touched,
+    }
 }

@@ -6,6 +6,8 @@ mod cache;
 mod capacity;
 mod entries;
 mod entry;
+mod frozen;
+mod headers;
 mod held;
 
 pub use cache::BoundedCache;
