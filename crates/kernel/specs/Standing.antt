@@ -146,6 +146,13 @@ module _ {D S : Type 0} (disk : D → Disk) (view : S → View D) (parts : S →
   abbrev pub Serves : Power D S → Command → Answer → Power D S → Type 0
   Serves old c a new = (g : Geometry) (m : Machine) → Stands g old m → ServesFrom g m old c a new
 
+  -- no call of the device beneath was made
+  abbrev pub SameDevice : Power D S → Power D S → Type 0
+  SameDevice (power.Up l) (power.Up k) = (view k.store).beneath ≡ (view l.store).beneath
+  SameDevice (power.Down d) (power.Down e) = e ≡ d
+  SameDevice power.Between power.Between = Unit {0}
+  SameDevice _ _ = ⊥
+
   -- there is a device beneath a kernel
   abbrev pub HasDevice : Power D S → Type 0
   HasDevice power.Between = ⊥

@@ -1,7 +1,7 @@
 // The stages of a checkpoint (KeyKOS: freeze, log, commit and migrate). None of them takes memory.
 ghost use Rattle.std.specs.Prelude.{◌≡◌};
 ghost use Rattle.model.specs.declared.command.Command.TheVariants as command;
-ghost use Rattle.processes.specs.Machine.{IsToldOnce, answer_of};
+ghost use Rattle.processes.specs.Machine.{IsToldOnce, IsUnlooked, answer_of};
 ghost use Rattle.kernel.specs.Standing.{IsCaused, IsSomeUp, ServesUp, disk_at, refusal_by};
 
 use crate::power::Live;
@@ -13,6 +13,7 @@ use object_cache::ObjectStore;
 // What is answered where the store refuses.
 fn refused(fault: CheckpointFault) -> Result<Answer, Failed>
     ensures answer { answer_of result ≡ Answer.Refused (refusal_by fault) }
+    ensures looks { IsUnlooked (answer_of result) → ⊥ }
     ensures told_once { IsToldOnce result }
 {
     let refusal = match fault {
@@ -35,6 +36,7 @@ pub fn checkpoint<D: Device, S: ObjectStore<D>>(live: &mut Live<S>) -> Result<An
     ensures serves { ServesUp D.disk S.view S.parts live.old command.Checkpoint (answer_of result) live.new }
     ensures cause { IsCaused (disk_at D.disk S.view S.parts live.old)
         (disk_at D.disk S.view S.parts live.new) (answer_of result) }
+    ensures looks { IsUnlooked (answer_of result) → ⊥ }
     ensures told_once { IsToldOnce result }
 {
     if live.age >= MAX_AGE {
@@ -61,6 +63,7 @@ pub fn stabilize<D: Device, S: ObjectStore<D>>(
     ensures serves { ServesUp D.disk S.view S.parts live.old (command.Stabilize count) (answer_of result) live.new }
     ensures cause { IsCaused (disk_at D.disk S.view S.parts live.old)
         (disk_at D.disk S.view S.parts live.new) (answer_of result) }
+    ensures looks { IsUnlooked (answer_of result) → ⊥ }
     ensures told_once { IsToldOnce result }
 {
     match live.store.stabilize(count) {
@@ -78,6 +81,7 @@ pub fn commit<D: Device, S: ObjectStore<D>>(live: &mut Live<S>) -> Result<Answer
     ensures serves { ServesUp D.disk S.view S.parts live.old command.Commit (answer_of result) live.new }
     ensures cause { IsCaused (disk_at D.disk S.view S.parts live.old)
         (disk_at D.disk S.view S.parts live.new) (answer_of result) }
+    ensures looks { IsUnlooked (answer_of result) → ⊥ }
     ensures told_once { IsToldOnce result }
 {
     match live.store.commit(live.frozen_age) {
@@ -96,6 +100,7 @@ pub fn migrate<D: Device, S: ObjectStore<D>>(
     ensures serves { ServesUp D.disk S.view S.parts live.old (command.Migrate count) (answer_of result) live.new }
     ensures cause { IsCaused (disk_at D.disk S.view S.parts live.old)
         (disk_at D.disk S.view S.parts live.new) (answer_of result) }
+    ensures looks { IsUnlooked (answer_of result) → ⊥ }
     ensures told_once { IsToldOnce result }
 {
     let left = live.store.migrate(count)?;

@@ -5,8 +5,8 @@ ghost use Rattle.model.specs.declared.geometry.Geometry.{Geometry};
 ghost use Rattle.model.specs.Machine.{Saved};
 ghost use Rattle.model.specs.Step.{opens};
 ghost use Rattle.kernel.specs.Denotes.{Leaves};
-ghost use Rattle.processes.specs.Machine.{IsToldOnce, answer_of};
-ghost use Rattle.kernel.specs.Standing.{Asks, GoesDown, HasDevice, IsCaused, IsSomeMachine, Serves, disk_of};
+ghost use Rattle.processes.specs.Machine.{IsToldOnce, IsUnlooked, NeedsNoLook, answer_of};
+ghost use Rattle.kernel.specs.Standing.{Asks, GoesDown, HasDevice, IsCaused, IsSomeMachine, SameDevice, Serves, disk_of};
 ghost use Rattle.kernel.specs.Opening.{IsNoReason, IsSomeDown, Opens, RefusesToOpen, Reopened, refused_by};
 
 use crate::power::{Live, Power};
@@ -29,7 +29,8 @@ pub struct Machine<D: Device, S: ObjectStore<D>> {
 // The refusal where a device wasn't opened that a crash of a kernel left.
 fn refusal(fault: OpenFault) -> Refusal
     requires { IsNoReason fault }
-    ensures { result ≡ refused_by fault }
+    ensures why { result ≡ refused_by fault }
+    ensures looks { NeedsNoLook result → ⊥ }
 {
     match fault {
         OpenFault::Failed => Refusal::Fault,
@@ -60,6 +61,8 @@ impl<D: Device, S: ObjectStore<D>> Machine<D, S> {
         requires goes_on { opens command ≡ false }
         ensures asks { Asks D.disk S.view S.parts self.old.power command (answer_of result)
             self.new.power }
+        ensures untouched { IsUnlooked (answer_of result)
+            → SameDevice D.disk S.view S.parts self.old.power self.new.power }
         ensures told_once { IsToldOnce result }
     {
         match &mut self.power {
@@ -83,6 +86,8 @@ impl<D: Device, S: ObjectStore<D>> Machine<D, S> {
         requires some { IsSomeMachine D.disk S.view S.parts self.old.power }
         requires goes_on { opens command ≡ false }
         ensures serves { Serves D.disk S.view S.parts self.old.power command result self.new.power }
+        ensures untouched { IsUnlooked result
+            → SameDevice D.disk S.view S.parts self.old.power self.new.power }
         ensures cause { IsCaused (disk_of D.disk S.view S.parts self.old.power)
             (disk_of D.disk S.view S.parts self.new.power) result }
     {
@@ -100,6 +105,7 @@ impl<D: Device, S: ObjectStore<D>> Machine<D, S> {
         requires { IsSomeDown D.disk device }
         ensures reopened { (g : Geometry) (saved : List Saved) → Leaves g (D.disk device) saved
             → Reopened D.disk S.view S.parts g saved device result self.new.power }
+        ensures looks { IsUnlooked result → ⊥ }
         ensures cause { IsCaused (D.disk device) (disk_of D.disk S.view S.parts self.new.power) result }
     {
         match wake::<D, S>(alloc, device, self.setting) {
@@ -124,6 +130,7 @@ impl<D: Device, S: ObjectStore<D>> Machine<D, S> {
     fn restart(&mut self, alloc: Global) -> Answer
         requires { IsSomeMachine D.disk S.view S.parts self.old.power }
         ensures serves { Serves D.disk S.view S.parts self.old.power command.Restart result self.new.power }
+        ensures looks { IsUnlooked result → ⊥ }
         ensures cause { IsCaused (disk_of D.disk S.view S.parts self.old.power)
             (disk_of D.disk S.view S.parts self.new.power) result }
     {
@@ -136,6 +143,7 @@ impl<D: Device, S: ObjectStore<D>> Machine<D, S> {
     fn cut(&mut self, alloc: Global) -> Answer
         requires { IsSomeMachine D.disk S.view S.parts self.old.power }
         ensures serves { Serves D.disk S.view S.parts self.old.power command.Cut result self.new.power }
+        ensures looks { IsUnlooked result → ⊥ }
         ensures cause { IsCaused (disk_of D.disk S.view S.parts self.old.power)
             (disk_of D.disk S.view S.parts self.new.power) result }
     {
@@ -144,10 +152,12 @@ impl<D: Device, S: ObjectStore<D>> Machine<D, S> {
         self.rise(alloc, device)
     }
 
-    /// Serves one command.
+    /// Serves one command. `BadNumber`, `NoProcess` and `Down` are told without a call of the device.
     pub fn step(&mut self, alloc: Global, command: Command) -> Answer
         requires { IsSomeMachine D.disk S.view S.parts self.old.power }
         ensures serves { Serves D.disk S.view S.parts self.old.power command result self.new.power }
+        ensures untouched { IsUnlooked result
+            → SameDevice D.disk S.view S.parts self.old.power self.new.power }
         ensures cause { IsCaused (disk_of D.disk S.view S.parts self.old.power)
             (disk_of D.disk S.view S.parts self.new.power) result }
     {

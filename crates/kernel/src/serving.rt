@@ -2,7 +2,7 @@
 ghost use Rattle.std.specs.Prelude.{◌≡◌, false};
 ghost use Rattle.model.specs.declared.command.Command.TheVariants as command;
 ghost use Rattle.model.specs.Step.{opens};
-ghost use Rattle.processes.specs.Machine.{IsToldOnce, answer_of};
+ghost use Rattle.processes.specs.Machine.{IsToldOnce, IsUnlooked, answer_of};
 ghost use Rattle.kernel.specs.Standing.{IsCaused, IsSomeUp, ServesUp, disk_at};
 
 use crate::checkpoints;
@@ -14,13 +14,15 @@ use object_cache::ObjectStore;
 use std::alloc::Global;
 
 // Asks that an object leave memory. It is refused by `BadNumber` where no object has the number. It
-// takes no memory.
+// takes no memory, and makes no call of the device then.
 #[inline(never)]
 fn evict<D: Device, S: ObjectStore<D>>(live: &mut Live<S>, number: u64) -> Result<Answer, Failed>
     requires { IsSomeUp D.disk S.view S.parts live.old }
     ensures serves { ServesUp D.disk S.view S.parts live.old (command.Evict number) (answer_of result) live.new }
     ensures cause { IsCaused (disk_at D.disk S.view S.parts live.old)
         (disk_at D.disk S.view S.parts live.new) (answer_of result) }
+    ensures untouched { IsUnlooked (answer_of result)
+        → (S.view live.new.store).beneath ≡ (S.view live.old.store).beneath }
     ensures told_once { IsToldOnce result }
 {
     if number >= live.store.table().count() {
@@ -42,6 +44,8 @@ pub fn serve<D: Device, S: ObjectStore<D>>(
     ensures serves { ServesUp D.disk S.view S.parts live.old command (answer_of result) live.new }
     ensures cause { IsCaused (disk_at D.disk S.view S.parts live.old)
         (disk_at D.disk S.view S.parts live.new) (answer_of result) }
+    ensures untouched { IsUnlooked (answer_of result)
+        → (S.view live.new.store).beneath ≡ (S.view live.old.store).beneath }
     ensures told_once { IsToldOnce result }
 {
     match command {

@@ -14,5 +14,5 @@ returns-in-Ok-clause-reopened g c h saved leaves =
 
 pub returns-in-Err-clause-reopened : goal.returns-in-Err-clause-reopened
 returns-in-Err-clause-reopened g c h saved leaves =
-    subst (λ why. Reopened g.D.Device.disk g.S.ObjectStore.view g.S.PresentFrames.parts h saved c.args.device (answer.Refused why) (power.Down c.in-Err.refused.device)) (sym c.refusal.ensures)
+    subst (λ why. Reopened g.D.Device.disk g.S.ObjectStore.view g.S.PresentFrames.parts h saved c.args.device (answer.Refused why) (power.Down c.in-Err.refused.device)) (sym c.refusal.ensures.why)
     (stays_down g.D.Device.disk g.S.ObjectStore.view g.S.PresentFrames.parts g.met.D.Device.only_now g.met.D.Device.counts_now g.met.D.Device.seen_left c.args.device h saved leaves c.in-Err.refused.fault c.in-Err.refused.device c.in-Err.ensures.refused)
