@@ -126,3 +126,27 @@ built_from ms d old new (Err fault) is built = built
 -- no size is told of a description outside the limits
 pub size_refused : (ms : Members) (d : Description) (fault : BuildFault) → IsDescription ms d → fault ≡ Limits → (IsWithinLimits d → ⊥) → TellsNoSize ms fault
 size_refused ms d fault is limits broken = subst (λ (f : BuildFault). TellsNoSize ms f) (sym limits) (d, is, broken)
+
+-- below the limits there is the shape alone
+below_limits : (d : Description) (sectors : ℕ) (lesser : BuildFault) → fault_number lesser < 2 → Rule d sectors lesser
+below_limits d sectors Shape below = tt
+below_limits d sectors Limits below = absurd (omega (arith, below))
+below_limits d sectors Number below = absurd (omega (arith, below))
+below_limits d sectors Field below = absurd (omega (arith, below))
+below_limits d sectors Target below = absurd (omega (arith, below))
+below_limits d sectors Owner below = absurd (omega (arith, below))
+below_limits d sectors Small below = absurd (omega (arith, below))
+below_limits d sectors Failed below = tt
+below_limits d sectors NoMemory below = tt
+
+-- what no size is told for is refused on every device
+pub size_refuses : (ms : Members) (sectors : ℕ) (why : BuildFault) → TellsNoSize ms why → Refuses ms sectors why
+size_refuses ms sectors Shape told = told
+size_refuses ms sectors Limits told = (told.0, told.1, record { kept = below_limits told.0 sectors; broken = told.2 })
+size_refuses ms sectors NoMemory told = tt
+size_refuses ms sectors Number told = absurd told
+size_refuses ms sectors Field told = absurd told
+size_refuses ms sectors Target told = absurd told
+size_refuses ms sectors Owner told = absurd told
+size_refuses ms sectors Small told = absurd told
+size_refuses ms sectors Failed told = absurd told

@@ -2,18 +2,13 @@
 ghost use Rattle.std.specs.Prelude.{◌≡◌, ◌≢◌, ◌<◌, ◌≤◌, ◌↔◌, IfOk, IfErr, IsErrOf, OnOk};
 ghost use Rattle.toml.specs.View.{table_view};
 ghost use Rattle.device.specs.Moments.{LeavesOnly};
+ghost use Rattle.description.specs.declared.entry.Description.{Description};
 ghost use Rattle.description.specs.Reading.{IsDescription};
-ghost use Rattle.image_builder.specs.Built.{Builds, BuildsFrom, IsLeftOf, IsRefused, IsWithinLimits, Refuses, TellsNoSize, plan_for};
-ghost use Rattle.image_builder.specs.Checked.{AreLaid, IsLeftBuilding, IsSoundDescription};
+ghost use Rattle.image_builder.specs.Built.{BuildsFrom, IsLeftOf, IsWithinLimits, Refuses, TellsNoSize, plan_for};
 
+use crate::blueprint::Blueprint;
 use crate::fault::BuildFault;
-use crate::reading::{plan, read};
-use crate::worlds::{check_described, lay};
-use described_world::World;
-use description::Description;
 use device::Device;
-use image_writer::write_image;
-use layout::Superblock;
 use std::alloc::Global;
 use toml::Table;
 
@@ -28,70 +23,8 @@ pub fn sectors_needed(alloc: Global, table: &Table) -> Result<u64, BuildFault>
         × (needed ≡ (plan_for d).total)) }
     ensures refused { IfErr result (λ fault. TellsNoSize (table_view table.now) fault) }
 {
-    let description = read(alloc, table)?;
-    let superblock = plan(&description)?;
-    Ok(superblock.total())
-}
-
-// Writes described frames.
-fn write<D: Device>(
-    device: &mut D,
-    superblock: &Superblock,
-    description: &Description,
-    world: &World,
-) -> Result<(), BuildFault>
-    requires limits { IsWithinLimits description.now }
-    requires plan { superblock.now ≡ plan_for description.now }
-    requires inside { superblock.now.total ≤ (D.disk device.old).sectors }
-    requires laid { AreLaid description.now world.now.headers.items world.now.contents.items }
-    requires sound { IsSoundDescription description.now }
-    ensures built { OnOk result (Builds description.now (D.disk device.old) (D.disk device.new)) }
-    ensures refused { IfErr result (λ fault. fault ≡ BuildFault.Failed) }
-    ensures any_moment { LeavesOnly (D.disk device.old) (D.disk device.new)
-        (λ c. IsLeftBuilding description.now (D.disk device.old) c) }
-    ensures size { (D.disk device.new).sectors ≡ (D.disk device.old).sectors }
-    ensures later { (D.disk device.old).failures ≤ (D.disk device.new).failures }
-    ensures cause { IsErrOf result BuildFault.Failed
-        ↔ ((D.disk device.old).failures < (D.disk device.new).failures) }
-{
-    match write_image(
-        device,
-        superblock,
-        description.age,
-        &world.headers,
-        &world.contents,
-    ) {
-        Ok(()) => Ok(()),
-        Err(_) => Err(BuildFault::Failed),
-    }
-}
-
-// Builds the image of a description.
-fn build_described<D: Device>(
-    alloc: Global,
-    description: &Description,
-    device: &mut D,
-) -> Result<(), BuildFault>
-    ensures built { OnOk result (Builds description.now (D.disk device.old) (D.disk device.new)) }
-    ensures refused { IfErr result (λ fault.
-        IsRefused description.now (D.disk device.old).sectors fault) }
-    ensures untouched { IfErr result (λ fault.
-        fault ≢ BuildFault.Failed → device.new ≡ device.old) }
-    ensures any_moment { LeavesOnly (D.disk device.old) (D.disk device.new)
-        (λ c. IsLeftBuilding description.now (D.disk device.old) c) }
-    ensures size { (D.disk device.new).sectors ≡ (D.disk device.old).sectors }
-    ensures later { (D.disk device.old).failures ≤ (D.disk device.new).failures }
-    ensures cause { IsErrOf result BuildFault.Failed
-        ↔ ((D.disk device.old).failures < (D.disk device.new).failures) }
-{
-    let superblock = plan(description)?;
-    check_described(alloc, description)?;
-    let sectors = device.sectors();
-    if sectors < superblock.total() {
-        return Err(BuildFault::Small);
-    }
-    let world = lay(alloc, description)?;
-    write(device, &superblock, description, &world)
+    let blueprint = Blueprint::read(alloc, table)?;
+    Ok(blueprint.sectors())
 }
 
 /// Builds the image of a table's description over whatever a device holds: the described frames,
@@ -126,6 +59,6 @@ pub fn build<D: Device>(alloc: Global, table: &Table, device: &mut D) -> Result<
     ensures cause { IsErrOf result BuildFault.Failed
         ↔ ((D.disk device.old).failures < (D.disk device.new).failures) }
 {
-    let description = read(alloc, table)?;
-    build_described(alloc, &description, device)
+    let blueprint = Blueprint::read(alloc, table)?;
+    blueprint.build(alloc, device)
 }

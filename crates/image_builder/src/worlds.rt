@@ -10,8 +10,8 @@ use described_world::{World, WorldFault, described_is_whole, lay_world};
 use description::Description;
 use std::alloc::Global;
 
-/// Lays the frames of a description.
-pub(crate) fn lay(alloc: Global, description: &Description) -> Result<World, BuildFault>
+// Lays the frames of a description.
+fn lay(alloc: Global, description: &Description) -> Result<World, BuildFault>
     requires { IsWithinLimits description.now }
     ensures laid { IfOk result (λ w. AreLaid description.now w.headers.items w.contents.items) }
     ensures refused { IfErr result (λ fault. IsRefusedEarly description.now fault) }
@@ -49,6 +49,8 @@ fn check_frames(
     requires laid { AreLaid description.now frames.old.headers frames.old.contents }
     ensures sound { OnOk result (IsSoundDescription description.now) }
     ensures refused { IfErr result (λ fault. IsRefusedEarly description.now fault) }
+    ensures headers { frames.new.headers ≡ frames.old.headers }
+    ensures contents { frames.new.contents ≡ frames.old.contents }
 {
     described_is_whole();
     match check(alloc, frames, description.age) {
@@ -59,9 +61,10 @@ fn check_frames(
     }
 }
 
-/// Checks that the frames of a description stand for a sound world.
-pub(crate) fn check_described(alloc: Global, description: &Description) -> Result<(), BuildFault>
+/// Lays the frames of a description that stand for a sound world.
+pub(crate) fn lay_sound(alloc: Global, description: &Description) -> Result<World, BuildFault>
     requires { IsWithinLimits description.now }
+    ensures laid { IfOk result (λ w. AreLaid description.now w.headers.items w.contents.items) }
     ensures sound { OnOk result (IsSoundDescription description.now) }
     ensures refused { IfErr result (λ fault. IsRefusedEarly description.now fault) }
 {
@@ -69,7 +72,9 @@ pub(crate) fn check_described(alloc: Global, description: &Description) -> Resul
     match Plain::new(alloc, description.geometry, headers, contents) {
         Ok(frames) => {
             let mut frames = frames;
-            check_frames(alloc, description, &mut frames)
+            check_frames(alloc, description, &mut frames)?;
+            let (headers, contents) = frames.into_parts();
+            Ok(World { headers, contents })
         }
         Err(_) => Err(BuildFault::NoMemory),
     }

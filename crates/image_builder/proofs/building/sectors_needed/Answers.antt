@@ -1,21 +1,4 @@
-use Rattle.std.proofs.Common.{◌∙◌, ap}
-use Rattle.std.proofs.lemmas.Result.{err_from_is_err_and}
-use Rattle.layout.specs.Superblock.{Plan}
-use Rattle.toml.specs.View.{table_view}
-use Rattle.image_builder.proofs.Refusals.{size_refused}
 use Rattle.image_builder.proofs.building.sectors_needed.Goals as goal
 
-pub returns-in_err-superblock-clause-refused : goal.returns-in_err-superblock-clause-refused
-returns-in_err-superblock-clause-refused c =
-    let told = c.in_err-superblock.ensures.refused in
-    let why = size_refused (table_view c.args.table.now) c.in_ok-description.description c.in_err-superblock.field-0.0 c.in_ok-description.ensures.read told.0 told.1 in
-    let p = err_from_is_err_and c.from_residual-in_err-superblock.result c.from_residual-in_err-superblock.ensures.1 in
-    rw (p.1, p.2) why
-
 pub returns-clause-needed : goal.returns-clause-needed
-returns-clause-needed c = (
-  c.in_ok-description.description,
-  c.in_ok-description.ensures.read,
-  c.in_ok-superblock.ensures.allowed,
-  c.total.ensures.value ∙ ap (λ (p : Plan). p.total) c.in_ok-superblock.ensures.plan,
-)
+returns-clause-needed c = (c.in_ok-blueprint.blueprint, c.in_ok-blueprint.ensures.read, c.sectors.ensures.within, c.sectors.ensures.value)

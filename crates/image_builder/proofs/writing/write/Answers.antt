@@ -1,6 +1,6 @@
 use Rattle.image_builder.specs.Checked.{AreLaid}
 use Rattle.image_builder.proofs.Images.{builds, left_writing}
-use Rattle.image_builder.proofs.building.write.Goals as goal
+use Rattle.image_builder.proofs.writing.write.Goals as goal
 
 pub returns-in-Ok-clause-built : goal.returns-in-Ok-clause-built
 returns-in-Ok-clause-built g c =

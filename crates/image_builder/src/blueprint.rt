@@ -1,0 +1,80 @@
+// Descriptions that were read, and where the parts of their images lie.
+ghost use Rattle.std.specs.Prelude.{◌≡◌, ◌≢◌, ◌<◌, ◌≤◌, ◌↔◌, IfOk, IfErr, IsErrOf, OnOk};
+ghost use Rattle.toml.specs.Data.{Members};
+ghost use Rattle.toml.specs.View.{table_view};
+ghost use Rattle.device.specs.Moments.{LeavesOnly};
+ghost use Rattle.description.specs.Reading.{IsDescription};
+ghost use Rattle.image_builder.specs.Built.{BuildsFrom, IsLeftOf, IsWithinLimits, Refuses, TellsNoSize, plan_for};
+
+use crate::fault::BuildFault;
+use crate::reading::{plan, read};
+use crate::writing::build_described;
+use description::Description;
+use device::Device;
+use layout::Superblock;
+use std::alloc::Global;
+use std::marker::Model;
+use toml::Table;
+
+/// A description within the limits of images, and where the parts of its image lie.
+#[derive(Drop)]
+pub struct Blueprint {
+    description: Description,
+    superblock: Superblock,
+}
+
+impl Model for Blueprint {
+    ghost use Rattle.std.specs.Prelude.{◌≡◌};
+    ghost use Rattle.description.specs.declared.entry.Description.{Description};
+    ghost use Rattle.image_builder.specs.Built.{IsWithinLimits, plan_for};
+
+    ghost Value = { Description };
+
+    ghost view = { λ b. b.description };
+
+    ghost invariant = { λ b. IsWithinLimits b.description × (b.superblock ≡ plan_for b.description) };
+}
+
+impl Blueprint {
+    /// Reads the description of a table. `Shape` and `Limits` as `build` answers them, and
+    /// `NoMemory` where memory ran out; no other fault is told.
+    pub fn read(alloc: Global, table: &Table) -> Result<Blueprint, BuildFault>
+        ensures read { IfOk result (λ blueprint. IsDescription (table_view table.now) blueprint) }
+        ensures refused { IfErr result (λ fault. TellsNoSize (table_view table.now) fault) }
+    {
+        let description = read(alloc, table)?;
+        let superblock = plan(&description)?;
+        Ok(Blueprint {
+            description,
+            superblock,
+        })
+    }
+
+    /// How many sectors a device needs for the image.
+    pub fn sectors(&self) -> u64
+        ensures value { result ≡ (plan_for self.now).total }
+        ensures within { IsWithinLimits self.now }
+    {
+        self.superblock.total()
+    }
+
+    /// Builds the image over whatever a device holds, as `build` does, with the same faults but
+    /// `Shape` and `Limits`.
+    pub fn build<D: Device>(&self, alloc: Global, device: &mut D) -> Result<(), BuildFault>
+        ensures built { (table : Members) → IsDescription table self.now
+            → OnOk result (BuildsFrom table (D.disk device.old) (D.disk device.new)) }
+        ensures refused { (table : Members) → IsDescription table self.now
+            → IfErr result (λ fault. Refuses table (D.disk device.old).sectors fault) }
+        ensures untouched { IfErr result (λ fault.
+            fault ≢ BuildFault.Failed → device.new ≡ device.old) }
+        ensures any_moment { (table : Members) → IsDescription table self.now
+            → LeavesOnly (D.disk device.old) (D.disk device.new)
+            (λ c. IsLeftOf table (D.disk device.old) c) }
+        ensures size { (D.disk device.new).sectors ≡ (D.disk device.old).sectors }
+        ensures later { (D.disk device.old).failures ≤ (D.disk device.new).failures }
+        ensures cause { IsErrOf result BuildFault.Failed
+            ↔ ((D.disk device.old).failures < (D.disk device.new).failures) }
+    {
+        build_described(alloc, &self.description, &self.superblock, device)
+    }
+}
