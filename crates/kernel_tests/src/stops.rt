@@ -39,7 +39,7 @@ send 1 28 2 0 43 0 0 0 0 0\nstabilize 5\n";
 const COMMITTED: &[u8] = b"call 1 2 1 0 0 0 0 0 0 0\nsend 1 28 2 0 42 0 0 0 0 0\ncheckpoint\n\
 send 1 28 2 0 43 0 0 0 0 0\nstabilize 5\ncommit\n";
 
-const ROWS: [Row<'static>; 7] = [
+const ROWS: [Row<'static>; 8] = [
     // Each of three frames is written to a slot of the half of the log that nothing is in.
     Row {
         past: COMMITTED,
@@ -89,6 +89,19 @@ const ROWS: [Row<'static>; 7] = [
         at_saved: b"fault\ndown\nat 1 3\npage 16 owner 0\nword 0 42\nend\nleft 2\n",
         at_next: b"fault\ndown\nat 1 3\npage 16 owner 0\nword 0 42\nend\nleft 0\n",
         stops: 14,
+        kept: 1,
+    },
+    // The header of the page is read at home, to compare it and to keep it; the page is written to
+    // a slot, and the directory. The header is then published as in a later commit.
+    Row {
+        past: COMMITTED,
+        before: b"migrate 9\nsend 1 28 2 0 43 0 0 0 0 0\n",
+        ready: b"left 0\ndone\n",
+        command: b"journal 16\nshow 5\ncut\nshow 16\n",
+        done: b"journaled 3\nfree 5\nend\nat 3 4\npage 16 owner 0\nword 0 43\nend\n",
+        at_saved: b"fault\ndown\nat 1 3\npage 16 owner 0\nword 0 42\nend\n",
+        at_next: b"fault\ndown\nat 3 4\npage 16 owner 0\nword 0 43\nend\n",
+        stops: 12,
         kept: 1,
     },
     // A power cut mends the device. It leaves the image that was written, nothing of what isn't
