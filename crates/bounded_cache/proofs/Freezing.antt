@@ -82,7 +82,7 @@ fewer_of (true ∷ ds) (true ∷ ts) each =
     omega (arith, total, other, rest)
 fewer_of (true ∷ ds) (false ∷ ts) each = absurd (true≢false (sym (each zero refl)))
 
-put_or_body : (p : Put) (f : Frame) → (put_or p f).content ≡ put_body p f.content
+pub put_or_body : (p : Put) (f : Frame) → (put_or p f).content ≡ put_body p f.content
 put_or_body Absent f = refl
 put_or_body Broken f = refl
 put_or_body (Kept g) f = refl

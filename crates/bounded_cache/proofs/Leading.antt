@@ -10,14 +10,15 @@ use Rattle.device.proofs.Moments.{ends, leaves_on, leaves_weaker, peeks_started}
 use Rattle.migrator.specs.Durable.{DurableState, stored_of}
 use Rattle.migrator.proofs.Moving.{goes_trans, goes_none}
 use Rattle.object_cache.specs.Store.{Aside}
+use Rattle.bounded_cache.specs.declared.held.Held.{Held}
 use Rattle.bounded_cache.specs.Memory.{Owed}
 use Rattle.bounded_cache.specs.Cache.{CacheState, GoesOnIn, aside_of, on_device, with_content_in, without_seat}
 use Rattle.bounded_cache.specs.Order.{without}
 
 module _ {D : Type 0} where
   -- what was put is on the device
-  pub same_put : (s t : CacheState D) (ds ps : List Bool) (os : List Owed) → t ≡ record s { durable = t.durable; dirty = ds; pending = ps; owed = os } → t ≡ on_device s t
-  same_put s t ds ps os is = is ∙ ap (λ (x : CacheState D). record s { durable = t.durable; dirty = x.dirty; pending = x.pending; owed = x.owed }) (sym is)
+  pub same_put : (s t : CacheState D) (ds ps : List Bool) (os : List Owed) (hand : Option Held) → t ≡ record s { durable = t.durable; dirty = ds; pending = ps; owed = os; hand = hand } → t ≡ on_device s t
+  same_put s t ds ps os hand is = is ∙ ap (λ (x : CacheState D). record s { durable = t.durable; dirty = x.dirty; pending = x.pending; owed = x.owed; hand = x.hand }) (sym is)
 
   pub put_on : (s t u : CacheState D) → t ≡ on_device s t → u ≡ on_device t u → u ≡ on_device s u
   put_on s t u first second = second ∙ ap (λ (x : CacheState D). on_device x u) first

@@ -19,3 +19,5 @@ mod Freezing
 mod Reserving
 mod Owing
 mod Copying
+mod Settling
+mod Fetched

@@ -91,8 +91,8 @@ module _ {D : Type 0} (disk : D → Disk) (d : DurableState D) (m : Memory) (lef
 
   -- the store goes on while the frozen frame is put
   pub put_leads : (new : DurableState D) (p : Put) → stored_of disk new ≡ with_frozen n p (stored_of disk d) → GoesOn disk d new → (disk d.beneath).failures ≤ (disk new.beneath).failures →
-      (ps : List Bool) (os : List Owed) → GoesOnIn disk s (record s { durable = new; pending = ps; owed = os })
-  put_leads new p put goes later ps os = record {
+      (ps : List Bool) (os : List Owed) (hand : Option Held) → GoesOnIn disk s (record s { durable = new; pending = ps; owed = os; hand = hand })
+  put_leads new p put goes later ps os hand = record {
     goes_on = subst (λ (t : CacheState D). GoesOn disk t.durable new) view goes;
     aside =
         ap (λ (u : Stored). record { frozen = s.frozen; saved = u.saved; to_move = u.to_move }) put
@@ -190,24 +190,24 @@ module _ {D : Type 0} (disk : D → Disk) (d : DurableState D) (m : Memory) (lef
       out_stands = subst (λ (t : Stored). IsCache t then left count) (sym after_is)
           (frozen_put_cache (stored_of disk d) m left count is n known_here own_running.0 own_running.1 pending_here es (let_go n m.hand) rest)
 
-      pub out_seen : cache_of disk new (without_pending n (with_entry (keeping None) n m.entries) (let_go n m.hand) m) left order most_entries ≡ record s { durable = new; pending = set s.pending n false; owed = set s.owed n Nothing }
+      pub out_seen : cache_of disk new (without_pending n (with_entry (keeping None) n m.entries) (let_go n m.hand) m) left order most_entries ≡ record s { durable = new; pending = set s.pending n false; owed = set s.owed n Nothing; hand = let_go n s.hand }
       out_seen =
           let old = cache_of disk d m left order most_entries in
           let ps = set m.pending n false in
-          ap (λ (t : Stored). record old { durable = new; contents = contents_in t then; pending = ps; seats = seats_in es; owed = owed_in then; frozen = frozen_seen t then left }) after_is
-          ∙ ap (λ (cs : List (Content Cap)). record old { durable = new; contents = cs; pending = ps; seats = seats_in es; owed = owed_in then; frozen = frozen_seen (with_frame n (stored_of disk d) m) then left })
+          ap (λ (t : Stored). record old { durable = new; contents = contents_in t then; pending = ps; seats = seats_in es; owed = owed_in then; frozen = frozen_seen t then left; hand = let_go n m.hand }) after_is
+          ∙ ap (λ (cs : List (Content Cap)). record old { durable = new; contents = cs; pending = ps; seats = seats_in es; owed = owed_in then; frozen = frozen_seen (with_frame n (stored_of disk d) m) then left; hand = let_go n m.hand })
           (contents_same (stored_of disk d) m left count is n known_here own_running.0 own_running.1 pending_here es (let_go n m.hand) rest)
-          ∙ ap (λ (fs : Option FrozenFrames). record old { durable = new; pending = ps; seats = seats_in es; owed = owed_in then; frozen = fs })
+          ∙ ap (λ (fs : Option FrozenFrames). record old { durable = new; pending = ps; seats = seats_in es; owed = owed_in then; frozen = fs; hand = let_go n m.hand })
           (frozen_seen_same (stored_of disk d) m left count is n known_here own_running.0 own_running.1 pending_here es (let_go n m.hand) rest)
-          ∙ ap (λ (rs : List (Option (Content Cap))). record old { durable = new; pending = ps; seats = rs; owed = owed_in then }) (seats_keep None n m.entries)
-          ∙ ap (λ (os : List Owed). record old { durable = new; pending = ps; owed = os })
+          ∙ ap (λ (rs : List (Option (Content Cap))). record old { durable = new; pending = ps; seats = rs; owed = owed_in then; hand = let_go n m.hand }) (seats_keep None n m.entries)
+          ∙ ap (λ (os : List Owed). record old { durable = new; pending = ps; owed = os; hand = let_go n m.hand })
           (owed_now (stored_of disk d) m left count is n known_here own_running.0 own_running.1 pending_here es (let_go n m.hand) rest)
-          ∙ ap (λ (t : CacheState D). record t { durable = new; pending = set t.pending n false; owed = set t.owed n Nothing }) view
+          ∙ ap (λ (t : CacheState D). record t { durable = new; pending = set t.pending n false; owed = set t.owed n Nothing; hand = let_go n t.hand }) view
 
       pub out_leads : GoesOn disk d new → (disk d.beneath).failures ≤ (disk new.beneath).failures →
           GoesOnIn disk s (cache_of disk new (without_pending n (with_entry (keeping None) n m.entries) (let_go n m.hand) m) left order most_entries)
       out_leads goes later = subst (GoesOnIn disk s) (sym out_seen)
-          (put_leads disk d m left count order most_entries s view is n known_here pending_here new (Kept (own_frame header e)) put goes later (set s.pending n false) (set s.owed n Nothing))
+          (put_leads disk d m left count order most_entries s view is n known_here pending_here new (Kept (own_frame header e)) put goes later (set s.pending n false) (set s.owed n Nothing) (let_go n s.hand))
 
     module _ (put : stored_of disk new ≡ with_frozen n Broken (stored_of disk d)) where
       content_torn : content_at (with_frozen n Broken (stored_of disk d)) m n ≡ content_at (stored_of disk d) m n
@@ -236,4 +236,4 @@ module _ {D : Type 0} (disk : D → Disk) (d : DurableState D) (m : Memory) (lef
 
       pub torn_leads : GoesOn disk d new → (disk d.beneath).failures ≤ (disk new.beneath).failures → GoesOnIn disk s (cache_of disk new m left order most_entries)
       torn_leads goes later = subst (GoesOnIn disk s) (sym torn_seen)
-          (put_leads disk d m left count order most_entries s view is n known_here pending_here new Broken put goes later s.pending s.owed)
+          (put_leads disk d m left count order most_entries s view is n known_here pending_here new Broken put goes later s.pending s.owed s.hand)

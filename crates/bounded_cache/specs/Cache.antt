@@ -39,6 +39,7 @@ pub record CacheState (D : Type 0) : Type 0 where
   pub seats : List (Option (Content Cap))
   pub owed : List Owed
   pub frozen : Option FrozenFrames
+  pub hand : Option Held
   pub order : List ℕ
   pub most : ℕ
 
@@ -58,6 +59,7 @@ module _ {D : Type 0} (disk : D → Disk) where
     seats = seats_in m.entries;
     owed = owed_in m;
     frozen = frozen_seen (stored_of disk d) m left;
+    hand = m.hand;
     order = order;
     most = most;
   }
@@ -108,7 +110,7 @@ with_seat n s = record s {
 
 -- what is on the device of the one, and all else of the other
 abbrev pub on_device : {D : Type 0} → CacheState D → CacheState D → CacheState D
-on_device s t = record s { durable = t.durable; dirty = t.dirty; pending = t.pending; owed = t.owed }
+on_device s t = record s { durable = t.durable; dirty = t.dirty; pending = t.pending; owed = t.owed; hand = t.hand }
 
 -- without the entry of a number
 abbrev pub without_seat : {D : Type 0} → ℕ → CacheState D → CacheState D

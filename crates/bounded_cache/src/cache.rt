@@ -28,7 +28,9 @@ use number_set::NumberSet;
 use std::alloc::{AllocError, Global};
 use std::marker::Model;
 
+mod hand;
 mod prepare;
+mod read;
 mod stages;
 
 /// An object store that holds no more than so many objects in memory. The others lie on the device.
@@ -74,7 +76,7 @@ impl<D: Device> Model for BoundedCache<D> {
 }
 
 impl<D: Device> BoundedCache<D> {
-    ghost use Rattle.bounded_cache.specs.Memory.{Nothing, Shared, Apart, mark_at, masked};
+    ghost use Rattle.bounded_cache.specs.Memory.{Nothing, Shared, Apart, let_go, mark_at, masked};
     ghost use Rattle.bounded_cache.specs.Cache.{GoesOnIn, IsFetchedIn, IsAnnouncedIn, on_device, owed_at, parts_of, seat_at, with_content_in, with_seat, without_seat};
     ghost use Rattle.bounded_cache.specs.Order.{without};
     ghost use Rattle.bounded_cache.specs.contracts.cache.BoundedCache.{the_row};
@@ -255,6 +257,7 @@ impl<D: Device> BoundedCache<D> {
           durable = self.new.durable;
           pending = slice_set self.old.pending number false;
           owed = slice_set self.old.owed number Nothing;
+          hand = let_go number self.old.hand;
         }) }
         ensures unput { OnErr result (self.new ≡ record self.old { durable = self.new.durable }) }
         ensures leads { GoesOnIn D.disk self.old self.new }
@@ -274,6 +277,7 @@ impl<D: Device> BoundedCache<D> {
     // Whether the entry of an object has a frozen body that is still to be put.
     fn owes(&self, number: u64) -> bool
         requires { number < length self.now.headers }
+        ensures fetched { result ≡ true → IsFetchedIn self.now number }
         ensures yes { result ≡ true → owed_at self.now.owed number ≢ Nothing }
         ensures none { result ≡ false → owed_at self.now.owed number ≡ Nothing }
     {
@@ -291,6 +295,7 @@ impl<D: Device> BoundedCache<D> {
         requires { IsFetchedIn self.old number }
         ensures paid { OnOk result (owed_at self.new.owed number ≡ Nothing) }
         ensures put { self.new ≡ on_device self.old self.new }
+        ensures empty { self.old.hand ≡ None → self.new.hand ≡ None }
         ensures leads { GoesOnIn D.disk self.old self.new }
         ensures cause { Counts (D.disk self.old.durable.beneath) (D.disk self.new.durable.beneath) result }
     {
@@ -308,6 +313,7 @@ impl<D: Device> BoundedCache<D> {
         ensures clean { OnOk result (mark_at self.new.dirty number ≡ false) }
         ensures owed { self.new.owed ≡ self.old.owed }
         ensures put { self.new ≡ on_device self.old self.new }
+        ensures hand { self.new.hand ≡ self.old.hand }
         ensures leads { GoesOnIn D.disk self.old self.new }
         ensures cause { Counts (D.disk self.old.durable.beneath) (D.disk self.new.durable.beneath) result }
     {
@@ -324,6 +330,7 @@ impl<D: Device> BoundedCache<D> {
             (record { header = header_at self.old.headers number; content = held_at self.old.contents number }) }
         ensures away { OnOk result (self.new ≡ without_seat number (on_device self.old self.new)) }
         ensures stays { OnErr result (self.new ≡ on_device self.old self.new) }
+        ensures empty { self.old.hand ≡ None → self.new.hand ≡ None }
         ensures leads { GoesOnIn D.disk self.old self.new }
         ensures cause { Counts (D.disk self.old.durable.beneath) (D.disk self.new.durable.beneath) result }
     {
@@ -346,6 +353,7 @@ impl<D: Device> BoundedCache<D> {
           seats = self.new.seats;
           order = self.new.order;
         } }
+        ensures empty { self.old.hand ≡ None → self.new.hand ≡ None }
         ensures leads { GoesOnIn D.disk self.old self.new }
         ensures cause { Counts (D.disk self.old.durable.beneath) (D.disk self.new.durable.beneath) result }
     {
@@ -368,6 +376,7 @@ impl<D: Device> BoundedCache<D> {
           seats = self.new.seats;
           order = self.new.order;
         } }
+        ensures empty { self.old.hand ≡ None → self.new.hand ≡ None }
         ensures leads { GoesOnIn D.disk self.old self.new }
         ensures cause { Counts (D.disk self.old.durable.beneath) (D.disk self.new.durable.beneath) result }
     {

@@ -1,7 +1,8 @@
 // Numbers are prepared to be read and written.
-ghost use Rattle.std.specs.Prelude.{◌≡◌, ◌≢◌, ◌↔◌, ℕ, ◌<◌, false, true, length, OnOk, OnErr, IsErrOf};
+ghost use Rattle.std.specs.Prelude.{◌≡◌, ◌≢◌, ◌↔◌, ℕ, ◌<◌, false, true, Some, length, slice_set, OnOk, OnErr, IsErrOf};
 ghost use Rattle.std.specs.List.{All, Contains};
 ghost use Rattle.model.specs.Machine.{touching, touched_count};
+ghost use Rattle.capability.specs.Plain.{room_at};
 ghost use Rattle.migrator.specs.Durable.{stored_of};
 ghost use Rattle.bounded_cache.specs.Memory.{Shared};
 ghost use Rattle.bounded_cache.specs.Cache.{IsFetchedIn, owed_at};
@@ -9,6 +10,7 @@ ghost use Rattle.bounded_cache.specs.Cache.{IsFetchedIn, owed_at};
 use crate::cache::BoundedCache;
 use crate::entry::is_shared;
 use capability::PrepareFault;
+use capability::plain::rooms::blank;
 use capability::plain::touched::{fresh_count, mark};
 use device::Device;
 use std::alloc::{AllocError, Global};
@@ -84,6 +86,19 @@ impl<D: Device> BoundedCache<D> {
         for number in written {
             self.keep_one_apart(alloc, *number)?;
         }
+        Ok(())
+    }
+
+    // Puts a blank body aside for a number that has an entry. Fails only where memory runs out, and
+    // then all is as it was.
+    pub(crate) fn reserve(&mut self, alloc: Global, number: u64) -> Result<(), AllocError>
+        requires { IsFetchedIn self.old number }
+        ensures reserved { OnOk result (self.new ≡ record self.old { seats = slice_set self.old.seats number
+            (Some (room_at (stored_of D.disk self.old.durable).saved.geometry number)) }) }
+        ensures unchanged { OnErr result (self.new ≡ self.old) }
+    {
+        let room = blank(alloc, self.durable.geometry(), number)?;
+        drop(self.entries.replace_room(number, room));
         Ok(())
     }
 }

@@ -1,8 +1,8 @@
-use Rattle.std.proofs.Common.{sym, ap, ◌∙◌, true≢false}
+use Rattle.std.proofs.Common.{sym, ap, ◌∙◌, is_some}
 use Rattle.std.specs.Prelude.{option_copied}
 use Rattle.bounded_cache.specs.Memory.{memory_of, is_owing}
 use Rattle.bounded_cache.specs.Cache.{owed_at}
-use Rattle.bounded_cache.proofs.Owing.{owing_yes, owing_none, owed_by, owed_without}
+use Rattle.bounded_cache.proofs.Owing.{owing_yes, owing_none, owed_by, owed_without, fetched_by}
 use Rattle.bounded_cache.proofs.cache.BoundedCache.owes.Goals as goal
 
 pub returns-in-Some-clause-yes : goal.returns-in-Some-clause-yes
@@ -22,3 +22,9 @@ returns-in-None-clause-none g c =
     let i = c.self.inside in
     let m = memory_of i.table i.frozen_headers i.touched i.dirty i.pending i.entries.at i.hand in
     λ none. owed_without g.D.Device.disk i.durable m i.left i.count i.entries.order i.entries.most c.args.self.now c.self.view_is c.self.invariant.0 c.args.number c.requires (sym (ap option_copied c.in-None.is) ∙ c.get.ensures)
+
+pub returns-in-Some-clause-fetched : goal.returns-in-Some-clause-fetched
+returns-in-Some-clause-fetched g c =
+    let i = c.self.inside in
+    let m = memory_of i.table i.frozen_headers i.touched i.dirty i.pending i.entries.at i.hand in
+    λ marked. fetched_by g.D.Device.disk i.durable m i.left i.count i.entries.order i.entries.most c.args.self.now c.self.view_is c.self.invariant.0 c.args.number c.requires (sym (ap is_some (sym (ap option_copied c.in-Some.is) ∙ c.get.ensures)))
