@@ -62,15 +62,15 @@ module _ (old new : Image) (elsewhere : SparesRest old new) (first : OpensNoMore
   pub first_is_lesser : nat_lt (sequence_in (old 1)) (sequence_in (old 3)) ≡ true → (is_open (new 2) ≡ true → new 4 ≡ old 4) → KeepsOrHasNone old new
   first_is_lesser lt same =
       let step = first_in_turn (does_count (old 1) (new 2) 0) (does_count (old 3) (new 4) 1) (does_count (old 1) (old 2) 0) (does_count (old 3) (old 4) 1) (sequence_in (old 1)) (sequence_in (old 3)) lt
-          (counts_no_more (old 1) (old 2) (new 2) 0 first) (counts_no_more (old 3) (old 4) (new 4) 1 second)
-          (λ counts. ap (λ (b : List ℕ). does_count (old 3) b 1) (same (opened (old 1) (new 2) 0 counts))) in
+      (counts_no_more (old 1) (old 2) (new 2) 0 first) (counts_no_more (old 3) (old 4) (new 4) 1 second)
+      (λ counts. ap (λ (b : List ℕ). does_count (old 3) b 1) (same (opened (old 1) (new 2) 0 counts))) in
       kept_or_none (rw (one, three) step)
 
   pub second_is_lesser : nat_lt (sequence_in (old 1)) (sequence_in (old 3)) ≡ false → (is_open (new 4) ≡ true → new 2 ≡ old 2) → KeepsOrHasNone old new
   second_is_lesser lt same =
       let step = second_in_turn (does_count (old 1) (new 2) 0) (does_count (old 3) (new 4) 1) (does_count (old 1) (old 2) 0) (does_count (old 3) (old 4) 1) (sequence_in (old 1)) (sequence_in (old 3)) lt
-          (counts_no_more (old 1) (old 2) (new 2) 0 first) (counts_no_more (old 3) (old 4) (new 4) 1 second)
-          (λ counts. ap (λ (b : List ℕ). does_count (old 1) b 0) (same (opened (old 3) (new 4) 1 counts))) in
+      (counts_no_more (old 1) (old 2) (new 2) 0 first) (counts_no_more (old 3) (old 4) (new 4) 1 second)
+      (λ counts. ap (λ (b : List ℕ). does_count (old 1) b 0) (same (opened (old 3) (new 4) 1 counts))) in
       kept_or_none (rw (one, three) step)
 
 -- ---- what a closing leaves

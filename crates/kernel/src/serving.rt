@@ -5,9 +5,8 @@ ghost use Rattle.model.specs.Step.{opens};
 ghost use Rattle.processes.specs.Machine.{IsToldOnce, IsUnlooked, answer_of};
 ghost use Rattle.kernel.specs.Standing.{IsCaused, IsSomeUp, ServesUp, disk_at};
 
-use crate::checkpoints;
-use crate::journaling;
 use crate::power::Live;
+use crate::{checkpoints, journaling};
 use device::{Device, Failed};
 use model::{Answer, Command, Refusal};
 use object_cache::ObjectStore;

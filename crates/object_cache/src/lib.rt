@@ -8,7 +8,7 @@ mod snapshot;
 mod snapshots;
 mod store;
 
-pub use migrator::{Checkpoint, CheckpointFault, OpenFault, OpenRefused};
 pub use journal_fault::JournalFault;
+pub use migrator::{Checkpoint, CheckpointFault, OpenFault, OpenRefused};
 pub use plain_store::{PlainStore, held};
 pub use store::ObjectStore;
