@@ -99,5 +99,4 @@ BuildsFrom ms old new = (d : Description) × IsDescription ms d × Builds d old 
 -- or they are those described.
 abbrev pub IsLeftOf : Members → Disk → Image → Type 0
 IsLeftOf ms old c = (saved : SavedFrames) → Holds old.sectors c saved →
-    ((before : Image) × old.may_leave before × Holds old.sectors before saved)
-    ⊎ ((d : Description) × IsDescription ms d × IsSavedOf d saved)
+    ((before : Image) × old.may_leave before × Holds old.sectors before saved) ⊎ ((d : Description) × IsDescription ms d × IsSavedOf d saved)

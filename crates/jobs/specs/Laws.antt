@@ -11,6 +11,5 @@ use Rattle.description.specs.declared.entry.Description.{Description}
 -- what holds the frames of a built image denotes the world that they stand for, of generation 0 and with nothing in the
 -- log: none of the ten reasons to refuse it holds
 abbrev pub BuiltIsDenoted : Type 0
-BuiltIsDenoted = (d : Description) (frames : List Frame) (size : ℕ) (c : Image) →
-    IsSoundFrames d.geometry d.age frames → Holds size c (first_saved d.geometry d.age frames) →
+BuiltIsDenoted = (d : Description) (frames : List Frame) (size : ℕ) (c : Image) → IsSoundFrames d.geometry d.age frames → Holds size c (first_saved d.geometry d.age frames) →
     Denotes d.geometry size c (record { world = world_at d.age frames; generation = 0; entries = 0 })

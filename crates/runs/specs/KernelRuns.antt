@@ -80,8 +80,7 @@ Does turns input input_left output output_left (Err fault.Read) =
     (text : List ℕ) × (rest : List ℕ) × Consumes input input_left text × AreLines text (lines_in turns) rest × Appends output output_left (output_of turns)
 Does turns input input_left output output_left (Err fault.Write) =
     (text : List ℕ) × Consumes input input_left text
-    × ((AreFirst text input_left (lines_in turns) × IsCutShort turns output output_left)
-    ⊎ (AreAll text input_left (lines_in turns) × Appends output output_left (output_of turns)))
+    × ((AreFirst text input_left (lines_in turns) × IsCutShort turns output output_left) ⊎ (AreAll text input_left (lines_in turns) × Appends output output_left (output_of turns)))
 
 -- the device failed exactly where that was answered
 pub record IsToldBy (old new : Disk) (reply : Reply) : Type 0 where

@@ -55,8 +55,7 @@ module _ {D S : Type 0} (disk : D → Disk) (view : S → View D) (parts : S →
 
   -- a device that holds an image is opened at a saved part, or is told to have failed or to lack memory
   abbrev pub IsOpenedAt : Geometry → ℕ → Image → Saved → Type 0
-  IsOpenedAt g size c s = (d : D) → (disk d).sectors ≡ size → (disk d).seen ≡ c →
-      ((k : Power D S) → Opens disk view parts d k → Stands disk view parts g k (Up (opened g s)))
+  IsOpenedAt g size c s = (d : D) → (disk d).sectors ≡ size → (disk d).seen ≡ c → ((k : Power D S) → Opens disk view parts d k → Stands disk view parts g k (Up (opened g s)))
       × ((back : D) (why : OpenFault) → RefusesToOpen disk d back why → IsNoReason why)
 
   -- the headline: at every moment since a run began a crash leaves what denotes a saved part of the run, and opening it stands there
