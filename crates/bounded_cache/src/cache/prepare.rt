@@ -93,8 +93,10 @@ impl<D: Device> BoundedCache<D> {
     // then all is as it was.
     pub(crate) fn reserve(&mut self, alloc: Global, number: u64) -> Result<(), AllocError>
         requires { IsFetchedIn self.old number }
-        ensures reserved { OnOk result (self.new ≡ record self.old { seats = slice_set self.old.seats number
-            (Some (room_at (stored_of D.disk self.old.durable).saved.geometry number)) }) }
+        ensures reserved { OnOk result (self.new ≡ record self.old {
+          seats = slice_set self.old.seats number
+              (Some (room_at (stored_of D.disk self.old.durable).saved.geometry number));
+        }) }
         ensures unchanged { OnErr result (self.new ≡ self.old) }
     {
         let room = blank(alloc, self.durable.geometry(), number)?;

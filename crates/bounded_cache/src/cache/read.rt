@@ -52,11 +52,7 @@ fn mask(role: Role, content: Content<Cap>) -> Content<Cap>
 
 impl<D: Device> BoundedCache<D> {
     // Reads what an object holds that has no entry, where no body is in the hand.
-    pub(crate) fn read(
-        &mut self,
-        alloc: Global,
-        number: u64,
-    ) -> Result<Content<Cap>, PrepareFault>
+    pub(crate) fn read(&mut self, alloc: Global, number: u64) -> Result<Content<Cap>, PrepareFault>
         requires known { number < length self.old.headers }
         requires unseated { seat_at self.old.seats number ≡ None }
         requires empty { self.old.hand ≡ None }
