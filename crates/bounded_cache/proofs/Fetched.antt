@@ -1,22 +1,14 @@
 -- What an object without an entry holds is read: nothing that is seen is another.
-use Rattle.std.proofs.Common.{◌≡◌, ◌≢◌, ℕ, ◌<◌, ◌≤◌, List, length, Option, Some, None, is_some, option_map, refl, sym, ap, subst, ◌∙◌, arith}
-use Rattle.model.specs.declared.capability.Cap.{Cap}
-use Rattle.model.specs.declared.frame.Frame.{Frame}
-use Rattle.model.specs.declared.object.Content.{Content}
-use Rattle.model.specs.declared.object.Content.TheVariants as content
-use Rattle.model.specs.declared.object.Role.{Role}
-use Rattle.model.specs.declared.object.Role.TheVariants as role
+use Rattle.std.proofs.Common.{◌≡◌, ℕ, ◌<◌, ◌≤◌, List, length, Option, None, sym, ap, subst, ◌∙◌, arith}
 use Rattle.model.specs.Frame.{header_at, held_at}
-use Rattle.model.specs.Machine.{touched_count}
 use Rattle.model.specs.Sound.{object_count}
 use Rattle.device.specs.Disk.{Disk}
 use Rattle.migrator.specs.Put.{put_at}
 use Rattle.migrator.specs.Durable.{DurableState, Stored, ReadsStore, below_at, newest, stored_of}
 use Rattle.bounded_cache.specs.declared.entry.Entry.{Entry}
 use Rattle.bounded_cache.specs.declared.held.Held.{Held}
-use Rattle.bounded_cache.specs.Entries.{entry_at}
-use Rattle.bounded_cache.specs.Memory.{Memory, masked, in_hand, put_body, present_body, content_at, newest_body, contents_in}
-use Rattle.bounded_cache.specs.Cache.{CacheState, IsCache, GoesOnIn, cache_of, frozen_seen, seat_at, seats_in}
+use Rattle.bounded_cache.specs.Memory.{Memory, masked, in_hand, put_body, present_body, newest_body, contents_in}
+use Rattle.bounded_cache.specs.Cache.{CacheState, IsCache, GoesOnIn, cache_of, frozen_seen, seat_at}
 use Rattle.bounded_cache.proofs.Freezing.{put_or_body}
 use Rattle.bounded_cache.proofs.Objects.{content_in}
 use Rattle.bounded_cache.proofs.Seating.{no_entry}

@@ -16,7 +16,7 @@ use Rattle.migrator.specs.Durable.{FrozenPuts, Stored, below_at, frozen_put, wit
 use Rattle.migrator.proofs.Kept.{maps_same, map_set}
 use Rattle.bounded_cache.specs.declared.entry.Entry.{Entry}
 use Rattle.bounded_cache.specs.declared.held.Held.{Held}
-use Rattle.bounded_cache.specs.Entries.{entry_at, with_entry, keeping}
+use Rattle.bounded_cache.specs.Entries.{entry_at}
 use Rattle.bounded_cache.specs.Memory.{Memory, Nothing, owed_of, owed_in_memory, owed_in, mark_at, in_hand, put_body, present_body, content_at, present_at, newest_body, below_body, frozen_body, frozen_frame, frozen_at, contents_in, frozen_in}
 use Rattle.bounded_cache.specs.Cache.{IsCache, AreFrozen, is_kept, frozen_seen}
 

@@ -1,9 +1,8 @@
 -- The slot of a frozen frame is torn, of which the body is in memory.
-use Rattle.std.proofs.Common.{◌≡◌, ◌≢◌, inl, inr, ℕ, ◌<◌, Bool, true, false, ◌||◌, List, length, map, set, Option, Some, None, option_map, refl, sym, ap, subst, ◌∙◌, arith, length-set}
+use Rattle.std.proofs.Common.{◌≡◌, ◌≢◌, inl, inr, ℕ, ◌<◌, Bool, true, ◌||◌, List, length, set, Option, Some, option_map, sym, ap, subst, ◌∙◌, arith, length-set}
 use Rattle.std.specs.Prelude.{count_by}
-use Rattle.std.specs.List.{range_with_len}
 use Rattle.std.proofs.lemmas.Bool.{cases_eq}
-use Rattle.std.proofs.lemmas.List.{get_or-set_same, get_or-set_other}
+use Rattle.std.proofs.lemmas.List.{get_or-set_other}
 use Rattle.std.proofs.lemmas.Option.{none-some, same_Some}
 use Rattle.model.specs.declared.capability.Cap.{Cap}
 use Rattle.model.specs.declared.frame.Frame.{Frame}
@@ -14,7 +13,7 @@ use Rattle.migrator.specs.Put.{Put, Absent, Broken, Kept, put_at, put_or, most}
 use Rattle.migrator.specs.Durable.{FrozenPuts, Stored, below_at, frozen_put, with_frozen, with_put}
 use Rattle.migrator.proofs.Kept.{maps_same}
 use Rattle.bounded_cache.specs.Entries.{entry_at}
-use Rattle.bounded_cache.specs.Memory.{Memory, mark_at, in_hand, put_body, present_body, content_at, present_at, below_body, frozen_body, frozen_frame, frozen_at, contents_in, frozen_in}
+use Rattle.bounded_cache.specs.Memory.{Memory, mark_at, in_hand, put_body, present_body, content_at, present_at, frozen_body, frozen_frame, frozen_at, contents_in, frozen_in}
 use Rattle.bounded_cache.specs.Cache.{IsCache, AreFrozen, is_kept, frozen_seen}
 
 module _ (s : Stored) (m : Memory) (left count : ℕ) (is : IsCache s m left count) (n : ℕ) (within : n < length m.headers)

@@ -1,10 +1,9 @@
 -- What is saved goes home, or what is frozen is saved: no object is another.
-use Rattle.std.proofs.Common.{◌≡◌, inl, inr, ℕ, zero, suc, ◌+◌, ◌-◌, ◌≤◌, ◌<◌, Bool, true, false, true≢false, cond, ◌||◌, List, [], ◌∷◌, length, map, replicate, Option, Some, None, option_map, Result, Ok, Err, OnOk, OnErr, refl, sym, ap, subst, ◌∙◌, arith}
+use Rattle.std.proofs.Common.{◌≡◌, inl, inr, ℕ, zero, suc, ◌+◌, ◌-◌, ◌≤◌, ◌<◌, Bool, true, false, cond, ◌||◌, List, [], ◌∷◌, length, map, Option, Some, None, option_map, Result, Ok, Err, OnOk, OnErr, refl, sym, ap, subst, ◌∙◌, arith}
 use Rattle.std.specs.Prelude.{◌==◌, count_by, slice_index_or}
 use Rattle.std.specs.List.{range_with_len}
-use Rattle.std.proofs.lemmas.Bool.{cases_eq, cases_lt}
+use Rattle.std.proofs.lemmas.Bool.{cases_lt}
 use Rattle.std.proofs.lemmas.List.{length-map, same_lists, get_or_past}
-use Rattle.std.proofs.Math.ListN.{get_or-map}
 use Rattle.std.proofs.lemmas.List.FromFn.{length-map-range_with_len, get_or-map-range_with_len}
 use Rattle.std.proofs.lemmas.List.Sums.{sum_by-cons}
 use Rattle.std.proofs.lemmas.Option.{none-some, same_Some}
@@ -14,17 +13,16 @@ use Rattle.model.specs.declared.object.Content.{Content}
 use Rattle.model.specs.Frame.{blank_frame, frame_at, header_at}
 use Rattle.model.specs.Keepable.{AreKeepable}
 use Rattle.device.specs.Disk.{Disk}
-use Rattle.migrator.specs.Put.{Put, Absent, Broken, Kept, put_at, put_or, overlaid, kept_count, kept_frame, sum_of, most}
+use Rattle.migrator.specs.Put.{Put, Absent, Broken, Kept, put_at, put_or, overlaid, kept_count, sum_of}
 use Rattle.migrator.specs.Saved.{SavedFrames, LeavesEither, LeavesOneOf, home_saved}
 use Rattle.migrator.specs.Durable as durable
 use Rattle.migrator.specs.Durable.{DurableState, FrozenPuts, Stored, below_at, frozen_put, left_of, moved, stored_after_commit, stored_of}
 use Rattle.migrator.proofs.Kept.{maps_same}
 use Rattle.object_cache.specs.Store.{FrozenFrames}
 use Rattle.object_cache.specs.Store as store
-use Rattle.bounded_cache.specs.declared.held.Held.{Held}
 use Rattle.bounded_cache.specs.Entries.{entry_at}
 use Rattle.bounded_cache.specs.Memory.{Memory, mark_at, in_hand, put_body, present_body, content_at, present_at, frozen_body, frozen_frame, frozen_at, contents_in, frozen_in}
-use Rattle.bounded_cache.specs.Cache.{CacheState, IsCache, AreFrozen, aside_of, cache_of, frozen_seen, is_kept}
+use Rattle.bounded_cache.specs.Cache.{CacheState, IsCache, aside_of, cache_of, frozen_seen, is_kept}
 use Rattle.bounded_cache.proofs.Puts.{some_touched}
 
 -- ---- what is saved goes home

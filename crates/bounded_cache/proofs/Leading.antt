@@ -1,19 +1,15 @@
 -- What leads from one value of a cache to another, and on.
-use Rattle.std.proofs.Common.{◌≡◌, ℕ, ◌≤◌, Bool, List, Option, None, set, refl, sym, ap, subst, ◌∙◌, arith, length-set}
+use Rattle.std.proofs.Common.{◌≡◌, ℕ, ◌≤◌, Bool, List, Option, refl, sym, ap, ◌∙◌, arith}
 use Rattle.model.specs.declared.capability.Cap.{Cap}
-use Rattle.model.specs.declared.geometry.Geometry.{Geometry}
 use Rattle.model.specs.declared.object.Content.{Content}
-use Rattle.model.specs.Machine.{touched_count}
 use Rattle.device.specs.Disk.{Image, Disk}
-use Rattle.device.specs.Moments.{Peeks}
 use Rattle.device.proofs.Moments.{ends, leaves_on, leaves_weaker, peeks_started}
-use Rattle.migrator.specs.Durable.{DurableState, stored_of}
+use Rattle.migrator.specs.Durable.{stored_of}
 use Rattle.migrator.proofs.Moving.{goes_trans, goes_none}
 use Rattle.object_cache.specs.Store.{Aside}
 use Rattle.bounded_cache.specs.declared.held.Held.{Held}
 use Rattle.bounded_cache.specs.Memory.{Owed}
-use Rattle.bounded_cache.specs.Cache.{CacheState, GoesOnIn, aside_of, on_device, with_content_in, without_seat}
-use Rattle.bounded_cache.specs.Order.{without}
+use Rattle.bounded_cache.specs.Cache.{CacheState, GoesOnIn, on_device, with_content_in}
 
 module _ {D : Type 0} where
   -- what was put is on the device

@@ -1,8 +1,8 @@
 -- Numbers are marked that are to be written: no object and no frozen frame is another.
-use Rattle.std.proofs.Common.{◌≡◌, ◌≢◌, ◌⊎◌, inl, inr, ℕ, zero, suc, ◌+◌, ◌<◌, ◌≤◌, Bool, true, false, true≢false, List, [], ◌∷◌, length, map, set, Option, Some, None, option_map, refl, sym, ap, subst, ◌∙◌, arith, length-set}
+use Rattle.std.proofs.Common.{◌≡◌, ◌≢◌, ◌⊎◌, inl, inr, ℕ, zero, suc, ◌<◌, ◌≤◌, Bool, true, false, true≢false, List, [], ◌∷◌, length, set, Option, Some, None, option_map, refl, sym, ap, subst, ◌∙◌, arith, length-set}
 use Rattle.std.specs.Prelude.{slice_index_or}
-use Rattle.std.specs.List.{Contains, range_with_len}
-use Rattle.std.proofs.lemmas.Bool.{cases_eq, cases_lt}
+use Rattle.std.specs.List.{Contains}
+use Rattle.std.proofs.lemmas.Bool.{cases_eq}
 use Rattle.std.proofs.lemmas.List.{get_or-set_other, get_or_past}
 use Rattle.model.specs.declared.capability.Cap.{Cap}
 use Rattle.model.specs.declared.frame.Frame.{Frame}
@@ -12,7 +12,7 @@ use Rattle.model.specs.Frame.{header_at}
 use Rattle.model.specs.Keepable.{AreKeepable}
 use Rattle.model.specs.Machine.{touched_count, touching}
 use Rattle.device.specs.Disk.{Disk}
-use Rattle.migrator.specs.Put.{Kept, most}
+use Rattle.migrator.specs.Put.{most}
 use Rattle.migrator.specs.Durable.{DurableState, FrozenPuts, Stored, below_at, stored_of}
 use Rattle.migrator.proofs.Kept.{maps_same}
 use Rattle.capability.proofs.Touched.{length-touching}

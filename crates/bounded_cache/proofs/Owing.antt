@@ -1,10 +1,10 @@
 -- What entries owe, and which numbers have one, by what is seen.
-use Rattle.std.proofs.Common.{◌≡◌, ◌≢◌, inl, inr, ℕ, zero, suc, ◌-◌, ◌<◌, ◌≤◌, Bool, true, false, true≢false, List, [], ◌∷◌, length, map, set, take, Option, Some, None, IsSome, is_some, option_map, refl, sym, ap, subst, ◌∙◌, arith, length-set}
+use Rattle.std.proofs.Common.{◌≡◌, ◌≢◌, inl, inr, ℕ, zero, suc, ◌-◌, ◌<◌, ◌≤◌, Bool, true, false, true≢false, List, [], ◌∷◌, length, set, take, Option, Some, None, IsSome, is_some, option_map, refl, sym, ap, subst, ◌∙◌, arith, length-set}
 use Rattle.std.specs.List.{slice_get}
-use Rattle.std.proofs.lemmas.List.{length-map, get_or_past, get_or-set_same, get_or-set_other}
+use Rattle.std.proofs.lemmas.List.{get_or_past, get_or-set_same, get_or-set_other}
 use Rattle.std.proofs.lemmas.List.FromFn.{length-map-range_with_len}
-use Rattle.std.proofs.lemmas.Bool.{cases_eq, cases_lt}
-use Rattle.std.proofs.lemmas.Option.{none-some, same_Some}
+use Rattle.std.proofs.lemmas.Bool.{cases_lt}
+use Rattle.std.proofs.lemmas.Option.{none-some}
 use Rattle.model.specs.declared.capability.Cap.{Cap}
 use Rattle.model.specs.declared.object.Content.{Content}
 use Rattle.model.specs.Revoke.{is_member}
@@ -13,8 +13,8 @@ use Rattle.migrator.specs.Durable.{DurableState, stored_of}
 use Rattle.bounded_cache.specs.declared.entry.Entry.{Entry}
 use Rattle.bounded_cache.specs.Entries.{entry_at, room_of}
 use Rattle.bounded_cache.specs.Memory.{Memory, Owed, Nothing, Shared, Apart, mark_at, is_owing, is_shared, owed_of, content_at, contents_in}
-use Rattle.bounded_cache.specs.Order.{AllDiffer, AreOrdered, EntriesState, used_longest_ago, without}
-use Rattle.bounded_cache.specs.Cache.{CacheState, IsCache, IsFetchedIn, cache_of, owed_at, seat_at, seats_in}
+use Rattle.bounded_cache.specs.Order.{AreOrdered, used_longest_ago, without}
+use Rattle.bounded_cache.specs.Cache.{CacheState, IsCache, IsFetchedIn, cache_of, owed_at, seat_at}
 use Rattle.bounded_cache.proofs.Arenas.{some_within}
 use Rattle.bounded_cache.proofs.Objects.{seat_in}
 use Rattle.bounded_cache.proofs.Orders.{length_without}

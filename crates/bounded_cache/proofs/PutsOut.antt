@@ -9,7 +9,7 @@ use Rattle.model.specs.declared.capability.Cap.{Cap}
 use Rattle.model.specs.declared.frame.Frame.{Frame}
 use Rattle.model.specs.declared.frame.ObjectHeader.{ObjectHeader}
 use Rattle.model.specs.declared.object.Content.{Content}
-use Rattle.model.specs.Frame.{blank_frame, frame_at, header_at}
+use Rattle.model.specs.Frame.{blank_frame, header_at}
 use Rattle.model.specs.Keepable.{IsKeepable}
 use Rattle.device.specs.Disk.{Disk}
 use Rattle.migrator.specs.Put.{Put, Absent, Broken, Kept, put_at, HasRoom, most}

@@ -1,6 +1,4 @@
-use Rattle.std.proofs.Common.{sym, ap, ◌∙◌, length, arith, refl, length-set}
-use Rattle.model.specs.declared.frame.ObjectHeader.{ObjectHeader}
-use Rattle.model.specs.Frame.{header_at}
+use Rattle.std.proofs.Common.{◌∙◌, arith, refl, length-set}
 use Rattle.bounded_cache.proofs.Copying.{one_more, all_copied}
 use Rattle.bounded_cache.proofs.headers.copy_marked.Goals as goal
 

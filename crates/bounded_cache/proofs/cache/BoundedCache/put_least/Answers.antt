@@ -1,4 +1,4 @@
-use Rattle.std.proofs.Common.{refl, sym, ap, ◌∙◌, ◌<◌, ◌≡◌, List, ℕ, length, take, Option, OnErr, Ok, Err, Result, subst}
+use Rattle.std.proofs.Common.{refl, sym, ◌∙◌, ◌<◌, ◌≡◌, length, take, subst}
 use Rattle.migrator.specs.Put.{most}
 use Rattle.migrator.specs.Durable.{stored_of}
 use Rattle.capability.proofs.Keeping.{keepable_at}

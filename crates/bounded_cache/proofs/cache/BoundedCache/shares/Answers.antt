@@ -1,4 +1,4 @@
-use Rattle.std.proofs.Common.{sym, ap, ◌∙◌, true≢false, true, false, is_some, ◌≡◌}
+use Rattle.std.proofs.Common.{sym, ap, ◌∙◌, is_some}
 use Rattle.std.specs.Prelude.{option_copied}
 use Rattle.bounded_cache.specs.Memory.{memory_of, is_shared}
 use Rattle.bounded_cache.specs.Cache.{owed_at}
