@@ -1,3 +1,3 @@
 mod FreshSound
 mod FreshWorlds
-mod Worlds
+mod MadeWorlds

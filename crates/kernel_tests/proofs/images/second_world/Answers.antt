@@ -1,6 +1,6 @@
 use Rattle.model.specs.Worlds.{i0}
 use Rattle.model_laws.proofs.SoundWorlds.{i0_sound}
-use Rattle.kernel_tests.proofs.Worlds.{made_sound, made_keepable}
+use Rattle.kernel_tests.proofs.MadeWorlds.{made_sound, made_keepable}
 use Rattle.kernel_tests.proofs.images.second_world.Goals as goal
 
 pub returns : goal.returns
