@@ -24,6 +24,7 @@ use Rattle.object_cache.specs.declared.journal_fault.JournalFault.{JournalFault}
 use Rattle.object_cache.specs.declared.journal_fault.JournalFault.TheVariants as fault
 use Rattle.object_cache.specs.Journal.{IsJournalAnswer, IsTurnedAway, is_page_now, is_saved_page, journaled, next_journaled, words_now}
 use Rattle.object_cache.specs.Store.{Aside, View, left_in}
+use Rattle.processes.specs.Machine.{IsUnlooked}
 use Rattle.processes.proofs.Serving.{AreSame}
 use Rattle.processes.proofs.Steps.{refused_step}
 use Rattle.kernel.specs.declared.power.Live.{Live}
@@ -54,6 +55,15 @@ sound_done n (inr sound) = sound
 sound_still : {P : Type 0} → IsErrOf {T = ℕ} (Err fault.Renewed) fault.Failed ⊎ P → P
 sound_still (inl failed) = absurd cc
 sound_still (inr sound) = sound
+
+-- where it is refused with no look at an object, the store is the same
+pub unlooked_same : {S : Type 0} (known : Bool) (why : JournalFault) {old new : S} → (IsTurnedAway (Err why) → new ≡ old) →
+    IsUnlooked (answer.Refused (unjournaled_by known why)) → new ≡ old
+unlooked_same known fault.CheckpointRunning same is = absurd is
+unlooked_same known fault.MigrationPending same is = absurd is
+unlooked_same known fault.NotPage same is = same tt
+unlooked_same known fault.Renewed same is = absurd is
+unlooked_same known fault.Failed same is = absurd is
 
 module _ {D S : Type 0} (disk : D → Disk) (view : S → View D) (parts : S → Parts)
     (only_now : (d : D) (c : Image) → (disk d).left_since (disk d).moment c → (disk d).may_leave c)

@@ -3,12 +3,13 @@ use Rattle.std.specs.Prelude.{nat_lt}
 use Rattle.model.specs.declared.answer.Answer.{Answer}
 use Rattle.model.specs.declared.command.Command.TheVariants as command
 use Rattle.migrator.specs.Saved.{LeavesOneOf}
+use Rattle.processes.specs.Machine.{IsUnlooked}
 use Rattle.processes.proofs.Serving.{AreSame}
 use Rattle.object_cache.specs.Store.{left_in}
 use Rattle.object_cache.specs.Journal.{is_page_now, is_saved_page, journaled, next_journaled, words_now}
 use Rattle.kernel.specs.Standing.{IsCaused, ServesUp}
 use Rattle.kernel.proofs.Acts.{with_store}
-use Rattle.kernel.proofs.Journals.{journal_cause, journal_refused, journal_went, lies_past, lies_within, sound_done, too_old}
+use Rattle.kernel.proofs.Journals.{journal_cause, journal_refused, journal_went, lies_past, lies_within, sound_done, too_old, unlooked_same}
 use Rattle.kernel.proofs.Stages.{keepable_most, none_there}
 use Rattle.kernel.proofs.journaling.journal.Goals as goal
 
@@ -70,3 +71,9 @@ returns-in-Err-clause-cause g c =
     subst (λ (a : Answer). IsCaused old new a) (sym c.refused.ensures.answer)
     (journal_cause old new (left_in aside) aside.saved (is_page_now (parts c.args.live.now.store) c.args.number) (is_saved_page (parts c.args.live.now.store) aside.saved c.args.number)
     (nat_lt c.args.number c.count.result) c.in-Err.fault c.in-Err.ensures.answer)
+
+pub returns-in-Err-clause-untouched : goal.returns-in-Err-clause-untouched
+returns-in-Err-clause-untouched g c is =
+    let view = g.S.ObjectStore.view in
+    ap (λ s. (view s).beneath)
+    (unlooked_same (nat_lt c.args.number c.count.result) c.in-Err.fault c.in-Err.ensures.turned_away (subst IsUnlooked c.refused.ensures.answer is))
