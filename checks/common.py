@@ -1,0 +1,110 @@
+"""For what tries the program in Python: the program, and a reader of scripts and answers by docs/MANUAL.md."""
+import os
+import re
+import subprocess
+from pathlib import Path
+
+ROOT = Path(__file__).resolve().parent.parent
+EXAMPLES = ROOT / "examples"
+MOST, WORDS = 256, 2**64
+
+# The words behind a command's name: n is a number, r a register.
+INVOCATION = "nrnnnnrrrr"
+FORMS = {
+    b"call": INVOCATION, b"return": INVOCATION, b"send": INVOCATION, b"load": "nn", b"store": "nnn", b"show": "n", b"evict": "n",
+    b"checkpoint": "", b"stabilize": "n", b"commit": "", b"migrate": "n", b"restart": "", b"cut": "",
+}
+NUMBER = rb"(0|[1-9][0-9]*)"
+CAP = rb"(number N|page N(?: ro| weak)?|node N(?: ro| weak)?|space N [1-4](?: ro| weak)?|process N|start N N|resume N|bank N|discrim)"
+FIRST = rb"""free N|page N owner N|node N owner N|annex N owner N|bank N owner N limit N used N
+|process N owner N annex N (?:available|running|waiting) key N words N N N N space (?:void|CAP)"""
+
+
+def pattern(text):
+    return re.compile(text.replace(b"\n", b"").replace(b"CAP", CAP).replace(b" N", b" " + NUMBER))
+
+
+SHOWN, MORE = pattern(FIRST), pattern(rb"word N N|slot N CAP|register N CAP")
+INVOKED = pattern(rb"done|no process|not running|worn|stalled|log full")
+# What a command may be answered while no memory is refused and no device fails.
+ANSWERS = {
+    b"call": INVOKED, b"return": INVOKED, b"send": INVOKED,
+    b"load": pattern(rb"value N|memory fault [1-4]|no process|not running"),
+    b"store": pattern(rb"done|memory fault [1-5]|no process|not running|log full"),
+    b"show": re.compile(rb"bad number"), b"evict": re.compile(rb"done|bad number"),
+    b"checkpoint": pattern(rb"frozen N|worn|checkpoint running|migration pending"),
+    b"stabilize": pattern(rb"left N|no checkpoint"), b"commit": pattern(rb"committed N|not stable N|no checkpoint"),
+    b"migrate": pattern(rb"left N"), b"restart": pattern(rb"at N N"), b"cut": pattern(rb"at N N"),
+}
+
+
+def program():
+    if "EROS" in os.environ:
+        return Path(os.environ["EROS"]).resolve()
+    subprocess.run([ROOT / "eros", "--help"], stdout=subprocess.DEVNULL, check=True)
+    return ROOT / "crates" / "runner" / "out" / "runner"
+
+
+def is_word(word, form):
+    plain = word.isdigit() and (word == b"0" or word[:1] != b"0")
+    return plain and int(word) < (WORDS if form == "n" else 32)
+
+
+def command_of(line):
+    """The name of the command that a line is; b"" where it is a bad one, and None where it is skipped."""
+    if len(line) > MOST:
+        return b""
+    if not line or line[:1] == b"#":
+        return None
+    name, *words = line.split(b" ")
+    form = FORMS.get(name)
+    fits = form is not None and len(form) == len(words) and all(map(is_word, words, form))
+    return name if fits else b""
+
+
+def lines_of(script):
+    """The lines of a script. What is behind the last newline is one where it isn't empty."""
+    *lines, rest = script.split(b"\n")
+    return [*lines, rest] if rest else lines
+
+
+class Answers:
+    """Takes answers from what was printed, one for each line."""
+
+    def __init__(self, printed):
+        self.lines, self.at = printed.split(b"\n"), 0
+
+    def is_at_end(self):
+        return self.at == len(self.lines) - 1 and not self.lines[-1]
+
+    def take(self, line):
+        """The answer to a line, b"" for one that is skipped, or None where what comes is no answer to it."""
+        name = command_of(line)
+        if name is None:
+            return b""
+        begin, said = self.at, self.lines[self.at]
+        if begin == len(self.lines) - 1:
+            return None
+        self.at += 1
+        if name == b"":
+            return said + b"\n" if said == b"bad line" else None
+        if name == b"show" and SHOWN.fullmatch(said):
+            while MORE.fullmatch(self.lines[self.at]):
+                self.at += 1
+            if self.lines[self.at] != b"end":
+                return None
+            self.at += 1
+        elif not ANSWERS[name].fullmatch(said):
+            return None
+        return b"\n".join(self.lines[begin : self.at]) + b"\n"
+
+
+def answers_to(lines, printed):
+    """The answers to lines, and what is wrong with them, or None."""
+    answers, given = Answers(printed), []
+    for number, line in enumerate(lines):
+        answer = answers.take(line)
+        if answer is None:
+            return given, f"line {number + 1}, {line[:60]!r}, was answered {answers.lines[max(0, answers.at - 1)][:60]!r}"
+        given.append(answer)
+    return given, None if answers.is_at_end() else f"behind the last line came {answers.lines[answers.at][:60]!r}"

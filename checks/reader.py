@@ -1,0 +1,174 @@
+"""Reads an image by docs/FORMAT.md, from which alone it was written, for `checks/images`."""
+from collections import namedtuple
+from struct import unpack_from
+
+SECTOR, VOID, ROOT, ANNEX, BANK = 512, bytes(24), 3, 4, 5
+PAGE_CAP, NODE_CAP, SPACE, PROCESS, START, RESUME, BANK_CAP, DISCRIM = range(2, 10)
+ROLES = {PAGE_CAP: 1, NODE_CAP: 2, SPACE: 2, PROCESS: ROOT, START: ROOT, RESUME: ROOT, BANK_CAP: BANK}
+
+Shape = namedtuple("Shape", "nodes pages slots halves homes")
+Header = namedtuple("Header", "slot sequence generation entries age")
+Cap = namedtuple("Cap", "tag access key height zeros number count")
+# A frame at a place: what stands before its body, and the capabilities in its slots, or the words of a page.
+Frame = namedtuple("Frame", "place role allocations calls owner slots words")
+Saved = namedtuple("Saved", "shape header logged frames")
+
+
+class Bad(Exception):
+    """The image is refused for this reason, from 1 to 10."""
+
+
+def need(holds, reason):
+    if not holds:
+        raise Bad(reason)
+
+
+def is_zero(data, begin, end):
+    return data.count(0, begin, end) == end - begin
+
+
+def shape_of(data):
+    sectors = len(data) // SECTOR
+    need(sectors >= 5 and sectors >= unpack_from("<Q", data, 56)[0], 1)
+    magic, version, ranges, nodes, pages, slots, half0, half1, total = unpack_from("<8sII6Q", data)
+    need(magic == b"EROSCKPT" and version == 1 and is_zero(data, 256, 512), 2)
+    need(1 <= ranges <= 8 and 16 <= nodes <= 4096 and 1 <= pages <= 4096 and 16 <= slots <= 4096 and total <= 131072, 3)
+    need(is_zero(data, 64 + 24 * ranges, 256), 3)
+    length = 9 * slots + (slots + 31) // 32
+    parts, homes, following = [(half0, length), (half1, length)], [], 0
+    for place in range(64, 64 + 24 * ranges, 24):
+        first, count, sector = unpack_from("<3Q", data, place)
+        size = 2 if first < nodes else 9
+        need(first == following and count > 0 and (first >= nodes or first + count <= nodes), 3)
+        following = first + count
+        need(following <= nodes + pages, 3)
+        homes += [sector + size * it for it in range(count)]
+        parts.append((sector, size * count))
+    need(following == nodes + pages, 3)
+    end = 5
+    for sector, count in sorted(parts):
+        need(sector >= end, 3)
+        end = sector + count
+    need(end <= total, 3)
+    return Shape(nodes, pages, slots, (half0, half1), homes)
+
+
+def header_of(data, shape):
+    counting = []
+    for slot in (0, 1):
+        header = Header(slot, *unpack_from("<4Q", data, SECTOR * (1 + 2 * slot) + 8))
+        if data[SECTOR * (2 + 2 * slot)] == 1 and header.sequence % 2 == slot:
+            counting.append(header)
+    need(counting, 4)
+    header = max(counting, key=lambda it: it.sequence)
+    place = SECTOR * (1 + 2 * header.slot)
+    need(data[place : place + 8] == b"EROSHEAD" and is_zero(data, place + 40, place + SECTOR), 5)
+    need(header.entries <= shape.slots and header.age <= 2**62 and header.generation <= 2 * header.age, 5)
+    need(header.sequence <= 2 * header.age + (header.entries == 0), 5)
+    return header
+
+
+def logged_in(data, shape, header):
+    """The sector of the frame of each object that is in the log."""
+    half = shape.halves[header.generation % 2]
+    entries = [unpack_from("<2Q", data, SECTOR * (half + 9 * shape.slots) + 16 * it) for it in range(header.entries)]
+    need(all(one[0] < two[0] for one, two in zip(entries, entries[1:])), 6)
+    need(all(number < shape.nodes + shape.pages and slot < shape.slots for number, slot in entries), 6)
+    need(len({slot for _, slot in entries}) == len(entries), 6)
+    return {number: half + 9 * slot for number, slot in entries}
+
+
+def cap_at(data, place, shape, age):
+    cap = Cap(*unpack_from("<BBHB3sQQ", data, place))
+    need(cap.tag <= DISCRIM and cap.zeros == bytes(3), 7)
+    need(cap.access in ((0, 1, 3) if PAGE_CAP <= cap.tag <= SPACE else (0,)), 7)
+    need(cap.key == 0 or cap.tag == START, 7)
+    need(1 <= cap.height <= 4 if cap.tag == SPACE else cap.height == 0, 7)
+    names = PAGE_CAP <= cap.tag <= BANK_CAP
+    first = shape.nodes if cap.tag == PAGE_CAP else 0
+    beyond = shape.nodes + shape.pages if cap.tag == PAGE_CAP else shape.nodes
+    need(first <= cap.number < beyond if names else cap.number == 0 or cap.tag == 1, 7)
+    need(cap.count <= age if names else cap.count == 0, 7)
+    return cap
+
+
+def frame_at(data, place, number, shape, age):
+    role, zeros, allocations, calls, owner = unpack_from("<B7s3Q", data, place)
+    need(zeros == bytes(7) and allocations <= age and calls <= age, 7)
+    is_page, slots, words = number >= shape.nodes, {}, ()
+    need(role in ((0, 1) if is_page else (0, 2, ROOT, ANNEX, BANK)) and (role or owner == 0), 7)
+    if is_page:
+        need(is_zero(data, place + 32, place + 512), 7)
+        words = unpack_from("<512Q", data, place + 512)
+        need(role or not any(words), 7)
+    else:
+        need(is_zero(data, place + 800, place + 1024), 7)
+        for slot in range(32):
+            at = place + 32 + 24 * slot
+            if data[at : at + 24] != VOID:
+                slots[slot] = cap_at(data, at, shape, age)
+        need(role or not slots, 7)
+    tags = {slot: cap.tag for slot, cap in slots.items()}
+    if role == ROOT:
+        need(all(tags.get(it) == 1 for it in range(7)) and tags.get(7, 0) in (0, PAGE_CAP, SPACE) and max(tags) < 8, 7)
+        need(slots[1].number <= 2 and slots[6].number <= 65535, 7)
+    need(role != ANNEX or 0 not in slots, 7)
+    need(role != BANK or tags == {0: 1}, 7)
+    return Frame(place, role, allocations, calls, owner, slots, words)
+
+
+def is_stale(cap, frames):
+    """Whether it acts as void. Its count isn't greater than that of its object."""
+    return cap.tag in ROLES and cap.count < (frames[cap.number].calls if cap.tag == RESUME else frames[cap.number].allocations)
+
+
+def check_caps(frames):
+    held = [(it, cap) for it in frames for slot, cap in it.slots.items() if it.role in (2, ANNEX) or it.role == ROOT and slot == 7]
+    for _, cap in held:
+        if cap.tag in ROLES:
+            target = frames[cap.number]
+            need(cap.count <= (target.calls if cap.tag == RESUME else target.allocations), 8)
+            if not is_stale(cap, frames):
+                need(target.role == ROLES[cap.tag] and (cap.tag != RESUME or target.slots[1].number == 2), 8)
+
+
+def check_processes(frames):
+    annexes = []
+    for frame in frames:
+        if frame.role == ROOT:
+            annex = frame.slots[0].number
+            need(annex < len(frames) and frames[annex].role == ANNEX and frames[annex].owner == frame.owner, 9)
+            annexes.append(annex)
+    need(sorted(annexes) == [number for number, it in enumerate(frames) if it.role == ANNEX], 9)
+
+
+def usages(frames):
+    """What each bank accounts for. The owners have to be banks without rings, and the chains short enough."""
+    need(frames[0].role == BANK and frames[0].owner == 0, 10)
+    used = {number: 0 for number, it in enumerate(frames) if it.role == BANK}
+    for number, frame in enumerate(frames):
+        if frame.role:
+            bank, chain = frame.owner, [frame.owner]
+            while bank and len(chain) <= 16:
+                need(bank in used, 10)
+                bank = frames[bank].owner
+                chain.append(bank)
+            # The chain of a bank begins with the bank itself, before its owner's.
+            need(len(chain) + (frame.role == BANK and number != 0) <= 16, 10)
+            for it in chain:
+                used[it] += it != number
+    return used
+
+
+def read(data):
+    """What an image holds. Raises Bad with the least reason for which it is refused."""
+    shape = shape_of(data)
+    header = header_of(data, shape)
+    logged = logged_in(data, shape, header)
+    places = [SECTOR * logged.get(number, home) for number, home in enumerate(shape.homes)]
+    frames = [frame_at(data, place, number, shape, header.age) for number, place in enumerate(places)]
+    check_caps(frames)
+    check_processes(frames)
+    for bank, used in usages(frames).items():
+        need(used <= frames[bank].slots[0].number, 10)
+    return Saved(shape, header, logged, frames)
