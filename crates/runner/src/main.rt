@@ -2,16 +2,13 @@
 #![tactic(auto)]
 
 ghost use Rattle.std.specs.Prelude.{◌≡◌, IfOk};
-ghost use Rattle.toml.specs.View.{table_view};
-ghost use Rattle.description.specs.declared.entry.Description.{Description};
-ghost use Rattle.description.specs.Reading.{IsDescription};
 ghost use Rattle.image_builder.specs.Built.{plan_for};
 ghost use Rattle.file_device.specs.FileDevice.{file_disk};
 
 use command_line::{Job, JobFault, Script, job};
 use device::MAX_SECTORS;
 use file_device::{FileDevice, FileFault};
-use image_builder::sectors_needed;
+use image_builder::Blueprint;
 use jobs::{Fault, build_image, check_image, finish, run_image};
 use object_cache::PlainStore;
 use std::fs::{self, File};
@@ -59,21 +56,27 @@ fn is_one_file(rt: &HostRuntime, one: &str, other: &str) -> bool {
     }
 }
 
-// The device in a new file, of so many sectors as the image of a table has, all zeros. A file that
-// is there is replaced, unless the description is read from it.
+// The description of an image, from a file.
+fn read_blueprint(rt: &HostRuntime, description: &str) -> Result<Blueprint, Fault> {
+    let table = read_table(rt, description)?;
+    match Blueprint::read(rt.alloc(), &table) {
+        Ok(blueprint) => Ok(blueprint),
+        Err(fault) => Err(Fault::Build(fault)),
+    }
+}
+
+// The device in a new file, of so many sectors as an image has, all zeros. A file that is there is
+// replaced, unless the description is read from it.
 fn create(
     rt: &HostRuntime,
-    table: &Table,
+    blueprint: &Blueprint,
     description: &str,
     path: &str,
 ) -> Result<FileDevice, Fault>
-    ensures { IfOk result (λ device. (d : Description) × IsDescription (table_view table.now) d
-        × ((file_disk device).sectors ≡ (plan_for d).total)) }
+    ensures { IfOk result (λ device.
+        (file_disk device).sectors ≡ (plan_for blueprint.now).total) }
 {
-    let sectors = match sectors_needed(rt.alloc(), table) {
-        Ok(sectors) => sectors,
-        Err(fault) => return Err(Fault::Build(fault)),
-    };
+    let sectors = blueprint.sectors();
     if sectors > MAX_SECTORS || is_one_file(rt, description, path) {
         return Err(Fault::CannotWriteImage);
     }
@@ -90,10 +93,16 @@ fn output(rt: &HostRuntime) -> Result<BufWriter<Stdout>, Fault> {
 
 // Builds an image, and gives the status.
 fn build(rt: &HostRuntime, description: &str, image: &str) -> Result<u8, Fault> {
-    let table = read_table(rt, description)?;
-    let mut device = create(rt, &table, description, image)?;
+    let blueprint = read_blueprint(rt, description)?;
+    let mut device = create(rt, &blueprint, description, image)?;
     let (mut writer, mut errors) = (output(rt)?, rt.stderr());
-    let status = build_image(rt.alloc(), &table, &mut device, &mut writer, &mut errors);
+    let status = build_image(
+        rt.alloc(),
+        &blueprint,
+        &mut device,
+        &mut writer,
+        &mut errors,
+    );
     Ok(finish(&mut writer, status, &mut errors))
 }
 
