@@ -5,7 +5,7 @@ ghost use Rattle.model.specs.Capability.{IsWellFormed};
 ghost use Rattle.described_world.specs.Described.{AreDistinct, AreSlots, AreWords, HasFields, IsSomeCapability, IsProcessEntry, IsSpaceEntry};
 
 use description::{Description, ProcessEntry, SlotEntry, WordEntry};
-use model::{Capability, SLOTS, WORDS};
+use model::{Capability, MAX_HEIGHT, SLOTS, WORDS};
 
 // The keys below this one have 16 bits.
 const KEYS: u64 = 1 << 16;
@@ -17,7 +17,7 @@ fn is_well_formed(capability: Capability) -> bool
         Capability::Page { access, .. } => access.is_valid(),
         Capability::Node { access, .. } => access.is_valid(),
         Capability::Space { height, access, .. } => {
-            1 <= height && height <= 4 && access.is_valid()
+            1 <= height && height <= MAX_HEIGHT && access.is_valid()
         }
         Capability::Number(_) => true,
         Capability::Start { .. } => true,

@@ -10,10 +10,7 @@ use crate::page::reduction;
 use crate::plan::{Change, OrderPlan};
 use bitflags::Flags;
 use capability::{PresentFrames, objects};
-use model::{Access, Arguments, Capability, NodeOrder, ResultCode, SLOTS};
-
-// The height of the highest address space.
-const MAX_HEIGHT: u64 = 4;
+use model::{Access, Arguments, Capability, MAX_HEIGHT, NodeOrder, ResultCode, SLOTS};
 
 /// The order that a word asks of a node.
 pub fn node_order(word: u64) -> Option<NodeOrder>
@@ -99,7 +96,7 @@ pub fn on_node<F: PresentFrames>(
             }),
         },
         NodeOrder::MakeSpace => {
-            if arguments.first == 0 || arguments.first > MAX_HEIGHT {
+            if arguments.first == 0 || arguments.first > MAX_HEIGHT as u64 {
                 return OrderPlan::refused(ResultCode::BadIndex);
             }
             OrderPlan::given(Capability::Space {

@@ -39,7 +39,7 @@ use Rattle.migrator.proofs.Kept.{maps_same}
 use Rattle.capability.specs.Parts.{Parts, frames_of, objects_in}
 use Rattle.capability.proofs.Frames.{at_set, frame_in}
 use Rattle.capability.proofs.Keeping.{keepable_count}
-use Rattle.object_cache.specs.Journal.{is_page_now, is_page_role, is_saved_page, journaled, next_journaled, words_now}
+use Rattle.object_cache.specs.Journal.{is_page_now, is_page_role, is_still_saved, aside_after_journal, next_journaled, words_now}
 use Rattle.object_cache.specs.Store.{Aside, FrozenFrames}
 use Rattle.space_bank.specs.Banks.{BanksState}
 use Rattle.processes.proofs.Steps.{done_step}
@@ -281,7 +281,7 @@ module _ (g : Geometry) (p : Parts) (a : Aside) (banks : BanksState) (age frozen
         ∙ not_twice (allocations_at (frames_of p) n == allocations_at a.saved.frames n)
         ∙ ap (λ (h : ObjectHeader). h.allocations == allocations_at a.saved.frames n) (header_in p.headers p.contents n))
 
-    pub saved_is : n < object_count g → is_saved_page p a.saved n ≡ machine.is_saved_page (running_of p a age frozen_age) n
+    pub saved_is : n < object_count g → is_still_saved p a.saved n ≡ machine.is_saved_page (running_of p a age frozen_age) n
     saved_is lt = λ k. page_at g a.saved.age a.saved.frames n s.saved.sound.keepable k && same_count lt k
 
     module _ (is : is_page_now p n ≡ true) where
@@ -306,7 +306,7 @@ module _ (g : Geometry) (p : Parts) (a : Aside) (banks : BanksState) (age frozen
       words_kept = kept_words g age (held_at p.contents n) held_page
           (subst (λ (f : Frame). MayBeKept g age f.content) here (s.now.keepable.each n known_now).kept.content)
 
-      module _ (saved : is_saved_page p a.saved n ≡ true) (young : age < 2 ^ 62) where
+      module _ (saved : is_still_saved p a.saved n ≡ true) (young : age < 2 ^ 62) where
         pub saved_too : machine.is_saved_page (running_of p a age frozen_age) n ≡ true
         saved_too = sym (saved_is known_now) ∙ saved
 
@@ -338,10 +338,10 @@ module _ (g : Geometry) (p : Parts) (a : Aside) (banks : BanksState) (age frozen
           sound = sound_after a.saved.frames n (words_now p n) g (a.saved.age + 1) frames_next saved_page known_now words_kept world_next;
         }
 
-        base_next : base_of (journaled (a.saved.age + 1) n (words_now p n) a) ≡ set a.saved.frames n (with_words (words_now p n) (frame_at a.saved.frames n))
-        base_next = base_saved (journaled (a.saved.age + 1) n (words_now p n) a) none
+        base_next : base_of (aside_after_journal (a.saved.age + 1) n (words_now p n) a) ≡ set a.saved.frames n (with_words (words_now p n) (frame_at a.saved.frames n))
+        base_next = base_saved (aside_after_journal (a.saved.age + 1) n (words_now p n) a) none
 
-        pub together_next : AreSoundTogether g p (journaled (a.saved.age + 1) n (words_now p n) a) banks (age + 1) frozen_age
+        pub together_next : AreSoundTogether g p (aside_after_journal (a.saved.age + 1) n (words_now p n) a) banks (age + 1) frozen_age
         together_next = record {
           geometry = s.geometry;
           now = frames_later g age (age + 1) (frames_of p) (omega arith) (omega (arith, young)) s.now;
@@ -355,7 +355,7 @@ module _ (g : Geometry) (p : Parts) (a : Aside) (banks : BanksState) (age frozen
               (subst (λ (fs : List Frame). allocations_at fs m ≤ allocations_at (frames_of p) m) (base_saved a none) (s.risen m));
         }
 
-        pub running_next : running_of p (journaled (a.saved.age + 1) n (words_now p n) a) (age + 1) frozen_age
+        pub running_next : running_of p (aside_after_journal (a.saved.age + 1) n (words_now p n) a) (age + 1) frozen_age
             ≡ (let now : World = record { objects = objects_in p; age = age + 1 } in let x : Running = record (running_of p a age frozen_age) { now = now; saved = machine.journaled (running_of p a age frozen_age) n; to_move = 1 } in x)
         running_next =
             ap (λ (rs : List Bool). let now : World = record { objects = objects_in p; age = age + 1 } in let x : Running = record (running_of p a age frozen_age) { now = now; renewed = rs; saved = saved_of (journaled_saved (a.saved.age + 1) n (words_now p n) a.saved); to_move = 1 } in x)

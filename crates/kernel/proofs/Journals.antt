@@ -22,7 +22,7 @@ use Rattle.capability.specs.Parts.{Parts}
 use Rattle.capability.proofs.Keeping.{keepable_count}
 use Rattle.object_cache.specs.declared.journal_fault.JournalFault.{JournalFault}
 use Rattle.object_cache.specs.declared.journal_fault.JournalFault.TheVariants as fault
-use Rattle.object_cache.specs.Journal.{IsJournalAnswer, IsTurnedAway, is_page_now, is_saved_page, journaled, next_journaled, words_now}
+use Rattle.object_cache.specs.Journal.{IsJournalAnswer, IsTurnedAway, is_page_now, is_still_saved, aside_after_journal, next_journaled, words_now}
 use Rattle.object_cache.specs.Store.{Aside, View, left_in}
 use Rattle.processes.specs.Machine.{IsUnlooked}
 use Rattle.processes.proofs.Serving.{AreSame}
@@ -85,7 +85,7 @@ module _ {D S : Type 0} (disk : D → Disk) (view : S → View D) (parts : S →
     new = disk (view s).beneath
 
     abbrev moments : Type 0
-    moments = LeavesOneOf old new a.saved (next_journaled age n (words_now (parts l.store) n) a.frozen a.saved (is_page_now (parts l.store) n) (is_saved_page (parts l.store) a.saved n))
+    moments = LeavesOneOf old new a.saved (next_journaled age n (words_now (parts l.store) n) a.frozen a.saved (is_page_now (parts l.store) n) (is_still_saved (parts l.store) a.saved n))
 
     -- nothing was asked of the device
     turned_away : (why : Refusal) → s ≡ l.store → ((g : Geometry) → IsUp disk view parts g l → machine.refusal_of g (running disk view parts l) (command.Journal n) ≡ Some why) →
@@ -93,14 +93,14 @@ module _ {D S : Type 0} (disk : D → Disk) (view : S → View D) (parts : S →
     turned_away why same applies = refused_again disk view parts only_now sound_holds l s (command.Journal n) why same applies
 
     module _ (same : AreSame (parts l.store) (parts s)) (size : new.sectors ≡ old.sectors) (run : LeavesOneOf (disk (view l.store).beneath) (disk (view s).beneath) (view l.store).aside.saved
-        (next_journaled ((view l.store).aside.saved.age + 1) n (words_now (parts l.store) n) (view l.store).aside.frozen (view l.store).aside.saved (is_page_now (parts l.store) n) (is_saved_page (parts l.store) (view l.store).aside.saved n)))
+        (next_journaled ((view l.store).aside.saved.age + 1) n (words_now (parts l.store) n) (view l.store).aside.frozen (view l.store).aside.saved (is_page_now (parts l.store) n) (is_still_saved (parts l.store) (view l.store).aside.saved n)))
         (none : (view l.store).aside.frozen ≡ None) (home : (view l.store).aside.saved.entries ≡ 0) (page : is_page_now (parts l.store) n ≡ true) where
-      run_by : (b : Bool) → is_saved_page (parts l.store) a.saved n ≡ b → LeavesOneOf old new a.saved (if b then Some (journaled_saved age n (words_now (parts l.store) n) a.saved) else None)
+      run_by : (b : Bool) → is_still_saved (parts l.store) a.saved n ≡ b → LeavesOneOf old new a.saved (if b then Some (journaled_saved age n (words_now (parts l.store) n) a.saved) else None)
       run_by b is = subst (λ (o : Option SavedFrames). LeavesOneOf old new a.saved o)
-          (next_is age n (words_now (parts l.store) n) a.frozen a.saved (is_page_now (parts l.store) n) (is_saved_page (parts l.store) a.saved n) b none home page is) run
+          (next_is age n (words_now (parts l.store) n) a.frozen a.saved (is_page_now (parts l.store) n) (is_still_saved (parts l.store) a.saved n) b none home page is) run
 
       -- what a crash leaves of it
-      along : (b : Bool) → is_saved_page (parts l.store) a.saved n ≡ b → (g : Geometry) → IsUp disk view parts g l →
+      along : (b : Bool) → is_still_saved (parts l.store) a.saved n ≡ b → (g : Geometry) → IsUp disk view parts g l →
           LeavesOne g (disk_at disk view parts l) (disk (view s).beneath) (saved_of (view l.store).aside.saved ∷ second (Up (running disk view parts l)) (command.Journal n))
       along false is g up = leaves_along g old new a.saved (second (Up (running disk view parts l)) (command.Journal n)) up.sound.saved size (run_by false is)
       along true is g up =
@@ -113,10 +113,10 @@ module _ {D S : Type 0} (disk : D → Disk) (view : S → View D) (parts : S →
           (leaves_either g old new a.saved (journaled_saved age n (words_now p n) a.saved) sound.saved (sound_next g p a l.banks l.age l.frozen_age sound n none page is young) size (run_by true is))
 
       pub journal_failed : ServesUp disk view parts l (command.Journal n) (answer.Refused refusal.Fault) (with_store l s)
-      journal_failed = failed disk view parts only_now sound_holds l (with_store l s) (command.Journal n) (along (is_saved_page (parts l.store) a.saved n) refl)
+      journal_failed = failed disk view parts only_now sound_holds l (with_store l s) (command.Journal n) (along (is_still_saved (parts l.store) a.saved n) refl)
 
       -- it isn't saved, or was given up since
-      pub not_saved : is_saved_page (parts l.store) (view l.store).aside.saved n ≡ false → (view s).aside ≡ (view l.store).aside → (view s).is_sound →
+      pub not_saved : is_still_saved (parts l.store) (view l.store).aside.saved n ≡ false → (view s).aside ≡ (view l.store).aside → (view s).is_sound →
           ServesUp disk view parts l (command.Journal n) (answer.Refused (refusal.NotJournaled Renewed)) (with_store l s)
       not_saved other beside sound g up =
           let p = parts l.store in
@@ -133,13 +133,13 @@ module _ {D S : Type 0} (disk : D → Disk) (view : S → View D) (parts : S →
           }
 
       -- it is saved
-      pub journal_went : is_saved_page (parts l.store) (view l.store).aside.saved n ≡ true → (generation : ℕ) → generation ≡ (view l.store).aside.saved.generation + 2 →
-          (view s).aside ≡ journaled ((view l.store).aside.saved.age + 1) n (words_now (parts l.store) n) (view l.store).aside → (view s).is_sound →
+      pub journal_went : is_still_saved (parts l.store) (view l.store).aside.saved n ≡ true → (generation : ℕ) → generation ≡ (view l.store).aside.saved.generation + 2 →
+          (view s).aside ≡ aside_after_journal ((view l.store).aside.saved.age + 1) n (words_now (parts l.store) n) (view l.store).aside → (view s).is_sound →
           ServesUp disk view parts l (command.Journal n) (answer.Journaled generation) (with_age l s (l.age + 1))
       journal_went is generation told beside sound g up =
           let p = parts l.store in
           let r = running disk view parts l in
-          let b = journaled age n (words_now p n) a in
+          let b = aside_after_journal age n (words_now p n) a in
           record {
             step = λ not_fault.
                 subst (λ (x : Running). Step g (Up r) (command.Journal n) (answer.Journaled generation) (Up x))
@@ -154,11 +154,11 @@ module _ {D S : Type 0} (disk : D → Disk) (view : S → View D) (parts : S →
 
     -- it is refused
     pub journal_refused : (why : JournalFault) (known : Bool) → AreSame (parts l.store) (parts s) → (disk (view s).beneath).sectors ≡ (disk (view l.store).beneath).sectors →
-        IsJournalAnswer (disk (view l.store).beneath) (disk (view s).beneath) (left_in (view l.store).aside) (view l.store).aside.saved (is_page_now (parts l.store) n) (is_saved_page (parts l.store) (view l.store).aside.saved n) (Err why) →
+        IsJournalAnswer (disk (view l.store).beneath) (disk (view s).beneath) (left_in (view l.store).aside) (view l.store).aside.saved (is_page_now (parts l.store) n) (is_still_saved (parts l.store) (view l.store).aside.saved n) (Err why) →
         (IsTurnedAway (Err why) → s ≡ l.store) → (known ≡ true → n < length (parts l.store).headers) → (known ≡ false → length (parts l.store).headers ≤ n) →
         (view s).aside ≡ (view l.store).aside → (IsErrOf {T = ℕ} (Err why) fault.Failed ⊎ (view s).is_sound) →
         LeavesOneOf (disk (view l.store).beneath) (disk (view s).beneath) (view l.store).aside.saved
-        (next_journaled ((view l.store).aside.saved.age + 1) n (words_now (parts l.store) n) (view l.store).aside.frozen (view l.store).aside.saved (is_page_now (parts l.store) n) (is_saved_page (parts l.store) (view l.store).aside.saved n)) →
+        (next_journaled ((view l.store).aside.saved.age + 1) n (words_now (parts l.store) n) (view l.store).aside.frozen (view l.store).aside.saved (is_page_now (parts l.store) n) (is_still_saved (parts l.store) (view l.store).aside.saved n)) →
         ServesUp disk view parts l (command.Journal n) (answer.Refused (unjournaled_by known why)) (with_store l s)
     journal_refused fault.CheckpointRunning known same size told away within past beside sound run =
         let f = some_there a.frozen told.1 in

@@ -8,7 +8,7 @@ ghost use Rattle.layout.specs.Capability.{capability_bytes, head_number, HeadFit
 use crate::bad_image::BadImage;
 use crate::bytes::{number_at, put_number};
 use bitflags::Flags;
-use model::{Access, Cap, Capability, Geometry};
+use model::{Access, Cap, Capability, Geometry, MAX_HEIGHT};
 
 /// How many bytes a capability takes.
 pub const CAPABILITY_BYTES: usize = 24;
@@ -72,7 +72,7 @@ fn is_capability(geometry: Geometry, age: u64, cap: Cap) -> bool
             height,
             access,
         } => {
-            let is_height = height >= 1 && height <= 4;
+            let is_height = height >= 1 && height <= MAX_HEIGHT;
             access.is_valid() && is_height && object < geometry.nodes && cap.count <= age
         }
         Capability::Process(object)

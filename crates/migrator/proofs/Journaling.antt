@@ -44,7 +44,7 @@ use Rattle.migrator.specs.declared.table.Place.TheVariants.{Nowhere, Torn, Whole
 use Rattle.migrator.specs.Table.{place_at}
 use Rattle.migrator.specs.Put.{Put, Kept, most, slot_bytes, put_of, puts_in, ArePut}
 use Rattle.migrator.specs.Saved.{SavedFrames, kept_of, Holds, LeavesSaved, LeavesEither}
-use Rattle.migrator.specs.Durable.{Books, books_of, DurableState, frozen_generation, working_generation, generation_after, FrozenPuts, Stored, saved_state, frozen_of, stored_in, stored_of, IsRunning, IsKept, LeavesState, GoesOnDisk, replaced_saved, replaced, with_words, replaced_header, journaled, journaled_saved, first_bytes, first_frame}
+use Rattle.migrator.specs.Durable.{Books, books_of, DurableState, frozen_generation, working_generation, generation_after, FrozenPuts, Stored, saved_state, frozen_of, stored_in, stored_of, IsRunning, IsKept, LeavesState, GoesOnDisk, replaced_saved, replaced, with_words, replaced_header, stored_after_journal, journaled_saved, first_bytes, first_frame}
 use Rattle.migrator.specs.Saving.{MaySave, SavesOnly}
 use Rattle.migrator.specs.Spared.{SparesFrames}
 use Rattle.migrator.proofs.Spared.{touches}
@@ -429,7 +429,7 @@ module _ {D : Type 0} (disk : D → Disk) (old mid : DurableState D) (n age : �
   pub object_is : n < mid.books.plan.geometry.nodes + mid.books.plan.geometry.pages
   object_is = spelt_mid.0.kind.1
 
-  pub journaled_is : replaced age n (first_frame (disk mid.beneath).seen mid.books n) (stored_of disk mid) ≡ journaled age n words (stored_of disk old)
+  pub journaled_is : replaced age n (first_frame (disk mid.beneath).seen mid.books n) (stored_of disk mid) ≡ stored_after_journal age n words (stored_of disk old)
   journaled_is = ap (λ (f : Frame). replaced age n f (stored_of disk mid)) found.1 ∙ ap (λ (s : Stored). replaced age n page s) stored
 
   -- the run to its end

@@ -244,8 +244,8 @@ with_words words f = record { header = f.header; content = content.Page words }
 abbrev pub journaled_saved : ℕ → ℕ → List ℕ → SavedFrames → SavedFrames
 journaled_saved age n words s = replaced_saved age n (with_words words (frame_at s.frames n)) s
 
-abbrev pub journaled : ℕ → ℕ → List ℕ → Stored → Stored
-journaled age n words s = replaced age n (with_words words (frame_at s.saved.frames n)) s
+abbrev pub stored_after_journal : ℕ → ℕ → List ℕ → Stored → Stored
+stored_after_journal age n words s = replaced age n (with_words words (frame_at s.saved.frames n)) s
 
 -- it may be at an age, where a page is saved
 pub record MayJournal (age n : ℕ) (s : SavedFrames) : Type 0 where

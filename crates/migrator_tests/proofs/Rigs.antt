@@ -11,7 +11,7 @@ use Rattle.layout.specs.Image.{SavedState}
 use Rattle.layout.specs.Superblock.{Plan}
 use Rattle.migrator.specs.Put.{Put, Absent, Broken, Kept}
 use Rattle.migrator.specs.Saved.{SavedFrames, Holds}
-use Rattle.migrator.specs.Durable.{DurableState, FrozenPuts, Stored, stored_of, is_sound, with_working, with_frozen, freezing, next_saved, stored_after_commit, journaled, moved, saved_state, GoesOn, ReadsStore}
+use Rattle.migrator.specs.Durable.{DurableState, FrozenPuts, Stored, stored_of, is_sound, with_working, with_frozen, freezing, next_saved, stored_after_commit, stored_after_journal, moved, saved_state, GoesOn, ReadsStore}
 use Rattle.migrator.specs.Opened.{OpensDurable}
 use Rattle.migrator_tests.specs.Rig.{IsLight, IsLightFor, IsLoad, IsRig}
 use Rattle.migrator_tests.proofs.Loads.{none_light, none_frozen, working_kept, working_broken, frozen_kept, frozen_broken, frozen_now, next_keepable, committed_now, moved_now, moved_some}
@@ -86,7 +86,7 @@ module _ {D : Type 0} (disk : D → Disk) (goes_on : Bool) (slots frozen_slots s
   rig_committed new age f k some later is plan sound =
       rig_by new goes_on slots 0 k (stored_after_commit age f (stored_of disk old)) plan (λ still. sound) is (committed_now old.books.plan.geometry slots frozen_slots size (stored_of disk old) rig.load age f some later k)
 
-  pub rig_journaled : (new : DurableState D) (age n : ℕ) (words : List ℕ) → stored_of disk new ≡ journaled age n words (stored_of disk old) → new.books.plan ≡ old.books.plan → is_sound disk new
+  pub rig_journaled : (new : DurableState D) (age n : ℕ) (words : List ℕ) → stored_of disk new ≡ stored_after_journal age n words (stored_of disk old) → new.books.plan ≡ old.books.plan → is_sound disk new
       → (disk new.beneath).may_leave (disk new.beneath).seen → IsRig disk goes_on slots frozen_slots size new
   rig_journaled new age n words is plan sound left = record {
     sound = λ _. sound;

@@ -211,7 +211,7 @@ second (Up s) (command.Migrate n) = if s.saved.entries == 0 then [] else if s.to
 second (Up s) (command.Journal n) = elim (when_home s (unjournaled s n)) [ None ↦ journaled s n ∷ [] | Some why ↦ [] ]
 second _ _ = []
 
--- a machine that is down takes only what opens it
+-- any command may fail where the machine is up; one that is down takes only what opens it
 abbrev pub MayFail : Machine → Command → Type 0
 MayFail (Up s) c = Unit {0}
 MayFail (Down saved) c = IsTrue (opens c)

@@ -7,6 +7,9 @@ ghost use Rattle.model.specs.Sound.{IsSpace};
 
 use crate::access::Access;
 
+/// The most levels of nodes that an address space has.
+pub const MAX_HEIGHT: u8 = 4;
+
 /// The authority that a slot or a register holds.
 ///
 /// A page, node or space capability names an object, a process, start or resume capability a

@@ -13,7 +13,7 @@ pub mod order;
 
 pub use access::Access;
 pub use answer::{Answer, Description, MemoryFault, Refusal, Shown, Unjournaled};
-pub use capability::{Cap, Capability};
+pub use capability::{Cap, Capability, MAX_HEIGHT};
 pub use command::{Command, Invocation, Message, Operation, REGISTERS, Register};
 pub use contents::{SLOTS, Slots, WORDS, Words};
 pub use frame::{Frame, ObjectHeader};

@@ -17,7 +17,7 @@ use Rattle.model.specs.Sound.{object_count}
 use Rattle.device.specs.Disk.{Disk}
 use Rattle.migrator.specs.Put.{most, put_or}
 use Rattle.migrator.specs.Saved.{SavedFrames, LeavesOneOf}
-use Rattle.migrator.specs.Durable.{Stored, FrozenPuts, DurableState, frozen_put, below_at, journaled, left_of, stored_of, with_words}
+use Rattle.migrator.specs.Durable.{Stored, FrozenPuts, DurableState, frozen_put, below_at, stored_after_journal, left_of, stored_of, with_words}
 use Rattle.capability.specs.Plain.{PlainState}
 use Rattle.capability.proofs.Frames.{at_set, frame_in}
 use Rattle.object_cache.specs.declared.journal_fault.JournalFault.{JournalFault}
@@ -68,7 +68,7 @@ module _ (s : Stored) (p : PlainState) (ss : List Snapshot) (is : IsStore s p ss
   words = words_in (held_at p.contents n)
 
   abbrev next : Stored
-  next = journaled age n words s
+  next = stored_after_journal age n words s
 
   abbrev page : Frame
   page = with_words words (frame_at s.saved.frames n)
@@ -82,7 +82,7 @@ module _ (s : Stored) (p : PlainState) (ss : List Snapshot) (is : IsStore s p ss
       let body : (frame_at (present_frames p) n).content ≡ content.Page (words_in (held_at p.contents n)) = ap (λ (f : Frame). f.content) (frame_in p.headers p.contents n (known_page p.headers n role_is)) ∙ page_is (held_at p.contents n) holds in
       λ k. record { header = was k; content = body k }
 
-  pub journaled_stands : IsStore (journaled age n (words_in (held_at p.contents n)) s) p ss
+  pub journaled_stands : IsStore (stored_after_journal age n (words_in (held_at p.contents n)) s) p ss
   journaled_stands = record {
     geometry = is.geometry;
     headers = is.headers;
@@ -100,8 +100,8 @@ module _ (s : Stored) (p : PlainState) (ss : List Snapshot) (is : IsStore s p ss
         ∙ ap (λ (fs : List Frame). frame_at fs m) (sym (idle_frozen next (present_frames p) ss none (is.idle none)));
   }
 
-  pub journaled_aside : aside_in (journaled age n (words_in (held_at p.contents n)) s) (frozen_frames (journaled age n (words_in (held_at p.contents n)) s) (present_frames p) ss)
-      ≡ journal.journaled age n (words_in (held_at p.contents n)) (aside_in s (frozen_frames s (present_frames p) ss))
+  pub journaled_aside : aside_in (stored_after_journal age n (words_in (held_at p.contents n)) s) (frozen_frames (stored_after_journal age n (words_in (held_at p.contents n)) s) (present_frames p) ss)
+      ≡ journal.aside_after_journal age n (words_in (held_at p.contents n)) (aside_in s (frozen_frames s (present_frames p) ss))
   journaled_aside =
       ap (λ (o : Option FrozenFrames). let x : Aside = record { frozen = o; saved = next.saved; to_move = 1 } in x)
       (ap (option_map (frozen_in next (frozen_frames next (present_frames p) ss))) none ∙ sym (ap (option_map (frozen_in s (frozen_frames s (present_frames p) ss))) none))
@@ -138,7 +138,7 @@ module _ {D : Type 0} (disk : D → Disk) (s t : StoreState D) (same : s ≡ t) 
     none_in (Some f) told = absurd cc
 
     pub journal_stands : {T E : Type 0} (r : Result T E) → OnOk r ((option_map left_of (stored_of disk s.durable).frozen ≡ None) × (is_page_role (header_at s.present.headers n).role ≡ true)) →
-        OnOk r (stored_of disk d ≡ journaled age n (words_in (held_at s.present.contents n)) (stored_of disk s.durable)) → OnErr r (stored_of disk d ≡ stored_of disk s.durable) → IsStore (stored_of disk d) s.present s.snapshots
+        OnOk r (stored_of disk d ≡ stored_after_journal age n (words_in (held_at s.present.contents n)) (stored_of disk s.durable)) → OnErr r (stored_of disk d ≡ stored_of disk s.durable) → IsStore (stored_of disk d) s.present s.snapshots
     journal_stands (Ok x) there done unchanged =
         let page = role_is_page _ there.1 in
         subst (λ (x : Stored). IsStore x s.present s.snapshots) (sym done) (journaled_stands st s.present s.snapshots is age n (none_in st.frozen there.0) page (holds page))
@@ -147,8 +147,8 @@ module _ {D : Type 0} (disk : D → Disk) (s t : StoreState D) (same : s ≡ t) 
     abbrev after : StoreState D
     after = record { durable = d; present = s.present; snapshots = s.snapshots }
 
-    aside_own : {T E : Type 0} (r : Result T E) → OnOk r IsThere → OnOk r (stored_of disk d ≡ journaled age n (words_in (held_at s.present.contents n)) st) →
-        OnOk r ((view_of disk after).aside ≡ journal.journaled age n (words_in (held_at s.present.contents n)) (view_of disk s).aside)
+    aside_own : {T E : Type 0} (r : Result T E) → OnOk r IsThere → OnOk r (stored_of disk d ≡ stored_after_journal age n (words_in (held_at s.present.contents n)) st) →
+        OnOk r ((view_of disk after).aside ≡ journal.aside_after_journal age n (words_in (held_at s.present.contents n)) (view_of disk s).aside)
     aside_own (Ok x) there done =
         let page = role_is_page _ there.1 in
         ap (λ (x : Stored). aside_in x (frozen_frames x (present_frames s.present) s.snapshots)) done
@@ -156,9 +156,9 @@ module _ {D : Type 0} (disk : D → Disk) (s t : StoreState D) (same : s ≡ t) 
     aside_own (Err e) there done = tt
 
     pub journal_aside : {T E : Type 0} (r : Result T E) → OnOk r ((option_map left_of (stored_of disk s.durable).frozen ≡ None) × (is_page_role (header_at s.present.headers n).role ≡ true)) →
-        OnOk r (stored_of disk d ≡ journaled age n (words_in (held_at s.present.contents n)) (stored_of disk s.durable)) →
-        OnOk r ((view_of disk (record { durable = d; present = s.present; snapshots = s.snapshots })).aside ≡ journal.journaled age n (words_in (held_at t.present.contents n)) (view_of disk t).aside)
-    journal_aside r there done = subst (λ (x : StoreState D). OnOk r ((view_of disk after).aside ≡ journal.journaled age n (words_in (held_at x.present.contents n)) (view_of disk x).aside)) same (aside_own r there done)
+        OnOk r (stored_of disk d ≡ stored_after_journal age n (words_in (held_at s.present.contents n)) (stored_of disk s.durable)) →
+        OnOk r ((view_of disk (record { durable = d; present = s.present; snapshots = s.snapshots })).aside ≡ journal.aside_after_journal age n (words_in (held_at t.present.contents n)) (view_of disk t).aside)
+    journal_aside r there done = subst (λ (x : StoreState D). OnOk r ((view_of disk after).aside ≡ journal.aside_after_journal age n (words_in (held_at x.present.contents n)) (view_of disk x).aside)) same (aside_own r there done)
 
     same_aside : {T E : Type 0} (r : Result T E) → OnErr r (stored_of disk d ≡ st) → OnErr r ((view_of disk after).aside ≡ (view_of disk s).aside)
     same_aside (Ok x) unchanged = tt

@@ -29,12 +29,12 @@ abbrev pub is_same_page : ℕ → Frame → Bool
 is_same_page allocations f = is_page_role f.header.role && (allocations == f.header.allocations)
 
 -- whether a page is saved at a number, and wasn't given up since: its count of allocations is that of the object now
-abbrev pub is_saved_page : Parts → SavedFrames → ℕ → Bool
-is_saved_page p s n = is_same_page (header_at p.headers n).allocations (frame_at s.frames n)
+abbrev pub is_still_saved : Parts → SavedFrames → ℕ → Bool
+is_still_saved p s n = is_same_page (header_at p.headers n).allocations (frame_at s.frames n)
 
 -- the page is saved with the words that it has now, and nothing else is saved anew
-abbrev pub journaled : ℕ → ℕ → List ℕ → Aside → Aside
-journaled age n words c = record { frozen = c.frozen; saved = journaled_saved age n words c.saved; to_move = 1 }
+abbrev pub aside_after_journal : ℕ → ℕ → List ℕ → Aside → Aside
+aside_after_journal age n words c = record { frozen = c.frozen; saved = journaled_saved age n words c.saved; to_move = 1 }
 
 -- what is saved then, where nothing refuses it
 abbrev pub saved_next : ℕ → ℕ → List ℕ → SavedFrames → (is_page is_saved : Bool) → Option SavedFrames

@@ -6,7 +6,7 @@ ghost use Rattle.device.specs.Disk.{Image};
 ghost use Rattle.device.specs.Calls.{Counts};
 ghost use Rattle.device.specs.Moments.{Peeks};
 ghost use Rattle.migrator.specs.Saved.{Holds, LeavesSaved, LeavesEither, LeavesOneOf};
-ghost use Rattle.object_cache.specs.Journal.{IsJournalAnswer, IsTurnedAway, is_page_now, is_saved_page, journaled, next_journaled, words_now};
+ghost use Rattle.object_cache.specs.Journal.{IsJournalAnswer, IsTurnedAway, is_page_now, is_still_saved, aside_after_journal, next_journaled, words_now};
 ghost use Rattle.migrator.specs.Opened.{Refuses};
 ghost use Rattle.capability.specs.Parts.{frames_of};
 ghost use Rattle.migrator.specs.Refused.{IsCommitAnswer, IsFreezeAnswer, IsRefused};
@@ -171,13 +171,13 @@ pub trait ObjectStore<D: Device>: PresentFrames + Sized {
         ensures answer { IsJournalAnswer (D.disk (view self.old).beneath) (D.disk (view self.new).beneath)
             (left_in (view self.old).aside) (view self.old).aside.saved
             (is_page_now (Self.parts self.old) number)
-            (is_saved_page (Self.parts self.old) (view self.old).aside.saved number) result }
+            (is_still_saved (Self.parts self.old) (view self.old).aside.saved number) result }
         ensures turned_away { IsTurnedAway result → self.new ≡ self.old }
         ensures headers { (Self.parts self.new).headers ≡ (Self.parts self.old).headers }
         ensures contents { (Self.parts self.new).contents ≡ (Self.parts self.old).contents }
         ensures touched { (Self.parts self.new).touched ≡ (Self.parts self.old).touched }
         ensures geometry { (Self.parts self.new).geometry ≡ (Self.parts self.old).geometry }
-        ensures aside { OnOk result ((view self.new).aside ≡ journaled age number
+        ensures aside { OnOk result ((view self.new).aside ≡ aside_after_journal age number
             (words_now (Self.parts self.old) number) (view self.old).aside) }
         ensures unchanged { OnErr result ((view self.new).aside ≡ (view self.old).aside) }
         ensures sound { IsErrOf result JournalFault.Failed ⊎ (view self.new).is_sound }
@@ -186,7 +186,7 @@ pub trait ObjectStore<D: Device>: PresentFrames + Sized {
             (view self.old).aside.saved (next_journaled age number
             (words_now (Self.parts self.old) number) (view self.old).aside.frozen
             (view self.old).aside.saved (is_page_now (Self.parts self.old) number)
-            (is_saved_page (Self.parts self.old) (view self.old).aside.saved number)) };
+            (is_still_saved (Self.parts self.old) (view self.old).aside.saved number)) };
 
     /// What happens to the present objects leaves the rest alone.
     ghost leads: { (s t : Self) → Self.LeadsTo s t → Leads D.disk (view s) (view t) };

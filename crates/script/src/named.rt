@@ -10,7 +10,7 @@ ghost use Rattle.script.specs.Reading.{Gives};
 
 use crate::shown::state_word;
 use crate::words::Words;
-use model::{Access, Capability, State};
+use model::{Access, Capability, MAX_HEIGHT, State};
 
 // What the first word of a capability says.
 #[derive(Clone, Copy)]
@@ -104,7 +104,7 @@ fn height(words: &mut Words<'_>) -> Option<u8>
     ensures { Gives result words.new (height_at words.old) }
 {
     let height = words.number()?;
-    if 1 <= height && height <= 4 {
+    if 1 <= height && height <= MAX_HEIGHT as u64 {
         Some(height as u8)
     } else {
         None

@@ -7,7 +7,7 @@ ghost use Rattle.model.specs.declared.object.Role.TheVariants as role;
 ghost use Rattle.frame_io.specs.Frames.{IsObject};
 ghost use Rattle.migrator.specs.Refused.{IsJournalAnswer, IsRefused};
 ghost use Rattle.migrator.specs.Saved.{LeavesEither};
-ghost use Rattle.migrator.specs.Durable.{stored_of, is_sound, left_of, first_bytes, first_frame, journaled, journaled_saved, MayJournal, replaced, replaced_header, replaced_saved, with_words, GoesOn, ReadsStore};
+ghost use Rattle.migrator.specs.Durable.{stored_of, is_sound, left_of, first_bytes, first_frame, stored_after_journal, journaled_saved, MayJournal, replaced, replaced_header, replaced_saved, with_words, GoesOn, ReadsStore};
 
 use crate::checkpoint_fault::CheckpointFault;
 use crate::durable::Durable;
@@ -115,7 +115,7 @@ impl<D: Device> Durable<D> {
         requires words { length words.now ≡ 512 }
         requires sound { is_sound D.disk self.old }
         ensures journaled { OnOk result (stored_of D.disk self.new
-            ≡ journaled age number words.now (stored_of D.disk self.old)) }
+            ≡ stored_after_journal age number words.now (stored_of D.disk self.old)) }
         ensures unchanged { OnErr result (stored_of D.disk self.new ≡ stored_of D.disk self.old) }
         ensures plan { self.new.books.plan ≡ self.old.books.plan }
         ensures sound { OnOk result (is_sound D.disk self.new) }
@@ -143,7 +143,7 @@ impl<D: Device> Durable<D> {
             → (stored_of D.disk self.old).saved.entries ≡ 0
             → MayJournal age number (stored_of D.disk self.old).saved }
         ensures journaled { OnOk result (stored_of D.disk self.new
-            ≡ journaled age number words.now (stored_of D.disk self.old)) }
+            ≡ stored_after_journal age number words.now (stored_of D.disk self.old)) }
         ensures unchanged { OnErr result (stored_of D.disk self.new ≡ stored_of D.disk self.old) }
         ensures untouched { IsRefused result → self.new ≡ self.old }
         ensures plan { self.new.books.plan ≡ self.old.books.plan }

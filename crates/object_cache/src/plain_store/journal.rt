@@ -7,7 +7,7 @@ ghost use Rattle.device.specs.Calls.{Counts};
 ghost use Rattle.frame_io.specs.Frames.{IsObject};
 ghost use Rattle.migrator.specs.Saved.{LeavesEither, LeavesOneOf};
 ghost use Rattle.model.specs.Sound.{object_count};
-ghost use Rattle.migrator.specs.Durable.{stored_of, is_sound, left_of, journaled, journaled_saved, ReadsStore};
+ghost use Rattle.migrator.specs.Durable.{stored_of, is_sound, left_of, stored_after_journal, journaled_saved, ReadsStore};
 ghost use Rattle.object_cache.specs.Journal.{IsJournalAnswer, IsTurnedAway, is_page_role, is_same_page, next_journaled};
 
 use crate::journal_fault::JournalFault;
@@ -59,7 +59,7 @@ fn save_words<D: Device>(
     requires later { (stored_of D.disk durable.old).saved.age < age }
     requires most { age ≤ 2 ^ 62 }
     ensures journaled { OnOk result (stored_of D.disk durable.new
-        ≡ journaled age number (words_in content.now) (stored_of D.disk durable.old)) }
+        ≡ stored_after_journal age number (words_in content.now) (stored_of D.disk durable.old)) }
     ensures unchanged { OnErr result (stored_of D.disk durable.new ≡ stored_of D.disk durable.old) }
     ensures plan { durable.new.books.plan ≡ durable.old.books.plan }
     ensures generation { IfOk result (λ generation. generation
@@ -94,7 +94,7 @@ pub(crate) fn journal_page<D: Device>(
     requires sound { is_sound D.disk durable.old }
     requires later { (stored_of D.disk durable.old).saved.age < age }
     requires most { age ≤ 2 ^ 62 }
-    ensures journaled { OnOk result (stored_of D.disk durable.new ≡ journaled age number
+    ensures journaled { OnOk result (stored_of D.disk durable.new ≡ stored_after_journal age number
         (words_in (held_at present.now.contents number)) (stored_of D.disk durable.old)) }
     ensures unchanged { OnErr result (stored_of D.disk durable.new ≡ stored_of D.disk durable.old) }
     ensures turned_away { IsTurnedAway result → durable.new ≡ durable.old }

@@ -6,7 +6,7 @@ use Rattle.migrator.specs.Saved.{LeavesOneOf}
 use Rattle.processes.specs.Machine.{IsUnlooked}
 use Rattle.processes.proofs.Serving.{AreSame}
 use Rattle.object_cache.specs.Store.{left_in}
-use Rattle.object_cache.specs.Journal.{is_page_now, is_saved_page, journaled, next_journaled, words_now}
+use Rattle.object_cache.specs.Journal.{is_page_now, is_still_saved, aside_after_journal, next_journaled, words_now}
 use Rattle.kernel.specs.Standing.{IsCaused, ServesUp}
 use Rattle.kernel.proofs.Acts.{with_store}
 use Rattle.kernel.proofs.Journals.{journal_cause, journal_refused, journal_went, lies_past, lies_within, sound_done, too_old, unlooked_same}
@@ -38,9 +38,9 @@ returns-in-Ok-clause-serves g c =
     let same : AreSame (parts c.args.live.now.store) (parts c.journal.new.self) = record { headers = said.headers; contents = said.contents; touched = said.touched; geometry = said.geometry } in
     journal_went disk view parts only holds c.args.live.now c.journal.new.self n c.if-live-ge-MAX_AGE.false same said.size
     (subst (λ (k : ℕ). LeavesOneOf (disk (view c.args.live.now.store).beneath) (disk (view c.journal.new.self).beneath) aside.saved
-    (next_journaled (k + 1) n (words_now p n) aside.frozen aside.saved (is_page_now p n) (is_saved_page p aside.saved n))) age said.any_moment)
+    (next_journaled (k + 1) n (words_now p n) aside.frozen aside.saved (is_page_now p n) (is_still_saved p aside.saved n))) age said.any_moment)
     (none_there aside.frozen told.1) told.2 told.3 told.4 c.in-Ok.generation told.5
-    (subst (λ (k : ℕ). (view c.journal.new.self).aside ≡ journaled (k + 1) n (words_now p n) aside) age said.aside)
+    (subst (λ (k : ℕ). (view c.journal.new.self).aside ≡ aside_after_journal (k + 1) n (words_now p n) aside) age said.aside)
     (sound_done c.in-Ok.generation said.sound)
 
 pub returns-in-Err-clause-serves : goal.returns-in-Err-clause-serves
@@ -60,7 +60,7 @@ returns-in-Err-clause-serves g c =
     (journal_refused disk view parts only holds c.args.live.now c.journal.new.self n c.if-live-ge-MAX_AGE.false c.in-Err.fault (nat_lt n c.count.result) same said.size said.answer said.turned_away
     (lies_within n c.count.result (length p.headers) count) (lies_past n c.count.result (length p.headers) count) said.unchanged said.sound
     (subst (λ (k : ℕ). LeavesOneOf (disk (view c.args.live.now.store).beneath) (disk (view c.journal.new.self).beneath) aside.saved
-    (next_journaled (k + 1) n (words_now p n) aside.frozen aside.saved (is_page_now p n) (is_saved_page p aside.saved n))) c.saved-age.ensures.age said.any_moment))
+    (next_journaled (k + 1) n (words_now p n) aside.frozen aside.saved (is_page_now p n) (is_still_saved p aside.saved n))) c.saved-age.ensures.age said.any_moment))
 
 pub returns-in-Err-clause-cause : goal.returns-in-Err-clause-cause
 returns-in-Err-clause-cause g c =
@@ -69,7 +69,7 @@ returns-in-Err-clause-cause g c =
     let old = g.D.Device.disk (g.S.ObjectStore.view c.args.live.now.store).beneath in
     let new = g.D.Device.disk (g.S.ObjectStore.view c.journal.new.self).beneath in
     subst (λ (a : Answer). IsCaused old new a) (sym c.refused.ensures.answer)
-    (journal_cause old new (left_in aside) aside.saved (is_page_now (parts c.args.live.now.store) c.args.number) (is_saved_page (parts c.args.live.now.store) aside.saved c.args.number)
+    (journal_cause old new (left_in aside) aside.saved (is_page_now (parts c.args.live.now.store) c.args.number) (is_still_saved (parts c.args.live.now.store) aside.saved c.args.number)
     (nat_lt c.args.number c.count.result) c.in-Err.fault c.in-Err.ensures.answer)
 
 pub returns-in-Err-clause-untouched : goal.returns-in-Err-clause-untouched
