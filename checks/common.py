@@ -12,7 +12,7 @@ MOST, WORDS = 256, 2**64
 INVOCATION = "nrnnnnrrrr"
 FORMS = {
     b"call": INVOCATION, b"return": INVOCATION, b"send": INVOCATION, b"load": "nn", b"store": "nnn", b"show": "n", b"evict": "n",
-    b"checkpoint": "", b"stabilize": "n", b"commit": "", b"migrate": "n", b"restart": "", b"cut": "",
+    b"checkpoint": "", b"stabilize": "n", b"commit": "", b"migrate": "n", b"journal": "n", b"restart": "", b"cut": "",
 }
 NUMBER = rb"(0|[1-9][0-9]*)"
 CAP = rb"(number N|page N(?: ro| weak)?|node N(?: ro| weak)?|space N [1-4](?: ro| weak)?|process N|start N N|resume N|bank N|discrim)"
@@ -34,6 +34,7 @@ ANSWERS = {
     b"show": re.compile(rb"bad number"), b"evict": re.compile(rb"done|bad number"),
     b"checkpoint": pattern(rb"frozen N|worn|checkpoint running|migration pending"),
     b"stabilize": pattern(rb"left N|no checkpoint"), b"commit": pattern(rb"committed N|not stable N|no checkpoint"),
+    b"journal": pattern(rb"journaled N|worn|checkpoint running|migration pending|bad number|not journaled [12]"),
     b"migrate": pattern(rb"left N"), b"restart": pattern(rb"at N N"), b"cut": pattern(rb"at N N"),
 }
 
