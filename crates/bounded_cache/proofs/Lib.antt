@@ -21,3 +21,4 @@ mod Owing
 mod Copying
 mod Settling
 mod Fetched
+mod Bringing

@@ -3,3 +3,4 @@ pub mod Entries
 pub mod Order
 pub mod Memory
 pub mod Cache
+pub mod Prepared
