@@ -22,3 +22,4 @@ mod Copying
 mod Settling
 mod Fetched
 mod Bringing
+mod Readying

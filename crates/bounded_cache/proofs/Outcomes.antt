@@ -15,6 +15,10 @@ pub ok_both : {T E P Q R : Type 0} (r : Result T E) → OnOk r P → OnOk r Q �
 ok_both (Ok t) first second next = next first second
 ok_both (Err e) first second next = first
 
+pub on_ok : {T E P : Type 0} (r : Result T E) → P → OnOk r P
+on_ok (Ok t) holds = holds
+on_ok (Err e) holds = tt
+
 pub on_err : {T E P : Type 0} (r : Result T E) → P → OnErr r P
 on_err (Ok t) holds = tt
 on_err (Err e) holds = holds
