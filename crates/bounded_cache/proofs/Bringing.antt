@@ -24,7 +24,8 @@ use Rattle.bounded_cache.specs.Memory.{Memory, content_at, contents_in}
 use Rattle.bounded_cache.specs.Order.{without}
 use Rattle.bounded_cache.specs.Cache.{CacheState, IsCache, IsFetchedIn, GoesOnIn, cache_of, parts_of, seat_at, seats_in, with_seat}
 use Rattle.bounded_cache.specs.Prepared.{IsRecentIn, on_device_with}
-use Rattle.bounded_cache.proofs.Leading.{leads_same, leads_on, leads_seats}
+use Rattle.bounded_cache.specs.CacheLaws.{goes_on_same, goes_on_twice}
+use Rattle.bounded_cache.proofs.Leading.{leads_seats}
 use Rattle.bounded_cache.proofs.Recent.{front_without}
 
 -- ---- the front of an order
@@ -153,8 +154,8 @@ module _ {D : Type 0} (disk : D → Disk) where
   pub seat_leads : ((d : D) (c : Image) → (disk d).left_since (disk d).moment c → (disk d).may_leave c) → {T E : Type 0} (r : Result T E) (s t : CacheState D) (n : ℕ) →
       OnOk r (t ≡ with_seat n s) → OnErr r (t ≡ s) → GoesOnIn disk s t
   seat_leads only_now (Ok x) s t n ok err = subst (GoesOnIn disk s) (sym ok)
-      (leads_seats disk s s (with_seat n s).seats (with_seat n s).owed (with_seat n s).order (leads_same disk only_now s))
-  seat_leads only_now (Err e) s t n ok err = subst (GoesOnIn disk s) (sym err) (leads_same disk only_now s)
+      (leads_seats disk s s (with_seat n s).seats (with_seat n s).owed (with_seat n s).order (goes_on_same disk only_now s))
+  seat_leads only_now (Err e) s t n ok err = subst (GoesOnIn disk s) (sym err) (goes_on_same disk only_now s)
 
   -- what can be kept can be kept once other things are in memory
   pub keepable_on : (s t : CacheState D) → t ≡ on_device_with s t → GoesOnIn disk s t → AreKeepable (parts_of disk s).geometry most (frames_of (parts_of disk s)) →

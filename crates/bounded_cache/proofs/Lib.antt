@@ -23,3 +23,4 @@ mod Settling
 mod Fetched
 mod Bringing
 mod Readying
+mod Presenting

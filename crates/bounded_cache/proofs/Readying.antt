@@ -16,7 +16,8 @@ use Rattle.bounded_cache.specs.Memory.{Memory, content_at, contents_in}
 use Rattle.bounded_cache.specs.Cache.{CacheState, IsCache, IsFetchedIn, IsAnnouncedIn, GoesOnIn, cache_of, on_device, seat_at}
 use Rattle.bounded_cache.specs.Prepared.{HasRoomIn, on_device_with}
 use Rattle.bounded_cache.proofs.Bringing.{seat_within, still_seated}
-use Rattle.bounded_cache.proofs.Leading.{leads_same, leads_seats}
+use Rattle.bounded_cache.specs.CacheLaws.{goes_on_same}
+use Rattle.bounded_cache.proofs.Leading.{leads_seats}
 use Rattle.bounded_cache.proofs.Marks.{listed_is_marked}
 
 module _ {D : Type 0} where
@@ -58,7 +59,7 @@ module _ {D : Type 0} (disk : D → Disk) where
 
   module _ (only_now : (d : D) (c : Image) → (disk d).left_since (disk d).moment c → (disk d).may_leave c) where
     pub ready_leads : (s t : CacheState D) → t ≡ record s { owed = t.owed; seats = t.seats } → GoesOnIn disk s t
-    ready_leads s t is = subst (GoesOnIn disk s) (sym is) (leads_seats disk s s t.seats t.owed s.order (leads_same disk only_now s))
+    ready_leads s t is = subst (GoesOnIn disk s) (sym is) (leads_seats disk s s t.seats t.owed s.order (goes_on_same disk only_now s))
 
     pub mark_leads : (s : CacheState D) (ts ds : List Bool) → touched_count s.touched ≤ touched_count ts → GoesOnIn disk s (record s { touched = ts; dirty = ds })
     mark_leads s ts ds grows = record {

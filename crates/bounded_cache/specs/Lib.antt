@@ -4,3 +4,4 @@ pub mod Order
 pub mod Memory
 pub mod Cache
 pub mod Prepared
+pub mod CacheLaws

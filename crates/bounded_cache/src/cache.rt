@@ -31,6 +31,7 @@ use std::marker::Model;
 mod fetch;
 mod hand;
 mod prepare;
+mod present;
 mod read;
 mod stages;
 

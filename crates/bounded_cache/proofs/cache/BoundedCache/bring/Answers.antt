@@ -1,11 +1,11 @@
 use Rattle.bounded_cache.proofs.Bringing.{read_recent, seat_first, seat_recent, seat_leads}
-use Rattle.bounded_cache.proofs.Leading.{leads_on}
+use Rattle.bounded_cache.specs.CacheLaws.{goes_on_twice}
 use Rattle.bounded_cache.proofs.Outcomes.{ok_then, ok_both}
 use Rattle.bounded_cache.proofs.cache.BoundedCache.bring.Goals as goal
 
 pub returns-in_err-content-clause-leads : goal.returns-in_err-content-clause-leads
 returns-in_err-content-clause-leads g c =
-    leads_on g.D.Device.disk g.met.D.Device.counts_now c.args.self.now c.make_place.new.self c.read.new.self c.make_place.ensures.leads c.read.ensures.leads
+    goes_on_twice g.D.Device.disk g.met.D.Device.counts_now c.args.self.now c.make_place.new.self c.read.new.self c.make_place.ensures.leads c.read.ensures.leads
 
 pub returns-clause-first : goal.returns-clause-first
 returns-clause-first g c =
@@ -20,6 +20,6 @@ returns-clause-recent g c =
 
 pub returns-clause-leads : goal.returns-clause-leads
 returns-clause-leads g c =
-    leads_on g.D.Device.disk g.met.D.Device.counts_now c.args.self.now c.read.new.self c.take_in.new.self
-    (leads_on g.D.Device.disk g.met.D.Device.counts_now c.args.self.now c.make_place.new.self c.read.new.self c.make_place.ensures.leads c.read.ensures.leads)
+    goes_on_twice g.D.Device.disk g.met.D.Device.counts_now c.args.self.now c.read.new.self c.take_in.new.self
+    (goes_on_twice g.D.Device.disk g.met.D.Device.counts_now c.args.self.now c.make_place.new.self c.read.new.self c.make_place.ensures.leads c.read.ensures.leads)
     (seat_leads g.D.Device.disk g.met.D.Device.only_now c.take_in.result c.read.new.self c.take_in.new.self c.args.number c.take_in.ensures.seated c.take_in.ensures.unchanged)

@@ -1,12 +1,12 @@
 use Rattle.std.proofs.Common.{ℕ, ◌∙◌, arith}
 use Rattle.bounded_cache.specs.Cache.{IsFetchedIn}
 use Rattle.bounded_cache.proofs.Bringing.{rest_on, no_failure, all_listed, recent_on}
-use Rattle.bounded_cache.proofs.Leading.{leads_on}
+use Rattle.bounded_cache.specs.CacheLaws.{goes_on_twice}
 use Rattle.bounded_cache.proofs.cache.BoundedCache.fetch_all.Goals as goal
 
 pub returns-in_err-fetch_one-clause-leads : goal.returns-in_err-fetch_one-clause-leads
 returns-in_err-fetch_one-clause-leads g c =
-    leads_on g.D.Device.disk g.met.D.Device.counts_now c.args.self.now c.loop-number.self c.fetch_one.new.self c.loop-number.invariant.3 c.fetch_one.ensures.leads
+    goes_on_twice g.D.Device.disk g.met.D.Device.counts_now c.args.self.now c.loop-number.self c.fetch_one.new.self c.loop-number.invariant.3 c.fetch_one.ensures.leads
 
 pub loop-number-preserved : goal.loop-number-preserved
 loop-number-preserved g c =
@@ -19,7 +19,7 @@ loop-number-preserved g c =
       recent_on t u c.args.fetched.now c.loop-number.number-index (omega (arith, c.loop-number-test.true, c.requires.few)) ok.recent ok.first before.0,
       rest_on s t u before.1 c.fetch_one.ensures.rest,
       c.fetch_one.ensures.empty,
-      leads_on disk g.met.D.Device.counts_now s t u before.3 c.fetch_one.ensures.leads,
+      goes_on_twice disk g.met.D.Device.counts_now s t u before.3 c.fetch_one.ensures.leads,
       no_failure c.in_ok-fetch_one.field-0 (disk t.durable.beneath).failures (disk u.durable.beneath).failures ok.cause c.fetch_one.ensures.leads.later ∙ before.4,
     )
 

@@ -4,7 +4,8 @@ use Rattle.bounded_cache.specs.Order.{without}
 use Rattle.bounded_cache.specs.Cache.{CacheState, GoesOnIn}
 use Rattle.bounded_cache.specs.Prepared.{IsRecentIn}
 use Rattle.bounded_cache.proofs.Bringing.{use_first, use_recent}
-use Rattle.bounded_cache.proofs.Leading.{leads_same, leads_seats}
+use Rattle.bounded_cache.specs.CacheLaws.{goes_on_same}
+use Rattle.bounded_cache.proofs.Leading.{leads_seats}
 use Rattle.bounded_cache.proofs.Owing.{fetched_by, unseated_by}
 use Rattle.bounded_cache.proofs.cache.BoundedCache.fetch_one.Goals as goal
 
@@ -36,4 +37,4 @@ pub returns-then-holds-clause-leads : goal.returns-then-holds-clause-leads
 returns-then-holds-clause-leads g c =
     let s = c.args.self.now in
     subst (GoesOnIn g.D.Device.disk s) (sym c.use_now.ensures)
-    (leads_seats g.D.Device.disk s s s.seats s.owed (c.args.number ∷ without c.args.number s.order) (leads_same g.D.Device.disk g.met.D.Device.only_now s))
+    (leads_seats g.D.Device.disk s s s.seats s.owed (c.args.number ∷ without c.args.number s.order) (goes_on_same g.D.Device.disk g.met.D.Device.only_now s))
