@@ -1,5 +1,5 @@
 -- Objects are brought into memory: those used last stay there.
-use Rattle.std.proofs.Common.{◌≡◌, ◌≢◌, ◌↔◌, inl, inr, ℕ, zero, suc, ◌+◌, ◌<◌, ◌≤◌, nat_eq, Bool, true, false, ◌||◌, true≢false, List, [], ◌∷◌, length, set, take, Option, Some, None, IsSome, is_some, Result, Ok, Err, refl, sym, ap, subst, ◌∙◌, arith, length-set}
+use Rattle.std.proofs.Common.{◌≡◌, ◌↔◌, inl, inr, ℕ, zero, suc, ◌+◌, ◌<◌, ◌≤◌, nat_eq, Bool, true, false, ◌||◌, true≢false, List, [], ◌∷◌, length, set, take, Option, Some, None, IsSome, is_some, Result, Ok, Err, refl, sym, ap, subst, ◌∙◌, arith}
 use Rattle.std.specs.Prelude.{IsErrOf, OnOk, OnErr, option_map, slice_index_or}
 use Rattle.std.specs.List.{Contains}
 use Rattle.std.proofs.lemmas.Bool.{cases_eq, cases_lt, eq-eqb}
@@ -15,7 +15,6 @@ use Rattle.device.specs.Disk.{Image, Disk}
 use Rattle.migrator.specs.Put.{most}
 use Rattle.migrator.specs.Durable.{DurableState, stored_of}
 use Rattle.capability.specs.Parts.{frames_of}
-use Rattle.capability.specs.declared.present.PrepareFault.{PrepareFault}
 use Rattle.capability.specs.declared.present.PrepareFault.TheVariants as fault
 use Rattle.object_cache.specs.Store.{Aside}
 use Rattle.bounded_cache.specs.declared.entry.Entry.{Entry}
@@ -24,7 +23,7 @@ use Rattle.bounded_cache.specs.Memory.{Memory, content_at, contents_in}
 use Rattle.bounded_cache.specs.Order.{without}
 use Rattle.bounded_cache.specs.Cache.{CacheState, IsCache, IsFetchedIn, GoesOnIn, cache_of, parts_of, seat_at, seats_in, with_seat}
 use Rattle.bounded_cache.specs.Prepared.{IsRecentIn, on_device_with}
-use Rattle.bounded_cache.specs.CacheLaws.{goes_on_same, goes_on_twice}
+use Rattle.bounded_cache.specs.CacheLaws.{goes_on_same}
 use Rattle.bounded_cache.proofs.Leading.{leads_seats}
 use Rattle.bounded_cache.proofs.Recent.{front_without}
 

@@ -1,11 +1,10 @@
 -- What is fetched and announced stays so while present objects change.
-use Rattle.std.proofs.Common.{◌≡◌, ◌≢◌, inl, inr, ℕ, ◌<◌, List, length, set, Option, Some, None, IsSome, is_some, refl, sym, ap, subst, ◌∙◌, arith, length-set}
+use Rattle.std.proofs.Common.{◌≡◌, ◌≢◌, inl, inr, ℕ, ◌<◌, List, length, set, Option, Some, None, is_some, refl, sym, ap, ◌∙◌, arith, length-set}
 use Rattle.std.proofs.lemmas.Bool.{cases_eq}
 use Rattle.std.proofs.lemmas.List.{get_or-set_same, get_or-set_other}
 use Rattle.model.specs.declared.capability.Cap.{Cap}
 use Rattle.model.specs.declared.frame.ObjectHeader.{ObjectHeader}
 use Rattle.model.specs.declared.object.Content.{Content}
-use Rattle.model.specs.declared.object.Role.{Role}
 use Rattle.model.specs.declared.object.Role.TheVariants as role
 use Rattle.model.specs.Frame.{blank_header, header_at, void_held}
 use Rattle.model.specs.Object.{role_of}
@@ -15,7 +14,7 @@ use Rattle.migrator.proofs.Moving.{goes_none}
 use Rattle.capability.specs.declared.present.Fresh.{Fresh}
 use Rattle.capability.specs.declared.present.Fresh.TheVariants as fresh
 use Rattle.capability.specs.Parts.{fresh_content}
-use Rattle.bounded_cache.specs.Cache.{CacheState, IsFetchedIn, IsAnnouncedIn, GoesOnIn, seat_at}
+use Rattle.bounded_cache.specs.Cache.{CacheState, IsFetchedIn, IsAnnouncedIn, GoesOnIn}
 use Rattle.bounded_cache.proofs.Bringing.{still_seated}
 
 -- a header of the same role leaves all roles

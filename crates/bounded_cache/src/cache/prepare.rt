@@ -13,9 +13,9 @@ ghost use Rattle.bounded_cache.specs.Prepared.{HasRoomIn, on_device_with};
 
 use crate::cache::BoundedCache;
 use crate::entry::is_shared;
-use capability::{MAX_FETCHED, PrepareFault};
 use capability::plain::rooms::blank;
 use capability::plain::touched::{fresh_count, mark};
+use capability::{MAX_FETCHED, PrepareFault};
 use device::Device;
 use model::Role;
 use std::alloc::{AllocError, Global};

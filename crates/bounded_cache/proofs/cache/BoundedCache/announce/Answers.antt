@@ -47,6 +47,6 @@ returns-clause-leads g c =
     let s = c.args.self.now in
     let ns = c.args.written.now in
     let grows : touched_count s.touched ≤ touched_count (touching s.touched ns) =
-        omega (arith, c.fresh_count-fresh.ensures, ap (λ (t : CacheState g.row.D.Denot). touched_count t.touched) c.self.view_is, ap (λ (t : CacheState g.row.D.Denot). touched_count (touching t.touched ns)) c.self.view_is) in
+    omega (arith, c.fresh_count-fresh.ensures, ap (λ (t : CacheState g.row.D.Denot). touched_count t.touched) c.self.view_is, ap (λ (t : CacheState g.row.D.Denot). touched_count (touching t.touched ns)) c.self.view_is) in
     rw (c.mark.ensures.marked, c.mark-2.ensures.marked) (subst (GoesOnIn g.D.Device.disk s) (sym (mark_seen g.D.Device.disk i.durable m i.left i.count i.entries.order i.entries.most c.args.self.now c.self.view_is c.self.invariant.0 ns (λ n has. All-contains (λ k. k < length c.args.self.now.headers) c.args.written.now n c.requires.known has) c.requires.apart))
     (mark_leads g.D.Device.disk g.met.D.Device.only_now s (touching s.touched ns) (touching s.dirty ns) grows))

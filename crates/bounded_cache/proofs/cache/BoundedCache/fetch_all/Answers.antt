@@ -1,4 +1,4 @@
-use Rattle.std.proofs.Common.{ℕ, ◌∙◌, arith}
+use Rattle.std.proofs.Common.{◌∙◌, arith}
 use Rattle.bounded_cache.specs.Cache.{IsFetchedIn}
 use Rattle.bounded_cache.proofs.Bringing.{rest_on, no_failure, all_listed, recent_on}
 use Rattle.bounded_cache.specs.CacheLaws.{goes_on_twice}
