@@ -21,3 +21,6 @@ mod Owing
 mod Copying
 mod Settling
 mod Fetched
+mod Bringing
+mod Readying
+mod Presenting

@@ -11,6 +11,14 @@ pub ok_then : {T E P Q : Type 0} (r : Result T E) → OnOk r P → (P → Q) →
 ok_then (Ok t) ok next = next ok
 ok_then (Err e) ok next = ok
 
+pub ok_both : {T E P Q R : Type 0} (r : Result T E) → OnOk r P → OnOk r Q → (P → Q → R) → OnOk r R
+ok_both (Ok t) first second next = next first second
+ok_both (Err e) first second next = first
+
+pub on_ok : {T E P : Type 0} (r : Result T E) → P → OnOk r P
+on_ok (Ok t) holds = holds
+on_ok (Err e) holds = tt
+
 pub on_err : {T E P : Type 0} (r : Result T E) → P → OnErr r P
 on_err (Ok t) holds = tt
 on_err (Err e) holds = holds

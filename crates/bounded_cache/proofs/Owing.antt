@@ -3,7 +3,7 @@ use Rattle.std.proofs.Common.{◌≡◌, ◌≢◌, inl, inr, ℕ, zero, suc, �
 use Rattle.std.specs.List.{slice_get}
 use Rattle.std.proofs.lemmas.List.{get_or_past, get_or-set_same, get_or-set_other}
 use Rattle.std.proofs.lemmas.List.FromFn.{length-map-range_with_len}
-use Rattle.std.proofs.lemmas.Bool.{cases_lt}
+use Rattle.std.proofs.lemmas.Bool.{cases_eq, cases_lt}
 use Rattle.std.proofs.lemmas.Option.{none-some}
 use Rattle.model.specs.declared.capability.Cap.{Cap}
 use Rattle.model.specs.declared.object.Content.{Content}
@@ -47,6 +47,12 @@ pub seat_gone : (ss : List (Option (Content Cap))) (n : ℕ) → seat_at (set ss
 seat_gone ss n = elim (cases_lt n (length ss)) [
   | inl within ↦ get_or-set_same ss n None None within
   | inr past ↦ get_or_past (set ss n None) n None (let size = length-set ss n None in omega (arith, size, past))
+]
+
+pub still_unseated : (ss : List (Option (Content Cap))) (n k : ℕ) → seat_at ss k ≡ None → seat_at (set ss n None) k ≡ None
+still_unseated ss n k none = elim (cases_eq k n) [
+  | inl same ↦ ap (seat_at (set ss n None)) same ∙ seat_gone ss n
+  | inr other ↦ get_or-set_other ss n k None None other ∙ none
 ]
 
 pub none_there : (o : Option Entry) → IsSome o → o ≡ None → ⊥

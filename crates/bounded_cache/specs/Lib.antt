@@ -3,3 +3,5 @@ pub mod Entries
 pub mod Order
 pub mod Memory
 pub mod Cache
+pub mod Prepared
+pub mod CacheLaws

@@ -28,8 +28,10 @@ use number_set::NumberSet;
 use std::alloc::{AllocError, Global};
 use std::marker::Model;
 
+mod fetch;
 mod hand;
 mod prepare;
+mod present;
 mod read;
 mod stages;
 
@@ -179,6 +181,7 @@ impl<D: Device> BoundedCache<D> {
         requires room { length self.old.order < self.old.most }
         requires read { content ≡ held_at self.old.contents number }
         ensures seated { OnOk result (self.new ≡ with_seat number self.old) }
+        ensures fetched { OnOk result (IsFetchedIn self.new number) }
         ensures unchanged { OnErr result (self.new ≡ self.old) }
     {
         self.entries.insert(Entry {
@@ -346,6 +349,8 @@ impl<D: Device> BoundedCache<D> {
         requires keepable { AreKeepable (parts_of D.disk self.old).geometry most
             (frames_of (parts_of D.disk self.old)) }
         ensures room { OnOk result (length self.new.order < self.new.most) }
+        ensures unseated { (n : ℕ) → seat_at self.old.seats n ≡ None
+            → seat_at self.new.seats n ≡ None }
         ensures others { (n : ℕ) → is_member (take 7 self.old.order) n ≡ true
             → seat_at self.new.seats n ≡ seat_at self.old.seats n }
         ensures order { take 7 self.new.order ≡ take 7 self.old.order }
@@ -369,6 +374,8 @@ impl<D: Device> BoundedCache<D> {
         requires keepable { AreKeepable (parts_of D.disk self.old).geometry most
             (frames_of (parts_of D.disk self.old)) }
         ensures room { OnOk result (length self.new.order < self.new.most) }
+        ensures unseated { (n : ℕ) → seat_at self.old.seats n ≡ None
+            → seat_at self.new.seats n ≡ None }
         ensures others { (n : ℕ) → is_member (take 7 self.old.order) n ≡ true
             → seat_at self.new.seats n ≡ seat_at self.old.seats n }
         ensures order { take 7 self.new.order ≡ take 7 self.old.order }

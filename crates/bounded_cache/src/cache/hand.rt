@@ -1,5 +1,7 @@
 // The body in the hand.
-ghost use Rattle.std.specs.Prelude.{◌≡◌, ◌<◌, None, Some, length, OnOk};
+ghost use Rattle.std.specs.Prelude.{◌≡◌, ◌<◌, ◌≤◌, None, Some, length, OnOk};
+ghost use Rattle.model.specs.Machine.{touched_count};
+ghost use Rattle.migrator.specs.Durable.{stored_of};
 ghost use Rattle.device.specs.Calls.{Counts};
 ghost use Rattle.bounded_cache.specs.declared.held.Held.{Held};
 ghost use Rattle.bounded_cache.specs.Memory.{Nothing};
@@ -33,6 +35,8 @@ impl<D: Device> BoundedCache<D> {
     // Leaves no body in the hand: the frozen frame of one that is there is put. At `Failed` it stays.
     pub(crate) fn empty_hand(&mut self) -> Result<(), Failed>
         ensures empty { OnOk result (self.new.hand ≡ None) }
+        ensures within { touched_count self.old.touched
+            ≤ (stored_of D.disk self.old.durable).saved.geometry.log }
         ensures put { self.new ≡ on_device self.old self.new }
         ensures leads { GoesOnIn D.disk self.old self.new }
         ensures cause { Counts (D.disk self.old.durable.beneath) (D.disk self.new.durable.beneath) result }

@@ -1,18 +1,23 @@
 // Numbers are prepared to be read and written.
-ghost use Rattle.std.specs.Prelude.{◌≡◌, ◌≢◌, ◌↔◌, ℕ, ◌<◌, false, true, Some, length, slice_set, OnOk, OnErr, IsErrOf};
+ghost use Rattle.std.specs.Prelude.{◌≡◌, ◌≢◌, ◌↔◌, ℕ, ◌<◌, ◌≤◌, false, true, None, Some, length, slice_set, OnOk, OnErr, IsErrOf};
 ghost use Rattle.std.specs.List.{All, Contains};
+ghost use Rattle.model.specs.Keepable.{AreKeepable};
 ghost use Rattle.model.specs.Machine.{touching, touched_count};
+ghost use Rattle.capability.specs.Parts.{frames_of};
 ghost use Rattle.capability.specs.Plain.{room_at};
+ghost use Rattle.migrator.specs.Put.{most};
 ghost use Rattle.migrator.specs.Durable.{stored_of};
 ghost use Rattle.bounded_cache.specs.Memory.{Shared};
-ghost use Rattle.bounded_cache.specs.Cache.{IsFetchedIn, owed_at};
+ghost use Rattle.bounded_cache.specs.Cache.{GoesOnIn, IsAnnouncedIn, IsFetchedIn, owed_at, parts_of};
+ghost use Rattle.bounded_cache.specs.Prepared.{HasRoomIn, on_device_with};
 
 use crate::cache::BoundedCache;
 use crate::entry::is_shared;
-use capability::PrepareFault;
 use capability::plain::rooms::blank;
 use capability::plain::touched::{fresh_count, mark};
+use capability::{MAX_FETCHED, PrepareFault};
 use device::Device;
+use model::Role;
 use std::alloc::{AllocError, Global};
 
 impl<D: Device> BoundedCache<D> {
@@ -27,6 +32,12 @@ impl<D: Device> BoundedCache<D> {
           dirty = touching self.old.dirty written.now;
         }) }
         ensures unchanged { OnErr result (self.new ≡ self.old) }
+        ensures announced { OnOk result ((n : ℕ) → Contains written.now n
+            → HasRoomIn D.disk self.old n → IsAnnouncedIn D.disk self.new n) }
+        ensures fetched { (n : ℕ) → IsFetchedIn self.old n → IsFetchedIn self.new n }
+        ensures within { touched_count self.new.touched
+            ≤ (stored_of D.disk self.new.durable).saved.geometry.log }
+        ensures leads { GoesOnIn D.disk self.old self.new }
         ensures full { IsErrOf result PrepareFault.LogFull
             ↔ ((stored_of D.disk self.old.durable).saved.geometry.log
             < touched_count (touching self.old.touched written.now)) }
@@ -102,5 +113,155 @@ impl<D: Device> BoundedCache<D> {
         let room = blank(alloc, self.durable.geometry(), number)?;
         drop(self.entries.replace_room(number, room));
         Ok(())
+    }
+
+    // Puts a blank body aside for a number, where it has an entry.
+    fn reserve_seated(&mut self, alloc: Global, number: u64) -> Result<(), AllocError>
+        requires { number < length self.old.headers }
+        ensures room { OnOk result (HasRoomIn D.disk self.new number) }
+        ensures others { (n : ℕ) → HasRoomIn D.disk self.old n → HasRoomIn D.disk self.new n }
+        ensures fetched { (n : ℕ) → IsFetchedIn self.old n → IsFetchedIn self.new n }
+        ensures rest { self.new ≡ record self.old { seats = self.new.seats } }
+    {
+        if self.entries.holds(number) {
+            return self.reserve(alloc, number);
+        }
+        Ok(())
+    }
+
+    // Does so where the number is free.
+    fn reserve_free(&mut self, alloc: Global, number: u64) -> Result<(), AllocError>
+        requires { number < length self.old.headers }
+        ensures room { OnOk result (HasRoomIn D.disk self.new number) }
+        ensures others { (n : ℕ) → HasRoomIn D.disk self.old n → HasRoomIn D.disk self.new n }
+        ensures fetched { (n : ℕ) → IsFetchedIn self.old n → IsFetchedIn self.new n }
+        ensures rest { self.new ≡ record self.old { seats = self.new.seats } }
+    {
+        if let Role::Free = self.table.header(number).role {
+            return self.reserve_seated(alloc, number);
+        }
+        Ok(())
+    }
+
+    // Does so for the free numbers of a list.
+    fn reserve_all(&mut self, alloc: Global, written: &[u64]) -> Result<(), AllocError>
+        requires { All (λ n. n < length self.old.headers) written.now }
+        ensures room { OnOk result ((n : ℕ) → Contains written.now n
+            → HasRoomIn D.disk self.new n) }
+        ensures fetched { (n : ℕ) → IsFetchedIn self.old n → IsFetchedIn self.new n }
+        ensures rest { self.new ≡ record self.old { seats = self.new.seats } }
+    {
+        for number in written {
+            self.reserve_free(alloc, *number)?;
+        }
+        Ok(())
+    }
+
+    // Keeps apart what the numbers of a list were frozen as, and puts room aside for those that are
+    // free.
+    fn set_aside(&mut self, alloc: Global, written: &[u64]) -> Result<(), AllocError>
+        requires { All (λ n. n < length self.old.headers) written.now }
+        ensures apart { OnOk result ((n : ℕ) → Contains written.now n
+            → owed_at self.new.owed n ≢ Shared) }
+        ensures room { OnOk result ((n : ℕ) → Contains written.now n
+            → HasRoomIn D.disk self.new n) }
+        ensures fetched { (n : ℕ) → IsFetchedIn self.old n → IsFetchedIn self.new n }
+        ensures rest { self.new ≡ record self.old { owed = self.new.owed; seats = self.new.seats } }
+    {
+        self.keep_all_apart(alloc, written)?;
+        self.reserve_all(alloc, written)
+    }
+
+    // Makes numbers ready that are to be marked.
+    fn make_ready(&mut self, alloc: Global, written: &[u64]) -> Result<(), PrepareFault>
+        requires { All (λ n. n < length self.old.headers) written.now }
+        ensures apart { OnOk result ((n : ℕ) → Contains written.now n
+            → owed_at self.new.owed n ≢ Shared) }
+        ensures room { OnOk result ((n : ℕ) → Contains written.now n
+            → HasRoomIn D.disk self.new n) }
+        ensures fetched { (n : ℕ) → IsFetchedIn self.old n → IsFetchedIn self.new n }
+        ensures rest { self.new ≡ record self.old { owed = self.new.owed; seats = self.new.seats } }
+        ensures full { IsErrOf result PrepareFault.LogFull → ⊥ }
+        ensures cause { IsErrOf result PrepareFault.Failed → ⊥ }
+    {
+        match self.set_aside(alloc, written) {
+            Ok(()) => Ok(()),
+            Err(_) => Err(PrepareFault::NoMemory),
+        }
+    }
+
+    // Leaves no body in the hand, as a part of preparing.
+    fn free_hand(&mut self) -> Result<(), PrepareFault>
+        ensures empty { OnOk result (self.new.hand ≡ None) }
+        ensures within { touched_count self.old.touched
+            ≤ (stored_of D.disk self.old.durable).saved.geometry.log }
+        ensures rest { self.new ≡ on_device_with self.old self.new }
+        ensures leads { GoesOnIn D.disk self.old self.new }
+        ensures full { IsErrOf result PrepareFault.LogFull → ⊥ }
+        ensures cause { IsErrOf result PrepareFault.Failed
+            ↔ ((D.disk self.old.durable.beneath).failures < (D.disk self.new.durable.beneath).failures) }
+    {
+        match self.empty_hand() {
+            Ok(()) => Ok(()),
+            Err(_) => Err(PrepareFault::Failed),
+        }
+    }
+
+    // Brings the objects of a list into memory.
+    fn bring_all(&mut self, alloc: Global, fetched: &[u64]) -> Result<(), PrepareFault>
+        requires few { length fetched.now ≤ MAX_FETCHED }
+        requires known { All (λ n. n < length self.old.headers) fetched.now }
+        requires keepable { AreKeepable (parts_of D.disk self.old).geometry most
+            (frames_of (parts_of D.disk self.old)) }
+        ensures fetched { OnOk result ((n : ℕ) → Contains fetched.now n → IsFetchedIn self.new n) }
+        ensures within { touched_count self.old.touched
+            ≤ (stored_of D.disk self.old.durable).saved.geometry.log }
+        ensures rest { self.new ≡ on_device_with self.old self.new }
+        ensures leads { GoesOnIn D.disk self.old self.new }
+        ensures full { IsErrOf result PrepareFault.LogFull → ⊥ }
+        ensures cause { IsErrOf result PrepareFault.Failed
+            ↔ ((D.disk self.old.durable.beneath).failures < (D.disk self.new.durable.beneath).failures) }
+    {
+        self.free_hand()?;
+        self.fetch_all(alloc, fetched)
+    }
+
+    /// Brings what the objects hold that are to be read or changed into memory, at most 8, announces
+    /// the numbers that are to be written, and puts the room aside that a free one among them needs.
+    ///
+    /// After an error no object and no number written is another than before: `NoMemory` where
+    /// memory ran out, `LogFull` only where the numbers written would be more than half of the log
+    /// holds, and `Failed` exactly where the device failed.
+    pub fn prepare(
+        &mut self,
+        alloc: Global,
+        fetched: &[u64],
+        written: &[u64],
+    ) -> Result<(), PrepareFault>
+        requires few { length fetched.now ≤ MAX_FETCHED }
+        requires known { All (λ n. n < length self.old.headers) fetched.now }
+        requires announced { All (λ n. n < length self.old.headers) written.now }
+        requires keepable { AreKeepable (parts_of D.disk self.old).geometry most
+            (frames_of (parts_of D.disk self.old)) }
+        ensures fetched { OnOk result ((n : ℕ) → Contains fetched.now n → IsFetchedIn self.new n) }
+        ensures announced { OnOk result ((n : ℕ) → Contains written.now n
+            → IsAnnouncedIn D.disk self.new n) }
+        ensures touched { OnOk result (self.new.touched ≡ touching self.old.touched written.now) }
+        ensures untouched { OnErr result (self.new.touched ≡ self.old.touched) }
+        ensures within { touched_count self.new.touched
+            ≤ (stored_of D.disk self.new.durable).saved.geometry.log }
+        ensures before { touched_count self.old.touched
+            ≤ (stored_of D.disk self.old.durable).saved.geometry.log }
+        ensures rest { self.new ≡ record (on_device_with self.old self.new) { touched = self.new.touched } }
+        ensures full { IsErrOf result PrepareFault.LogFull
+            → (stored_of D.disk self.old.durable).saved.geometry.log
+            < touched_count (touching self.old.touched written.now) }
+        ensures cause { IsErrOf result PrepareFault.Failed
+            ↔ ((D.disk self.old.durable.beneath).failures < (D.disk self.new.durable.beneath).failures) }
+        ensures leads { GoesOnIn D.disk self.old self.new }
+    {
+        self.bring_all(alloc, fetched)?;
+        self.make_ready(alloc, written)?;
+        self.announce(written)
     }
 }

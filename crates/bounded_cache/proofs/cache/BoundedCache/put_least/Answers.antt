@@ -1,10 +1,10 @@
-use Rattle.std.proofs.Common.{refl, sym, ◌∙◌, ◌<◌, ◌≡◌, length, take, subst}
+use Rattle.std.proofs.Common.{refl, sym, ◌∙◌, ◌<◌, ◌≡◌, length, take, subst, None}
 use Rattle.migrator.specs.Put.{most}
 use Rattle.migrator.specs.Durable.{stored_of}
 use Rattle.capability.proofs.Keeping.{keepable_at}
 use Rattle.bounded_cache.specs.Cache.{CacheState, on_device, parts_of, seat_at, without_seat}
 use Rattle.bounded_cache.proofs.Outcomes.{ok_then, either_way}
-use Rattle.bounded_cache.proofs.Owing.{some_least, least_known, least_fetched, least_room, least_order, least_others}
+use Rattle.bounded_cache.proofs.Owing.{some_least, least_known, least_fetched, least_room, least_order, least_others, still_unseated}
 use Rattle.bounded_cache.specs.Memory.{memory_of}
 use Rattle.bounded_cache.proofs.cache.BoundedCache.put_least.Goals as goal
 
@@ -45,3 +45,9 @@ returns-clause-order g c =
     let m = memory_of i.table i.frozen_headers i.touched i.dirty i.pending i.entries.at i.hand in
     either_way c.put_away.result (λ (t : CacheState g.row.D.Denot). take 7 t.order ≡ take 7 c.args.self.now.order) c.put_away.new.self
     (without_seat c.in-Some.number (on_device c.args.self.now c.put_away.new.self)) (on_device c.args.self.now c.put_away.new.self) c.put_away.ensures.away c.put_away.ensures.stays (least_order g.D.Device.disk i.durable m i.left i.count i.entries.order i.entries.most c.args.self.now c.self.view_is c.self.invariant.0 c.self.invariant.1 c.least.ensures.ordered c.requires.full c.in-Some.number (sym c.in-Some.is ∙ c.least.ensures.least)) refl
+
+pub returns-clause-unseated : goal.returns-clause-unseated
+returns-clause-unseated g c =
+    λ k none. either_way c.put_away.result (λ (t : CacheState g.row.D.Denot). seat_at t.seats k ≡ None) c.put_away.new.self
+    (without_seat c.in-Some.number (on_device c.args.self.now c.put_away.new.self)) (on_device c.args.self.now c.put_away.new.self) c.put_away.ensures.away c.put_away.ensures.stays
+    (still_unseated c.args.self.now.seats c.in-Some.number k none) none

@@ -1,11 +1,12 @@
-use Rattle.std.proofs.Common.{◌≤◌, None, refl, ap, ◌∙◌}
+use Rattle.std.proofs.Common.{◌≤◌, None, refl, sym, ap, subst, ◌∙◌}
 use Rattle.model.specs.declared.object.Content.TheVariants as content
 use Rattle.migrator.specs.Durable.{stored_of}
 use Rattle.bounded_cache.specs.declared.entry.Entry.{Entry}
 use Rattle.bounded_cache.specs.Order.{EntriesState, with_new}
 use Rattle.bounded_cache.specs.Memory.{memory_of}
-use Rattle.bounded_cache.specs.Cache.{IsCache, cache_of}
+use Rattle.bounded_cache.specs.Cache.{CacheState, IsCache, IsFetchedIn, cache_of}
 use Rattle.bounded_cache.proofs.Outcomes.{either_way, ok_then}
+use Rattle.bounded_cache.proofs.Bringing.{seat_fetched}
 use Rattle.bounded_cache.proofs.Seating.{no_entry, seat_stands, seat_seen}
 use Rattle.bounded_cache.proofs.cache.BoundedCache.seat.Goals as goal
 
@@ -33,3 +34,14 @@ returns-clause-seated g c =
     ok_then c.insert.result c.insert.ensures.inserted (λ is.
     ap (λ (es : EntriesState). cache_of g.D.Device.disk i.durable (memory_of i.table i.frozen_headers i.touched i.dirty i.pending es.at i.hand) i.left es.order es.most) is
     ∙ seat_seen g.D.Device.disk i.durable m i.left i.count i.entries.order i.entries.most c.args.self.now c.self.view_is c.self.invariant.0 e c.requires.known c.requires.unseated refl refl c.requires.read)
+
+pub returns-clause-fetched : goal.returns-clause-fetched
+returns-clause-fetched g c =
+    let i = c.self.inside in
+    let m = memory_of i.table i.frozen_headers i.touched i.dirty i.pending i.entries.at i.hand in
+    let e : Entry = record { number = c.args.number; present = c.args.content; kept = None; room = content.Free } in
+    ok_then c.insert.result c.insert.ensures.inserted (λ is.
+    subst (λ (t : CacheState g.row.D.Denot). IsFetchedIn t c.args.number)
+    (sym (ap (λ (es : EntriesState). cache_of g.D.Device.disk i.durable (memory_of i.table i.frozen_headers i.touched i.dirty i.pending es.at i.hand) i.left es.order es.most) is
+    ∙ seat_seen g.D.Device.disk i.durable m i.left i.count i.entries.order i.entries.most c.args.self.now c.self.view_is c.self.invariant.0 e c.requires.known c.requires.unseated refl refl c.requires.read))
+    (seat_fetched g.D.Device.disk i.durable m i.left i.count i.entries.order i.entries.most c.args.self.now c.self.view_is c.self.invariant.0 c.args.number c.requires.known))
