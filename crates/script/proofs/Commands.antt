@@ -320,14 +320,8 @@ command_found words rest left word k c split named read none =
     let taken = arguments_takes k rest (c, left) read in
     (taken.0, split ∙ ap (λ (w : List ℕ). w ∷ rest) named ∙ taken.1 ∙ ap (λ (w : Words). command_words c ++ w) none ∙ append-nil (command_words c))
 
-pub no_words : (c : Command) → Fits c → [] ≢ command_words c
-no_words c fits e = let again = command_again c fits in absurd (cc (again.1))
-
-pub no_keyword : (words rest : Words) (word : List ℕ) → words ≡ word ∷ rest → ((k : Keyword) → word ≢ keyword_name k) → (c : Command) → Fits c → words ≢ command_words c
-no_keyword words rest word split none c fits whole =
-    let again = command_again c fits in
-    let both_are : word ∷ rest ≡ keyword_name (keyword_for c) ∷ again.0 = sym split ∙ whole ∙ again.1 in
-    none (keyword_for c) cc
+pub no_keyword : (words : Words) (c : Command) → Fits c → ((k : Keyword) (rest : Words) → words ≢ keyword_name k ∷ rest) → words ≢ command_words c
+no_keyword words c fits none whole = let again = command_again c fits in none (keyword_for c) again.0 (whole ∙ again.1)
 
 pub no_arguments : (words rest : Words) (word : List ℕ) (k : Keyword) → words ≡ word ∷ rest → word ≡ keyword_name k → arguments_at k rest ≡ None
     → (c : Command) → Fits c → words ≢ command_words c

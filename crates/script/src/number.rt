@@ -21,10 +21,10 @@ fn value_in_front(text: &[u8]) -> Option<Front>
 {
     let mut number: u64 = 0;
     for (size, byte) in text.iter().enumerate() {
-        if *byte == b' ' {
-            return Some(Front { number, size });
-        }
         if !byte.is_ascii_digit() {
+            if *byte == b' ' {
+                return Some(Front { number, size });
+            }
             return None;
         }
         number = number

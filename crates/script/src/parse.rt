@@ -1,5 +1,7 @@
 // What a line of a script says.
-ghost use Rattle.std.specs.Prelude.{◌≡◌, ◌≢◌, IsTrue, ◌↔◌, IfSome, IfNone};
+ghost use Rattle.std.specs.Prelude.{◌≡◌, ◌≢◌, ℕ, List, ◌∷◌, IsTrue, ◌↔◌, IfSome, IfNone};
+ghost use Rattle.script.specs.declared.keyword.Keyword.{Keyword};
+ghost use Rattle.script.specs.Keywords.{keyword_name};
 ghost use Rattle.model.specs.declared.command.Command.{Command};
 ghost use Rattle.model.specs.Text.{Says, Fits, IsSkipped, spelling, command_words};
 ghost use Rattle.script.specs.Reading.{Gives, invocation_at, arguments_at, words_of};
@@ -10,6 +12,18 @@ use model::{Command, Invocation, Line, Operation};
 
 /// The longest line that isn't bad, in bytes.
 pub const LONGEST_LINE: usize = 256;
+
+// Takes the first word as a keyword. Most lines are calls.
+#[inline(always)]
+fn keyword(words: &mut Words<'_>) -> Option<Keyword>
+    ensures found { IfSome result (λ k. words.old ≡ keyword_name k ∷ words.new) }
+    ensures none { IfNone result ((k : Keyword) (rest : List (List ℕ)) → words.old ≢ keyword_name k ∷ rest) }
+{
+    if words.takes_call() {
+        return Some(Keyword::Invoke(Operation::Call));
+    }
+    keyword_of(words.next()?)
+}
 
 // Takes the words that follow the name of an operation.
 #[tactic(auto, unfolding(crate::specs::Reading::invocation_at))]
@@ -76,7 +90,7 @@ fn command_in(line: &[u8]) -> Option<Command>
     ensures none { IfNone result ((c : Command) → Fits c → words_of line.now ≢ command_words c) }
 {
     let mut words = Words::new(line);
-    let keyword = keyword_of(words.next()?)?;
+    let keyword = keyword(&mut words)?;
     let command = arguments(keyword, &mut words)?;
     if words.is_empty() {
         Some(command)

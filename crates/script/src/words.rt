@@ -1,5 +1,5 @@
 // The words of a line.
-ghost use Rattle.std.specs.Prelude.{◌≡◌, ◌==◌, [], ◌∷◌, MatchOption, IfSome, IsSome, IsTrue, ◌↔◌, ◌<◌, option_map};
+ghost use Rattle.std.specs.Prelude.{◌≡◌, ◌==◌, [], ◌∷◌, MatchOption, IfSome, IsSome, IsTrue, ◌↔◌, ◌<◌, codes, option_map};
 ghost use Rattle.std.specs.List.{position};
 ghost use Rattle.script.specs.Reading.{first_end, first_word, words_left, words_of, Gives, number_at, register_at, numbers_at, registers_at};
 
@@ -87,6 +87,23 @@ impl<'a> Words<'a> {
         }
     }
 
+    /// Takes the word `call`, where it is the next one and another follows.
+    #[inline(always)]
+    pub fn takes_call(&mut self) -> bool
+        ensures taken { IsTrue result → self.old ≡ codes "call" ∷ self.new }
+        ensures kept { (IsTrue result → ⊥) → self.new ≡ self.old }
+    {
+        let rest = match self.rest {
+            Some(rest) => rest,
+            None => return false,
+        };
+        if let [b'c', b'a', b'l', b'l', b' ', more @ ..] = rest {
+            self.rest = Some(more);
+            return true;
+        }
+        false
+    }
+
     /// Takes the next word as a number.
     #[inline(always)]
     #[tactic(auto, unfolding(crate::specs::Reading::number_at))]
@@ -98,6 +115,12 @@ impl<'a> Words<'a> {
         if let [digit, space, more @ ..] = rest {
             if *space == b' ' && digit.is_ascii_digit() {
                 self.rest = Some(more);
+                return Some(u64::from(*digit - b'0'));
+            }
+        }
+        if let [digit] = rest {
+            if digit.is_ascii_digit() {
+                self.rest = None;
                 return Some(u64::from(*digit - b'0'));
             }
         }

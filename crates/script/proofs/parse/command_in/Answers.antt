@@ -1,23 +1,19 @@
-use Rattle.std.proofs.Common.{sym, ◌∙◌, arith}
-use Rattle.script.proofs.Commands.{command_found, no_words, no_keyword, no_arguments, words_left_over}
+use Rattle.std.proofs.Common.{refl, sym, ◌∙◌, arith}
+use Rattle.script.proofs.Commands.{command_found, no_keyword, no_arguments, words_left_over}
 use Rattle.script.proofs.parse.command_in.Goals as goal
 
-pub returns-in_err-next-clause-none : goal.returns-in_err-next-clause-none
-returns-in_err-next-clause-none c = rw c.from_residual.ensures (λ d fits whole.
-    no_words d fits (sym c.in_err-next.ensures.0 ∙ c.new-words.ensures ∙ whole))
-
 pub returns-in_err-keyword-clause-none : goal.returns-in_err-keyword-clause-none
-returns-in_err-keyword-clause-none c = rw c.from_residual-in_err-keyword.ensures
-    (no_keyword _ _ _ (sym c.new-words.ensures ∙ c.in_ok-next.ensures) c.in_err-keyword.ensures.none)
+returns-in_err-keyword-clause-none c = rw c.from_residual.ensures (λ d fits whole.
+    no_keyword _ d fits c.in_err-keyword.ensures.none (c.new-words.ensures ∙ whole))
 
 pub returns-in_err-command-clause-none : goal.returns-in_err-command-clause-none
 returns-in_err-command-clause-none c = rw c.from_residual-in_err-command.ensures
-    (no_arguments _ _ _ _ (sym c.new-words.ensures ∙ c.in_ok-next.ensures) c.in_ok-keyword.ensures.found c.in_err-command.ensures)
+    (no_arguments _ _ _ _ (sym c.new-words.ensures ∙ c.in_ok-keyword.ensures.found) refl c.in_err-command.ensures)
 
 pub returns-then-is_empty-clause-found : goal.returns-then-is_empty-clause-found
 returns-then-is_empty-clause-found c =
-    command_found _ _ _ _ _ _ (sym c.new-words.ensures ∙ c.in_ok-next.ensures) c.in_ok-keyword.ensures.found c.in_ok-command.ensures (grind arith)
+    command_found _ _ _ _ _ _ (sym c.new-words.ensures ∙ c.in_ok-keyword.ensures.found) refl c.in_ok-command.ensures (grind arith)
 
 pub returns-else-is_empty-clause-none : goal.returns-else-is_empty-clause-none
 returns-else-is_empty-clause-none c =
-    words_left_over _ _ _ _ _ _ (sym c.new-words.ensures ∙ c.in_ok-next.ensures) c.in_ok-keyword.ensures.found c.in_ok-command.ensures (grind arith)
+    words_left_over _ _ _ _ _ _ (sym c.new-words.ensures ∙ c.in_ok-keyword.ensures.found) refl c.in_ok-command.ensures (grind arith)
