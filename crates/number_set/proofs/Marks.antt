@@ -7,9 +7,9 @@ use Rattle.std.proofs.lemmas.List.FromFn.{length-map-range_with_len, get_or-map-
 use Rattle.std.proofs.lemmas.Nat.{shr-shr}
 use Rattle.std.proofs.Math.Dec.{eqb-suc-zero}
 use Rattle.std.proofs.Math.Nat.{div-le_self}
-use Rattle.std.proofs.lemmas.Nat.Bits.{bit_at-zero, bit_at-lt, bit_at-trailing_zeros, bit_at_above, shr_and_one, bit_at_set_same, bit_at_clear_same}
-use Rattle.number_set.specs.Marks.{is_marked, IsNextMarked, HasNoneMarked}
-use Rattle.number_set.specs.Bits.{bit_of, digit, marks_of, IsLowestFrom, IsFirstSet, HasNoneSet, IsBitPut, SumsUp, IsSummed}
+use Rattle.std.proofs.lemmas.Nat.Bits.{bit_at-zero, bit_at-lt, bit_at-trailing_zeros, bit_at_above, bit_at_not, shr_and_one, bit_at_set_same, bit_at_clear_same}
+use Rattle.number_set.specs.Marks.{is_marked, IsNextMarked, HasNoneMarked, IsNextUnmarked, HasAllMarked}
+use Rattle.number_set.specs.Bits.{bit_of, digit, marks_of, IsLowestFrom, IsFirstSet, HasNoneSet, IsFirstClear, HasNoneClear, IsBitPut, SumsUp, IsSummed}
 
 -- ---- a bit and a Boolean
 
@@ -141,6 +141,42 @@ module _ (words : List ℕ) where
     other_words = λ w apart. get_or-set_other words (n / 64) w word 0 apart;
   }
 
+-- a bit that is 0 in the complement of a word is 1 in it, and the other way round
+flipped_zero : (word i : ℕ) → word < 2 ^ 64 → i < 64 → bit_at (bit_not w64 word) i ≡ 0 → bit_at word i ≡ 1
+flipped_zero word i fits within none = omega (arith, bit_at_not w64 word i fits within, bit_at-lt word i, none)
+
+flipped_one : (word i : ℕ) → word < 2 ^ 64 → i < 64 → bit_at (bit_not w64 word) i ≡ 1 → bit_at word i ≡ 0
+flipped_one word i fits within one = omega (arith, bit_at_not w64 word i fits within, bit_at-lt word i, one)
+
+module _ (words : List ℕ) (from w low : ℕ) (fits : slice_index words w < 2 ^ 64) (is_low : low ≡ from - w * 64) (after : from / 64 ≤ w)
+    (before : (m : ℕ) → from ≤ m → m < w * 64 → bit_of words m ≡ 1) where
+  -- a number's bit in this word
+  here_is : (m : ℕ) → w * 64 ≤ m → m < (w + 1) * 64 → bit_of words m ≡ bit_at (slice_index words w) (m - w * 64)
+  here_is m past within =
+      let split : w * 64 + (m - w * 64) ≡ m = omega arith in
+      sym (ap (bit_of words) split) ∙ bit_in_word words w (m - w * 64) (omega arith)
+
+  -- the first clear bit of a word is the first, if there is none before the word
+  pub clear_by_word : (bit : ℕ) → IsLowestFrom (bit_not w64 (slice_index words w)) low bit → IsFirstClear words from (w * 64 + bit)
+  clear_by_word bit lowest = record {
+    past = omega (arith, lowest.past);
+    clear = bit_in_word words w bit lowest.inside ∙ flipped_one (slice_index words w) bit fits lowest.inside lowest.set;
+    least = λ m past within.
+        elim (cases_lt m (w * 64)) [
+          | inl lower ↦ before m past lower
+          | inr here ↦ here_is m here (omega (arith, lowest.inside)) ∙ flipped_zero (slice_index words w) (m - w * 64) fits (omega (arith, lowest.inside)) (lowest.least (m - w * 64) (omega arith) (omega arith))
+        ];
+  }
+
+  -- a word with no clear bit goes on with what has none
+  pub full_by_word : ((other : ℕ) → low ≤ other → other < 64 → bit_at (bit_not w64 (slice_index words w)) other ≡ 0)
+      → (m : ℕ) → from ≤ m → m < (w + 1) * 64 → bit_of words m ≡ 1
+  full_by_word none m past within =
+      elim (cases_lt m (w * 64)) [
+        | inl lower ↦ before m past lower
+        | inr here ↦ here_is m here within ∙ flipped_zero (slice_index words w) (m - w * 64) fits (omega arith) (none (m - w * 64) (omega arith) (omega arith))
+      ]
+
 -- ---- words with a summary
 
 module _ (words summary : List ℕ) (summed : SumsUp words summary) where
@@ -233,6 +269,19 @@ module _ (count : ℕ) (words : List ℕ) where
     none_by_bits : (from : ℕ) → HasNoneSet words from → HasNoneMarked (marks_of count words) from
     none_by_bits from none m past = unmarked m (none m past)
 
+    -- a number with its bit is marked
+    marked : (n : ℕ) → n < count → bit_of words n ≡ 1 → is_marked (marks_of count words) n ≡ true
+    marked n within is_one = mark_within n within ∙ ap (λ d. nat_eq d 1) is_one
+
+    -- the first bit that is 0 is the next number that isn't marked
+    next_clear_by_bits : (from n : ℕ) → n < count → IsFirstClear words from n → IsNextUnmarked (marks_of count words) from n
+    next_clear_by_bits from n within first = record {
+      past = first.past;
+      inside = omega (arith, within, length_marks);
+      unmarked = unmarked n first.clear;
+      least = λ m past before. marked m (omega (arith, within, before)) (first.least m past before);
+    }
+
 -- the marks of the words with one bit put
 marks_put : (count n : ℕ) (b : Bool) (words new : List ℕ) → IsBitPut words n (digit b) new → marks_of count new ≡ slice_set (marks_of count words) n b
 marks_put count n b words new put =
@@ -273,6 +322,19 @@ module _ (count : ℕ) (words summary : List ℕ) (sums : IsSummed count words s
     -- and where none is found, no number is marked
     pub none_is_marked : (from : ℕ) → HasNoneSet seen from → HasNoneMarked marks from
     none_is_marked from none = rw (← is_marks) (none_by_bits count words sums.past from (rw is_seen at none))
+
+    -- the first clear bit that is found is the next number that isn't marked
+    pub missing_is_unmarked : (from n : ℕ) → n < count → IsFirstClear seen from n → IsNextUnmarked marks from n
+    missing_is_unmarked from n within first = rw (← is_marks) (next_clear_by_bits count words sums.past from n within (rw is_seen at first))
+
+    -- where all numbers below a number have their bits, all are marked
+    pub all_are_marked : (from : ℕ) → ((m : ℕ) → from ≤ m → m < count → bit_of seen m ≡ 1) → HasAllMarked marks from
+    all_are_marked from each = λ m past within.
+        rw (← is_marks) (marked count words sums.past m (omega (arith, count_is, within)) (rw is_seen at each m past (omega (arith, count_is, within))))
+
+    -- each number is in a word
+    pub words_hold : (m : ℕ) → m < count → m < length seen * 64
+    words_hold m within = omega (arith, ap length is_seen, sums.words_each, within)
 
   -- the word that a number is in has its bit in the summary
   pub has_word_above : (seen : List ℕ) → seen ≡ summary → (n : ℕ) → n < length marks → n / 64 / 64 < length seen

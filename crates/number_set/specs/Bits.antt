@@ -1,5 +1,5 @@
 -- How a set of numbers is kept: bits in words of 64, and a summary of the words. No public clause cites this.
-use Rattle.std.specs.Prelude.{◌≡◌, ◌≢◌, ℕ, ◌/◌, ◌%◌, ◌^◌, ◌<◌, ◌≤◌, min, Bool, true, false, List, length, map, nat_eq, slice_index}
+use Rattle.std.specs.Prelude.{◌≡◌, ◌≢◌, ℕ, ◌*◌, ◌/◌, ◌%◌, ◌^◌, ◌<◌, ◌≤◌, min, Bool, true, false, List, length, map, nat_eq, slice_index}
 use Rattle.std.specs.Int.{bit_at, div_ceil}
 use Rattle.std.specs.List.{range_with_len}
 
@@ -32,6 +32,16 @@ pub record IsFirstSet (words : List ℕ) (from n : ℕ) : Type 0 where
 -- no number from a number on has the bit 1
 abbrev pub HasNoneSet : List ℕ → ℕ → Type 0
 HasNoneSet words from = (m : ℕ) → from ≤ m → bit_of words m ≡ 0
+
+-- the least number from a number on whose bit is 0
+pub record IsFirstClear (words : List ℕ) (from n : ℕ) : Type 0 where
+  pub past : from ≤ n
+  pub clear : bit_of words n ≡ 0
+  pub least : (m : ℕ) → from ≤ m → m < n → bit_of words m ≡ 1
+
+-- each number of the words from a number on has the bit 1
+abbrev pub HasNoneClear : List ℕ → ℕ → Type 0
+HasNoneClear words from = (m : ℕ) → from ≤ m → m < length words * 64 → bit_of words m ≡ 1
 
 -- one number's bit is changed
 pub record IsBitPut (old : List ℕ) (n bit : ℕ) (new : List ℕ) : Type 0 where

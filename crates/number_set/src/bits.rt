@@ -1,7 +1,7 @@
 // The bits of words of 64.
 ghost use Rattle.std.specs.Prelude.{◌≡◌, ◌≢◌, ℕ, ◌*◌, ◌/◌, ◌^◌, ◌<◌, ◌≤◌, length, slice_index, IfSome, None};
 ghost use Rattle.std.specs.Int.{bit_at};
-ghost use Rattle.number_set.specs.Bits.{IsLowestFrom, IsFirstSet, HasNoneSet, IsBitPut, SumsUp, bit_of, digit};
+ghost use Rattle.number_set.specs.Bits.{IsLowestFrom, IsFirstSet, HasNoneSet, IsFirstClear, HasNoneClear, IsBitPut, SumsUp, bit_of, digit};
 
 /// How many numbers have their bits in one word.
 pub(crate) const WORD_BITS: usize = 64;
@@ -85,4 +85,19 @@ pub(crate) fn first_summed(words: &[u64], summary: &[u64], from: usize) -> Optio
     }
     let later = first_set(summary, word + 1)?;
     Some(later * WORD_BITS + words[later].trailing_zeros() as usize)
+}
+
+/// The least number from a number on whose bit is clear, word by word.
+pub(crate) fn first_clear(words: &[u64], from: usize) -> Option<usize>
+    requires { 64 * length words.now ≤ 2 ^ 64 }
+    ensures some { IfSome result (λ number. IsFirstClear words.now from number) }
+    ensures none { result ≡ None → HasNoneClear words.now from }
+{
+    for word in from / WORD_BITS..words.len() {
+        let start = word * WORD_BITS;
+        if let Some(bit) = first_bit(!words[word], from.saturating_sub(start)) {
+            return Some(start + bit);
+        }
+    }
+    None
 }

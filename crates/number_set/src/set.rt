@@ -1,8 +1,8 @@
 // A set of numbers, as bits with a summary.
 ghost use Rattle.std.specs.Prelude.{◌≡◌, ◌<◌, ◌^◌, length, replicate, slice_index_or, slice_set, false, IfSome, IfOk, None};
-ghost use Rattle.number_set.specs.Marks.{IsNextMarked, HasNoneMarked};
+ghost use Rattle.number_set.specs.Marks.{IsNextMarked, HasNoneMarked, IsNextUnmarked, HasAllMarked};
 
-use crate::bits::{WORD_BITS, first_summed, has_bit, put_bit};
+use crate::bits::{WORD_BITS, first_clear, first_summed, has_bit, put_bit};
 use std::alloc::{AllocError, Global};
 use std::marker::Model;
 
@@ -77,5 +77,18 @@ impl NumberSet {
         ensures few { length self.now < 2 ^ 64 }
     {
         first_summed(&self.words, &self.summary, from)
+    }
+
+    /// The least number from a number on that isn't in the set. Goes over words of 64 numbers.
+    pub fn next_missing(&self, from: usize) -> Option<usize>
+        ensures some { IfSome result (λ number. IsNextUnmarked self.now from number) }
+        ensures none { result ≡ None → HasAllMarked self.now from }
+    {
+        let number = first_clear(&self.words, from)?;
+        if number < self.count {
+            Some(number)
+        } else {
+            None
+        }
     }
 }

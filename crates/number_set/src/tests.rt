@@ -31,3 +31,19 @@ fn none_is_left_after_clear(rt: HostRuntime) -> Result<(), Fail> {
     assert_eq!(rt; numbers.next(0), Some(64));
     Ok(())
 }
+
+#[test]
+fn the_next_number_that_is_missing_lies_words_behind(rt: HostRuntime) -> Result<(), Fail> {
+    let mut numbers = NumberSet::new(rt.alloc(), 200)?;
+    assert_eq!(rt; numbers.next_missing(7), Some(7));
+    for number in 0..200 {
+        numbers.set(number, true);
+    }
+    assert_eq!(rt; numbers.next_missing(0), None);
+    numbers.set(3, false);
+    numbers.set(199, false);
+    assert_eq!(rt; numbers.next_missing(0), Some(3));
+    assert_eq!(rt; numbers.next_missing(4), Some(199));
+    assert_eq!(rt; numbers.next_missing(200), None);
+    Ok(())
+}

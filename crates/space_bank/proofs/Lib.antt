@@ -6,6 +6,7 @@ mod Ending
 mod Found
 mod Giving
 mod Lists
+mod Missing
 mod Owners
 mod Plans
 pub mod Renewing

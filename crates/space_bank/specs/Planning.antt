@@ -1,11 +1,12 @@
 -- What planning reads of a bank.
-use Rattle.std.specs.Prelude.{ℕ, IsTrue, List, [], ◌∷◌}
+use Rattle.std.specs.Prelude.{◌≡◌, ℕ, ◌+◌, ◌<◌, ◌≤◌, ◌++◌, Bool, true, false, IsTrue, List, [], ◌∷◌, length}
 use Rattle.model.specs.declared.capability.Capability.{Capability}
 use Rattle.model.specs.declared.capability.Capability.TheVariants.{Process}
 use Rattle.model.specs.declared.object.Object.{Object}
-use Rattle.model.specs.Object.{is_bank}
+use Rattle.model.specs.Object.{is_bank, is_free}
 use Rattle.model.specs.World.{annex_at, content_at}
 use Rattle.capability.specs.Parts.{AreSound, Parts, objects_in}
+use Rattle.number_set.specs.Marks.{is_marked}
 use Rattle.space_bank.specs.Banks.{AreCounted, BanksState}
 
 -- a bank of frames that are sound and counted
@@ -18,3 +19,19 @@ pub record IsBankOf (p : Parts) (s : BanksState) (b : ℕ) : Type 0 where
 abbrev pub annex_of : List Object → Capability → List ℕ
 annex_of os (Process p) = annex_at os p ∷ []
 annex_of os _ = []
+
+-- what is marked, nodes first, is what is free
+pub record AreFree (os : List Object) (nodes pages : List Bool) : Type 0 where
+  pub each : length nodes + length pages ≡ length os
+  pub free : (n : ℕ) → n < length os → is_marked (nodes ++ pages) n ≡ is_free (content_at os n)
+
+-- the least number from a number on that isn't free
+pub record IsNextUsed (os : List Object) (from n : ℕ) : Type 0 where
+  pub past : from ≤ n
+  pub inside : n < length os
+  pub used : is_free (content_at os n) ≡ false
+  pub least : (m : ℕ) → from ≤ m → m < n → is_free (content_at os m) ≡ true
+
+-- all are free from a number on
+abbrev pub HasNoneUsed : List Object → ℕ → Type 0
+HasNoneUsed os from = (m : ℕ) → from ≤ m → m < length os → is_free (content_at os m) ≡ true

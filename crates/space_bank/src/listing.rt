@@ -1,33 +1,57 @@
 // Lists of the numbers that an order writes. No push takes memory, since there is room.
-ghost use Rattle.std.specs.Prelude.{◌≡◌, ◌≢◌, ◌+◌, ◌<◌, ◌≤◌, ◌++◌, [], ◌∷◌, length, vec_len};
+ghost use Rattle.std.specs.Prelude.{◌≡◌, ◌≢◌, ◌+◌, ◌<◌, ◌≤◌, ◌++◌, [], ◌∷◌, false, length, vec_len};
 ghost use Rattle.std.specs.Vec.{vec_capacity};
 ghost use Rattle.model.specs.Banking.{owned_by, under};
-ghost use Rattle.model.specs.World.{owner_at};
+ghost use Rattle.model.specs.Object.{is_free};
+ghost use Rattle.model.specs.World.{content_at, owner_at};
 ghost use Rattle.capability.specs.Parts.{HaveTheirRoles, frames_of, objects_in};
+ghost use Rattle.space_bank.specs.Planning.{AreFree, IsBankOf};
 
 use crate::banks::Banks;
-use crate::walking::{is_free, is_under, owner};
+use crate::marking::next_used;
+use crate::walking::{is_under, owner};
 use capability::PresentFrames;
+use number_set::NumberSet;
 
-// Lists a bank and all that is under it, by number.
-fn list_under<F: PresentFrames>(store: &F, bank: u64, listed: &mut Vec<u64>)
+// Lists a bank and all that is under it, by number. Goes over the numbers that aren't free.
+fn list_under<F: PresentFrames>(
+    store: &F,
+    nodes: &NumberSet,
+    pages: &NumberSet,
+    bank: u64,
+    listed: &mut Vec<u64>,
+)
     requires roles { HaveTheirRoles (frames_of (F.parts store.now)) }
+    requires bank { is_free (content_at (objects_in (F.parts store.now)) bank) ≡ false }
+    requires nodes { length nodes.now ≡ (F.parts store.now).geometry.nodes }
+    requires free { AreFree (objects_in (F.parts store.now)) nodes.now pages.now }
     requires room { vec_len listed.old + length (F.parts store.now).headers
         ≤ vec_capacity listed.old }
     ensures listed { listed.new.items
         ≡ listed.old.items ++ under (objects_in (F.parts store.now)) bank }
     ensures room { vec_capacity listed.new ≡ vec_capacity listed.old }
 {
-    for number in 0..store.table().count() {
+    let first_page = store.geometry().nodes;
+    let mut from = 0;
+    while let Some(number) = next_used(nodes, pages, first_page, from) {
         if number == bank || is_under(store, bank, number) {
             listed.push_reserved(number);
         }
+        from = number + 1;
     }
 }
 
-// Lists what a bank itself owns, by number. Number 0 isn't among it.
-fn list_owned<F: PresentFrames>(store: &F, bank: u64, listed: &mut Vec<u64>)
-    requires roles { HaveTheirRoles (frames_of (F.parts store.now)) }
+// Lists what a bank itself owns, by number. Number 0 isn't among it. Goes over the numbers that
+// aren't free.
+fn list_owned<F: PresentFrames>(
+    store: &F,
+    nodes: &NumberSet,
+    pages: &NumberSet,
+    bank: u64,
+    listed: &mut Vec<u64>,
+)
+    requires nodes { length nodes.now ≡ (F.parts store.now).geometry.nodes }
+    requires free { AreFree (objects_in (F.parts store.now)) nodes.now pages.now }
     requires prime { owner_at (objects_in (F.parts store.now)) 0 ≡ 0 }
     requires other { bank ≢ 0 }
     requires room { vec_len listed.old + length (F.parts store.now).headers
@@ -36,10 +60,13 @@ fn list_owned<F: PresentFrames>(store: &F, bank: u64, listed: &mut Vec<u64>)
         ≡ listed.old.items ++ owned_by (objects_in (F.parts store.now)) bank }
     ensures room { vec_capacity listed.new ≡ vec_capacity listed.old }
 {
-    for number in 0..store.table().count() {
-        if !is_free(store, number) && owner(store, number) == bank {
+    let first_page = store.geometry().nodes;
+    let mut from = 0;
+    while let Some(number) = next_used(nodes, pages, first_page, from) {
+        if owner(store, number) == bank {
             listed.push_reserved(number);
         }
+        from = number + 1;
     }
 }
 
@@ -74,25 +101,24 @@ impl Banks {
 
     // Lists a bank and all that is under it behind those that are listed.
     pub(crate) fn list_under<F: PresentFrames>(&mut self, store: &F, bank: u64)
-        requires roles { HaveTheirRoles (frames_of (F.parts store.now)) }
+        requires bank { IsBankOf (F.parts store.now) self.old bank }
         requires room { length self.old.listed + length (F.parts store.now).headers
             ≤ self.old.room }
         ensures { let objects = objects_in (F.parts store.now) in
             self.new ≡ record self.old { listed = self.old.listed ++ under objects bank } }
     {
-        list_under(store, bank, &mut self.listed);
+        list_under(store, &self.nodes, &self.pages, bank, &mut self.listed);
     }
 
     // Lists what a bank itself owns behind those that are listed.
     pub(crate) fn list_owned<F: PresentFrames>(&mut self, store: &F, bank: u64)
-        requires roles { HaveTheirRoles (frames_of (F.parts store.now)) }
-        requires prime { owner_at (objects_in (F.parts store.now)) 0 ≡ 0 }
+        requires bank { IsBankOf (F.parts store.now) self.old bank }
         requires other { bank ≢ 0 }
         requires room { length self.old.listed + length (F.parts store.now).headers
             ≤ self.old.room + 1 }
         ensures { let objects = objects_in (F.parts store.now) in
             self.new ≡ record self.old { listed = self.old.listed ++ owned_by objects bank } }
     {
-        list_owned(store, bank, &mut self.listed);
+        list_owned(store, &self.nodes, &self.pages, bank, &mut self.listed);
     }
 }

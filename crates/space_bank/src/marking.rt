@@ -1,7 +1,9 @@
 // Which numbers are free: nodes come first, and pages after them.
-ghost use Rattle.std.specs.Prelude.{◌≡◌, ℕ, ◌+◌, ◌<◌, ◌++◌, true, false, if◌then◌else◌, length, slice_index_or, slice_set};
+ghost use Rattle.std.specs.Prelude.{◌≡◌, ℕ, List, ◌+◌, ◌<◌, ◌^◌, ◌++◌, None, IfSome, true, false, if◌then◌else◌, length, slice_index_or, slice_set};
 ghost use Rattle.std.specs.List.{All};
+ghost use Rattle.model.specs.declared.object.Object.{Object};
 ghost use Rattle.model.specs.Revoke.{is_member};
+ghost use Rattle.space_bank.specs.Planning.{AreFree, HasNoneUsed, IsNextUsed};
 
 use number_set::NumberSet;
 
@@ -44,4 +46,25 @@ pub(crate) fn mark_free(
     for number in numbers {
         mark(nodes, pages, first_page, *number, true);
     }
+}
+
+/// The least number from a number on that isn't free.
+pub(crate) fn next_used(
+    nodes: &NumberSet,
+    pages: &NumberSet,
+    first_page: u64,
+    from: u64,
+) -> Option<u64>
+    requires first { first_page ≡ length nodes.now }
+    requires few { length nodes.now + length pages.now < 2 ^ 64 }
+    ensures some { (os : List Object) → AreFree os nodes.now pages.now
+        → IfSome result (λ n. IsNextUsed os from n) }
+    ensures none { (os : List Object) → AreFree os nodes.now pages.now
+        → result ≡ None → HasNoneUsed os from }
+{
+    if let Some(node) = nodes.next_missing(from as usize) {
+        return Some(node as u64);
+    }
+    let page = pages.next_missing(from.saturating_sub(first_page) as usize)?;
+    Some(first_page + page as u64)
 }

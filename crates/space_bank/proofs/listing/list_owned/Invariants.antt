@@ -1,4 +1,4 @@
-use Rattle.std.proofs.Common.{◌≡◌, ◌≤◌, ◌+◌, ◌-◌, ◌++◌, vec_len}
+use Rattle.std.proofs.Common.{◌≡◌, ◌≤◌, ◌+◌, ◌-◌, ◌++◌, length, vec_len}
 use Rattle.std.specs.List.{filter, range_with_len}
 use Rattle.std.specs.Vec.{vec_capacity}
 use Rattle.capability.specs.Parts.{objects_in}
@@ -9,7 +9,11 @@ abbrev pub invariant-loop-number : goal.invariant-loop-number
 invariant-loop-number g l =
     let os = objects_in (g.F.PresentFrames.parts l.store) in
     record {
-      listed : l.listed.items ≡ l.initial.listed.items ++ filter (is_listed_owned os l.bank) (range_with_len 0 l.number);
-      count : vec_len l.listed ≤ vec_len l.initial.listed + (l.number - 1);
+      listed : l.listed.items ≡ l.initial.listed.items ++ filter (is_listed_owned os l.bank) (range_with_len 0 l.from);
+      count : vec_len l.listed ≤ vec_len l.initial.listed + (l.from - 1);
       room : vec_capacity l.listed ≡ vec_capacity l.initial.listed;
+      within : l.from ≤ length os;
     }
+
+abbrev pub decreases-loop-number : goal.decreases-loop-number
+decreases-loop-number g l = length (objects_in (g.F.PresentFrames.parts l.store)) - l.from

@@ -6,7 +6,7 @@ use Rattle.model.specs.Banking.{under}
 use Rattle.model.specs.Revoke.{rescind}
 use Rattle.capability.specs.Parts.{objects_in}
 use Rattle.space_bank.specs.Banks.{BanksState}
-use Rattle.space_bank.proofs.Plans.{bank_roles, bank_room, destroy_all, destroy_prime, planned_made, planned_refused}
+use Rattle.space_bank.proofs.Plans.{bank_room, destroy_all, destroy_prime, planned_made, planned_refused}
 use Rattle.space_bank.proofs.banks.Banks.plan_destroy.Goals as goal
 
 pub returns-then-bank-eq0-clause-planned : goal.returns-then-bank-eq0-clause-planned
@@ -22,7 +22,7 @@ pub list_under-requires : goal.list_under-requires
 list_under-requires g c =
     let p = g.F.PresentFrames.parts c.args.store.now in
     record {
-      roles = bank_roles p c.args.self.now c.args.bank c.requires.bank;
+      bank = c.requires.bank;
       room = bank_room p c.args.self.now c.args.bank c.requires.bank (length c.args.self.now.listed) c.requires.few;
     }
 

@@ -7,7 +7,8 @@ use Rattle.model.specs.Banking.{inherited, owned_by}
 use Rattle.model.specs.Revoke.{rescind}
 use Rattle.capability.specs.Parts.{objects_in}
 use Rattle.space_bank.specs.Banks.{BanksState}
-use Rattle.space_bank.proofs.Plans.{bank_roles, bank_room, planned_made, planned_refused, return_all, return_prime}
+use Rattle.space_bank.proofs.Missing.{bank_listing}
+use Rattle.space_bank.proofs.Plans.{bank_room, planned_made, planned_refused, return_all, return_prime}
 use Rattle.space_bank.proofs.banks.Banks.plan_return.Goals as goal
 
 pub returns-then-bank-eq0-clause-planned : goal.returns-then-bank-eq0-clause-planned
@@ -19,8 +20,9 @@ returns-then-bank-eq0-clause-planned g c = λ args.
     (return_prime p.geometry os c.args.bank args c.if-bank-eq0.true)
     c.refused.ensures refl
 
-pub list_owned-requires-clause-roles : goal.list_owned-requires-clause-roles
-list_owned-requires-clause-roles g c = bank_roles (g.F.PresentFrames.parts c.args.store.now) c.args.self.now c.args.bank c.requires.bank
+pub list_owned-requires-clause-bank : goal.list_owned-requires-clause-bank
+list_owned-requires-clause-bank g c =
+    bank_listing (g.F.PresentFrames.parts c.args.store.now) c.args.self.now c.args.bank c.requires.bank c.list.new.self (c.args.self.now.listed ++ c.args.bank ∷ []) c.list.ensures
 
 pub list_owned-requires-clause-room : goal.list_owned-requires-clause-room
 list_owned-requires-clause-room g c =
