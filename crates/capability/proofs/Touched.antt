@@ -22,7 +22,7 @@ touched_count-set t n inside unmarked =
     omega (arith, k)
 
 -- a mark that is there stays as it is
-set-marked : (t : List Bool) (n : ℕ) → get_or t n false ≡ true → set t n true ≡ t
+pub set-marked : (t : List Bool) (n : ℕ) → get_or t n false ≡ true → set t n true ≡ t
 set-marked t n marked = ap (λ b. set t n b) (sym marked) ∙ set-get_or t n false
 
 -- what is marked stays marked

@@ -9,7 +9,7 @@ ghost use Rattle.capability.specs.Parts.{frames_of};
 ghost use Rattle.capability.specs.Plain.{Announces, GoesOn, HasRoom, IsThere, parts_of, with_content_at};
 
 use crate::plain::rooms::{filled, push_free, put_aside};
-use crate::plain::touched::{fresh_count, mark};
+use crate::plain::touched::{are_ready, fresh_count, mark};
 use crate::present::{Fresh, MAX_FETCHED, PrepareFault, PresentFrames};
 use crate::table::ObjectTable;
 use model::{Cap, Content, Geometry, ObjectHeader, Role};
@@ -189,7 +189,7 @@ impl PresentFrames for Plain {
     {
         // A use of a field makes the invariant known here.
         let _count = self.count;
-        if written.is_empty() {
+        if are_ready(&self.table, &self.touched, written) {
             return Ok(());
         }
         self.announce(alloc, written)

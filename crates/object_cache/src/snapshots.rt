@@ -1,5 +1,5 @@
 // The frozen frames of a checkpoint on its way.
-ghost use Rattle.std.specs.Prelude.{◌≡◌, ◌≢◌, ℕ, ◌<◌, None, length, map, replicate, slice_set, IfSome, IfOk, OnOk};
+ghost use Rattle.std.specs.Prelude.{◌≡◌, ◌≢◌, ℕ, ◌<◌, ◌↔◌, IsTrue, None, length, map, replicate, slice_set, IfSome, IfOk, OnOk};
 ghost use Rattle.std.specs.List.{All, Contains};
 ghost use Rattle.model.specs.Frame.{frame_at};
 ghost use Rattle.object_cache.specs.declared.snapshot.Snapshot.TheVariants.{Below};
@@ -63,6 +63,18 @@ impl Snapshots {
         &self.items[number as usize]
     }
 
+    // Whether the frozen frame of an object is the present one.
+    #[inline(always)]
+    fn is_present(&self, number: u64) -> bool
+        requires { number < length self.now }
+        ensures { IsTrue result ↔ (snapshot_at self.now number ≡ Snapshot.Present) }
+    {
+        if !self.pending.contains(number as usize) {
+            return false;
+        }
+        matches!(self.items[number as usize], Snapshot::Present)
+    }
+
     /// Says where the frozen frame of an object is.
     #[inline(never)]
     pub(crate) fn set(&mut self, number: u64, snapshot: Snapshot)
@@ -99,8 +111,30 @@ fn copy_frame(alloc: Global, present: &Plain, number: u64) -> Result<Frame, Allo
     Ok(Frame { header, content })
 }
 
-// Keeps the frozen frame of an object apart from the present one.
+// Copies a frozen frame, which is the present one.
 #[tactic(auto, using(crate::proofs::Copies::keeps_none, crate::proofs::Copies::keeps_one))]
+#[inline(never)]
+fn copy_present(
+    alloc: Global,
+    present: &Plain,
+    snapshots: &mut Snapshots,
+    number: u64,
+) -> Result<(), AllocError>
+    requires known { number < length snapshots.old }
+    requires headers { number < length present.now.headers }
+    requires contents { number < length present.now.contents }
+    requires frozen { snapshot_at snapshots.old number ≡ Snapshot.Present }
+    ensures copied { OnOk result (snapshot_at snapshots.new number ≢ Snapshot.Present) }
+    ensures keeps { KeepsFrozen (present_frames present.now) snapshots.old snapshots.new }
+{
+    let frame = copy_frame(alloc, present, number)?;
+    snapshots.set(number, Snapshot::Copied(frame));
+    Ok(())
+}
+
+// Keeps the frozen frame of an object apart from the present one.
+#[tactic(auto, using(crate::proofs::Copies::keeps_none))]
+#[inline(always)]
 fn copy_one(
     alloc: Global,
     present: &Plain,
@@ -113,9 +147,8 @@ fn copy_one(
     ensures copied { OnOk result (snapshot_at snapshots.new number ≢ Snapshot.Present) }
     ensures keeps { KeepsFrozen (present_frames present.now) snapshots.old snapshots.new }
 {
-    if let Snapshot::Present = snapshots.get(number) {
-        let frame = copy_frame(alloc, present, number)?;
-        snapshots.set(number, Snapshot::Copied(frame));
+    if snapshots.is_present(number) {
+        return copy_present(alloc, present, snapshots, number);
     }
     Ok(())
 }

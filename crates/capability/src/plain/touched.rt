@@ -1,9 +1,40 @@
 // Which numbers were written since the last checkpoint.
-ghost use Rattle.std.specs.Prelude.{◌≡◌, ◌+◌, ◌<◌, length, slice_set, true};
+ghost use Rattle.std.specs.Prelude.{◌≡◌, ◌≢◌, ◌+◌, ◌<◌, IsTrue, length, slice_index_or, slice_set, false, true};
 ghost use Rattle.std.specs.List.{All};
+ghost use Rattle.model.specs.Frame.{header_at};
 ghost use Rattle.model.specs.Machine.{touching, touched_count};
 
+use crate::table::ObjectTable;
+use model::Role;
 use number_set::NumberSet;
+
+// Whether a number is marked, and isn't free.
+#[inline(always)]
+fn is_ready(table: &ObjectTable, touched: &NumberSet, number: u64) -> bool
+    requires { number < length touched.now }
+    ensures marked { IsTrue result → slice_index_or touched.now number false ≡ true }
+    ensures used { IsTrue result → (header_at table.now number).role ≢ Role.Free }
+{
+    if let Role::Free = table.header(number).role {
+        return false;
+    }
+    touched.contains(number as usize)
+}
+
+/// Whether all numbers of a list are marked, and none of them is free.
+pub fn are_ready(table: &ObjectTable, touched: &NumberSet, written: &[u64]) -> bool
+    requires { All (λ n. n < length touched.now) written.now }
+    ensures marked { IsTrue result → touching touched.now written.now ≡ touched.now }
+    ensures used { IsTrue result
+        → All (λ n. (header_at table.now n).role ≢ Role.Free) written.now }
+{
+    for number in written {
+        if !is_ready(table, touched, *number) {
+            return false;
+        }
+    }
+    true
+}
 
 /// How many numbers of a list aren't marked yet. A number that stands there twice counts once.
 ///
