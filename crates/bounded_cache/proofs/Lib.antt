@@ -24,3 +24,4 @@ mod Fetched
 mod Bringing
 mod Readying
 mod Presenting
+mod Journaling

@@ -30,6 +30,7 @@ use std::marker::Model;
 
 mod fetch;
 mod hand;
+mod journal;
 mod prepare;
 mod present;
 mod read;
