@@ -25,3 +25,4 @@ mod Bringing
 mod Readying
 mod Presenting
 mod Journaling
+mod Opening

@@ -31,6 +31,7 @@ use std::marker::Model;
 mod fetch;
 mod hand;
 mod journal;
+mod open;
 mod prepare;
 mod present;
 mod read;
