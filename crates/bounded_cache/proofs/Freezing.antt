@@ -45,17 +45,17 @@ pub none_of : {A B : Type 0} (f : A → B) (o : Option A) → option_map f o ≡
 none_of f None is = refl
 none_of f (Some x) is = absurd (none-some (f x) (sym is))
 
-none_marked : (n k : ℕ) → mark_at (replicate n false) k ≡ false
+pub none_marked : (n k : ℕ) → mark_at (replicate n false) k ≡ false
 none_marked n k = elim (cases_lt k n) [
   | inl lt ↦ get_or-replicate n k false false lt
   | inr past ↦ get_or_past (replicate n false) k false (let size = length-replicate {A = Bool} n false in omega (arith, size, past))
 ]
 
-none_counted : (n : ℕ) → touched_count (replicate n false) ≡ 0
+pub none_counted : (n : ℕ) → touched_count (replicate n false) ≡ 0
 none_counted zero = refl
 none_counted (suc n) = let total = sum_by-cons (λ b. cond b 1 0) false (replicate n false) in let rest = none_counted n in omega (arith, total, rest)
 
-none_put : (n k : ℕ) → put_at (replicate n Absent) k ≡ Absent
+pub none_put : (n k : ℕ) → put_at (replicate n Absent) k ≡ Absent
 none_put n k = elim (cases_lt k n) [
   | inl lt ↦ get_or-replicate n k Absent Absent lt
   | inr past ↦ get_or_past (replicate n Absent) k Absent (let size = length-replicate {A = Put} n Absent in omega (arith, size, past))

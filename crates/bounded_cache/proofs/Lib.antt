@@ -24,3 +24,5 @@ mod Fetched
 mod Bringing
 mod Readying
 mod Presenting
+mod Journaling
+mod Opening

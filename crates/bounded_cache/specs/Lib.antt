@@ -4,4 +4,5 @@ pub mod Order
 pub mod Memory
 pub mod Cache
 pub mod Prepared
+pub mod Journaled
 pub mod CacheLaws

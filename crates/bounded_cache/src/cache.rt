@@ -30,6 +30,8 @@ use std::marker::Model;
 
 mod fetch;
 mod hand;
+mod journal;
+mod open;
 mod prepare;
 mod present;
 mod read;

@@ -39,8 +39,9 @@ impl Entries {
     /// Room for as many entries as the capacity, of so many numbers, none of which has one. Fails
     /// only where memory runs out.
     pub fn new(alloc: Global, capacity: Capacity, count: usize) -> Result<Entries, AllocError>
-        ensures { IfOk result (λ entries. entries
+        ensures none { IfOk result (λ entries. entries
             ≡ record { at = replicate count None; order = []; most = capacity }) }
+        ensures least { 8 ≤ capacity }
     {
         let most = capacity.count() as usize;
         match NonZeroUsize::new(most) {

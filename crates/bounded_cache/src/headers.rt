@@ -1,11 +1,12 @@
 // The headers of objects as they were frozen.
-ghost use Rattle.std.specs.Prelude.{◌≡◌, ℕ, ◌<◌, length, true};
+ghost use Rattle.std.specs.Prelude.{◌≡◌, ℕ, ◌<◌, length, true, IfOk};
 ghost use Rattle.model.specs.Frame.{header_at};
 ghost use Rattle.bounded_cache.specs.Memory.{mark_at};
 
 use capability::ObjectTable;
 use model::ObjectHeader;
 use number_set::NumberSet;
+use std::alloc::{AllocError, Global};
 use std::marker::Model;
 
 /// The headers of all objects, by number, of which those of a checkpoint's objects are as they were
@@ -39,6 +40,15 @@ fn copy_marked(frozen: &mut [ObjectHeader], table: &ObjectTable, marks: &NumberS
 }
 
 impl Headers {
+    /// The same headers again. Fails only where memory runs out.
+    pub(crate) fn new(alloc: Global, headers: &[ObjectHeader]) -> Result<Headers, AllocError>
+        ensures { IfOk result (λ frozen. frozen ≡ headers.now) }
+    {
+        Ok(Headers {
+            items: headers.to_vec(alloc)?,
+        })
+    }
+
     /// The header of an object.
     pub(crate) fn header(&self, number: u64) -> ObjectHeader
         requires { number < length self.now }

@@ -3,10 +3,16 @@
 //! such device is needed for.
 #![tactic(auto)]
 
+#[cfg(test)]
+mod chance;
+#[cfg(test)]
+mod fused;
 mod images;
 mod kernels;
 #[cfg(test)]
 mod layouts;
+#[cfg(test)]
+mod plain;
 #[cfg(test)]
 mod stops;
 mod worlds;

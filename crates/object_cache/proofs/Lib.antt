@@ -1,5 +1,5 @@
 mod Copies
-mod Journaling
+pub mod Journaling
 mod Keeping
 mod Counts
 mod Putting

@@ -62,3 +62,8 @@ IsJournalAnswer old new left s is_page is_saved (Err fault.NotPage) = (new.failu
 IsJournalAnswer old new left s is_page is_saved (Err fault.Renewed) =
     (new.failures ≡ old.failures) × (left ≡ None) × (s.entries ≡ 0) × (is_page ≡ true) × (is_saved ≡ false)
 IsJournalAnswer old new left s is_page is_saved (Err fault.Failed) = (old.failures < new.failures) × (left ≡ None) × (s.entries ≡ 0) × (is_page ≡ true)
+
+-- whether it is to be done, or why it is refused before anything is written
+abbrev pub IsJournalCheck : Disk → Disk → Option ℕ → SavedFrames → (is_page is_saved : Bool) → Result (Unit {0}) JournalFault → Type 0
+IsJournalCheck old new left s is_page is_saved (Ok done) = (new.failures ≡ old.failures) × (left ≡ None) × (s.entries ≡ 0) × (is_page ≡ true) × (is_saved ≡ true)
+IsJournalCheck old new left s is_page is_saved (Err why) = IsJournalAnswer old new left s is_page is_saved (Err why)

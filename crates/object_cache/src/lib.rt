@@ -3,6 +3,7 @@
 #![tactic(auto)]
 
 mod journal_fault;
+mod page;
 mod plain_store;
 mod snapshot;
 mod snapshots;
@@ -10,5 +11,6 @@ mod store;
 
 pub use journal_fault::JournalFault;
 pub use migrator::{Checkpoint, CheckpointFault, OpenFault, OpenRefused};
+pub use page::{may_journal, save_content, save_words};
 pub use plain_store::{PlainStore, held};
 pub use store::ObjectStore;

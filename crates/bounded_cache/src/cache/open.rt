@@ -1,0 +1,99 @@
+// Opening a device: no object is in memory but for its header.
+ghost use Rattle.std.specs.Prelude.{◌≡◌, ◌≤◌, [], None, false, length, replicate, IfOk, IfErr, OnOk};
+ghost use Rattle.migrator.specs.Opened.{Refuses};
+ghost use Rattle.object_cache.specs.Store.{OpensStore};
+ghost use Rattle.bounded_cache.specs.Cache.{parts_of, view_of};
+
+use crate::cache::BoundedCache;
+use crate::capacity::Capacity;
+use crate::entries::Entries;
+use crate::headers::Headers;
+use capability::ObjectTable;
+use device::Device;
+use layout::Room;
+use migrator::{Durable, OpenFault, OpenRefused, Opened};
+use model::ObjectHeader;
+use number_set::NumberSet;
+use std::alloc::{AllocError, Global};
+
+// All the memory that a store takes, but for the headers of all objects and what entries hold.
+#[derive(Drop)]
+struct Reserve {
+    frozen_headers: Headers,
+    touched: NumberSet,
+    dirty: NumberSet,
+    pending: NumberSet,
+    entries: Entries,
+    room: Room,
+}
+
+impl Reserve {
+    fn new(
+        alloc: Global,
+        capacity: Capacity,
+        headers: &[ObjectHeader],
+    ) -> Result<Reserve, AllocError>
+        ensures headers { IfOk result (λ reserve. reserve.frozen_headers ≡ headers.now) }
+        ensures touched { IfOk result (λ reserve.
+            reserve.touched ≡ replicate (length headers.now) false) }
+        ensures dirty { IfOk result (λ reserve.
+            reserve.dirty ≡ replicate (length headers.now) false) }
+        ensures pending { IfOk result (λ reserve.
+            reserve.pending ≡ replicate (length headers.now) false) }
+        ensures entries { IfOk result (λ reserve. reserve.entries ≡ record {
+          at = replicate (length headers.now) None;
+          order = [];
+          most = capacity;
+        }) }
+        ensures least { OnOk result (8 ≤ capacity) }
+    {
+        let count = headers.len();
+        Ok(Reserve {
+            frozen_headers: Headers::new(alloc, headers)?,
+            touched: NumberSet::new(alloc, count)?,
+            dirty: NumberSet::new(alloc, count)?,
+            pending: NumberSet::new(alloc, count)?,
+            entries: Entries::new(alloc, capacity, count)?,
+            room: Room::new(alloc)?,
+        })
+    }
+}
+
+impl<D: Device> BoundedCache<D> {
+    /// Opens a device, and writes nothing to it. The present objects are the saved ones, and none is
+    /// in memory yet; for as many as the capacity there is room.
+    ///
+    /// A refusal hands the device back: `Failed` exactly where the device failed, `NoMemory` only
+    /// where memory ran out, and else the least of the reasons 1 to 7 to refuse an image.
+    pub fn open(alloc: Global, device: D, capacity: Capacity) -> Result<Self, OpenRefused<D>>
+        ensures opened { IfOk result (λ s.
+            OpensStore D.disk device (parts_of D.disk s) (view_of D.disk s)) }
+        ensures refused { IfErr result (λ r. Refuses D.disk device r.device r.fault) }
+    {
+        match Durable::open(alloc, device) {
+            Ok(opened) => {
+                let Opened { store, headers } = opened;
+                match Reserve::new(alloc, capacity, &headers) {
+                    Ok(reserve) => Ok(BoundedCache {
+                        durable: store,
+                        table: ObjectTable::new(headers),
+                        touched: reserve.touched,
+                        count: 0,
+                        dirty: reserve.dirty,
+                        entries: reserve.entries,
+                        pending: reserve.pending,
+                        frozen_headers: reserve.frozen_headers,
+                        left: 0,
+                        hand: None,
+                        room: reserve.room,
+                    }),
+                    Err(_) => Err(OpenRefused {
+                        fault: OpenFault::NoMemory,
+                        device: store.into_device(),
+                    }),
+                }
+            }
+            Err(refused) => Err(refused),
+        }
+    }
+}
