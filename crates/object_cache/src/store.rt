@@ -137,7 +137,8 @@ pub trait ObjectStore<D: Device>: PresentFrames + Sized {
 
     /// Copies so many of the saved objects home, and answers how many are left. Fails exactly where
     /// the device does, and then a crash leaves what was saved, or the same with all of it home
-    /// where that was to be reached.
+    /// where that was to be reached. Where all of it is home already, as the header says, it makes
+    /// no call of the device.
     fn migrate(&mut self, count: u64) -> Result<u64, Failed>
         requires sound { (view self.old).is_sound }
         ensures headers { (Self.parts self.new).headers ≡ (Self.parts self.old).headers }
@@ -146,6 +147,7 @@ pub trait ObjectStore<D: Device>: PresentFrames + Sized {
         ensures geometry { (Self.parts self.new).geometry ≡ (Self.parts self.old).geometry }
         ensures left { IfOk result (λ n. n ≡ (view self.old).aside.to_move - count) }
         ensures aside { OnOk result ((view self.new).aside ≡ moved count (view self.old).aside) }
+        ensures untouched { (view self.old).aside.saved.entries ≡ 0 → self.new ≡ self.old }
         ensures sound { OnOk result ((view self.new).is_sound) }
         ensures size { (D.disk (view self.new).beneath).sectors ≡ (D.disk (view self.old).beneath).sectors }
         ensures any_moment { LeavesEither (D.disk (view self.old).beneath) (D.disk (view self.new).beneath)

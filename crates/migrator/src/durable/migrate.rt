@@ -58,6 +58,7 @@ impl<D: Device> Durable<D> {
         ensures moved { OnOk result (MovedBy D.disk self.old self.new count) }
         ensures unmoved { OnErr result ((k : ℕ) × (k ≤ count)
             × MovedBy D.disk self.old self.new k) }
+        ensures none { count ≡ 0 → self.new ≡ self.old }
         ensures cause { Counts (D.disk self.old.beneath) (D.disk self.new.beneath) result }
     {
         for _ in 0..count {
@@ -94,7 +95,7 @@ impl<D: Device> Durable<D> {
 
     /// Copies so many of the saved frames home, in the order of their numbers, and answers how many
     /// are left. Once none is, the home frames are made durable, and a header says that all that is
-    /// saved is home.
+    /// saved is home. Where the header says so already, it makes no call of the device.
     ///
     /// At `Failed`, which is told exactly where the device failed, a crash leaves what was saved,
     /// or the same with all of it home where that was to be reached.
@@ -105,6 +106,7 @@ impl<D: Device> Durable<D> {
             (stored_of D.disk self.new ≡ moved count (stored_of D.disk self.old)) }
         ensures unmoved { OnErr result ((k : ℕ) × (k ≤ (stored_of D.disk self.old).to_move)
             × (stored_of D.disk self.new ≡ record (stored_of D.disk self.old) { to_move = k })) }
+        ensures untouched { (stored_of D.disk self.old).saved.entries ≡ 0 → self.new ≡ self.old }
         ensures plan { self.new.books.plan ≡ self.old.books.plan }
         ensures sound { OnOk result (is_sound D.disk self.new) }
         ensures size { (D.disk self.new.beneath).sectors ≡ (D.disk self.old.beneath).sectors }

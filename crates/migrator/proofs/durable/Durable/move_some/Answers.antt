@@ -11,4 +11,4 @@ returns-in_err-move_next-clause-unmoved g c =
 
 pub loop-preserved : goal.loop-preserved
 loop-preserved g c =
-    (moved_more g.D.Device.disk c.args.self.now c.loop.self c.move_next.new.self c.loop.counter 1 c.loop.invariant.0 c.in_ok-move_next.ensures.moved, counted_ok c.in_ok-move_next.ensures.cause ∙ c.loop.invariant.1)
+    (moved_more g.D.Device.disk c.args.self.now c.loop.self c.move_next.new.self c.loop.counter 1 c.loop.invariant.0 c.in_ok-move_next.ensures.moved, counted_ok c.in_ok-move_next.ensures.cause ∙ c.loop.invariant.1, λ none. absurd (omega (arith, none)))
