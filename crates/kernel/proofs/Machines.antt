@@ -24,7 +24,7 @@ use Rattle.kernel.specs.declared.power.Power.{Power}
 use Rattle.kernel.specs.declared.power.Power.TheVariants as power
 use Rattle.kernel.specs.Denotes.{saved_of, DenotesOne, Leaves, LeavesOne}
 use Rattle.kernel.specs.Opening.{IsNoReason, IsSomeDown, Opens, RefusesToOpen, ReopensAs, Reopened, Wakes, refused_by}
-use Rattle.kernel.specs.Standing.{Asks, GoesDown, HasDevice, IsCaused, IsDeviceOf, IsSomeMachine, IsSomeUp, IsUp, Serves, ServesFrom, Stands, disk_of, running}
+use Rattle.kernel.specs.Standing.{Asks, GoesDown, HasDevice, IsCaused, IsDeviceOf, IsSomeMachine, IsSomeUp, IsUp, SameDevice, Serves, ServesFrom, Stands, disk_of, running}
 use Rattle.kernel.proofs.Crashes.{leaves_end, leaves_here, among}
 use Rattle.kernel.proofs.Denoted.{one_denoted, one_not_bad}
 
@@ -204,6 +204,19 @@ module _ {D S : Type 0} (disk : D → Disk) (view : S → View D) (parts : S →
   asked_cause (power.Down d) (power.Up k) c a asks = absurd asks
   asked_cause (power.Down d) power.Between c a asks = absurd asks
   asked_cause power.Between q c a asks = absurd asks
+
+  -- where no call was made, none failed
+  pub none_failed : (p q : Power D S) (c : Command) → Asks disk view parts p c (answer.Refused refusal.Fault) q → SameDevice disk view parts p q → ⊥
+  none_failed (power.Up l) (power.Up k) c asks same =
+      let rose = asks.1.exact.0 refl in
+      let equal : (disk_of disk view parts (power.Up k)).failures ≡ (disk_of disk view parts (power.Up l)).failures = ap (λ (d : D). (disk d).failures) same in
+      omega (arith, rose, equal)
+  none_failed (power.Down d) (power.Down e) c asks same = let told = asks.0 in absurd cc
+  none_failed (power.Up l) (power.Down e) c asks same = absurd asks
+  none_failed (power.Up l) power.Between c asks same = absurd asks
+  none_failed (power.Down d) (power.Up k) c asks same = absurd asks
+  none_failed (power.Down d) power.Between c asks same = absurd asks
+  none_failed power.Between q c asks same = absurd asks
 
   -- the disk beneath is that of the device
   pub disk_beneath : (p : Power D S) (d : D) → IsDeviceOf disk view parts p d → (old : Disk) (a : Answer) → IsCaused old (disk_of disk view parts p) a → IsCaused old (disk d) a

@@ -6,6 +6,7 @@ use Rattle.model.specs.declared.answer.Answer.TheVariants as answer
 use Rattle.model.specs.declared.answer.Refusal.{Refusal}
 use Rattle.model.specs.declared.answer.Refusal.TheVariants as refusal
 use Rattle.model.specs.declared.command.Command.{Command}
+use Rattle.model.specs.declared.command.Command.TheVariants as command
 use Rattle.model.specs.declared.frame.Frame.{Frame}
 use Rattle.model.specs.declared.geometry.Geometry.{Geometry}
 use Rattle.model.specs.Frame.{frame_at}
@@ -152,6 +153,11 @@ module _ {D S : Type 0} (disk : D → Disk) (view : S → View D) (parts : S →
   SameDevice (power.Down d) (power.Down e) = e ≡ d
   SameDevice power.Between power.Between = Unit {0}
   SameDevice _ _ = ⊥
+
+  -- it is to migrate where all that is saved is home, as the header says
+  abbrev pub HasNoneToMove : Power D S → Command → Type 0
+  HasNoneToMove (power.Up l) (command.Migrate n) = (view l.store).aside.saved.entries ≡ 0
+  HasNoneToMove _ _ = ⊥
 
   -- there is a device beneath a kernel
   abbrev pub HasDevice : Power D S → Type 0

@@ -90,7 +90,8 @@ pub fn commit<D: Device, S: ObjectStore<D>>(live: &mut Live<S>) -> Result<Answer
     }
 }
 
-/// Copies so many saved objects home. Fails where the device does.
+/// Copies so many saved objects home. Fails where the device does, and makes no call of it where
+/// all of it is home already.
 #[inline(never)]
 pub fn migrate<D: Device, S: ObjectStore<D>>(
     live: &mut Live<S>,
@@ -98,6 +99,8 @@ pub fn migrate<D: Device, S: ObjectStore<D>>(
 ) -> Result<Answer, Failed>
     requires { IsSomeUp D.disk S.view S.parts live.old }
     ensures serves { ServesUp D.disk S.view S.parts live.old (command.Migrate count) (answer_of result) live.new }
+    ensures none_to_move { (S.view live.old.store).aside.saved.entries ≡ 0
+        → (S.view live.new.store).beneath ≡ (S.view live.old.store).beneath }
     ensures cause { IsCaused (disk_at D.disk S.view S.parts live.old)
         (disk_at D.disk S.view S.parts live.new) (answer_of result) }
     ensures looks { IsUnlooked (answer_of result) → ⊥ }

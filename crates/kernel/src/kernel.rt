@@ -1,7 +1,7 @@
 // The kernel.
 ghost use Rattle.std.specs.Prelude.{IfOk, IfErr};
 ghost use Rattle.processes.specs.Machine.{IsUnlooked};
-ghost use Rattle.kernel.specs.Standing.{IsCaused, IsDeviceOf, IsTold, SameDevice, Serves, disk_of};
+ghost use Rattle.kernel.specs.Standing.{HasNoneToMove, IsCaused, IsDeviceOf, IsTold, SameDevice, Serves, disk_of};
 ghost use Rattle.kernel.specs.Opening.{Opens, RefusesToOpen};
 
 use crate::machine::Machine;
@@ -55,13 +55,16 @@ impl<D: Device, S: ObjectStore<D>> Kernel<D, S> {
     /// `NoMemory` may stand in place of the answer to a command that takes memory, and `Fault` is
     /// answered exactly where the device failed: then the machine is down, and takes only
     /// `Restart` and `Cut`. `Restart` and `Cut` that are refused leave it down. `BadNumber`,
-    /// `NoProcess` and `Down` are told without a call of the device.
+    /// `NoProcess` and `Down` are told without a call of the device, and `Migrate` makes none where
+    /// all that is saved is home.
     ///
     /// A crash at any moment leaves what was saved, or, in a `Commit` or in the `Migrate` that
     /// brings the last object home, what that is to save.
     pub fn step(&mut self, alloc: Global, command: Command) -> Answer
         ensures serves { Serves D.disk S.view S.parts self.old command result self.new }
         ensures untouched { IsUnlooked result
+            → SameDevice D.disk S.view S.parts self.old self.new }
+        ensures none_to_move { HasNoneToMove D.disk S.view S.parts self.old command
             → SameDevice D.disk S.view S.parts self.old self.new }
         ensures cause { IsCaused (disk_of D.disk S.view S.parts self.old)
             (disk_of D.disk S.view S.parts self.new) result }

@@ -6,7 +6,7 @@ ghost use Rattle.model.specs.Machine.{Saved};
 ghost use Rattle.model.specs.Step.{opens};
 ghost use Rattle.kernel.specs.Denotes.{Leaves};
 ghost use Rattle.processes.specs.Machine.{IsToldOnce, IsUnlooked, NeedsNoLook, answer_of};
-ghost use Rattle.kernel.specs.Standing.{Asks, GoesDown, HasDevice, IsCaused, IsSomeMachine, SameDevice, Serves, disk_of};
+ghost use Rattle.kernel.specs.Standing.{Asks, GoesDown, HasDevice, HasNoneToMove, IsCaused, IsSomeMachine, SameDevice, Serves, disk_of};
 ghost use Rattle.kernel.specs.Opening.{IsNoReason, IsSomeDown, Opens, RefusesToOpen, Reopened, refused_by};
 
 use crate::power::{Live, Power};
@@ -63,6 +63,8 @@ impl<D: Device, S: ObjectStore<D>> Machine<D, S> {
             self.new.power }
         ensures untouched { IsUnlooked (answer_of result)
             → SameDevice D.disk S.view S.parts self.old.power self.new.power }
+        ensures none_to_move { HasNoneToMove D.disk S.view S.parts self.old.power command
+            → SameDevice D.disk S.view S.parts self.old.power self.new.power }
         ensures told_once { IsToldOnce result }
     {
         match &mut self.power {
@@ -87,6 +89,8 @@ impl<D: Device, S: ObjectStore<D>> Machine<D, S> {
         requires goes_on { opens command ≡ false }
         ensures serves { Serves D.disk S.view S.parts self.old.power command result self.new.power }
         ensures untouched { IsUnlooked result
+            → SameDevice D.disk S.view S.parts self.old.power self.new.power }
+        ensures none_to_move { HasNoneToMove D.disk S.view S.parts self.old.power command
             → SameDevice D.disk S.view S.parts self.old.power self.new.power }
         ensures cause { IsCaused (disk_of D.disk S.view S.parts self.old.power)
             (disk_of D.disk S.view S.parts self.new.power) result }
@@ -152,11 +156,14 @@ impl<D: Device, S: ObjectStore<D>> Machine<D, S> {
         self.rise(alloc, device)
     }
 
-    /// Serves one command. `BadNumber`, `NoProcess` and `Down` are told without a call of the device.
+    /// Serves one command. `BadNumber`, `NoProcess` and `Down` are told without a call of the device,
+    /// and so is what is left to migrate where nothing was.
     pub fn step(&mut self, alloc: Global, command: Command) -> Answer
         requires { IsSomeMachine D.disk S.view S.parts self.old.power }
         ensures serves { Serves D.disk S.view S.parts self.old.power command result self.new.power }
         ensures untouched { IsUnlooked result
+            → SameDevice D.disk S.view S.parts self.old.power self.new.power }
+        ensures none_to_move { HasNoneToMove D.disk S.view S.parts self.old.power command
             → SameDevice D.disk S.view S.parts self.old.power self.new.power }
         ensures cause { IsCaused (disk_of D.disk S.view S.parts self.old.power)
             (disk_of D.disk S.view S.parts self.new.power) result }

@@ -2,8 +2,9 @@
 ghost use Rattle.std.specs.Prelude.{◌≡◌, false};
 ghost use Rattle.model.specs.declared.command.Command.TheVariants as command;
 ghost use Rattle.model.specs.Step.{opens};
+ghost use Rattle.kernel.specs.declared.power.Power.TheVariants as power;
 ghost use Rattle.processes.specs.Machine.{IsToldOnce, IsUnlooked, answer_of};
-ghost use Rattle.kernel.specs.Standing.{IsCaused, IsSomeUp, ServesUp, disk_at};
+ghost use Rattle.kernel.specs.Standing.{HasNoneToMove, IsCaused, IsSomeUp, ServesUp, disk_at};
 
 use crate::power::Live;
 use crate::{checkpoints, journaling};
@@ -44,6 +45,8 @@ pub fn serve<D: Device, S: ObjectStore<D>>(
     ensures cause { IsCaused (disk_at D.disk S.view S.parts live.old)
         (disk_at D.disk S.view S.parts live.new) (answer_of result) }
     ensures untouched { IsUnlooked (answer_of result)
+        → (S.view live.new.store).beneath ≡ (S.view live.old.store).beneath }
+    ensures none_to_move { HasNoneToMove D.disk S.view S.parts (power.Up live.old) command
         → (S.view live.new.store).beneath ≡ (S.view live.old.store).beneath }
     ensures told_once { IsToldOnce result }
 {

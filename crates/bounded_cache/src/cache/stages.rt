@@ -122,13 +122,15 @@ impl<D: Device> BoundedCache<D> {
         Ok(size)
     }
 
-    /// Copies so many of the saved objects home, and answers how many are left.
+    /// Copies so many of the saved objects home, and answers how many are left. Where all of it is
+    /// home already, it makes no call of the device.
     pub fn migrate(&mut self, count: u64) -> Result<u64, Failed>
         requires sound { (view_of D.disk self.old).is_sound }
         ensures rest { self.new ≡ record self.old { durable = self.new.durable } }
         ensures left { IfOk result (λ n. n ≡ (view_of D.disk self.old).aside.to_move - count) }
         ensures aside { OnOk result ((view_of D.disk self.new).aside
             ≡ moved count (view_of D.disk self.old).aside) }
+        ensures untouched { (view_of D.disk self.old).aside.saved.entries ≡ 0 → self.new ≡ self.old }
         ensures sound { OnOk result ((view_of D.disk self.new).is_sound) }
         ensures geometry { (stored_of D.disk self.new.durable).saved.geometry
             ≡ (stored_of D.disk self.old.durable).saved.geometry }
