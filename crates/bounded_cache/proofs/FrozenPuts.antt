@@ -31,6 +31,17 @@ fewer_marked (t ∷ ts) (suc n) =
     let rest = fewer_marked ts n in
     omega (arith, a, b, rest)
 
+-- one that was set
+pub one_fewer : (ts : List Bool) (n : ℕ) → mark_at ts n ≡ true → count_by (λ b. b) (set ts n false) < count_by (λ b. b) ts
+one_fewer [] n marked = absurd (true≢false (sym marked))
+one_fewer (true ∷ ts) zero marked = let a = sum_by-cons (λ b. cond b 1 0) true ts in let b = sum_by-cons (λ b. cond b 1 0) false ts in omega (arith, a, b)
+one_fewer (false ∷ ts) zero marked = absurd (true≢false (sym marked))
+one_fewer (t ∷ ts) (suc n) marked =
+    let a = sum_by-cons (λ b. cond b 1 0) t ts in
+    let b = sum_by-cons (λ b. cond b 1 0) t (set ts n false) in
+    let rest = one_fewer ts n marked in
+    omega (arith, a, b, rest)
+
 none_owed : (o : Option Entry) (touched : Bool) → owed_of o false touched ≡ Nothing
 none_owed None touched = refl
 none_owed (Some e) touched = refl

@@ -28,5 +28,14 @@ module _ {D : Type 0} (disk : D → Disk) where
     looks = first.looks;
   }
 
+  pub leads_hand : (s t : CacheState D) (hand : Option Held) → GoesOnIn disk s t → GoesOnIn disk s (record t { hand = hand })
+  leads_hand s t hand first = record {
+    goes_on = first.goes_on;
+    aside = first.aside;
+    later = first.later;
+    grows = first.grows;
+    looks = first.looks;
+  }
+
   pub geometry_stays : (s t : CacheState D) → GoesOnIn disk s t → (stored_of disk t.durable).saved.geometry ≡ (stored_of disk s.durable).saved.geometry
   geometry_stays s t first = ap (λ (a : Aside). a.saved.geometry) first.aside

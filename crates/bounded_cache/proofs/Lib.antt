@@ -20,6 +20,8 @@ mod Reserving
 mod Owing
 mod Copying
 mod Settling
+mod Taking
+mod Turns
 mod Fetched
 mod Bringing
 mod Readying

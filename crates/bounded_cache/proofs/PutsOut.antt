@@ -1,5 +1,6 @@
 -- The frozen frame of an object is put of which an entry has the frozen body, or was to be.
 use Rattle.std.proofs.Common.{◌≡◌, ◌≢◌, inl, inr, ℕ, ◌<◌, ◌≤◌, Bool, true, false, true≢false, cond, ◌||◌, List, length, map, set, Option, Some, None, option_map, refl, sym, ap, subst, ◌∙◌, arith, length-set}
+use Rattle.std.specs.Prelude.{count_by}
 use Rattle.std.specs.List.{range_with_len}
 use Rattle.std.proofs.lemmas.Bool.{cases_eq, cases_lt, eq-eqb, ne_eqb}
 use Rattle.std.proofs.lemmas.List.{get_or-set_same, get_or-set_other, get_or_past}
@@ -21,7 +22,7 @@ use Rattle.bounded_cache.specs.Entries.{entry_at, with_entry, keeping}
 use Rattle.bounded_cache.specs.Memory.{Memory, Owed, Nothing, mark_at, in_hand, let_go, own_body, own_frame, present_body, content_at, newest_body, below_body, apart_body, frozen_body, frozen_frame, frozen_at, owed_of, owed_body, owed_in_memory, contents_in, frozen_in, owed_in}
 use Rattle.bounded_cache.specs.Cache.{CacheState, IsCache, IsFetchedIn, GoesOnIn, cache_of, frozen_seen, is_kept, owed_at, seats_in}
 use Rattle.bounded_cache.proofs.Apart.{seats_keep}
-use Rattle.bounded_cache.proofs.FrozenPuts.{Releases, with_frame, without_pending, frozen_put_cache, contents_same, frozen_seen_same, owed_now}
+use Rattle.bounded_cache.proofs.FrozenPuts.{Releases, one_fewer, with_frame, without_pending, frozen_put_cache, contents_same, frozen_seen_same, owed_now}
 use Rattle.bounded_cache.proofs.FrozenTorn.{torn_cache, torn_contents_same, torn_seen_same}
 use Rattle.bounded_cache.proofs.Objects.{fetched_known}
 use Rattle.bounded_cache.proofs.Puts.{has_room}
@@ -165,6 +166,9 @@ module _ {D : Type 0} (disk : D → Disk) (d : DurableState D) (m : Memory) (lef
 
   pub own_running : (f : FrozenPuts) × ((stored_of disk d).frozen ≡ Some f)
   own_running = running_here disk d m left count order most_entries s view is n known_here pending_here
+
+  pub own_fewer : count_by (λ b. b) (set m.pending n false) < count_by (λ b. b) s.pending
+  own_fewer = omega (arith, one_fewer m.pending n pending_here, ap (λ (t : CacheState D). count_by (λ b. b) t.pending) view)
 
   pub own_room : (f : FrozenPuts) → (stored_of disk d).frozen ≡ Some f → HasRoom f.size f.put n
   own_room = frozen_room disk d m left count order most_entries s view is n known_here pending_here

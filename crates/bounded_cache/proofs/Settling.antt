@@ -1,5 +1,6 @@
 -- The frozen frame of the body in the hand is put, or was to be.
 use Rattle.std.proofs.Common.{◌≡◌, ◌⊎◌, inl, inr, ℕ, ◌<◌, ◌≤◌, Bool, true, false, true≢false, cond, List, length, set, Option, Some, None, option_map, refl, sym, ap, subst, ◌∙◌, arith}
+use Rattle.std.specs.Prelude.{count_by}
 use Rattle.std.proofs.lemmas.Bool.{cases_lt, eq-eqb, ne_eqb}
 use Rattle.std.proofs.lemmas.List.{get_or-set_same, get_or_past}
 use Rattle.std.proofs.lemmas.Option.{none-some, same_Some}
@@ -21,7 +22,7 @@ use Rattle.bounded_cache.specs.declared.held.Held.{Held}
 use Rattle.bounded_cache.specs.Entries.{entry_at}
 use Rattle.bounded_cache.specs.Memory.{Memory, Owed, Nothing, mark_at, masked, in_hand, put_body, present_body, content_at, newest_body, below_body, apart_body, frozen_body, frozen_frame, frozen_at, owed_of, owed_in_memory, contents_in, owed_in}
 use Rattle.bounded_cache.specs.Cache.{CacheState, IsCache, GoesOnIn, cache_of, frozen_seen, is_kept, on_device, owed_at}
-use Rattle.bounded_cache.proofs.FrozenPuts.{Releases, with_frame, without_pending, frozen_put_cache, contents_same, frozen_seen_same, owed_now}
+use Rattle.bounded_cache.proofs.FrozenPuts.{Releases, one_fewer, with_frame, without_pending, frozen_put_cache, contents_same, frozen_seen_same, owed_now}
 use Rattle.bounded_cache.proofs.FrozenTorn.{torn_cache, torn_contents_same, torn_seen_same}
 use Rattle.bounded_cache.proofs.Leading.{same_put}
 use Rattle.bounded_cache.proofs.PutsOut.{running_here, frozen_room, frozen_keepable, put_leads}
@@ -41,7 +42,7 @@ put_under Absent fr r c freed = mask_under fr r c (λ free. elim (freed free) [ 
 put_under Broken fr r c freed = mask_under fr r c (λ free. elim (freed free) [ inl kept ↦ absurd (true≢false (sym kept)) | inr now ↦ now ])
 put_under (Kept f) fr r c freed = refl
 
-marked_within : (ts : List Bool) (n : ℕ) → mark_at ts n ≡ true → n < length ts
+pub marked_within : (ts : List Bool) (n : ℕ) → mark_at ts n ≡ true → n < length ts
 marked_within ts n marked = elim (cases_lt n (length ts)) [
   | inl within ↦ within
   | inr past ↦ absurd (true≢false (sym marked ∙ get_or_past ts n false past))
@@ -115,6 +116,9 @@ module _ {D : Type 0} (disk : D → Disk) (d : DurableState D) (m : Memory) (lef
 
   pub held_number : h.number < length s.headers
   held_number = omega (arith, held_frozen, is.headers, is.frozen_headers, ap (λ (t : CacheState D). length t.headers) view)
+
+  pub settled_fewer : count_by (λ b. b) (set m.pending h.number false) < count_by (λ b. b) s.pending
+  settled_fewer = omega (arith, one_fewer m.pending h.number (is.held h hand), ap (λ (t : CacheState D). count_by (λ b. b) t.pending) view)
 
   pub held_owed : ((g : Held) × (s.hand ≡ Some g) × (owed_at s.owed g.number ≡ Nothing)) → owed_at s.owed h.number ≡ Nothing
   held_owed seen = subst (λ (x : Held). owed_at s.owed x.number ≡ Nothing) (same_Some seen.0 h (sym seen.1 ∙ ap (λ (t : CacheState D). t.hand) (sym view) ∙ hand)) seen.2

@@ -16,7 +16,7 @@ use Rattle.migrator.specs.Put.{Put, Absent, Broken, Kept, put_at, most}
 use Rattle.migrator.specs.Durable.{DurableState, FrozenPuts, Stored, GoesOn, stored_of, is_sound}
 use Rattle.capability.specs.Parts.{Parts}
 use Rattle.capability.specs.Plain.{room_at}
-use Rattle.object_cache.specs.Store.{FrozenFrames, Aside, View}
+use Rattle.object_cache.specs.Store.{FrozenFrames, Aside, View, stabilized}
 use Rattle.bounded_cache.specs.declared.entry.Entry.{Entry}
 use Rattle.bounded_cache.specs.declared.held.Held.{Held}
 use Rattle.bounded_cache.specs.Entries.{entry_at, room_of}
@@ -100,6 +100,10 @@ abbrev pub newly_owed : Bool → Bool → Owed
 newly_owed false touched = Nothing
 newly_owed true touched = owed_body None touched
 
+-- how many frozen frames aren't in their slots
+abbrev pub pending_count : {D : Type 0} → CacheState D → ℕ
+pending_count s = count_by (λ b. b) s.pending
+
 -- a number that had no entry has one, which was used last
 abbrev pub with_seat : {D : Type 0} → ℕ → CacheState D → CacheState D
 with_seat n s = record s {
@@ -111,6 +115,16 @@ with_seat n s = record s {
 -- what is on the device of the one, and all else of the other
 abbrev pub on_device : {D : Type 0} → CacheState D → CacheState D → CacheState D
 on_device s t = record s { durable = t.durable; dirty = t.dirty; pending = t.pending; owed = t.owed; hand = t.hand }
+
+-- the same, where so many frozen frames more are in the log
+abbrev pub on_device_frozen : {D : Type 0} → CacheState D → CacheState D → CacheState D
+on_device_frozen s t = record (on_device s t) { frozen = t.frozen }
+
+-- so many more of the frozen frames are in the log, and nothing else that is seen is another
+pub record PutsBy {D : Type 0} (disk : D → Disk) (s t : CacheState D) (k : ℕ) : Type 0 where
+  pub aside : (f : FrozenFrames) → s.frozen ≡ Some f → aside_of disk t ≡ stabilized k f (aside_of disk s)
+  pub rest : t ≡ on_device_frozen s t
+  pub goes_on : GoesOn disk s.durable t.durable
 
 -- without the entry of a number
 abbrev pub without_seat : {D : Type 0} → ℕ → CacheState D → CacheState D

@@ -16,8 +16,8 @@ ghost use Rattle.migrator.specs.Durable.{stored_of};
 use crate::entries::Entries;
 use crate::entry::{Entry, is_owing};
 use crate::frozen::put_own;
+use crate::hand::Hand;
 use crate::headers::Headers;
-use crate::held::{Held, release};
 use capability::plain::rooms::filled;
 use capability::{Fresh, ObjectTable};
 use device::{Device, Failed};
@@ -35,7 +35,9 @@ mod open;
 mod prepare;
 mod present;
 mod read;
+mod stabilize;
 mod stages;
+mod store;
 
 /// An object store that holds no more than so many objects in memory. The others lie on the device.
 ///
@@ -58,7 +60,7 @@ pub struct BoundedCache<D: Device> {
     /// How many objects of a checkpoint on its way are said to be left.
     left: u64,
     /// A body that is in no entry, and perhaps no longer in its slot.
-    hand: Option<Held>,
+    hand: Hand,
     room: Room,
 }
 
@@ -81,7 +83,7 @@ impl<D: Device> Model for BoundedCache<D> {
 
 impl<D: Device> BoundedCache<D> {
     ghost use Rattle.bounded_cache.specs.Memory.{Nothing, Shared, Apart, let_go, mark_at, masked};
-    ghost use Rattle.bounded_cache.specs.Cache.{GoesOnIn, IsFetchedIn, IsAnnouncedIn, on_device, owed_at, parts_of, seat_at, with_content_in, with_seat, without_seat};
+    ghost use Rattle.bounded_cache.specs.Cache.{GoesOnIn, IsFetchedIn, IsAnnouncedIn, on_device, owed_at, parts_of, pending_count, seat_at, with_content_in, with_seat, without_seat};
     ghost use Rattle.bounded_cache.specs.Order.{without};
     ghost use Rattle.bounded_cache.specs.contracts.cache.BoundedCache.{the_row};
 
@@ -264,6 +266,7 @@ impl<D: Device> BoundedCache<D> {
           owed = slice_set self.old.owed number Nothing;
           hand = let_go number self.old.hand;
         }) }
+        ensures fewer { OnOk result (pending_count self.new < pending_count self.old) }
         ensures unput { OnErr result (self.new ≡ record self.old { durable = self.new.durable }) }
         ensures leads { GoesOnIn D.disk self.old self.new }
         ensures cause { Counts (D.disk self.old.durable.beneath) (D.disk self.new.durable.beneath) result }
@@ -275,12 +278,12 @@ impl<D: Device> BoundedCache<D> {
         put_own(&mut self.durable, number, header, entry)?;
         self.pending.set(number as usize, false);
         self.entries.set_kept(number, None);
-        release(&mut self.hand, number);
+        self.hand.release(number);
         Ok(())
     }
 
     // Whether the entry of an object has a frozen body that is still to be put.
-    fn owes(&self, number: u64) -> bool
+    pub(crate) fn owes(&self, number: u64) -> bool
         requires { number < length self.now.headers }
         ensures fetched { result ≡ true → IsFetchedIn self.now number }
         ensures yes { result ≡ true → owed_at self.now.owed number ≢ Nothing }

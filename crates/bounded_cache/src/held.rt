@@ -1,6 +1,4 @@
 // A body outside the entries.
-ghost use Rattle.std.specs.Prelude.{◌≡◌};
-ghost use Rattle.bounded_cache.specs.Memory.{let_go};
 
 use model::{Cap, Content};
 
@@ -10,17 +8,4 @@ use model::{Cap, Content};
 pub struct Held {
     pub number: u64,
     pub content: Content<Cap>,
-}
-
-// Lets the body in the hand go, if it is of that number.
-pub(crate) fn release(hand: &mut Option<Held>, number: u64)
-    ensures { hand.new ≡ let_go number hand.old }
-{
-    let is_held = match hand {
-        Some(held) => held.number == number,
-        None => false,
-    };
-    if is_held {
-        *hand = None;
-    }
 }

@@ -7,6 +7,7 @@ mod capacity;
 mod entries;
 mod entry;
 mod frozen;
+mod hand;
 mod headers;
 mod held;
 

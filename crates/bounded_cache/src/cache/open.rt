@@ -7,6 +7,7 @@ ghost use Rattle.bounded_cache.specs.Cache.{parts_of, view_of};
 use crate::cache::BoundedCache;
 use crate::capacity::Capacity;
 use crate::entries::Entries;
+use crate::hand::Hand;
 use crate::headers::Headers;
 use capability::ObjectTable;
 use device::Device;
@@ -24,6 +25,7 @@ struct Reserve {
     dirty: NumberSet,
     pending: NumberSet,
     entries: Entries,
+    hand: Hand,
     room: Room,
 }
 
@@ -45,6 +47,7 @@ impl Reserve {
           order = [];
           most = capacity;
         }) }
+        ensures hand { IfOk result (λ reserve. reserve.hand ≡ None) }
         ensures least { OnOk result (8 ≤ capacity) }
     {
         let count = headers.len();
@@ -54,6 +57,7 @@ impl Reserve {
             dirty: NumberSet::new(alloc, count)?,
             pending: NumberSet::new(alloc, count)?,
             entries: Entries::new(alloc, capacity, count)?,
+            hand: Hand::new(alloc)?,
             room: Room::new(alloc)?,
         })
     }
@@ -84,7 +88,7 @@ impl<D: Device> BoundedCache<D> {
                         pending: reserve.pending,
                         frozen_headers: reserve.frozen_headers,
                         left: 0,
-                        hand: None,
+                        hand: reserve.hand,
                         room: reserve.room,
                     }),
                     Err(_) => Err(OpenRefused {

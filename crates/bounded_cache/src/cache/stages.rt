@@ -54,6 +54,7 @@ impl<D: Device> BoundedCache<D> {
             (left_in (view_of D.disk self.old).aside) (view_of D.disk self.old).aside.saved.generation result }
         ensures unchanged { IsRefused result → self.new ≡ self.old }
         ensures rest { self.new ≡ record self.old { durable = self.new.durable; frozen = self.new.frozen } }
+        ensures geometry { (parts_of D.disk self.new).geometry ≡ (parts_of D.disk self.old).geometry }
         ensures aside { (f : FrozenFrames) → (view_of D.disk self.old).aside.frozen ≡ Some f
             → OnOk result ((view_of D.disk self.new).aside ≡ aside_after_commit age f (view_of D.disk self.old).aside) }
         ensures sound { OnOk result ((view_of D.disk self.new).is_sound) }
@@ -80,6 +81,7 @@ impl<D: Device> BoundedCache<D> {
             (Some 0) (view_of D.disk self.old).aside.saved.generation result }
         ensures unchanged { IsRefused result → self.new ≡ self.old }
         ensures rest { self.new ≡ record self.old { durable = self.new.durable; frozen = self.new.frozen } }
+        ensures geometry { (parts_of D.disk self.new).geometry ≡ (parts_of D.disk self.old).geometry }
         ensures aside { (f : FrozenFrames) → (view_of D.disk self.old).aside.frozen ≡ Some f
             → OnOk result ((view_of D.disk self.new).aside ≡ aside_after_commit age f (view_of D.disk self.old).aside) }
         ensures sound { OnOk result ((view_of D.disk self.new).is_sound) }

@@ -6,12 +6,12 @@ pub invariant_of-result : goal.invariant_of-result
 invariant_of-result g c =
     let reserve = c.in-Ok-new.ensures in
     let hs = c.in-Ok.opened.headers.items in
-    rw (c.new-in-Ok-new.ensures, reserve.headers, reserve.touched, reserve.dirty, reserve.pending, reserve.entries, c.deref.ensures.value)
+    rw (c.new-in-Ok-new.ensures, reserve.headers, reserve.touched, reserve.dirty, reserve.pending, reserve.entries, reserve.hand, c.deref.ensures.value)
     (open_stands g.D.Device.disk c.args.device c.in-Ok.opened.store hs hs refl c.in-Ok.ensures.opened, reserve.least)
 
 pub returns-in-Ok-new-clause-opened : goal.returns-in-Ok-new-clause-opened
 returns-in-Ok-new-clause-opened g c =
     let reserve = c.in-Ok-new.ensures in
     let hs = c.in-Ok.opened.headers.items in
-    rw (c.new-in-Ok-new.ensures, reserve.headers, reserve.touched, reserve.dirty, reserve.pending, reserve.entries, c.deref.ensures.value)
+    rw (c.new-in-Ok-new.ensures, reserve.headers, reserve.touched, reserve.dirty, reserve.pending, reserve.entries, reserve.hand, c.deref.ensures.value)
     (open_opens g.D.Device.disk c.args.device c.in-Ok.opened.store hs hs refl c.in-Ok.ensures.opened c.args.capacity)

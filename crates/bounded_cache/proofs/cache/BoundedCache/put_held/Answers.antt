@@ -1,4 +1,6 @@
-use Rattle.bounded_cache.proofs.Settling.{held_frozen, held_owed, held_room, held_keepable, settled_stands, settled_put, settled_leads, unsettled_stands, unsettled_put, unsettled_leads}
+use Rattle.std.proofs.Common.{sym, ap, ◌∙◌}
+use Rattle.std.specs.Prelude.{option_copied}
+use Rattle.bounded_cache.proofs.Settling.{held_frozen, held_owed, held_room, held_keepable, settled_fewer, settled_stands, settled_put, settled_leads, unsettled_stands, unsettled_put, unsettled_leads}
 use Rattle.bounded_cache.specs.Memory.{memory_of}
 use Rattle.bounded_cache.proofs.cache.BoundedCache.put_held.Goals as goal
 
@@ -6,52 +8,58 @@ pub header-header-requires : goal.header-header-requires
 header-header-requires g c =
     let i = c.self.inside in
     let m = memory_of i.table i.frozen_headers i.touched i.dirty i.pending i.entries.at i.hand in
-    held_frozen g.D.Device.disk i.durable m i.left i.count i.entries.order i.entries.most c.args.self.now c.self.view_is c.self.invariant.0 c.in-Some.held c.in-Some.is
+    held_frozen g.D.Device.disk i.durable m i.left i.count i.entries.order i.entries.most c.args.self.now c.self.view_is c.self.invariant.0 c.in-Some.held.now (sym c.get.ensures ∙ ap option_copied c.in-Some.is)
 
 pub put_body-requires-clause-keepable : goal.put_body-requires-clause-keepable
 put_body-requires-clause-keepable g c =
     let i = c.self.inside in
     let m = memory_of i.table i.frozen_headers i.touched i.dirty i.pending i.entries.at i.hand in
-    held_keepable g.D.Device.disk i.durable m i.left i.count i.entries.order i.entries.most c.args.self.now c.self.view_is c.self.invariant.0 c.in-Some.held c.in-Some.is (held_owed g.D.Device.disk i.durable m i.left i.count i.entries.order i.entries.most c.args.self.now c.self.view_is c.self.invariant.0 c.in-Some.held c.in-Some.is c.requires) c.header-header.result c.header-header.ensures
+    held_keepable g.D.Device.disk i.durable m i.left i.count i.entries.order i.entries.most c.args.self.now c.self.view_is c.self.invariant.0 c.in-Some.held.now (sym c.get.ensures ∙ ap option_copied c.in-Some.is) (held_owed g.D.Device.disk i.durable m i.left i.count i.entries.order i.entries.most c.args.self.now c.self.view_is c.self.invariant.0 c.in-Some.held.now (sym c.get.ensures ∙ ap option_copied c.in-Some.is) c.requires) c.header-header.result c.header-header.ensures
 
 pub put_body-requires-clause-room : goal.put_body-requires-clause-room
 put_body-requires-clause-room g c =
     let i = c.self.inside in
     let m = memory_of i.table i.frozen_headers i.touched i.dirty i.pending i.entries.at i.hand in
-    held_room g.D.Device.disk i.durable m i.left i.count i.entries.order i.entries.most c.args.self.now c.self.view_is c.self.invariant.0 c.in-Some.held c.in-Some.is (held_owed g.D.Device.disk i.durable m i.left i.count i.entries.order i.entries.most c.args.self.now c.self.view_is c.self.invariant.0 c.in-Some.held c.in-Some.is c.requires) c.header-header.result c.header-header.ensures
+    held_room g.D.Device.disk i.durable m i.left i.count i.entries.order i.entries.most c.args.self.now c.self.view_is c.self.invariant.0 c.in-Some.held.now (sym c.get.ensures ∙ ap option_copied c.in-Some.is) (held_owed g.D.Device.disk i.durable m i.left i.count i.entries.order i.entries.most c.args.self.now c.self.view_is c.self.invariant.0 c.in-Some.held.now (sym c.get.ensures ∙ ap option_copied c.in-Some.is) c.requires) c.header-header.result c.header-header.ensures
 
 pub invariant_of-self : goal.invariant_of-self
 invariant_of-self g c =
     let i = c.self.inside in
     let m = memory_of i.table i.frozen_headers i.touched i.dirty i.pending i.entries.at i.hand in
-    (unsettled_stands g.D.Device.disk i.durable m i.left i.count i.entries.order i.entries.most c.args.self.now c.self.view_is c.self.invariant.0 c.in-Some.held c.in-Some.is (held_owed g.D.Device.disk i.durable m i.left i.count i.entries.order i.entries.most c.args.self.now c.self.view_is c.self.invariant.0 c.in-Some.held c.in-Some.is c.requires) c.header-header.result c.header-header.ensures c.put_body.new.durable c.in_err-put_body.ensures.broken, c.self.invariant.1)
+    (unsettled_stands g.D.Device.disk i.durable m i.left i.count i.entries.order i.entries.most c.args.self.now c.self.view_is c.self.invariant.0 c.in-Some.held.now (sym c.get.ensures ∙ ap option_copied c.in-Some.is) (held_owed g.D.Device.disk i.durable m i.left i.count i.entries.order i.entries.most c.args.self.now c.self.view_is c.self.invariant.0 c.in-Some.held.now (sym c.get.ensures ∙ ap option_copied c.in-Some.is) c.requires) c.header-header.result c.header-header.ensures c.put_body.new.durable c.in_err-put_body.ensures.broken, c.self.invariant.1)
 
 pub returns-in_err-put_body-clause-put : goal.returns-in_err-put_body-clause-put
 returns-in_err-put_body-clause-put g c =
     let i = c.self.inside in
     let m = memory_of i.table i.frozen_headers i.touched i.dirty i.pending i.entries.at i.hand in
-    unsettled_put g.D.Device.disk i.durable m i.left i.count i.entries.order i.entries.most c.args.self.now c.self.view_is c.self.invariant.0 c.in-Some.held c.in-Some.is (held_owed g.D.Device.disk i.durable m i.left i.count i.entries.order i.entries.most c.args.self.now c.self.view_is c.self.invariant.0 c.in-Some.held c.in-Some.is c.requires) c.header-header.result c.header-header.ensures c.put_body.new.durable c.in_err-put_body.ensures.broken
+    unsettled_put g.D.Device.disk i.durable m i.left i.count i.entries.order i.entries.most c.args.self.now c.self.view_is c.self.invariant.0 c.in-Some.held.now (sym c.get.ensures ∙ ap option_copied c.in-Some.is) (held_owed g.D.Device.disk i.durable m i.left i.count i.entries.order i.entries.most c.args.self.now c.self.view_is c.self.invariant.0 c.in-Some.held.now (sym c.get.ensures ∙ ap option_copied c.in-Some.is) c.requires) c.header-header.result c.header-header.ensures c.put_body.new.durable c.in_err-put_body.ensures.broken
 
 pub returns-in_err-put_body-clause-leads : goal.returns-in_err-put_body-clause-leads
 returns-in_err-put_body-clause-leads g c =
     let i = c.self.inside in
     let m = memory_of i.table i.frozen_headers i.touched i.dirty i.pending i.entries.at i.hand in
-    unsettled_leads g.D.Device.disk i.durable m i.left i.count i.entries.order i.entries.most c.args.self.now c.self.view_is c.self.invariant.0 c.in-Some.held c.in-Some.is (held_owed g.D.Device.disk i.durable m i.left i.count i.entries.order i.entries.most c.args.self.now c.self.view_is c.self.invariant.0 c.in-Some.held c.in-Some.is c.requires) c.header-header.result c.header-header.ensures c.put_body.new.durable c.in_err-put_body.ensures.broken c.put_body.ensures.goes_on c.put_body.ensures.cause.never_falls
+    unsettled_leads g.D.Device.disk i.durable m i.left i.count i.entries.order i.entries.most c.args.self.now c.self.view_is c.self.invariant.0 c.in-Some.held.now (sym c.get.ensures ∙ ap option_copied c.in-Some.is) (held_owed g.D.Device.disk i.durable m i.left i.count i.entries.order i.entries.most c.args.self.now c.self.view_is c.self.invariant.0 c.in-Some.held.now (sym c.get.ensures ∙ ap option_copied c.in-Some.is) c.requires) c.header-header.result c.header-header.ensures c.put_body.new.durable c.in_err-put_body.ensures.broken c.put_body.ensures.goes_on c.put_body.ensures.cause.never_falls
 
 pub invariant_of-self-2 : goal.invariant_of-self-2
 invariant_of-self-2 g c =
     let i = c.self.inside in
     let m = memory_of i.table i.frozen_headers i.touched i.dirty i.pending i.entries.at i.hand in
-    rw c.set.ensures (settled_stands g.D.Device.disk i.durable m i.left i.count i.entries.order i.entries.most c.args.self.now c.self.view_is c.self.invariant.0 c.in-Some.held c.in-Some.is (held_owed g.D.Device.disk i.durable m i.left i.count i.entries.order i.entries.most c.args.self.now c.self.view_is c.self.invariant.0 c.in-Some.held c.in-Some.is c.requires) c.header-header.result c.header-header.ensures c.put_body.new.durable c.in_ok-put_body.ensures.put, c.self.invariant.1)
+    rw (c.set.ensures, c.let_go.ensures) (settled_stands g.D.Device.disk i.durable m i.left i.count i.entries.order i.entries.most c.args.self.now c.self.view_is c.self.invariant.0 c.in-Some.held.now (sym c.get.ensures ∙ ap option_copied c.in-Some.is) (held_owed g.D.Device.disk i.durable m i.left i.count i.entries.order i.entries.most c.args.self.now c.self.view_is c.self.invariant.0 c.in-Some.held.now (sym c.get.ensures ∙ ap option_copied c.in-Some.is) c.requires) c.header-header.result c.header-header.ensures c.put_body.new.durable c.in_ok-put_body.ensures.put, c.self.invariant.1)
 
 pub returns-clause-put : goal.returns-clause-put
 returns-clause-put g c =
     let i = c.self.inside in
     let m = memory_of i.table i.frozen_headers i.touched i.dirty i.pending i.entries.at i.hand in
-    rw c.set.ensures (settled_put g.D.Device.disk i.durable m i.left i.count i.entries.order i.entries.most c.args.self.now c.self.view_is c.self.invariant.0 c.in-Some.held c.in-Some.is (held_owed g.D.Device.disk i.durable m i.left i.count i.entries.order i.entries.most c.args.self.now c.self.view_is c.self.invariant.0 c.in-Some.held c.in-Some.is c.requires) c.header-header.result c.header-header.ensures c.put_body.new.durable c.in_ok-put_body.ensures.put)
+    rw (c.set.ensures, c.let_go.ensures) (settled_put g.D.Device.disk i.durable m i.left i.count i.entries.order i.entries.most c.args.self.now c.self.view_is c.self.invariant.0 c.in-Some.held.now (sym c.get.ensures ∙ ap option_copied c.in-Some.is) (held_owed g.D.Device.disk i.durable m i.left i.count i.entries.order i.entries.most c.args.self.now c.self.view_is c.self.invariant.0 c.in-Some.held.now (sym c.get.ensures ∙ ap option_copied c.in-Some.is) c.requires) c.header-header.result c.header-header.ensures c.put_body.new.durable c.in_ok-put_body.ensures.put)
 
 pub returns-clause-leads : goal.returns-clause-leads
 returns-clause-leads g c =
     let i = c.self.inside in
     let m = memory_of i.table i.frozen_headers i.touched i.dirty i.pending i.entries.at i.hand in
-    rw c.set.ensures (settled_leads g.D.Device.disk i.durable m i.left i.count i.entries.order i.entries.most c.args.self.now c.self.view_is c.self.invariant.0 c.in-Some.held c.in-Some.is (held_owed g.D.Device.disk i.durable m i.left i.count i.entries.order i.entries.most c.args.self.now c.self.view_is c.self.invariant.0 c.in-Some.held c.in-Some.is c.requires) c.header-header.result c.header-header.ensures c.put_body.new.durable c.in_ok-put_body.ensures.put c.put_body.ensures.goes_on c.put_body.ensures.cause.never_falls)
+    rw (c.set.ensures, c.let_go.ensures) (settled_leads g.D.Device.disk i.durable m i.left i.count i.entries.order i.entries.most c.args.self.now c.self.view_is c.self.invariant.0 c.in-Some.held.now (sym c.get.ensures ∙ ap option_copied c.in-Some.is) (held_owed g.D.Device.disk i.durable m i.left i.count i.entries.order i.entries.most c.args.self.now c.self.view_is c.self.invariant.0 c.in-Some.held.now (sym c.get.ensures ∙ ap option_copied c.in-Some.is) c.requires) c.header-header.result c.header-header.ensures c.put_body.new.durable c.in_ok-put_body.ensures.put c.put_body.ensures.goes_on c.put_body.ensures.cause.never_falls)
+
+pub returns-clause-fewer : goal.returns-clause-fewer
+returns-clause-fewer g c =
+    let i = c.self.inside in
+    let m = memory_of i.table i.frozen_headers i.touched i.dirty i.pending i.entries.at i.hand in
+    rw c.set.ensures (settled_fewer g.D.Device.disk i.durable m i.left i.count i.entries.order i.entries.most c.args.self.now c.self.view_is c.self.invariant.0 c.in-Some.held.now (sym c.get.ensures ∙ ap option_copied c.in-Some.is))

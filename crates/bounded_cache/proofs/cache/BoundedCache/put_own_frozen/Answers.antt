@@ -4,7 +4,7 @@ use Rattle.bounded_cache.specs.Entries.{entry_at}
 use Rattle.bounded_cache.proofs.Objects.{has_entry}
 use Rattle.bounded_cache.proofs.Outcomes.{on_err}
 use Rattle.bounded_cache.proofs.Owing.{none_there}
-use Rattle.bounded_cache.proofs.PutsOut.{own_running, own_keepable, own_room, out_stands, out_seen, out_leads, torn_stands, torn_seen, torn_leads}
+use Rattle.bounded_cache.proofs.PutsOut.{own_fewer, own_running, own_keepable, own_room, out_stands, out_seen, out_leads, torn_stands, torn_seen, torn_leads}
 use Rattle.bounded_cache.specs.Memory.{memory_of}
 use Rattle.bounded_cache.proofs.cache.BoundedCache.put_own_frozen.Goals as goal
 
@@ -67,3 +67,9 @@ returns-clause-leads g c =
     let i = c.self.inside in
     let m = memory_of i.table i.frozen_headers i.touched i.dirty i.pending i.entries.at i.hand in
     rw (c.set.ensures, c.set_kept.ensures, c.release.ensures) (out_leads g.D.Device.disk i.durable m i.left i.count i.entries.order i.entries.most c.args.self.now c.self.view_is c.self.invariant.0 c.args.number c.requires.fetched c.requires.owed c.in-Some.entry.now (sym c.get.ensures ∙ ap option_copied c.in-Some.is) c.header-header.result c.header-header.ensures c.put_own.new.durable c.in_ok-put_own.ensures.put c.put_own.ensures.goes_on c.put_own.ensures.cause.never_falls)
+
+pub returns-clause-fewer : goal.returns-clause-fewer
+returns-clause-fewer g c =
+    let i = c.self.inside in
+    let m = memory_of i.table i.frozen_headers i.touched i.dirty i.pending i.entries.at i.hand in
+    rw c.set.ensures (own_fewer g.D.Device.disk i.durable m i.left i.count i.entries.order i.entries.most c.args.self.now c.self.view_is c.self.invariant.0 c.args.number c.requires.fetched c.requires.owed c.in-Some.entry.now (sym c.get.ensures ∙ ap option_copied c.in-Some.is) c.header-header.result c.header-header.ensures)

@@ -1,0 +1,26 @@
+use Rattle.std.proofs.Common.{ap, arith}
+use Rattle.bounded_cache.specs.Memory.{memory_of}
+use Rattle.bounded_cache.specs.Cache.{CacheState, pending_count}
+use Rattle.bounded_cache.proofs.Turns.{few_left, none_marked}
+use Rattle.bounded_cache.proofs.cache.BoundedCache.put_next.Goals as goal
+
+pub returns-in-None-clause-fewer : goal.returns-in-None-clause-fewer
+returns-in-None-clause-fewer g c = omega (arith, none_marked c.self.inside.pending (c.next.ensures.none c.in-None.is), ap (λ (t : CacheState g.row.D.Denot). pending_count t) c.self.view_is)
+
+pub returns-then-is_held-clause-few : goal.returns-then-is_held-clause-few
+returns-then-is_held-clause-few g c =
+    let i = c.self.inside in
+    let m = memory_of i.table i.frozen_headers i.touched i.dirty i.pending i.entries.at i.hand in
+    λ f f_is. few_left g.D.Device.disk i.durable m i.left i.count i.entries.order i.entries.most c.args.self.now c.self.view_is c.self.invariant.0 f f_is
+
+pub returns-in-Some-clause-few : goal.returns-in-Some-clause-few
+returns-in-Some-clause-few g c =
+    let i = c.self.inside in
+    let m = memory_of i.table i.frozen_headers i.touched i.dirty i.pending i.entries.at i.hand in
+    λ f f_is. few_left g.D.Device.disk i.durable m i.left i.count i.entries.order i.entries.most c.args.self.now c.self.view_is c.self.invariant.0 f f_is
+
+pub returns-in-None-clause-few : goal.returns-in-None-clause-few
+returns-in-None-clause-few g c =
+    let i = c.self.inside in
+    let m = memory_of i.table i.frozen_headers i.touched i.dirty i.pending i.entries.at i.hand in
+    λ f f_is. few_left g.D.Device.disk i.durable m i.left i.count i.entries.order i.entries.most c.args.self.now c.self.view_is c.self.invariant.0 f f_is

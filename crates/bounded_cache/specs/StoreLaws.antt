@@ -1,0 +1,20 @@
+-- What a bounded cache promises of its store while its present objects change.
+use Rattle.std.proofs.Common.{refl}
+use Rattle.device.specs.Disk.{Image, Disk}
+use Rattle.migrator.specs.Durable.{saved_state, stored_of, is_sound}
+use Rattle.migrator.specs.Saved.{Holds}
+use Rattle.object_cache.specs.Store.{Leads}
+use Rattle.bounded_cache.specs.Cache.{CacheState, GoesOnIn, view_of}
+
+module _ {D : Type 0} (disk : D → Disk) where
+  pub leads_by : (s t : CacheState D) → GoesOnIn disk s t → Leads disk (view_of disk s) (view_of disk t)
+  leads_by s t goes = record {
+    aside = goes.aside;
+    size = goes.goes_on.size;
+    later = goes.later;
+    sound = goes.goes_on.sound;
+    any_moment = goes.goes_on.any_moment;
+  }
+
+  pub holds_by : (s : CacheState D) (c : Image) → is_sound disk s.durable → (disk s.durable.beneath).may_leave c → Holds (disk s.durable.beneath).sectors c (stored_of disk s.durable).saved
+  holds_by s c sound left = (saved_state (disk s.durable.beneath).seen s.durable.books, sound c left, refl)
