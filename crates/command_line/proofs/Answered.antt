@@ -5,19 +5,21 @@ use Rattle.std.specs.Option.{option_map_or}
 use Rattle.std.specs.List.{slice_index_or}
 use Rattle.std.specs.Borrow.{Bor}
 use Rattle.std.specs.Str.{bytes_eq}
+use Rattle.std.specs.Str.Parse.{digits_value, without_leading_plus}
 use Rattle.std.proofs.lemmas.Slice.Eq.{bytes_eq-Decides}
 use Rattle.clap.specs.Walk.{Row, Text, answers_to, first_of, nothing_held, stop_after}
 use Rattle.clap.specs.declared.builder.command.Command.{Command}
 use Rattle.clap.specs.declared.parser.matches.ArgMatches.{ArgMatches}
 use Rattle.clap.specs.Simple.{App, HasMatchesOf, app_of, subcommand_rows_of, Shape, built, entered, help_shape, is_simple, label_of, names_of, rows_at, subcommand_of}
 use Rattle.clap.specs.Takes.{entered_passes, level_passes, takes}
+use Rattle.clap.proofs.ValueTestLemmas.{accepts-Accepts}
 use Rattle.clap.proofs.WalkLemmas.{both}
-use Rattle.command_line.specs.Commands.{eros_app}
-use Rattle.command_line.specs.Jobs.{IsScript, NamesNone}
+use Rattle.command_line.specs.Commands.{capacity_parser, eros_app}
+use Rattle.command_line.specs.Jobs.{IsCache, IsScript, NamesNone}
 use Rattle.command_line.specs.declared.asked.Job.TheVariants as job
 use Rattle.command_line.specs.declared.asked.Script.{Script}
 use Rattle.command_line.specs.declared.asked.Script.TheVariants as script
-use Rattle.command_line.proofs.Taken.{StopsWell, is_no_help, level_keeps}
+use Rattle.command_line.proofs.Taken.{Filled, StopsWell, first_suits, is_no_help, level_keeps}
 
 -- the command as a parse builds it
 abbrev whole : App
@@ -46,14 +48,24 @@ named_script word = go (bytes_eq word (codes "-")) refl
     go true e = (script.Input, (bytes_eq-Decides _ _).0 e)
     go false e = (script.File (record { ref_ptr = (0, 0); now = word }), (refl, λ same. true≢false (sym ((bytes_eq-Decides _ _).1 same) ∙ e)))
 
-run_named : (rows : List Row) → (is_some (first_of (codes "IMAGE") rows) && (is_some (first_of (codes "SCRIPT") rows) && true)) ≡ true
+-- the rows say which capacity
+named_cache : (rows : List Row) → Filled rows → (c : Option ℕ) × IsCache rows c
+named_cache rows filled = go (first_of (codes "cache") rows) refl
+  where
+    go : (o : Option Text) → first_of (codes "cache") rows ≡ o → (c : Option ℕ) × IsCache rows c
+    go None e = (None, e)
+    go (Some word) e =
+        (Some (digits_value 10 (without_leading_plus word)), (word, e, (accepts-Accepts false capacity_parser word (first_suits rows word filled e), refl)))
+
+run_named : (rows : List Row) → Filled rows → (is_some (first_of (codes "IMAGE") rows) && (is_some (first_of (codes "SCRIPT") rows) && true)) ≡ true
     → NamesNone (Some (codes "run", rows)) → ⊥
-run_named rows has none =
+run_named rows filled has none =
+    let cache = named_cache rows filled in
     let parts = both _ _ has in
     let image = text_in _ parts.0 in
     let word = text_in _ (both _ _ parts.1).0 in
     let named = named_script word.0.now in
-    none (job.Run image.0 named.0) (refl, image.1, word.0.now, word.1, named.1)
+    none (job.Run image.0 named.0 cache.0) (refl, cache.1, image.1, word.0.now, word.1, named.1)
 
 check_named : (rows : List Row) → (is_some (first_of (codes "IMAGE") rows) && true) ≡ true → NamesNone (Some (codes "check", rows)) → ⊥
 check_named rows has none =
@@ -83,7 +95,9 @@ entered_named (Some p) some well passes none =
         → option_map_or (λ s. level_passes s [] nothing_held p.1 false) (chosen a b c d) true ≡ true
         → NamesNone (option_map (λ s. rows_at s p.1) (chosen a b c d)) → ⊥
     go true b c d help has level empty = build_named (rows_at (sub 0) p.1).1 (level_keeps (sub 0) [] p.1 false refl refl level).0 empty
-    go false true c d help has level empty = run_named (rows_at (sub 1) p.1).1 (level_keeps (sub 1) [] p.1 false refl refl level).0 empty
+    go false true c d help has level empty =
+        let kept = level_keeps (sub 1) [] p.1 false refl refl level in
+        run_named (rows_at (sub 1) p.1).1 kept.3 kept.0 empty
     go false false true d help has level empty = check_named (rows_at (sub 2) p.1).1 (level_keeps (sub 2) [] p.1 false refl refl level).0 empty
     go false false false true help has level empty = no_help p.0 well help
     go false false false false help has level empty = true≢false (sym has)

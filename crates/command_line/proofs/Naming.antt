@@ -1,9 +1,9 @@
 -- Which job the getters of the matches give.
-use Rattle.std.proofs.Common.{◌≡◌, ◌∙◌, ap, arith, slice_index, sym, Option, Some, None, List, codes, option_map, true}
+use Rattle.std.proofs.Common.{◌≡◌, ◌∙◌, ap, arith, slice_index, subst, sym, Option, Some, None, List, codes, option_map, true}
 use Rattle.std.specs.Borrow.{Bor}
-use Rattle.std.specs.Prelude.{Box}
+use Rattle.std.specs.Prelude.{Box, IfSome, unwrap_or}
 use Rattle.std.specs.Box.{box_value}
-use Rattle.clap.specs.Words.{app_of, kind_of, takes, Row, Text, first_of, first_value, rows_of, subcommand_name_of, subcommand_rows, subcommand_rows_of}
+use Rattle.clap.specs.Words.{IsUnsignedIn, app_of, kind_of, takes, Row, Text, first_of, first_value, rows_of, subcommand_name_of, subcommand_rows, subcommand_rows_of}
 use Rattle.clap.specs.declared.parser.matches.ArgMatches.{ArgMatches}
 use Rattle.clap.specs.declared.parser.matches.SubCommand.{SubCommand}
 use Rattle.clap.specs.declared.parser.matches.ArgMatches.TheViews.{out-ArgMatches, out-SubCommand}
@@ -13,7 +13,7 @@ use Rattle.clap.specs.declared.builder.command.Command.{Command}
 use Rattle.clap.specs.declared.error.Error.{Error}
 use Rattle.clap.specs.declared.error.kind.ErrorKind.TheVariants.{OutOfMemory}
 use Rattle.command_line.specs.Commands.{eros_app}
-use Rattle.command_line.specs.Jobs.{IsGiven, IsJob}
+use Rattle.command_line.specs.Jobs.{IsGiven, IsJob, IsNoCache}
 use Rattle.command_line.specs.declared.asked.Job.{Job}
 use Rattle.command_line.specs.declared.asked.Job.TheVariants as job
 
@@ -37,6 +37,18 @@ given f id o text got is = sym (first_value-rows f id) ∙ (sym got ∙ ap (opti
 pub missing : (f : Found) (id : Text) (o : Option (Bor Text)) → option_map (λ s. s.now) o ≡ first_value f id → o ≡ None → first_of id (rows_of f) ≡ None
 missing f id o got is = sym (first_value-rows f id) ∙ (sym got ∙ ap (option_map (λ s. s.now)) is)
 
+-- what holds of an answer, if any
+pub held : {X : Type 0} (P : X → Type 0) (o : Option X) (x : X) → IfSome o P → o ≡ Some x → P x
+held P None x holds is = let bad : None ≡ Some x = is in cc
+held P (Some y) x holds is = let same : y ≡ x = ap (λ (o : Option _). unwrap_or o y) is in subst P same holds
+
+-- a word that is no capacity gives no cache
+pub no_cache : (rows : List Row) (word : Text) → IsGiven rows (codes "cache") word → (IsUnsignedIn 8 8192 word → ⊥) → IsNoCache rows
+no_cache rows word given bad None is = let wrong : None ≡ Some word = sym is ∙ given in cc
+no_cache rows word given bad (Some count) is =
+    let same : is.0 ≡ word = ap (λ (o : Option Text). unwrap_or o word) (sym is.1 ∙ given) in
+    bad (subst (IsUnsignedIn 8 8192) same is.2.0)
+
 -- two texts whose first characters differ
 apart : {a b : Text} → a ≡ b → (slice_index a 0 ≡ slice_index b 0 → ⊥) → ⊥
 apart same differ = differ (ap (λ t. slice_index t 0) same)
@@ -44,25 +56,31 @@ apart same differ = differ (ap (λ t. slice_index t 0) same)
 -- without an image no job is named
 pub no_image : (name : Text) (rows : List Row) → first_of (codes "IMAGE") rows ≡ None → (x : Job) → IsJob name rows x → ⊥
 no_image name rows none (job.Build description image) is = let bad : None ≡ Some image.now = sym none ∙ is.2 in cc
-no_image name rows none (job.Run image script) is = let bad : None ≡ Some image.now = sym none ∙ is.1 in cc
+no_image name rows none (job.Run image script cache) is = let bad : None ≡ Some image.now = sym none ∙ is.2 in cc
 no_image name rows none (job.Check image) is = let bad : None ≡ Some image.now = sym none ∙ is.1 in cc
 
 -- nor is a build without a description
 pub no_description : (name : Text) (rows : List Row) → name ≡ codes "build" → first_of (codes "DESCRIPTION") rows ≡ None → (x : Job) → IsJob name rows x → ⊥
 no_description name rows build none (job.Build description image) is = let bad : None ≡ Some description.now = sym none ∙ is.1 in cc
-no_description name rows build none (job.Run image script) is = apart (sym build ∙ is.0) (λ e. absurd (omega arith))
+no_description name rows build none (job.Run image script cache) is = apart (sym build ∙ is.0) (λ e. absurd (omega arith))
 no_description name rows build none (job.Check image) is = apart (sym build ∙ is.0) (λ e. absurd (omega arith))
 
 -- nor a run without a script
 pub no_script : (name : Text) (rows : List Row) → name ≡ codes "run" → first_of (codes "SCRIPT") rows ≡ None → (x : Job) → IsJob name rows x → ⊥
 no_script name rows run none (job.Build description image) is = apart (sym run ∙ is.0) (λ e. absurd (omega arith))
-no_script name rows run none (job.Run image script) is = let bad : None ≡ Some is.2 = sym none ∙ is.3 in cc
+no_script name rows run none (job.Run image script cache) is = let bad : None ≡ Some is.3 = sym none ∙ is.4 in cc
 no_script name rows run none (job.Check image) is = apart (sym run ∙ is.0) (λ e. absurd (omega arith))
+
+-- nor is a run with a capacity that is none
+pub no_capacity : (name : Text) (rows : List Row) → name ≡ codes "run" → IsNoCache rows → (x : Job) → IsJob name rows x → ⊥
+no_capacity name rows run none (job.Build description image) is = apart (sym run ∙ is.0) (λ e. absurd (omega arith))
+no_capacity name rows run none (job.Run image script cache) is = none cache is.1
+no_capacity name rows run none (job.Check image) is = apart (sym run ∙ is.0) (λ e. absurd (omega arith))
 
 -- nor is a job of another name
 pub no_name : (name : Text) (rows : List Row) → (name ≡ codes "build" → ⊥) → (name ≡ codes "run" → ⊥) → (name ≡ codes "check" → ⊥) → (x : Job) → IsJob name rows x → ⊥
 no_name name rows build run check (job.Build description image) is = build is.0
-no_name name rows build run check (job.Run image script) is = run is.0
+no_name name rows build run check (job.Run image script cache) is = run is.0
 no_name name rows build run check (job.Check image) is = check is.0
 
 -- what the parse says of its error holds of the error that is passed on

@@ -1,25 +1,39 @@
--- A parse that takes the words leaves no row without a value, and enters no help.
-use Rattle.std.proofs.Common.{◌≡◌, ◌<◌, ◌≤◌, ◌&&◌, ◌||◌, ℕ, zero, suc, not, is_some, refl, sym, arith, List, [], ◌∷◌, ◌++◌, Bool, length, drop, true, false, Option, Some, None, true≢false}
-use Rattle.std.specs.Prelude.{⊤, cond, option_and_then, encode_utf8, fold, find, nat_le, nat_lt, slice_get, codes}
+-- A parse that takes the words leaves no row without a value, no capacity that is none, and enters no help.
+use Rattle.std.proofs.Common.{◌≡◌, ◌<◌, ◌≤◌, ◌&&◌, ◌||◌, ℕ, zero, suc, not, is_some, refl, sym, subst, ap, ap₂, ◌∙◌, ◌==◌, arith, List, [], ◌∷◌, ◌++◌, Bool, length, drop, true, false, Option, Some, None, true≢false}
+use Rattle.std.specs.Prelude.{⊤, cond, option_and_then, encode_utf8, fold, find, nat_le, nat_lt, slice_get, unwrap_or, codes}
 use Rattle.std.specs.Option.{option_map_or}
 use Rattle.std.specs.List.{list_all}
 use Rattle.std.specs.Str.{bytes_eq, chars}
-use Rattle.std.proofs.lemmas.Bool.{leb-true, lt-ltb}
+use Rattle.std.proofs.lemmas.Bool.{eqb-true, leb-true, lt-ltb}
+use Rattle.std.proofs.lemmas.List.Folds.{list_all-append}
+use Rattle.std.proofs.lemmas.Slice.Eq.{bytes_eq-Decides}
 use Rattle.clap.specs.Lexer.{long_of, short_of}
+use Rattle.clap.specs.ValueTests.{accepts}
 use Rattle.clap.specs.declared.builder.value_parser.Reading.{Reading}
+use Rattle.clap.specs.declared.builder.value_parser.ValueParser.{ValueParser}
+use Rattle.clap.specs.declared.builder.value_parser.ValueParser.TheVariants as vp
 use Rattle.clap.specs.declared.builder.action.ArgAction.{ArgAction}
 use Rattle.clap.specs.declared.builder.action.ArgAction.TheVariants.{Set, Append, SetTrue, SetFalse, Count, Help, HelpShort, HelpLong, Version}
 use Rattle.clap.specs.declared.parser.matches.ValueSource.{ValueSource}
-use Rattle.clap.specs.Facts.{explicit_source, unwrap_or_range}
-use Rattle.clap.specs.Walk.{Held, Names, Outcome, Row, Rule, Step, Text, Waiting, Walk, action_of, after_flag, after_step, arg_by_id, arg_by_index, arg_by_long, arg_by_short, at_row, attached_value, bundle, bundle_met, bundle_step, default_rows, done, finished, first_of, flag_met, has_row, idle, is_pending, long_met, long_or_other, more_values, next, nothing_held, option, option_met, option_word, plain, plain_word, positional, positional_held, reacted, reading_by, refused, settled, settled_rows, short_met, short_or_plain, subcommand, subcommand_met, subcommand_or_other, takes_several, takes_values, to_positional, trailing, used, used_as, used_by_id, value, values_or_missing, waits, walk, walk_from, walked, walked_from, with_default, with_values, without, word_met}
+use Rattle.clap.specs.Facts.{explicit_source, parser_of_value, unwrap_or_range}
+use Rattle.clap.specs.Walk.{Held, Names, Outcome, Row, Rule, Step, Text, Waiting, Walk, action_of, after_flag, after_step, arg_by_id, arg_by_index, arg_by_long, arg_by_short, at_row, attached_value, bundle, bundle_met, bundle_step, default_rows, done, finished, first_of, flag_met, has_row, idle, is_empty, is_pending, long_met, long_or_other, more_values, next, nothing_held, option, option_met, option_word, plain, plain_word, positional, positional_held, reacted, reading_by, refused, settled, settled_rows, short_met, short_or_plain, subcommand, subcommand_met, subcommand_or_other, takes_several, takes_values, to_positional, trailing, used, used_as, used_by_id, value, values_or_missing, waits, walk, walk_from, walked, walked_from, with_default, with_values, without, word_met}
 use Rattle.clap.specs.Simple.{Shape}
-use Rattle.clap.specs.Takes.{bundle_passes, bundle_step_passes, flag_word_passes, flags_pass, is_given, level_passes, long_passes, option_passes, other_passes, positional_passes, react_passes, settle_passes, short_passes, step_passes, use_passes, walk_passes, word_passes}
+use Rattle.clap.specs.Takes.{action_passes, bundle_passes, bundle_step_passes, flag_word_passes, flags_pass, is_given, level_passes, long_passes, option_passes, other_passes, positional_passes, react_passes, settle_passes, short_passes, step_passes, use_passes, values_pass, walk_passes, word_passes}
 use Rattle.clap.proofs.WalkLemmas.{both}
+use Rattle.command_line.specs.Commands.{capacity_parser}
 
--- each row has a value
+-- values of the capacity are such numbers
+abbrev pub Suits : Text → List Text → Type 0
+Suits id values = bytes_eq id (codes "cache") ≡ true → list_all (accepts false capacity_parser) values ≡ true
+
+-- a row has a value, and values that suit it
+abbrev pub IsGood : Row → Type 0
+IsGood r = (0 < length r.values) × Suits r.id r.values
+
+-- each row is good
 abbrev pub Filled : List Row → Type 0
 Filled [] = ⊤
-Filled (r ∷ rs) = (0 < length r.values) × Filled rs
+Filled (r ∷ rs) = IsGood r × Filled rs
 
 -- so many values are enough for a use, or it makes no row
 abbrev pub is_enough : ArgAction → ℕ → Bool
@@ -27,9 +41,18 @@ is_enough Set n = nat_lt 0 n
 is_enough Help n = true
 is_enough _ n = false
 
--- the argument is given once, by one value at least, or is a call for help
+-- the parser takes the capacities
+abbrev pub takes_capacities : ValueParser → Bool
+takes_capacities (vp.Unsigned low high) = (low == 8) && (high == 8192)
+takes_capacities _ = false
+
+-- an argument that is called as the capacity takes those
+abbrev pub is_suited : Rule → Bool
+is_suited a = not (bytes_eq a.id (codes "cache")) || takes_capacities (parser_of_value a.parser)
+
+-- the argument is given once, by one value at least, or is a call for help, has no default, and suits its name
 abbrev pub is_plain : Rule → Bool
-is_plain a = is_enough (action_of a) (unwrap_or_range a.range).start_inclusive
+is_plain a = is_enough (action_of a) (unwrap_or_range a.range).start_inclusive && (is_empty a.defaults && is_suited a)
 
 longer : (vs ws : List Text) → 0 < length ws → 0 < length (vs ++ ws)
 longer [] ws lt = lt
@@ -39,33 +62,62 @@ joined : (xs ys : List Row) → Filled xs → Filled ys → Filled (xs ++ ys)
 joined [] ys f g = g
 joined (x ∷ xs) ys f g = (f.0, joined xs ys f.1 g)
 
-changed : (id : Text) (change : Row → List Row) (lacking rows : List Row) → ((r : Row) → 0 < length r.values → Filled (change r)) → Filled lacking → Filled rows
+changed : (id : Text) (change : Row → List Row) (lacking rows : List Row) → ((r : Row) → bytes_eq r.id id ≡ true → IsGood r → Filled (change r)) → Filled lacking → Filled rows
     → Filled (at_row id change lacking rows)
 changed id change lacking [] keeps f g = f
-changed id change lacking (r ∷ rs) keeps f g = go (bytes_eq r.id id) (changed id change lacking rs keeps f g.1)
+changed id change lacking (r ∷ rs) keeps f g = go (bytes_eq r.id id) refl (changed id change lacking rs keeps f g.1)
   where
-    go : (b : Bool) → Filled (at_row id change lacking rs) → Filled (cond b (change r ++ rs) (r ∷ at_row id change lacking rs))
-    go true rest = joined (change r) rs (keeps r g.0) g.1
-    go false rest = (g.0, rest)
+    go : (b : Bool) → bytes_eq r.id id ≡ b → Filled (at_row id change lacking rs) → Filled (cond b (change r ++ rs) (r ∷ at_row id change lacking rs))
+    go true is rest = joined (change r) rs (keeps r is g.0) g.1
+    go false is rest = (g.0, rest)
 
 without_keeps : (id : Text) (rows : List Row) → Filled rows → Filled (without id rows)
-without_keeps id rows f = changed id (λ _. []) [] rows (λ r lt. tt) tt f
+without_keeps id rows f = changed id (λ _. []) [] rows (λ r is good. tt) tt f
 
-with_keeps : (id : Text) (how : Reading) (s : ValueSource) (values : List Text) (rows : List Row) → 0 < length values → Filled rows → Filled (with_values id how s values rows)
-with_keeps id how s values rows lt f = changed id (more_values s values) _ rows (λ r l. (longer r.values values lt, tt)) (lt, tt) f
+more_suit : (r : Row) (id : Text) (values : List Text) → bytes_eq r.id id ≡ true → Suits r.id r.values → Suits id values → Suits r.id (r.values ++ values)
+more_suit r id values same old new is =
+    let of_id : bytes_eq id (codes "cache") ≡ true = subst (λ (t : Text). bytes_eq t (codes "cache") ≡ true) ((bytes_eq-Decides r.id id).0 same) is in
+    list_all-append (accepts false capacity_parser) r.values values ∙ ap₂ (λ a b. a && b) (old is) (new of_id)
 
-used_as_keeps : (x : ArgAction) (id : Text) (how : Reading) (values : List Text) (rows : List Row) → is_enough x (length values) ≡ true → Filled rows
-    → Filled (used_as x id how values rows)
-used_as_keeps Set id how [] rows enough f = absurd (true≢false (sym enough))
-used_as_keeps Set id how (v ∷ vs) rows enough f = with_keeps id how _ (v ∷ vs) _ (omega arith) (without_keeps id rows f)
-used_as_keeps Append id how values rows enough f = absurd (true≢false (sym enough))
-used_as_keeps SetTrue id how values rows enough f = absurd (true≢false (sym enough))
-used_as_keeps SetFalse id how values rows enough f = absurd (true≢false (sym enough))
-used_as_keeps Count id how values rows enough f = absurd (true≢false (sym enough))
-used_as_keeps Help id how values rows enough f = f
-used_as_keeps HelpShort id how values rows enough f = f
-used_as_keeps HelpLong id how values rows enough f = f
-used_as_keeps Version id how values rows enough f = f
+with_keeps : (id : Text) (how : Reading) (s : ValueSource) (values : List Text) (rows : List Row) → 0 < length values → Suits id values → Filled rows
+    → Filled (with_values id how s values rows)
+with_keeps id how s values rows lt suits f =
+    changed id (more_values s values) _ rows (λ r is good. ((longer r.values values lt, more_suit r id values is good.1 suits), tt)) ((lt, suits), tt) f
+
+-- values that pass the parser of an argument that suits its name
+suited : (a : Rule) (values : List Text) → is_suited a ≡ true → values_pass a values ≡ true → Suits a.id values
+suited a values ok passes is = go (parser_of_value a.parser) (rw is at ok) passes
+  where
+    go : (p : ValueParser) → takes_capacities p ≡ true → list_all (accepts a.ignore_case p) values ≡ true → list_all (accepts false capacity_parser) values ≡ true
+    go (vp.Unsigned low high) e all =
+        let ends = both _ _ e in
+        let low_is : low ≡ 8 = eqb-true _ _ ends.0 in
+        let high_is : high ≡ 8192 = eqb-true _ _ ends.1 in
+        subst (λ (p : ValueParser). list_all (accepts a.ignore_case p) values ≡ true) (ap₂ vp.Unsigned low_is high_is) all
+    go vp.String e all = absurd (true≢false (sym e))
+    go vp.NonEmptyString e all = absurd (true≢false (sym e))
+    go vp.Bool e all = absurd (true≢false (sym e))
+    go vp.Boolish e all = absurd (true≢false (sym e))
+    go vp.Falsey e all = absurd (true≢false (sym e))
+    go (vp.Signed low high) e all = absurd (true≢false (sym e))
+    go vp.Float e all = absurd (true≢false (sym e))
+    go vp.Char e all = absurd (true≢false (sym e))
+    go (vp.Names names) e all = absurd (true≢false (sym e))
+    go (vp.Values values) e all = absurd (true≢false (sym e))
+
+used_as_keeps : (x : ArgAction) (again : Bool) (a : Rule) (values : List Text) (rows : List Row) → is_enough x (length values) ≡ true → is_suited a ≡ true
+    → action_passes x again a values rows ≡ true → Filled rows → Filled (used_as x a.id (reading_by a) values rows)
+used_as_keeps Set again a [] rows enough ok passes f = absurd (true≢false (sym enough))
+used_as_keeps Set again a (v ∷ vs) rows enough ok passes f =
+    with_keeps a.id (reading_by a) _ (v ∷ vs) _ (omega arith) (suited a (v ∷ vs) ok (both _ _ passes).1) (without_keeps a.id rows f)
+used_as_keeps Append again a values rows enough ok passes f = absurd (true≢false (sym enough))
+used_as_keeps SetTrue again a values rows enough ok passes f = absurd (true≢false (sym enough))
+used_as_keeps SetFalse again a values rows enough ok passes f = absurd (true≢false (sym enough))
+used_as_keeps Count again a values rows enough ok passes f = absurd (true≢false (sym enough))
+used_as_keeps Help again a values rows enough ok passes f = f
+used_as_keeps HelpShort again a values rows enough ok passes f = f
+used_as_keeps HelpLong again a values rows enough ok passes f = f
+used_as_keeps Version again a values rows enough ok passes f = f
 
 enough_given : (x : ArgAction) (a : Rule) (least : ℕ) (values : List Text) → is_enough x least ≡ true → nat_le least (length values) ≡ true
     → is_enough x (length (values_or_missing a values)) ≡ true
@@ -83,8 +135,10 @@ enough_given Version a least values enough le = absurd (true≢false (sym enough
 
 used_keeps : (again : Bool) (a : Rule) (values : List Text) (rows : List Row) → is_plain a ≡ true → use_passes again a values rows ≡ true → Filled rows → Filled (used a values rows)
 used_keeps again a values rows ok passes f =
-    used_as_keeps (action_of a) a.id (reading_by a) (values_or_missing a values) rows
-    (enough_given (action_of a) a (unwrap_or_range a.range).start_inclusive values ok (both _ _ passes).0) f
+    let good = both _ _ ok in
+    let counts = both _ _ passes in
+    used_as_keeps (action_of a) again a (values_or_missing a values) rows
+    (enough_given (action_of a) a (unwrap_or_range a.range).start_inclusive values good.0 counts.0) (both _ _ good.1).1 (both _ _ counts.1).1 f
 
 -- the argument, if any, is plain
 abbrev IsPlainIfAny : Option Rule → Type 0
@@ -276,20 +330,22 @@ walk_keeps s names w (word ∷ rest) all passes keeps =
 
 -- ---- a level of the parse
 
-default_keeps : (id : Text) (how : Reading) (values : List Text) (rows : List Row) → Filled rows → Filled (default_rows id how values rows)
-default_keeps id how [] rows f = f
-default_keeps id how (v ∷ vs) rows f = with_keeps id how _ (v ∷ vs) rows (omega arith) f
+default_keeps : (id : Text) (how : Reading) (values : List Text) (rows : List Row) → is_empty values ≡ true → Filled rows → Filled (default_rows id how values rows)
+default_keeps id how [] rows none f = f
+default_keeps id how (v ∷ vs) rows none f = let bad : suc (length vs) ≡ 0 = eqb-true _ _ none in absurd (omega arith)
 
-with_default_keeps : (rows : List Row) (a : Rule) → Filled rows → Filled (with_default rows a)
-with_default_keeps rows a f = go (has_row a.id rows)
+with_default_keeps : (rows : List Row) (a : Rule) → is_plain a ≡ true → Filled rows → Filled (with_default rows a)
+with_default_keeps rows a ok f = go (has_row a.id rows)
   where
     go : (b : Bool) → Filled (cond b rows (default_rows a.id (reading_by a) a.defaults rows))
     go true = f
-    go false = default_keeps a.id (reading_by a) a.defaults rows f
+    go false = default_keeps a.id (reading_by a) a.defaults rows (both _ _ (both _ _ ok).1).0 f
 
-defaults_keep : (c : List Rule) (rows : List Row) → Filled rows → Filled (fold with_default rows c)
-defaults_keep [] rows f = f
-defaults_keep (a ∷ c) rows f = defaults_keep c (with_default rows a) (with_default_keeps rows a f)
+defaults_keep : (c : List Rule) (rows : List Row) → list_all is_plain c ≡ true → Filled rows → Filled (fold with_default rows c)
+defaults_keep [] rows all f = f
+defaults_keep (a ∷ c) rows all f =
+    let parts = both _ _ all in
+    defaults_keep c (with_default rows a) parts.1 (with_default_keeps rows a parts.0 f)
 
 first_there : (r : Row) → 0 < length r.values → is_some (slice_get r.values 0) ≡ true
 first_there r lt = go r.values lt
@@ -305,8 +361,25 @@ given_first id (r ∷ rs) f given = go (bytes_eq r.id id) (given_first id rs f.1
     go : (b : Bool) → (is_given id rs ≡ true → is_some (first_of id rs) ≡ true)
         → option_map_or (λ x. explicit_source x.source) (cond b (Some r) (find (λ x. bytes_eq x.id id) rs)) false ≡ true
         → is_some (option_and_then (λ x. slice_get x.values 0) (cond b (Some r) (find (λ x. bytes_eq x.id id) rs))) ≡ true
-    go true rest e = first_there r f.0
+    go true rest e = first_there r f.0.0
     go false rest e = rest e
+
+head_suits : (vs : List Text) (t : Text) → list_all (accepts false capacity_parser) vs ≡ true → slice_get vs 0 ≡ Some t → accepts false capacity_parser t ≡ true
+head_suits [] t all e = cc
+head_suits (v ∷ vs) t all e =
+    let same : v ≡ t = ap (λ (o : Option Text). unwrap_or o v) e in
+    subst (λ (x : Text). accepts false capacity_parser x ≡ true) same (both _ _ all).0
+
+-- a capacity that is given is one
+pub first_suits : (rows : List Row) (t : Text) → Filled rows → first_of (codes "cache") rows ≡ Some t → accepts false capacity_parser t ≡ true
+first_suits [] t f e = cc
+first_suits (r ∷ rs) t f e = go (bytes_eq r.id (codes "cache")) refl (first_suits rs t f.1) e
+  where
+    go : (b : Bool) → bytes_eq r.id (codes "cache") ≡ b → (first_of (codes "cache") rs ≡ Some t → accepts false capacity_parser t ≡ true)
+        → option_and_then (λ x. slice_get x.values 0) (cond b (Some r) (find (λ x. bytes_eq x.id (codes "cache")) rs)) ≡ Some t
+        → accepts false capacity_parser t ≡ true
+    go true is rest first = head_suits r.values t (f.0.1 is) first
+    go false is rest first = rest first
 
 -- each required argument has a value
 abbrev pub has_required : List Row → List Rule → Bool
@@ -320,11 +393,11 @@ required_first (a ∷ c) rows f e = let parts = both _ _ e in rw (required_first
     go true g = rw (given_first a.id rows f g) refl
     go false g = refl
 
--- what holds of a level that passes: required arguments have values, and no help is entered
+-- what holds of a level that passes: required arguments have values, no help is entered, and all values suit
 pub level_keeps : (s : Shape) (names : Names) (words : List Text) (has_subcommand : Bool) → list_all is_plain s.rules ≡ true → s.subcommand_negates_reqs ≡ false
     → level_passes s names nothing_held words has_subcommand ≡ true
     → (has_required (finished s.rules (walk s.rules names nothing_held words).held) s.rules ≡ true) × StopsWell s (walk s.rules names nothing_held words).stopped
-    × ((not s.subcommand_required || has_subcommand) ≡ true)
+    × ((not s.subcommand_required || has_subcommand) ≡ true) × Filled (finished s.rules (walk s.rules names nothing_held words).held)
 level_keeps s names words has all negates passes =
     let walks = both _ _ passes in
     let settles = both _ _ walks.1 in
@@ -334,10 +407,11 @@ level_keeps s names words has all negates passes =
     let free = both _ _ wanted.1 in
     let end = (walk s.rules names nothing_held words) in
     let kept = walk_keeps s names (walk_from nothing_held) words all walks.0 (tt, tt) in
-    let filled = defaults_keep s.rules (settled s.rules end.held).rows (settle_keeps s.rules s.args_override_self end.held all settles.0 kept.0) in (
+    let filled = defaults_keep s.rules (settled s.rules end.held).rows all (settle_keeps s.rules s.args_override_self end.held all settles.0 kept.0) in (
       required_first s.rules (finished s.rules end.held) filled (negated s.subcommand_negates_reqs has _ negates free.1),
       kept.1,
       wanted.0,
+      filled,
     )
   where
     negated : (b has x : Bool) → b ≡ false → ((b && has) || x) ≡ true → x ≡ true

@@ -1,8 +1,10 @@
 -- The command of `eros`, as a parse reads it.
-use Rattle.std.specs.Prelude.{◌≡◌, [], true, false, codes}
+use Rattle.std.specs.Prelude.{◌≡◌, [], Some, true, false, codes}
 use Rattle.clap.specs.Words.{App, Rule, Text, app_of, new_app, new_rule, with_rule, with_subcommand}
 use Rattle.clap.specs.declared.builder.command.Command.{Command}
 use Rattle.clap.specs.declared.builder.command.Command.TheViews.{out-Command}
+use Rattle.clap.specs.declared.builder.value_parser.ValueParser.{ValueParser}
+use Rattle.clap.specs.declared.builder.value_parser.ValueParser.TheVariants.{Unsigned}
 
 -- a file that has to be named
 abbrev pub file_rule : Text → Rule
@@ -12,9 +14,17 @@ file_rule name = record (new_rule name) { required = true }
 abbrev pub build_app : App
 build_app = with_rule (with_rule (new_app (codes "build")) (file_rule (codes "DESCRIPTION"))) (file_rule (codes "IMAGE"))
 
--- eros run IMAGE SCRIPT
+-- how many objects a cache may hold: a number from 8 to 8192
+abbrev pub capacity_parser : ValueParser
+capacity_parser = Unsigned 8 8192
+
+-- --cache C, which may be left out
+abbrev pub cache_rule : Rule
+cache_rule = record (new_rule (codes "cache")) { long = Some (codes "cache"); value_names = 1; parser = Some capacity_parser }
+
+-- eros run [--cache C] IMAGE SCRIPT
 abbrev pub run_app : App
-run_app = with_rule (with_rule (new_app (codes "run")) (file_rule (codes "IMAGE"))) (file_rule (codes "SCRIPT"))
+run_app = with_rule (with_rule (with_rule (new_app (codes "run")) (file_rule (codes "IMAGE"))) (file_rule (codes "SCRIPT"))) cache_rule
 
 -- eros check IMAGE
 abbrev pub check_app : App

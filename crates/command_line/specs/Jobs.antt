@@ -1,6 +1,7 @@
 -- The job that a subcommand and its arguments name.
-use Rattle.std.specs.Prelude.{◌≡◌, ◌≢◌, List, Option, Some, None, codes}
-use Rattle.clap.specs.Words.{Row, Text, first_of}
+use Rattle.std.specs.Prelude.{◌≡◌, ◌≢◌, ℕ, List, Option, Some, None, codes}
+use Rattle.std.specs.Str.Parse.{digits_value, without_leading_plus}
+use Rattle.clap.specs.Words.{IsUnsignedIn, Row, Text, first_of}
 use Rattle.command_line.specs.declared.asked.Job.{Job}
 use Rattle.command_line.specs.declared.asked.Job.TheVariants as job
 use Rattle.command_line.specs.declared.asked.Script.{Script}
@@ -15,11 +16,24 @@ abbrev pub IsScript : Text → Script → Type 0
 IsScript word script.Input = word ≡ codes "-"
 IsScript word (script.File name) = (name.now ≡ word) × (word ≢ codes "-")
 
+-- the word writes this number in decimal digits, and it is from 8 to 8192
+abbrev pub IsCapacity : Text → ℕ → Type 0
+IsCapacity word count = IsUnsignedIn 8 8192 word × (count ≡ digits_value 10 (without_leading_plus word))
+
+-- the option is left out, or gives this capacity
+abbrev pub IsCache : List Row → Option ℕ → Type 0
+IsCache rows None = first_of (codes "cache") rows ≡ None
+IsCache rows (Some count) = (word : Text) × IsGiven rows (codes "cache") word × IsCapacity word count
+
+-- the option gives what is no capacity
+abbrev pub IsNoCache : List Row → Type 0
+IsNoCache rows = (cache : Option ℕ) → IsCache rows cache → ⊥
+
 -- the subcommand of this name, with these arguments, is the job
 abbrev pub IsJob : Text → List Row → Job → Type 0
 IsJob name rows (job.Build description image) = (name ≡ codes "build")
     × IsGiven rows (codes "DESCRIPTION") description.now × IsGiven rows (codes "IMAGE") image.now
-IsJob name rows (job.Run image script) = (name ≡ codes "run")
+IsJob name rows (job.Run image script cache) = (name ≡ codes "run") × IsCache rows cache
     × IsGiven rows (codes "IMAGE") image.now × (word : Text) × IsGiven rows (codes "SCRIPT") word × IsScript word script
 IsJob name rows (job.Check image) = (name ≡ codes "check") × IsGiven rows (codes "IMAGE") image.now
 

@@ -1,11 +1,11 @@
 // Which job the words name.
 ghost use Rattle.std.specs.Prelude.{◌≡◌, IfErr, IfOk, IfSome, IsNone, map, true};
-ghost use Rattle.clap.specs.Words.{found_of, kind_of, rows_of, subcommand_of, subcommand_rows_of, takes};
+ghost use Rattle.clap.specs.Words.{IsUnsignedIn, found_of, kind_of, rows_of, subcommand_of, subcommand_rows_of, takes};
 ghost use Rattle.clap.specs.declared.error.kind.ErrorKind.TheVariants.{OutOfMemory};
 ghost use Rattle.command_line.specs.Commands.{IsCommand, eros_app};
-ghost use Rattle.command_line.specs.Jobs.{IsJob, IsNoJob, IsScript, NamesJob, NamesNone};
+ghost use Rattle.command_line.specs.Jobs.{IsCache, IsCapacity, IsJob, IsNoCache, IsNoJob, IsScript, NamesJob, NamesNone};
 
-use crate::subcommands::{DESCRIPTION, IMAGE, SCRIPT};
+use crate::subcommands::{CACHE, DESCRIPTION, GREATEST_CAPACITY, IMAGE, LEAST_CAPACITY, SCRIPT};
 use clap::error::ErrorKind;
 use clap::{ArgMatches, Command, Error};
 use std::convert::AsStr;
@@ -31,6 +31,8 @@ pub enum Job<'a> {
     Run {
         image: &'a str,
         script: Script<'a>,
+        /// How many objects are kept in memory at most, 8 to 8192; `None` where all that were met are.
+        cache: Option<u64>,
     },
     /// An image is to be checked.
     Check {
@@ -49,6 +51,31 @@ fn script_of<'a>(word: &'a str) -> Script<'a>
     }
 }
 
+// The capacity that a word names, or none where it is no number from 8 to 8192.
+fn capacity_of(word: &str) -> Option<u64>
+    ensures named { IfSome result (IsCapacity word.now) }
+    ensures none { IsNone result → IsUnsignedIn 8 8192 word.now → ⊥ }
+{
+    match word.parse::<u64>() {
+        Ok(count) if LEAST_CAPACITY <= count && count <= GREATEST_CAPACITY => Some(count),
+        _ => None,
+    }
+}
+
+// What the matches say of the cache: `Some(None)` where the option is left out, and none where it gives no capacity.
+fn cache_of(inner: &ArgMatches<'_>) -> Option<Option<u64>>
+    ensures named { IfSome result (IsCache (rows_of (found_of inner.now))) }
+    ensures none { IsNone result → IsNoCache (rows_of (found_of inner.now)) }
+{
+    match inner.get_str(CACHE) {
+        Some(word) => {
+            let count = capacity_of(word)?;
+            Some(Some(count))
+        }
+        None => Some(None),
+    }
+}
+
 // The job of a subcommand with its matches, or none.
 fn job_of<'a>(name: &str, inner: &ArgMatches<'a>) -> Option<Job<'a>>
     ensures named { IfSome result (IsJob name.now (rows_of (found_of inner.now))) }
@@ -62,7 +89,12 @@ fn job_of<'a>(name: &str, inner: &ArgMatches<'a>) -> Option<Job<'a>>
     if name == "run" {
         let word = inner.get_str(SCRIPT)?;
         let script = script_of(word);
-        return Some(Job::Run { image, script });
+        let cache = cache_of(inner)?;
+        return Some(Job::Run {
+            image,
+            script,
+            cache,
+        });
     }
     if name == "check" {
         return Some(Job::Check { image });

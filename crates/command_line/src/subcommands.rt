@@ -1,8 +1,9 @@
 // The command that clap takes the words by.
 ghost use Rattle.std.specs.Prelude.{◌≡◌, IfOk, false};
 ghost use Rattle.clap.specs.Words.{app_of, rule_of};
-ghost use Rattle.command_line.specs.Commands.{IsCommand, bare_app, build_app, check_app, eros_app, file_rule, run_app};
+ghost use Rattle.command_line.specs.Commands.{IsCommand, bare_app, build_app, cache_rule, check_app, eros_app, file_rule, run_app};
 
+use clap::builder::ValueParser;
 use clap::{Arg, Command};
 use std::alloc::{AllocError, Global};
 
@@ -12,12 +13,34 @@ pub(crate) const IMAGE: &str = "IMAGE";
 
 pub(crate) const SCRIPT: &str = "SCRIPT";
 
+pub(crate) const CACHE: &str = "cache";
+
+/// The least number of objects that a cache may hold.
+pub(crate) const LEAST_CAPACITY: u64 = 8;
+
+/// The greatest number of objects that a cache may hold.
+pub(crate) const GREATEST_CAPACITY: u64 = 8192;
+
 // A file that has to be named.
 fn file<'a>(alloc: Global, name: &'a str, help: &'a str) -> Arg<'a>
     ensures rule { rule_of result ≡ file_rule name.entry.now }
     ensures local { result.global ≡ false }
 {
     Arg::new(alloc, name).help(help).required(true)
+}
+
+// How many objects a cache may hold, which may be left out.
+fn cache<'a>(alloc: Global) -> Arg<'a>
+    ensures rule { rule_of result ≡ cache_rule }
+    ensures local { result.global ≡ false }
+{
+    Arg::new(alloc, CACHE)
+        .long("cache")
+        .value_name("C")
+        .value_parser(ValueParser::unsigned(LEAST_CAPACITY, GREATEST_CAPACITY))
+        .help(
+            "Keeps at most C objects in memory, 8 to 8192, as --cache 100; else all that were met",
+        )
 }
 
 fn build<'a>(alloc: Global) -> Result<Command<'a>, AllocError>
@@ -47,7 +70,8 @@ fn run<'a>(alloc: Global) -> Result<Command<'a>, AllocError>
             alloc,
             SCRIPT,
             "The script, a command a line; - is standard input",
-        ))
+        ))?
+        .arg(cache(alloc))
 }
 
 fn check<'a>(alloc: Global) -> Result<Command<'a>, AllocError>

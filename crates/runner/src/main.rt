@@ -5,12 +5,13 @@ ghost use Rattle.std.specs.Prelude.{◌≡◌, IfOk};
 ghost use Rattle.image_builder.specs.Built.{plan_for};
 ghost use Rattle.file_device.specs.FileDevice.{file_disk};
 
+use bounded_cache::{BoundedCache, Capacity};
 use command_line::{Job, JobFault, Script, job};
 use device::MAX_SECTORS;
 use file_device::{FileDevice, FileFault};
 use image_builder::Blueprint;
 use jobs::{Fault, build_image, check_image, finish, run_image};
-use object_cache::PlainStore;
+use object_cache::{ObjectStore, PlainStore};
 use std::fs::{self, File};
 use std::io::{self, BufWriter, ErrorKind, Read, Stdout};
 use std::os::unix::fs::MetadataExt;
@@ -106,13 +107,18 @@ fn build(rt: &HostRuntime, description: &str, image: &str) -> Result<u8, Fault> 
     Ok(finish(&mut writer, status, &mut errors))
 }
 
-// Runs a script over the image on a device, and gives the status.
-fn run_on<R: Read>(rt: &HostRuntime, device: FileDevice, script: &mut R) -> Result<u8, Fault> {
+// Runs a script over the image on a device, by a store of this kind, and gives the status.
+fn run_by<S: ObjectStore<FileDevice>, R: Read>(
+    rt: &HostRuntime,
+    device: FileDevice,
+    setting: S::Setting,
+    script: &mut R,
+) -> Result<u8, Fault> {
     let (mut writer, mut errors) = (output(rt)?, rt.stderr());
-    let done = run_image::<FileDevice, PlainStore<FileDevice>, _, _, _>(
+    let done = run_image::<FileDevice, S, _, _, _>(
         rt.alloc(),
         device,
-        (),
+        setting,
         script,
         &mut writer,
         &mut errors,
@@ -120,16 +126,34 @@ fn run_on<R: Read>(rt: &HostRuntime, device: FileDevice, script: &mut R) -> Resu
     Ok(finish(&mut writer, done.status, &mut errors))
 }
 
+// Runs a script over the image on a device, with a bounded cache where it has a capacity, and gives the status.
+fn run_on<R: Read>(
+    rt: &HostRuntime,
+    device: FileDevice,
+    cache: Option<Capacity>,
+    script: &mut R,
+) -> Result<u8, Fault> {
+    match cache {
+        Some(capacity) => run_by::<BoundedCache<FileDevice>, R>(rt, device, capacity, script),
+        None => run_by::<PlainStore<FileDevice>, R>(rt, device, (), script),
+    }
+}
+
 // Runs a script over an image, and gives the status.
-fn run(rt: &HostRuntime, image: &str, script: &Script<'_>) -> Result<u8, Fault> {
+fn run(
+    rt: &HostRuntime,
+    image: &str,
+    script: &Script<'_>,
+    cache: Option<Capacity>,
+) -> Result<u8, Fault> {
     let device = FileDevice::open(rt, image).map_err(|fault| of_file(
         fault,
         Fault::CannotOpenImage,
     ))?;
     match script {
-        Script::Input => run_on(rt, device, &mut rt.stdin()),
+        Script::Input => run_on(rt, device, cache, &mut rt.stdin()),
         Script::File(path) => match File::open(rt, *path) {
-            Ok(mut file) => run_on(rt, device, &mut file),
+            Ok(mut file) => run_on(rt, device, cache, &mut file),
             Err(error) => Err(of_io(&error, Fault::CannotReadScript)),
         },
     }
@@ -150,7 +174,20 @@ fn check(rt: &HostRuntime, image: &str) -> Result<u8, Fault> {
 fn serve(rt: &HostRuntime, job: &Job<'_>) -> Result<u8, Fault> {
     match job {
         Job::Build { description, image } => build(rt, description, image),
-        Job::Run { image, script } => run(rt, image, script),
+        Job::Run {
+            image,
+            script,
+            cache: None,
+        } => run(rt, image, script, None),
+        Job::Run {
+            image,
+            script,
+            cache: Some(count),
+        } => match Capacity::new(*count) {
+            Some(capacity) => run(rt, image, script, Some(capacity)),
+            // A bad command line, of which no job comes.
+            None => Ok(2),
+        },
         Job::Check { image } => check(rt, image),
     }
 }
