@@ -3,6 +3,7 @@
 use crate::fused::{answers, device_after, opened_at_last};
 use crate::images::{second_world, written};
 use crate::plain::{Effect, Plain, SHOW_ALL, shown};
+use bounded_cache::{BoundedCache, Capacity};
 use device::Device;
 use kernel::Kernel;
 use memory_device::{Fuse, Memory, Outcome};
@@ -244,7 +245,7 @@ fn count_stops<S: ObjectStore<Fuse<Memory>>>(
 }
 
 // How many scripts are made.
-const SCRIPTS: u32 = 1;
+const SCRIPTS: u32 = 20;
 
 // Counts the stops of all scripts.
 fn all_stops<S: ObjectStore<Fuse<Memory>>>(
@@ -283,4 +284,13 @@ fn is_stopped<S: ObjectStore<Fuse<Memory>>>(
 #[test]
 fn scripts_of_chance_are_stopped(rt: HostRuntime) -> Result<(), Fail> {
     is_stopped::<PlainStore<Fuse<Memory>>>(&rt, rt.alloc(), ())
+}
+
+#[test]
+fn they_are_with_few_objects_in_memory(rt: HostRuntime) -> Result<(), Fail> {
+    for count in [8, 9] {
+        let capacity = Capacity::new(count).ok_or("within the limits")?;
+        is_stopped::<BoundedCache<Fuse<Memory>>>(&rt, rt.alloc(), capacity)?;
+    }
+    Ok(())
 }
