@@ -1,5 +1,5 @@
 -- A page is journaled: no object is another, and what is saved of the page has the words that it has now.
-use Rattle.std.proofs.Common.{◌≡◌, ◌≢◌, ◌⊎◌, inl, inr, ℕ, ◌<◌, ◌≤◌, ◌+◌, Bool, true, false, List, length, set, length-set, Option, Some, None, option_map, Result, Ok, Err, OnOk, OnErr, refl, sym, ap, subst, ◌∙◌, arith}
+use Rattle.std.proofs.Common.{◌≡◌, ◌≢◌, ◌⊎◌, inl, inr, ℕ, ◌<◌, Bool, true, false, List, length, set, length-set, Option, Some, None, option_map, Result, Ok, Err, OnOk, OnErr, refl, sym, ap, subst, ◌∙◌, arith}
 use Rattle.std.proofs.lemmas.Bool.{cases_eq}
 use Rattle.std.proofs.lemmas.List.{get_or-set_same, get_or-set_other}
 use Rattle.std.proofs.lemmas.Option.{none-some}
@@ -7,7 +7,6 @@ use Rattle.model.specs.declared.capability.Cap.{Cap}
 use Rattle.model.specs.declared.frame.Frame.{Frame}
 use Rattle.model.specs.declared.frame.ObjectHeader.{ObjectHeader}
 use Rattle.model.specs.declared.object.Content.{Content}
-use Rattle.model.specs.declared.object.Content.TheVariants as content
 use Rattle.model.specs.declared.object.Role.{Role}
 use Rattle.model.specs.declared.object.Role.TheVariants as role
 use Rattle.model.specs.Frame.{blank_frame, frame_at, frames_in, header_at, held_at}
@@ -23,7 +22,7 @@ use Rattle.layout.specs.declared.body.Room.{Room}
 use Rattle.layout.specs.Frame.{content_of, frame_of}
 use Rattle.migrator.specs.Put.{Put, Absent, Broken, Kept, put_at, put_or, most}
 use Rattle.migrator.specs.Saved.{SavedFrames, Holds, LeavesEither, LeavesOneOf}
-use Rattle.migrator.specs.Durable.{DurableState, FrozenPuts, Stored, below_at, ReadsStore, frozen_put, is_sound, journaled_saved, left_of, newest, stored_after_journal, stored_of, with_words}
+use Rattle.migrator.specs.Durable.{DurableState, FrozenPuts, Stored, below_at, ReadsStore, frozen_put, is_sound, journaled_saved, left_of, stored_after_journal, stored_of, with_words}
 use Rattle.migrator.proofs.Kept.{maps_same}
 use Rattle.capability.proofs.Frames.{frame_in}
 use Rattle.object_cache.specs.declared.journal_fault.JournalFault.{JournalFault}

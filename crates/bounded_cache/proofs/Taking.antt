@@ -12,7 +12,6 @@ use Rattle.device.specs.Disk.{Disk}
 use Rattle.migrator.specs.Put.{Kept, put_at, most}
 use Rattle.migrator.specs.Durable.{DurableState, FrozenPuts, Stored, ReadsStore, below_at, stored_of}
 use Rattle.migrator.proofs.Kept.{maps_same}
-use Rattle.object_cache.specs.Store.{FrozenFrames}
 use Rattle.bounded_cache.specs.declared.held.Held.{Held}
 use Rattle.bounded_cache.specs.Entries.{entry_at}
 use Rattle.bounded_cache.specs.Memory.{Memory, Owed, mark_at, in_hand, put_body, below_body, present_body, content_at, present_at, frozen_body, frozen_frame, frozen_at, contents_in, frozen_in, owed_in}

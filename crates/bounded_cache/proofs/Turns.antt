@@ -1,15 +1,15 @@
 -- Frozen frames are put in turn, and as many fewer are said to be left.
-use Rattle.std.proofs.Common.{◌≡◌, ℕ, zero, suc, ◌+◌, ◌-◌, ◌<◌, ◌≤◌, Bool, true, false, true≢false, List, [], Option, Some, None, option_map, is_some, refl, sym, ap, subst, ◌∙◌, arith}
+use Rattle.std.proofs.Common.{◌≡◌, ℕ, ◌+◌, ◌-◌, ◌<◌, ◌≤◌, Bool, false, true≢false, List, [], Option, Some, None, option_map, is_some, refl, sym, ap, subst, ◌∙◌, arith}
 use Rattle.std.specs.Prelude.{count_by}
 use Rattle.std.proofs.lemmas.Option.{none-some, same_Some}
 use Rattle.number_set.specs.Marks.{HasNoneMarked}
 use Rattle.model.specs.declared.frame.Frame.{Frame}
 use Rattle.device.specs.Disk.{Image, Disk}
-use Rattle.migrator.specs.Durable.{DurableState, FrozenPuts, GoesOn, stored_of}
+use Rattle.migrator.specs.Durable.{DurableState, FrozenPuts, stored_of}
 use Rattle.migrator.proofs.Moving.{goes_trans}
 use Rattle.object_cache.specs.Store.{FrozenFrames, Aside, stabilized}
 use Rattle.bounded_cache.specs.declared.held.Held.{Held}
-use Rattle.bounded_cache.specs.Memory.{Memory, mark_at, frozen_in}
+use Rattle.bounded_cache.specs.Memory.{Memory, frozen_in}
 use Rattle.bounded_cache.specs.Cache.{CacheState, IsCache, AreFrozen, GoesOnIn, PutsBy, aside_of, cache_of, on_device, on_device_frozen, pending_count}
 use Rattle.bounded_cache.specs.CacheLaws.{goes_on_same}
 use Rattle.bounded_cache.proofs.Freezing.{fewer_of}

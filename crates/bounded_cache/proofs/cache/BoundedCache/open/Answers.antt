@@ -1,4 +1,4 @@
-use Rattle.std.proofs.Common.{refl, rules, ◌≤◌}
+use Rattle.std.proofs.Common.{refl}
 use Rattle.bounded_cache.proofs.Opening.{open_stands, open_opens}
 use Rattle.bounded_cache.proofs.cache.BoundedCache.open.Goals as goal
 
