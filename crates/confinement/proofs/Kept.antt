@@ -15,7 +15,8 @@ use Rattle.model.specs.Object.{free, is_bank, is_free, is_root, map_content, roo
 use Rattle.model.specs.Revoke.{consume, is_member, names_member, rescind, resumes, void_where, without}
 use Rattle.model.specs.World.{content_at, is_process, object_at, owner_at, root_at, with_content, with_root, with_slot, with_slots_from, with_state, with_word}
 use Rattle.model_laws.proofs.Revoking.{at_rescind}
-use Rattle.model_laws.proofs.SoundEdits.{at_content, at_map, at_set, object_consume}
+use Rattle.model_laws.proofs.Mapped.{void_void, without_mapped}
+use Rattle.model_laws.proofs.SoundEdits.{at_content, at_set, object_consume}
 use Rattle.confinement.specs.Confinement.{Encloses, IsKept, NamesInside, StaysWithin}
 
 -- a content that may stand at a member of a set: it makes no bank of what was none
@@ -26,13 +27,6 @@ pub record MayStand (inside : ℕ → Bool) (os : List Object) (n : ℕ) (c : Co
   pub space : StaysInside inside (root_in c).space
 
 -- capabilities that go, in lists and contents
-
-void_void : (goes : Capability → Bool) → void_where goes Void ≡ Void
-void_void goes = cases (goes Void)
-  where
-    cases : (b : Bool) → (if b then Void else Void) ≡ Void
-    cases true = refl
-    cases false = refl
 
 map_same : (cs : List Capability) → cs ≡ map (void_where (λ c. false)) cs
 map_same [] = refl
@@ -214,31 +208,11 @@ stays_void inside goes c stays = cases (goes c)
     cases true = inl tt
     cases false = stays
 
--- a slot and the address space of an object without those that go
-pub slot_without : (goes : Capability → Bool) (c : Content Capability) (i : ℕ)
-    → slice_index_or (slots_in (map_content (void_where goes) c)) i Void ≡ void_where goes (slice_index_or (slots_in c) i Void)
-slot_without goes (content.Node slots) i = at_map (void_where goes) slots i Void (void_void goes)
-slot_without goes (content.Annex slots) i = at_map (void_where goes) slots i Void (void_void goes)
-slot_without goes c i = sym (void_void goes)
-
-pub space_without : (goes : Capability → Bool) (c : Content Capability)
-    → (root_in (map_content (void_where goes) c)).space ≡ void_where goes (root_in c).space
-space_without goes (content.Root r) = refl
-space_without goes c = sym (void_void goes)
-
-annex_without : (inside : ℕ → Bool) (goes : Capability → Bool) (c : Content Capability)
-    → (IsTrue (is_root c) → IsTrue (inside (root_in c).annex))
-    → IsTrue (is_root (map_content (void_where goes) c)) → IsTrue (inside (root_in (map_content (void_where goes) c)).annex)
-annex_without inside goes content.Free h = h
-annex_without inside goes c h = h
-
-bank_without : (goes : Capability → Bool) (c : Content Capability) → is_bank (map_content (void_where goes) c) ≡ is_bank c
-bank_without goes content.Free = refl
-bank_without goes c = refl
-
-free_without : (goes : Capability → Bool) (c : Content Capability) → is_free (map_content (void_where goes) c) ≡ is_free c
-free_without goes content.Free = refl
-free_without goes c = refl
+annex_without : (inside : ℕ → Bool) (goes : Capability → Bool) (o : Object) → (IsTrue (is_root o.content) → IsTrue (inside (root_in o.content).annex))
+    → IsTrue (is_root (without goes o).content) → IsTrue (inside (root_in (without goes o).content).annex)
+annex_without inside goes o h is =
+    let m = without_mapped goes o in
+    subst (λ n. IsTrue (inside n)) (sym m.annex) (h (subst IsTrue m.root is))
 
 -- members are freed, and capabilities that name members put void
 pub stays_without : (inside : ℕ → Bool) (os us : List Object) (goes : Capability → Bool) (set : List ℕ) → Encloses inside os
@@ -249,20 +223,20 @@ stays_without inside os us goes set h members names at = record {
     closed = record {
       annexes = λ p in_p.
           at_us (λ o. IsTrue (is_root o.content) → IsTrue (inside (root_in o.content).annex)) p (λ m e. cc)
-          (annex_without inside goes (content_at os p) (h.closed.annexes p in_p));
+          (annex_without inside goes (object_at os p) (h.closed.annexes p in_p));
       owned = λ b n in_b is.
           at_us (λ o. is_free o.content ≡ false → o.owner ≡ b → IsTrue (inside n)) n (λ m e f. members n m)
-          (λ e f. h.closed.owned b n in_b (was_bank b is) (sym (free_without goes (content_at os n)) ∙ e) f);
+          (λ e f. h.closed.owned b n in_b (was_bank b is) (sym (without_mapped goes (object_at os n)).free ∙ e) f);
       slots = λ n i in_n.
           at_us (λ o. StaysInside inside (slice_index_or (slots_in o.content) i Void)) n (λ m. inl tt)
-          (rw (slot_without goes (content_at os n) i) (stays_void inside goes (slice_index_or (slots_in (content_at os n)) i Void) (h.closed.slots n i in_n)));
+          (rw ((without_mapped goes (object_at os n)).slot (void_void goes) i) (stays_void inside goes (slice_index_or (slots_in (content_at os n)) i Void) (h.closed.slots n i in_n)));
       spaces = λ p in_p.
           at_us (λ o. StaysInside inside (root_in o.content).space) p (λ m. inl tt)
-          (rw (space_without goes (content_at os p)) (stays_void inside goes (root_at os p).space (h.closed.spaces p in_p)));
+          (rw ((without_mapped goes (object_at os p)).space (void_void goes)) (stays_void inside goes (root_at os p).space (h.closed.spaces p in_p)));
     };
     free = λ n.
         at_us (λ o. is_free o.content ≡ true → IsTrue (inside n)) n (λ m e. members n m)
-        (λ e. h.free n (sym (free_without goes (content_at os n)) ∙ e));
+        (λ e. h.free n (sym (without_mapped goes (object_at os n)).free ∙ e));
   };
   kept = λ n out.
       at_us (λ o. IsKept inside (object_at os n) o) n (λ m. absurd (let both : false ≡ true = sym out ∙ members n m in cc)) (goes, names, refl);
@@ -278,7 +252,7 @@ stays_without inside os us goes set h members names at = record {
     was_bank : (b : ℕ) → IsTrue (is_bank (content_at us b)) → IsTrue (is_bank (content_at os b))
     was_bank b =
         at_us (λ o. IsTrue (is_bank o.content) → IsTrue (is_bank (content_at os b))) b (λ m e. cc)
-        (λ e. sym (bank_without goes (content_at os b)) ∙ e)
+        (λ e. sym (without_mapped goes (object_at os b)).bank ∙ e)
 
 -- a consumed resume capability of a member
 pub stays_consume : (inside : ℕ → Bool) (os : List Object) (p : ℕ) → Encloses inside os → IsTrue (inside p) → StaysWithin inside os (consume p os)

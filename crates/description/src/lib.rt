@@ -3,6 +3,7 @@
 
 mod entry;
 mod fault;
+pub mod laws;
 mod list;
 mod member;
 mod object;

@@ -62,11 +62,7 @@ module _ (d : Description) (limits : IsWithinLimits d) where
           (λ rule. bad (as_laid AreBanked rule.0 rule.1 rule.2));
     }
 
-    -- a process is never the reason
-    pub no_bad_process : AreWholeProcesses (frames_in hs cs) → (why : Inconsistency) → IsInconsistent (frames_in hs cs) why → why ≢ BadProcess
-    no_bad_process whole why is bad = absurd ((subst (λ (w : Inconsistency). IsInconsistent (frames_in hs cs) w) bad is).1 whole)
-
-    -- the fault for a reason
+    -- the fault for a reason, which a process never is
     pub reason_refused : AreWholeProcesses (frames_in hs cs) → (why : Inconsistency) (fault : BuildFault) → IsInconsistent (frames_in hs cs) why →
         (why ≡ BadCapability → fault ≡ Target) → (why ≡ BadBank → fault ≡ Owner) → IsRefusedEarly d fault
     reason_refused whole BadCapability fault is target owner = subst (λ (f : BuildFault). IsRefusedEarly d f) (sym (target refl)) (capability_refused is)

@@ -27,13 +27,11 @@ fn lay(alloc: Global, description: &Description) -> Result<World, BuildFault>
 
 // The fault for a reason why frames are inconsistent. Processes are never one.
 fn fault_for(why: Inconsistency) -> BuildFault
-    requires { why ≢ Inconsistency.BadProcess }
     ensures target { why ≡ Inconsistency.BadCapability → result ≡ BuildFault.Target }
     ensures owner { why ≡ Inconsistency.BadBank → result ≡ BuildFault.Owner }
 {
     match why {
-        Inconsistency::BadCapability => BuildFault::Target,
-        Inconsistency::BadProcess => unreachable!(),
+        Inconsistency::BadCapability | Inconsistency::BadProcess => BuildFault::Target,
         Inconsistency::BadBank => BuildFault::Owner,
     }
 }

@@ -1,5 +1,5 @@
 -- What banks give up: sets of objects that can go together, and the usage that goes with them.
-use Rattle.std.proofs.Common.{◌≡◌, ◌≢◌, ◌⊎◌, inl, inr, ℕ, zero, suc, ◌+◌, ◌==◌, ◌<◌, ◌≤◌, nat_eq, Bool, true, false, not, ◌&&◌, cond, Option, None, Some, List, [], ◌∷◌, length, map, get_or, refl, sym, ap, subst, arith, zero-add, add-zero, ◌∙◌}
+use Rattle.std.proofs.Common.{◌≡◌, ◌≢◌, ◌⊎◌, inl, inr, ℕ, zero, suc, ◌+◌, ◌==◌, ◌<◌, ◌≤◌, nat_eq, Bool, true, false, not, ◌&&◌, cond, Option, None, Some, List, [], ◌∷◌, length, get_or, refl, sym, ap, subst, arith, zero-add, add-zero, ◌∙◌}
 use Rattle.std.specs.Prelude.{if◌then◌else◌, IsTrue}
 use Rattle.std.specs.List.{count_by, enumerate_from}
 use Rattle.std.proofs.lemmas.Bool.{false≢true, cases_Bool, cases_eq, false_from_ne_true, eq-eqb, ne_eqb, not_from_false, or_left, or_right}
@@ -20,7 +20,8 @@ use Rattle.model.specs.Revoke.{void_where, without, is_member, names_member, res
 use Rattle.model.specs.Sound.{IsOfKind, IsSpace}
 use Rattle.model_laws.proofs.Usage.{AreAlike, SameTests, same_tests}
 use Rattle.model_laws.proofs.SoundParts.{IsHeld, IsFilled, IsFramed, Waits, state_at, held_void}
-use Rattle.model_laws.proofs.SoundEdits.{at_map}
+use Rattle.model_laws.proofs.Mapped.{alike_without, mapped, void_void}
+use Rattle.model_laws.proofs.SoundEdits.{filled_map}
 use Rattle.model_laws.proofs.SoundOrders.{IsNow}
 use Rattle.model_laws.proofs.Revoking.{at_rescind}
 use Rattle.model_laws.proofs.BankTree.{IsTree, tree_of}
@@ -70,14 +71,6 @@ count_same p q xs d agree =
     )
 
 -- what stays and what goes
-
--- an object with some capabilities put void is alike
-pub alike_without : (goes : Capability → Bool) (o : Object) → AreAlike o (without goes o)
-alike_without goes o = cases o.owner o.content
-  where
-    cases : (b : ℕ) (c : Content Capability) → AreAlike (record { owner = b; content = c }) (record { owner = b; content = map_content (void_where goes) c })
-    cases b content.Free = record { owner = refl; role = refl; annex = refl; limit = refl }
-    cases b c = record { owner = refl; role = refl; annex = refl; limit = refl }
 
 module _ (os : List Object) (set : List ℕ) where
   went_object : (n : ℕ) → is_member set n ≡ true → object_at (rescind set os) n ≡ free
@@ -229,15 +222,11 @@ held_as_before os us (Resume p) f h = record {
 held_as_before os us (Bank b) f h = record { well_formed = h.well_formed; names = rw (same_tests (content_at os b) (content_at us b) (f b refl).role).bank h.names }
 held_as_before os us Discrim f h = record { well_formed = h.well_formed; names = h.names }
 
-state_map : (f : Capability → Capability) (c : Content Capability) → (root_in (map_content f c)).state ≡ (root_in c).state
-state_map f content.Free = refl
-state_map f c = refl
-
 module _ (os : List Object) (set : List ℕ) where
   kept_as_before : (n : ℕ) → is_member set n ≡ false → IsAsBefore os (rescind set os) n
   kept_as_before n e = record {
     role = (kept_alike os set n e).role;
-    state = ap (λ (o : Object). (root_in o.content).state) (kept_object os set n e) ∙ state_map (void_where (names_member set)) (content_at os n);
+    state = ap (λ (o : Object). (root_in o.content).state) (kept_object os set n e) ∙ (mapped (void_where (names_member set)) (content_at os n)).state;
   }
 
   abbrev Holds : Capability → Type 0
@@ -262,42 +251,8 @@ module _ (os : List Object) (set : List ℕ) where
       go true = tt
       go false = h
 
-  slots_rescind : (slots : List Capability) (i : ℕ) → IsHeld os (Waits os) (get_or slots i Void) → Holds (get_or (map cleared slots) i Void)
-  slots_rescind slots i h = rw (at_map cleared slots i Void refl) (held_rescind (get_or slots i Void) h)
-
   filled_cleared : (c : Content Capability) → IsFilled os (Waits os) c → IsFilled (rescind set os) (Waits (rescind set os)) (map_content cleared c)
-  filled_cleared (content.Node s) h = record {
-    shape = length-map s cleared ∙ h.shape;
-    words = h.words;
-    slots = λ i. slots_rescind s i (h.slots i);
-    register_0 = λ e. cc;
-    space = held_void _ _;
-    is_space = tt;
-  }
-  filled_cleared (content.Annex s) h = record {
-    shape = length-map s cleared ∙ h.shape;
-    words = h.words;
-    slots = λ i. slots_rescind s i (h.slots i);
-    register_0 = λ e. at_map cleared s 0 Void refl ∙ ap cleared (h.register_0 refl);
-    space = held_void _ _;
-    is_space = tt;
-  }
-  filled_cleared (content.Root r) h = record {
-    shape = h.shape;
-    words = h.words;
-    slots = λ i. held_void _ _;
-    register_0 = λ e. refl;
-    space = held_rescind r.space h.space;
-    is_space = space_rescind r.space h.is_space;
-  }
-  filled_cleared c h = record {
-    shape = h.shape;
-    words = h.words;
-    slots = λ i. held_void _ _;
-    register_0 = λ e. refl;
-    space = held_void _ _;
-    is_space = tt;
-  }
+  filled_cleared = filled_map os (rescind set os) (Waits os) (Waits (rescind set os)) cleared (void_void (names_member set)) held_rescind space_rescind
 
   filled_free : IsFilled (rescind set os) (Waits (rescind set os)) content.Free
   filled_free = record { shape = tt; words = λ i. omega arith; slots = λ i. held_void _ _; register_0 = λ e. refl; space = held_void _ _; is_space = tt }

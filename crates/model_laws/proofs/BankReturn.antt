@@ -20,7 +20,7 @@ use Rattle.model.specs.Banking.{freed_by, under, owned_by, handed_on, inherited,
 use Rattle.model.specs.Revoke.{is_member, rescind}
 use Rattle.model.specs.Sound.{IsOfKind}
 use Rattle.model_laws.proofs.SoundParts.{IsHeld, IsFilled, IsFramed, Waits, held_to, held_void}
-use Rattle.model_laws.proofs.SoundEdits.{at_map}
+use Rattle.model_laws.proofs.Mapped.{at_map}
 use Rattle.model_laws.proofs.SoundOrders.{IsNow, IsOutcome, AreArguments, three_words, refused_keeps, either}
 use Rattle.model_laws.proofs.BankTree.{IsTree, tree_of, member_tail, chain_prime, chain_unfolds, chain_longer, chain_once, chain_itself, chain_nonempty, chain_length, chain_owner_length, owner_bank}
 use Rattle.model_laws.proofs.NumberLists.{AllDiffer, no_member, only_member}

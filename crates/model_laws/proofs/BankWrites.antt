@@ -5,7 +5,6 @@ use Rattle.std.specs.List.{range_with_len, All}
 use Rattle.std.proofs.lemmas.List.Elements.{All-filter, filter_passes}
 use Rattle.std.proofs.lemmas.List.FromFn.{get_or-range_with_len, length-range_with_len}
 use Rattle.model.specs.declared.capability.Capability.{Capability}
-use Rattle.model.specs.declared.capability.Capability.TheVariants.{Void}
 use Rattle.model.specs.declared.geometry.Geometry.{Geometry}
 use Rattle.model.specs.declared.object.Content.{Content}
 use Rattle.model.specs.declared.object.Content.TheVariants as content
@@ -15,7 +14,7 @@ use Rattle.model.specs.declared.order.BankOrder.{BankOrder}
 use Rattle.model.specs.declared.order.BankOrder.TheVariants as bank
 use Rattle.model.specs.Bank.{chain}
 use Rattle.model.specs.Banking.{allocated, are_free, bank_allocated, freed, freed_by, free_nodes, free_pages, handed_on, has_room, inherited, new_annex, new_root, on_bank, owned_by, process_allocated, under, with_new}
-use Rattle.model.specs.Object.{free, is_bank, is_free, is_root, map_content, root_in}
+use Rattle.model.specs.Object.{free, is_bank, is_free, is_root, root_in}
 use Rattle.model.specs.OrderOutcome.{OrderOutcome}
 use Rattle.model.specs.Revoke.{is_member, names_member, rescind, without}
 use Rattle.model.specs.Sound.{NamesItsKind}
@@ -24,7 +23,7 @@ use Rattle.model_laws.proofs.BankFreed.{freed_within, owned_within, under_within
 use Rattle.model_laws.proofs.BankReturn.{handed_content}
 use Rattle.model_laws.proofs.BankTree.{at_other}
 use Rattle.model_laws.proofs.Revoking.{at_rescind}
-use Rattle.model_laws.proofs.SoundEdits.{at_map}
+use Rattle.model_laws.proofs.Mapped.{at_map, without_mapped}
 use Rattle.model_laws.proofs.SoundOrders.{IsNow}
 
 -- what is a process before and after has the same annex
@@ -45,18 +44,10 @@ root_not_free (content.Root root) r f = cc
 root_not_free (content.Annex registers) r f = cc
 root_not_free (content.Bank limit) r f = cc
 
-without_annex : (goes : Capability → Bool) (c : Content Capability) → (root_in (map_content (λ k. if goes k then Void else k) c)).annex ≡ (root_in c).annex
-without_annex goes content.Free = refl
-without_annex goes (content.Page words) = refl
-without_annex goes (content.Node slots) = refl
-without_annex goes (content.Root root) = refl
-without_annex goes (content.Annex registers) = refl
-without_annex goes (content.Bank limit) = refl
-
 after : (set : List ℕ) (b : Bool) (o : Object) → is_root (if b then free else without (names_member set) o).content ≡ true →
     (root_in (if b then free else without (names_member set) o).content).annex ≡ (root_in o.content).annex
 after set true o is = cc
-after set false o is = without_annex (names_member set) o.content
+after set false o is = (without_mapped (names_member set) o).annex
 
 rescind_annexes : (set : List ℕ) (os : List Object) → KeepsAnnexes os (rescind set os)
 rescind_annexes set os p before is =

@@ -1,5 +1,6 @@
 pub mod InvocationFrame
 pub mod Journaling
+pub mod Mapped
 pub mod SoundEdits
 pub mod SoundGates
 pub mod SoundOrders

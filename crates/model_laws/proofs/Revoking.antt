@@ -3,13 +3,12 @@ use Rattle.std.proofs.Common.{◌≡◌, ℕ, zero, suc, ◌+◌, Bool, true, fa
 use Rattle.std.specs.List.{enumerate_from}
 use Rattle.model.specs.declared.capability.Capability.{Capability}
 use Rattle.model.specs.declared.capability.Capability.TheVariants.{Void}
-use Rattle.model.specs.declared.object.Content.{Content}
-use Rattle.model.specs.declared.object.Content.TheVariants as content
 use Rattle.model.specs.declared.object.Object.{Object}
-use Rattle.model.specs.Object.{free, is_free, slots_in, root_in, map_content}
+use Rattle.model.specs.Object.{free, is_free, slots_in, root_in}
 use Rattle.model.specs.World.{object_at}
 use Rattle.model.specs.Revoke.{void_where, without, is_member, names_member, resumes, rescind}
 use Rattle.model_laws.specs.Laws.{RescindsAll, ConsumesAll}
+use Rattle.model_laws.proofs.Mapped.{void_void, without_mapped}
 use Rattle.model_laws.proofs.SoundEdits.{object_consume}
 
 module _ (goes : Capability → Bool) (void_stays : goes Void ≡ false) where
@@ -21,33 +20,12 @@ module _ (goes : Capability → Bool) (void_stays : goes Void ≡ false) where
       cases true e = void_stays
       cases false e = e
 
-  gone_at : (cs : List Capability) (i : ℕ) → goes (slice_index_or (map (void_where goes) cs) i Void) ≡ false
-  gone_at [] i = void_stays
-  gone_at (c ∷ cs) zero = gone c
-  gone_at (c ∷ cs) (suc i) = gone_at cs i
-
   -- no slot and no address space of an object without them holds one that goes
   pub gone_from_slot : (o : Object) (i : ℕ) → goes (slice_index_or (slots_in (without goes o).content) i Void) ≡ false
-  gone_from_slot o i = cases o.content
-    where
-      cases : (c : Content Capability) → goes (slice_index_or (slots_in (map_content (void_where goes) c)) i Void) ≡ false
-      cases content.Free = void_stays
-      cases (content.Page words) = void_stays
-      cases (content.Node slots) = gone_at slots i
-      cases (content.Root root) = void_stays
-      cases (content.Annex registers) = gone_at registers i
-      cases (content.Bank limit) = void_stays
+  gone_from_slot o i = ap goes ((without_mapped goes o).slot (void_void goes) i) ∙ gone (slice_index_or (slots_in o.content) i Void)
 
   pub gone_from_space : (o : Object) → goes (root_in (without goes o).content).space ≡ false
-  gone_from_space o = cases o.content
-    where
-      cases : (c : Content Capability) → goes (root_in (map_content (void_where goes) c)).space ≡ false
-      cases content.Free = void_stays
-      cases (content.Page words) = void_stays
-      cases (content.Node slots) = void_stays
-      cases (content.Root root) = gone root.space
-      cases (content.Annex registers) = void_stays
-      cases (content.Bank limit) = void_stays
+  gone_from_space o = ap goes ((without_mapped goes o).space (void_void goes)) ∙ gone (root_in o.content).space
 
 -- what stands at a number after a consume
 pub consumes_all : ConsumesAll

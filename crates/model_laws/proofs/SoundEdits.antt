@@ -1,4 +1,4 @@
-use Rattle.std.proofs.Common.{◌≡◌, ◌≢◌, inl, inr, ℕ, zero, suc, ◌^◌, ◌==◌, ◌<◌, Bool, true, false, List, [], ◌∷◌, map, length, get_or, set, refl, sym, ap, subst, arith, ◌∙◌}
+use Rattle.std.proofs.Common.{◌≡◌, ◌≢◌, inl, inr, ℕ, ◌^◌, ◌==◌, ◌<◌, Bool, true, false, List, map, length, get_or, set, refl, sym, ap, subst, arith, ◌∙◌}
 use Rattle.std.specs.Prelude.{if◌then◌else◌, IsTrue, slice_index}
 use Rattle.std.proofs.lemmas.Bool.{cases_eq, cases_lt, eqb-false}
 use Rattle.std.proofs.lemmas.List.{get_or-set_same, get_or-set_other, set_past, length-set, length-map, get_or_past}
@@ -14,6 +14,7 @@ use Rattle.model.specs.World.{object_at, content_at, owner_at, root_at, annex_at
 use Rattle.model.specs.Revoke.{void_where, without, resumes, consume}
 use Rattle.model.specs.Sound.{IsSpace}
 use Rattle.model_laws.proofs.Usage.{AreAlike, SameFrame, alike_refl, frame_trans}
+use Rattle.model_laws.proofs.Mapped.{alike_without, at_map, mapped}
 use Rattle.model_laws.proofs.SoundParts.{IsHeld, IsFilled, IsNearlySound, state_at, nearly_on, held_void}
 
 -- what holds of the new item at its place and of an old item at another holds after a set
@@ -25,11 +26,6 @@ at_set P xs n m x d new old = elim (cases_eq m n) [
     | inr past ↦ rw (set_past xs n x past) old
   ]
 ]
-
-pub at_map : {X : Type 0} (f : X → X) (xs : List X) (i : ℕ) (d : X) → f d ≡ d → get_or (map f xs) i d ≡ f (get_or xs i d)
-at_map f [] i d e = sym e
-at_map f (x ∷ xs) zero d e = refl
-at_map f (x ∷ xs) (suc i) d e = at_map f xs i d e
 
 -- another content that is alike
 
@@ -205,12 +201,48 @@ edited_root g W os p r h fits e = record {
   ];
 }
 
--- a consumed resume capability
+-- a content with each capability changed, where what is held is held then
 
-alike_without : (p b : ℕ) (c : Content Capability)
-    → AreAlike (record { owner = b; content = c }) (record { owner = b; content = map_content (void_where (resumes p)) c })
-alike_without p b content.Free = record { owner = refl; role = refl; annex = refl; limit = refl }
-alike_without p b c = record { owner = refl; role = refl; annex = refl; limit = refl }
+module _ (os us : List Object) (W V : ℕ → Type 0) (f : Capability → Capability) (void : f Void ≡ Void)
+    (held : (c : Capability) → IsHeld os W c → IsHeld us V (f c)) (space : (c : Capability) → IsSpace c → IsSpace (f c)) where
+  slots_map : (slots : List Capability) (i : ℕ) → IsHeld os W (get_or slots i Void) → IsHeld us V (get_or (map f slots) i Void)
+  slots_map slots i h = rw (at_map f slots i Void void) (held (get_or slots i Void) h)
+
+  pub filled_map : (c : Content Capability) → IsFilled os W c → IsFilled us V (map_content f c)
+  filled_map (content.Node s) h = record {
+    shape = length-map s f ∙ h.shape;
+    words = h.words;
+    slots = λ i. slots_map s i (h.slots i);
+    register_0 = λ e. cc;
+    space = held_void us V;
+    is_space = tt;
+  }
+  filled_map (content.Annex s) h = record {
+    shape = length-map s f ∙ h.shape;
+    words = h.words;
+    slots = λ i. slots_map s i (h.slots i);
+    register_0 = λ e. at_map f s 0 Void void ∙ (ap f (h.register_0 refl) ∙ void);
+    space = held_void us V;
+    is_space = tt;
+  }
+  filled_map (content.Root r) h = record {
+    shape = h.shape;
+    words = h.words;
+    slots = λ i. held_void us V;
+    register_0 = λ e. refl;
+    space = held r.space h.space;
+    is_space = space r.space h.is_space;
+  }
+  filled_map c h = record {
+    shape = h.shape;
+    words = h.words;
+    slots = λ i. held_void us V;
+    register_0 = λ e. refl;
+    space = held_void us V;
+    is_space = tt;
+  }
+
+-- a consumed resume capability
 
 pub object_consume : (p : ℕ) (os : List Object) (n : ℕ) → object_at (consume p os) n ≡ without (resumes p) (object_at os n)
 unfolding consume
@@ -219,7 +251,7 @@ object_consume p os n = at_map (without (resumes p)) os n free refl
 pub frame_consume : (p : ℕ) (os : List Object) → SameFrame os (consume p os)
 frame_consume p os = record {
   size = unfold consume in length-map os (without (resumes p));
-  alike = λ n. rw (object_consume p os n) (alike_without p (owner_at os n) (content_at os n));
+  alike = λ n. rw (object_consume p os n) (alike_without (resumes p) (object_at os n));
 }
 
 -- all but one
@@ -238,51 +270,12 @@ space_consume : (p : ℕ) (c : Capability) → IsSpace c → IsSpace (void_where
 space_consume p (Resume q) h = absurd h
 space_consume p c h = h
 
-slots_consume : (os : List Object) (W : ℕ → Type 0) (p : ℕ) (slots : List Capability) (i : ℕ) → IsHeld os W (get_or slots i Void)
-    → IsHeld os (But W p) (get_or (map (void_where (resumes p)) slots) i Void)
-slots_consume os W p slots i h = rw (at_map (void_where (resumes p)) slots i Void refl) (held_consume os W p (get_or slots i Void) h)
-
 filled_consume : (os : List Object) (W : ℕ → Type 0) (p : ℕ) (c : Content Capability) → IsFilled os W c → IsFilled os (But W p) (map_content (void_where (resumes p)) c)
-filled_consume os W p (content.Node s) h = record {
-  shape = length-map s (void_where (resumes p)) ∙ h.shape;
-  words = h.words;
-  slots = λ i. slots_consume os W p s i (h.slots i);
-  register_0 = λ e. cc;
-  space = held_void os (But W p);
-  is_space = tt;
-}
-filled_consume os W p (content.Annex s) h = record {
-  shape = length-map s (void_where (resumes p)) ∙ h.shape;
-  words = h.words;
-  slots = λ i. slots_consume os W p s i (h.slots i);
-  register_0 = λ e. at_map (void_where (resumes p)) s 0 Void refl ∙ ap (void_where (resumes p)) (h.register_0 refl);
-  space = held_void os (But W p);
-  is_space = tt;
-}
-filled_consume os W p (content.Root r) h = record {
-  shape = h.shape;
-  words = h.words;
-  slots = λ i. held_void os (But W p);
-  register_0 = λ e. refl;
-  space = held_consume os W p r.space h.space;
-  is_space = space_consume p r.space h.is_space;
-}
-filled_consume os W p c h = record {
-  shape = h.shape;
-  words = h.words;
-  slots = λ i. held_void os (But W p);
-  register_0 = λ e. refl;
-  space = held_void os (But W p);
-  is_space = tt;
-}
+filled_consume os W p = filled_map os os W (But W p) (void_where (resumes p)) refl (held_consume os W p) (space_consume p)
 
 pub nearly_consume : (g : Geometry) (W : ℕ → Type 0) (p : ℕ) (os : List Object) → IsNearlySound g W os → IsNearlySound g (But W p) (consume p os)
 nearly_consume g W p os h = nearly_on g (But W p) os (consume p os) (frame_consume p os) h.frame
     (λ n. subst (λ o. IsFilled os (But W p) o.content) (sym (object_consume p os n)) (filled_consume os W p (content_at os n) (h.filled n)))
 
-state_without : (p : ℕ) (c : Content Capability) → (root_in (map_content (void_where (resumes p)) c)).state ≡ (root_in c).state
-state_without p content.Free = refl
-state_without p c = refl
-
 pub state_consume : (p : ℕ) (os : List Object) (q : ℕ) → state_at (consume p os) q ≡ state_at os q
-state_consume p os q = ap (λ (o : Object). (root_in o.content).state) (object_consume p os q) ∙ state_without p (content_at os q)
+state_consume p os q = ap (λ (o : Object). (root_in o.content).state) (object_consume p os q) ∙ (mapped (void_where (resumes p)) (content_at os q)).state

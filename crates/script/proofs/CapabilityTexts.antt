@@ -1,6 +1,7 @@
 -- A text is a capability's where its pieces are the capability's words.
-use Rattle.std.proofs.Common.{◌≡◌, ◌≢◌, ℕ, ◌<◌, ◌^◌, ◌==◌, not, Bool, true, false, if◌then◌else◌, List, [], ◌∷◌, ◌++◌, length, codes, decimal, All, refl, sym, ap, ◌∙◌, arith}
+use Rattle.std.proofs.Common.{◌≡◌, ◌≢◌, ℕ, Some, ◌<◌, ◌^◌, ◌==◌, not, Bool, true, false, if◌then◌else◌, List, [], ◌∷◌, ◌++◌, length, codes, decimal, All, refl, sym, ap, ◌∙◌, arith}
 use Rattle.std.specs.List.{flat_map, list_all}
+use Rattle.std.proofs.lemmas.Option.{same_Some}
 use Rattle.std.proofs.lemmas.List.Elements.{All-nil, All-cons, All-weaker}
 use Rattle.std.proofs.lemmas.List.Sums.{AllPass-from_list_all}
 use Rattle.std.proofs.lemmas.List.Splits.{join_with_byte-slice_split}
@@ -9,9 +10,9 @@ use Rattle.model.specs.declared.capability.Capability.{Capability}
 use Rattle.model.specs.declared.capability.Capability.TheVariants as capability
 use Rattle.model.specs.Text.{spaced, access_text, capability_text}
 use Rattle.model_laws.proofs.Spelling.{IsSpaceless, split_spaced, decimal_is_word}
-use Rattle.script.specs.Named.{access_words, capability_words}
+use Rattle.script.specs.Named.{access_words, capability_words, kind_name}
 use Rattle.script.specs.Reading.{words_of}
-use Rattle.script.proofs.CapabilityWords.{HasText}
+use Rattle.script.proofs.CapabilityWords.{HasText, arguments_are, capability_again, kind_for}
 use Rattle.script.proofs.Texts.{spaced_more}
 
 -- an access, as its word with a space before it
@@ -98,5 +99,16 @@ some_words capability.Discrim = omega arith
 pub text_from_words : (text : List ℕ) (c : Capability) → words_of text ≡ capability_words c → capability_text c ≡ text
 text_from_words text c words = text_is c ∙ ap (λ (w : List (List ℕ)). spaced w) (sym words) ∙ join_with_byte-slice_split 32 text
 
+pieces_are : (c : Capability) → HasText c → words_of (capability_text c) ≡ capability_words c
+pieces_are c has = ap words_of (text_is c) ∙ split_spaced (capability_words c) (some_words c) (words_are c has)
+
 pub no_text : (text : List ℕ) (c : Capability) → HasText c → words_of text ≢ capability_words c → capability_text c ≢ text
-no_text text c has none spelt = none (ap words_of (sym spelt ∙ text_is c) ∙ split_spaced (capability_words c) (some_words c) (words_are c has))
+no_text text c has none spelt = none (ap words_of (sym spelt) ∙ pieces_are c has)
+
+-- two capabilities that have one text are one
+pub text_once : (c d : Capability) → HasText c → HasText d → capability_text c ≡ capability_text d → c ≡ d
+text_once c d has also same =
+    let again = capability_again c has in
+    let words : capability_words c ≡ capability_words d = sym (pieces_are c has) ∙ ap words_of same ∙ pieces_are d also in
+    let other = arguments_are (capability_words c) again.0 (kind_name (kind_for c)) (kind_for c) d again.1 refl also words in
+    ap (λ (p : Capability × List (List ℕ)). p.0) (same_Some (c, []) (d, []) (sym again.2 ∙ other))

@@ -212,7 +212,7 @@ one_kind j k same = some_is j k (sym (kind_at_name j) ∙ ap kind_at same ∙ ki
 -- ---- what the words of a text name
 
 -- what was read is any capability with these words
-arguments_are : (words rest : Words) (word : List ℕ) (k : Kind) (c : Capability) → words ≡ word ∷ rest → word ≡ kind_name k → HasText c → words ≡ capability_words c
+pub arguments_are : (words rest : Words) (word : List ℕ) (k : Kind) (c : Capability) → words ≡ word ∷ rest → word ≡ kind_name k → HasText c → words ≡ capability_words c
     → capability_at k rest ≡ Some (c, [])
 arguments_are words rest word k c split is has whole =
     let again = capability_again c has in

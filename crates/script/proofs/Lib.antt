@@ -1,5 +1,5 @@
-mod CapabilityTexts
-mod CapabilityWords
+pub mod CapabilityTexts
+pub mod CapabilityWords
 mod Commands
 mod Digits
 mod FirstWords

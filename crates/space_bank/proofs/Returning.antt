@@ -17,7 +17,7 @@ use Rattle.model_laws.proofs.BankRescind.{used_where}
 use Rattle.model_laws.proofs.BankReturn.{returned_fits, usage_returned}
 use Rattle.model_laws.proofs.BankTree.{chain_banks, chain_once, member_head, member_tail, owner_bank}
 use Rattle.model_laws.proofs.NumberLists.{all_members, found_in, only_member, stands_in}
-use Rattle.model_laws.proofs.SoundEdits.{at_map}
+use Rattle.model_laws.proofs.Mapped.{at_map}
 use Rattle.capability.specs.Parts.{Parts, frames_of, objects_in}
 use Rattle.space_bank.specs.Banks.{AreCounted, BanksState}
 use Rattle.space_bank.specs.Carrying.{AreHandedOn, CarriesOut, MayServe}

@@ -1,17 +1,7 @@
 use Rattle.std.proofs.Common.{refl}
 use Rattle.model.specs.Frame.{frames_in}
-use Rattle.image_builder.proofs.Refusals.{no_bad_process, reason_refused}
+use Rattle.image_builder.proofs.Refusals.{reason_refused}
 use Rattle.image_builder.proofs.worlds.check_frames.Goals as goal
-
-pub fault_for-requires : goal.fault_for-requires
-fault_for-requires c =
-    let d = c.args.description.now in
-    let laid = c.requires.laid in
-    let hs = c.args.frames.now.headers in
-    let cs = c.args.frames.now.contents in
-    let whole = c.described_is_whole.ensures d (frames_in hs cs) laid.numbers laid.fields laid.described in
-    let why = c.in-Err-Inconsistent.why in
-    no_bad_process d c.requires.limits hs cs laid whole why (c.in-Err-Inconsistent.ensures.inconsistent why (rw c.in-Err-Inconsistent.field-0-is refl))
 
 pub returns-in-Err-Inconsistent-clause-refused : goal.returns-in-Err-Inconsistent-clause-refused
 returns-in-Err-Inconsistent-clause-refused c =

@@ -1,0 +1,210 @@
+-- A value says one thing, and so a table says one description.
+use Rattle.std.proofs.Common.{◌≡◌, ℕ, pos, Bool, Option, Some, None, if◌then◌else◌, List, [], ◌∷◌, codes, IsSomeAnd, MatchOption, refl, sym, ap, subst, ◌∙◌}
+use Rattle.std.specs.Str.{bytes_eq}
+use Rattle.std.proofs.lemmas.Option.{same_Some}
+use Rattle.image_writer.specs.declared.number_range.NumberRange.{NumberRange}
+use Rattle.model.specs.Text.{capability_text, state_text}
+use Rattle.model.specs.declared.capability.Capability.{Capability}
+use Rattle.model.specs.declared.capability.Capability.TheVariants.{Void}
+use Rattle.model.specs.declared.geometry.Geometry.{Geometry}
+use Rattle.model.specs.declared.object.State.{State}
+use Rattle.model.specs.declared.object.State.TheVariants.{Available, Running, Waiting}
+use Rattle.toml.specs.Data.{Data, integer, string, array, table, Items, no_items, item, Members, get_member}
+use Rattle.script.proofs.CapabilityTexts.{text_once}
+use Rattle.description.specs.Laws.{Each, IsSame, IsSameNode, IsSamePage, IsSameProcess}
+use Rattle.description.specs.Reading.{AreFour, AreItems, At, AtOr, IsBank, IsCapability, IsDescription, IsGeometry, IsList, IsNode, IsNumber, IsPage, IsPair, IsProcess, IsRange, IsSlot, IsState, IsTable, IsWord, whole_ranges}
+use Rattle.description.specs.declared.entry.BankEntry.{BankEntry}
+use Rattle.description.specs.declared.entry.Description.{Description}
+use Rattle.description.specs.declared.entry.NodeEntry.{NodeEntry}
+use Rattle.description.specs.declared.entry.PageEntry.{PageEntry}
+use Rattle.description.specs.declared.entry.ProcessEntry.{ProcessEntry}
+use Rattle.description.specs.declared.entry.SlotEntry.{SlotEntry}
+use Rattle.description.specs.declared.entry.WordEntry.{WordEntry}
+
+-- ---- values
+
+same_integer : (m n : ℕ) → integer (pos m) ≡ integer (pos n) → m ≡ n
+same_integer m n e = cc
+
+same_string : (s t : List ℕ) → string s ≡ string t → s ≡ t
+same_string s t e = cc
+
+same_array : (ds es : Items) → array ds ≡ array es → ds ≡ es
+same_array ds es e = cc
+
+same_table : (ms ns : Members) → table ms ≡ table ns → ms ≡ ns
+same_table ms ns e = cc
+
+same_first : (a b : Data) (ds es : Items) → item a ds ≡ item b es → a ≡ b
+same_first a b ds es e = cc
+
+same_rest : (a b : Data) (ds es : Items) → item a ds ≡ item b es → ds ≡ es
+same_rest a b ds es e = cc
+
+-- what a value says, it says alone
+abbrev Once : {A B : Type 0} → (B → A → Type 0) → (A → A → Type 0) → Type 0
+Once {A = A} {B = B} P R = (d : B) (x y : A) → P d x → P d y → R x y
+
+number_once : Once IsNumber ◌≡◌
+number_once d m n one other = same_integer m n (sym one ∙ other)
+
+capability_once : Once IsCapability ◌≡◌
+capability_once d None None one other = refl
+capability_once d None (Some c) one other = absurd (one.2 c other.0 other.1 (same_string (capability_text c) one.0 (sym other.2 ∙ one.1)))
+capability_once d (Some c) None one other = absurd (other.2 c one.0 one.1 (same_string (capability_text c) other.0 (sym one.2 ∙ other.1)))
+capability_once d (Some b) (Some c) one other =
+    ap Some (text_once b c (one.0, one.1) (other.0, other.1) (same_string (capability_text b) (capability_text c) (sym one.2 ∙ other.2)))
+
+state_found : List ℕ → Option State
+state_found text =
+    if bytes_eq text (codes "available") then Some Available else if bytes_eq text (codes "running") then Some Running else if bytes_eq text (codes "waiting") then Some Waiting else None
+
+state_again : (s : State) → state_found (state_text s) ≡ Some s
+state_again Available = refl
+state_again Running = refl
+state_again Waiting = refl
+
+state_once : Once IsState ◌≡◌
+state_once d None None one other = refl
+state_once d None (Some s) one other = absurd (one.2 s (same_string (state_text s) one.0 (sym other ∙ one.1)))
+state_once d (Some s) None one other = absurd (other.2 s (same_string (state_text s) other.0 (sym one ∙ other.1)))
+state_once d (Some s) (Some t) one other =
+    ap Some (same_Some s t (sym (state_again s) ∙ ap state_found (same_string (state_text s) (state_text t) (sym one ∙ other)) ∙ state_again t))
+
+module _ {A B : Type 0} (P : Data → A → Type 0) (Q : Data → B → Type 0) (first : Once P ◌≡◌) (second : Once Q ◌≡◌) where
+  pair_once : (d : Data) (x u : A) (y v : B) → IsPair P Q d x y → IsPair P Q d u v → (x ≡ u) × (y ≡ v)
+  pair_once d x u y v one other =
+      let same = same_array (item one.0 (item one.1 no_items)) (item other.0 (item other.1 no_items)) (sym one.2 ∙ other.2) in
+      let rest = same_rest one.0 other.0 (item one.1 no_items) (item other.1 no_items) same in
+      (
+        first other.0 x u (subst (λ (a : Data). P a x) (same_first one.0 other.0 (item one.1 no_items) (item other.1 no_items) same) one.3) other.3,
+        second other.1 y v (subst (λ (b : Data). Q b y) (same_first one.1 other.1 no_items no_items rest) one.4) other.4,
+      )
+
+slot_once : Once IsSlot ◌≡◌
+slot_once d e f one other =
+    let same = pair_once IsNumber IsCapability number_once capability_once d e.index f.index e.capability f.capability one other in
+    ap (λ (i : ℕ). record { index = i; capability = e.capability }) same.0 ∙ ap (λ (c : Option Capability). record { index = f.index; capability = c }) same.1
+
+word_once : Once IsWord ◌≡◌
+word_once d e f one other =
+    let same = pair_once IsNumber IsNumber number_once number_once d e.index f.index e.word f.word one other in
+    ap (λ (i : ℕ). record { index = i; word = e.word }) same.0 ∙ ap (λ (w : ℕ). record { index = f.index; word = w }) same.1
+
+range_once : Once IsRange ◌≡◌
+range_once d q r one other =
+    let same = pair_once IsNumber IsNumber number_once number_once d q.first r.first q.count r.count one other in
+    ap (λ (n : ℕ). record { first = n; count = q.count }) same.0 ∙ ap (λ (n : ℕ). record { first = r.first; count = n }) same.1
+
+-- ---- lists
+
+each_same : {A : Type 0} (xs ys : List A) → Each ◌≡◌ xs ys → xs ≡ ys
+each_same [] [] each = refl
+each_same [] (y ∷ ys) each = absurd each
+each_same (x ∷ xs) [] each = absurd each
+each_same (x ∷ xs) (y ∷ ys) each = ap (λ z. z ∷ xs) each.0 ∙ ap (λ zs. y ∷ zs) (each_same xs ys each.1)
+
+module _ {A : Type 0} (P : Data → A → Type 0) (R : A → A → Type 0) (once : Once P R) where
+  items_once : (ds : Items) (xs ys : List A) → AreItems P ds xs → AreItems P ds ys → Each R xs ys
+  items_once no_items [] [] one other = tt
+  items_once no_items [] (y ∷ ys) one other = absurd other
+  items_once no_items (x ∷ xs) ys one other = absurd one
+  items_once (item d ds) [] ys one other = absurd one
+  items_once (item d ds) (x ∷ xs) [] one other = absurd other
+  items_once (item d ds) (x ∷ xs) (y ∷ ys) one other = (once d x y one.0 other.0, items_once ds xs ys one.1 other.1)
+
+  list_once : Once (IsList P) (Each R)
+  list_once d xs ys one other =
+      items_once other.0 xs ys (subst (λ (ds : Items). AreItems P ds xs) (same_array one.0 other.0 (sym one.1 ∙ other.1)) one.2) other.2
+
+list_same : {A : Type 0} (P : Data → A → Type 0) → Once P ◌≡◌ → Once (IsList P) ◌≡◌
+list_same P once d xs ys one other = each_same xs ys (list_once P ◌≡◌ once d xs ys one other)
+
+four_once : Once AreFour ◌≡◌
+four_once d xs ys one other = list_same IsNumber number_once d xs ys one.1 other.1
+
+table_once : {A : Type 0} (P : Members → A → Type 0) (R : A → A → Type 0) → Once P R → Once (IsTable P) R
+table_once P R once d x y one other =
+    once other.0 x y (subst (λ (ms : Members). P ms x) (same_table one.0 other.0 (sym one.1 ∙ other.1)) one.2) other.2
+
+-- ---- keys
+
+module _ {A : Type 0} (P : Data → A → Type 0) (R : A → A → Type 0) (once : Once P R) (ms : Members) where
+  some_once : (o : Option Data) (x y : A) → IsSomeAnd o (λ d. P d x) → IsSomeAnd o (λ d. P d y) → R x y
+  some_once None x y one other = absurd one
+  some_once (Some d) x y one other = once d x y one other
+
+  at_once : (key : List ℕ) (x y : A) → At key P ms x → At key P ms y → R x y
+  at_once key x y one other = some_once (get_member key ms) x y one other
+
+  module _ (default : A) (both : R default default) where
+    match_once : (o : Option Data) (x y : A) → MatchOption o (x ≡ default) (λ d. P d x) → MatchOption o (y ≡ default) (λ d. P d y) → R x y
+    match_once None x y one other = subst (λ u. R u y) (sym one) (subst (λ v. R default v) (sym other) both)
+    match_once (Some d) x y one other = once d x y one other
+
+    or_once : (key : List ℕ) (x y : A) → AtOr default key P ms x → AtOr default key P ms y → R x y
+    or_once key x y one other = match_once (get_member key ms) x y one other
+
+number_at : (ms : Members) (key : List ℕ) (m n : ℕ) → At key IsNumber ms m → At key IsNumber ms n → m ≡ n
+number_at ms = at_once IsNumber ◌≡◌ number_once ms
+
+list_at : {A : Type 0} (P : Data → A → Type 0) → Once P ◌≡◌ → (ms : Members) (key : List ℕ) (xs ys : List A) → AtOr [] key (IsList P) ms xs → AtOr [] key (IsList P) ms ys → xs ≡ ys
+list_at P once ms = or_once (IsList P) ◌≡◌ (list_same P once) ms [] refl
+
+tables_at : {A : Type 0} (P : Members → A → Type 0) (R : A → A → Type 0) → Once P R → (ms : Members) (key : List ℕ) (xs ys : List A) →
+    AtOr [] key (IsList (IsTable P)) ms xs → AtOr [] key (IsList (IsTable P)) ms ys → Each R xs ys
+tables_at P R once ms = or_once (IsList (IsTable P)) (Each R) (list_once (IsTable P) R (table_once P R once)) ms [] tt
+
+-- ---- entries
+
+bank_once : Once IsBank ◌≡◌
+bank_once ms a b one other =
+    ap (λ (n : ℕ). record { number = n; owner = a.owner; limit = a.limit }) (number_at ms (codes "number") a.number b.number one.number other.number)
+    ∙ ap (λ (n : ℕ). record { number = b.number; owner = n; limit = a.limit }) (number_at ms (codes "owner") a.owner b.owner one.owner other.owner)
+    ∙ ap (λ (n : ℕ). record { number = b.number; owner = b.owner; limit = n }) (number_at ms (codes "limit") a.limit b.limit one.limit other.limit)
+
+process_once : Once IsProcess IsSameProcess
+process_once ms p q one other = record {
+  root = number_at ms (codes "root") p.root q.root one.root other.root;
+  annex = number_at ms (codes "annex") p.annex q.annex one.annex other.annex;
+  owner = number_at ms (codes "owner") p.owner q.owner one.owner other.owner;
+  state = at_once IsState ◌≡◌ state_once ms (codes "state") p.state q.state one.state other.state;
+  key = or_once IsNumber ◌≡◌ number_once ms 0 refl (codes "key") p.key q.key one.key other.key;
+  words = or_once AreFour ◌≡◌ four_once ms (0 ∷ 0 ∷ 0 ∷ 0 ∷ []) refl (codes "words") p.words q.words one.words other.words;
+  space = or_once IsCapability ◌≡◌ capability_once ms (Some Void) refl (codes "space") p.space q.space one.space other.space;
+  registers = list_at IsSlot slot_once ms (codes "registers") p.registers.items q.registers.items one.registers other.registers;
+}
+
+node_once : Once IsNode IsSameNode
+node_once ms m n one other = record {
+  number = number_at ms (codes "number") m.number n.number one.number other.number;
+  owner = number_at ms (codes "owner") m.owner n.owner one.owner other.owner;
+  slots = list_at IsSlot slot_once ms (codes "slots") m.slots.items n.slots.items one.slots other.slots;
+}
+
+page_once : Once IsPage IsSamePage
+page_once ms p q one other = record {
+  number = number_at ms (codes "number") p.number q.number one.number other.number;
+  owner = number_at ms (codes "owner") p.owner q.owner one.owner other.owner;
+  words = list_at IsWord word_once ms (codes "words") p.words.items q.words.items one.words other.words;
+}
+
+geometry_once : Once IsGeometry ◌≡◌
+geometry_once ms g h one other =
+    ap (λ (n : ℕ). record { nodes = n; pages = g.pages; log = g.log }) (number_at ms (codes "nodes") g.nodes h.nodes one.nodes other.nodes)
+    ∙ ap (λ (n : ℕ). record { nodes = h.nodes; pages = n; log = g.log }) (number_at ms (codes "pages") g.pages h.pages one.pages other.pages)
+    ∙ ap (λ (n : ℕ). record { nodes = h.nodes; pages = h.pages; log = n }) (number_at ms (codes "log") g.log h.log one.log other.log)
+
+pub description_once : (ms : Members) (d e : Description) → IsDescription ms d → IsDescription ms e → IsSame d e
+description_once ms d e one other =
+    let same = geometry_once ms d.geometry e.geometry one.geometry other.geometry in
+    record {
+      geometry = same;
+      age = or_once IsNumber ◌≡◌ number_once ms 0 refl (codes "age") d.age e.age one.age other.age;
+      ranges = or_once (IsList IsRange) ◌≡◌ (list_same IsRange range_once) ms (whole_ranges e.geometry) refl (codes "ranges") d.ranges.items e.ranges.items
+          (subst (λ (g : Geometry). AtOr (whole_ranges g) (codes "ranges") (IsList IsRange) ms d.ranges.items) same one.ranges) other.ranges;
+      banks = or_once (IsList (IsTable IsBank)) ◌≡◌ (list_same (IsTable IsBank) (table_once IsBank ◌≡◌ bank_once)) ms [] refl (codes "bank") d.banks.items e.banks.items one.banks other.banks;
+      processes = tables_at IsProcess IsSameProcess process_once ms (codes "process") d.processes.items e.processes.items one.processes other.processes;
+      nodes = tables_at IsNode IsSameNode node_once ms (codes "node") d.nodes.items e.nodes.items one.nodes other.nodes;
+      pages = tables_at IsPage IsSamePage page_once ms (codes "page") d.pages.items e.pages.items one.pages other.pages;
+    }

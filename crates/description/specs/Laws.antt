@@ -1,0 +1,56 @@
+-- A text is that of one capability, and a table that of one description.
+use Rattle.std.specs.Prelude.{◌≡◌, ℕ, ◌^◌, ◌<◌, List, [], ◌∷◌, IfSome}
+use Rattle.model.specs.Capability.{IsWellFormed, named}
+use Rattle.model.specs.Text.{capability_text}
+use Rattle.model.specs.declared.capability.Capability.{Capability}
+use Rattle.toml.specs.Data.{Members}
+use Rattle.description.specs.Reading.{IsDescription}
+use Rattle.description.specs.declared.entry.Description.{Description}
+use Rattle.description.specs.declared.entry.NodeEntry.{NodeEntry}
+use Rattle.description.specs.declared.entry.PageEntry.{PageEntry}
+use Rattle.description.specs.declared.entry.ProcessEntry.{ProcessEntry}
+
+-- two lists of as many items, and each two stand so to one another
+abbrev pub Each : {A : Type 0} → (A → A → Type 0) → List A → List A → Type 0
+Each R [] [] = Unit {0}
+Each R [] (y ∷ ys) = ⊥
+Each R (x ∷ xs) [] = ⊥
+Each R (x ∷ xs) (y ∷ ys) = R x y × Each R xs ys
+
+-- entries that name the same; where their lists lie in memory is no matter
+pub record IsSameProcess (p q : ProcessEntry) : Type 0 where
+  pub root : p.root ≡ q.root
+  pub annex : p.annex ≡ q.annex
+  pub owner : p.owner ≡ q.owner
+  pub state : p.state ≡ q.state
+  pub key : p.key ≡ q.key
+  pub words : p.words ≡ q.words
+  pub space : p.space ≡ q.space
+  pub registers : p.registers.items ≡ q.registers.items
+
+pub record IsSameNode (m n : NodeEntry) : Type 0 where
+  pub number : m.number ≡ n.number
+  pub owner : m.owner ≡ n.owner
+  pub slots : m.slots.items ≡ n.slots.items
+
+pub record IsSamePage (p q : PageEntry) : Type 0 where
+  pub number : p.number ≡ q.number
+  pub owner : p.owner ≡ q.owner
+  pub words : p.words.items ≡ q.words.items
+
+pub record IsSame (d e : Description) : Type 0 where
+  pub geometry : d.geometry ≡ e.geometry
+  pub age : d.age ≡ e.age
+  pub ranges : d.ranges.items ≡ e.ranges.items
+  pub banks : d.banks.items ≡ e.banks.items
+  pub processes : Each IsSameProcess d.processes.items e.processes.items
+  pub nodes : Each IsSameNode d.nodes.items e.nodes.items
+  pub pages : Each IsSamePage d.pages.items e.pages.items
+
+-- no two capabilities within their bounds have one text
+abbrev pub TextIsOfOne : Type 0
+TextIsOfOne = (c d : Capability) → IsWellFormed c × IfSome (named c) (λ n. n < 2 ^ 64) → IsWellFormed d × IfSome (named d) (λ n. n < 2 ^ 64) → capability_text c ≡ capability_text d → c ≡ d
+
+-- no table is that of two descriptions
+abbrev pub TableIsOfOne : Type 0
+TableIsOfOne = (ms : Members) (d e : Description) → IsDescription ms d → IsDescription ms e → IsSame d e

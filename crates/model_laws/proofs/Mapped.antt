@@ -1,0 +1,56 @@
+-- A content with each capability in it changed is as it was in all else.
+use Rattle.std.proofs.Common.{◌≡◌, ℕ, zero, suc, Bool, true, false, List, [], ◌∷◌, map, get_or, if◌then◌else◌, refl, sym}
+use Rattle.model.specs.declared.capability.Capability.{Capability}
+use Rattle.model.specs.declared.capability.Capability.TheVariants.{Void}
+use Rattle.model.specs.declared.object.Content.{Content}
+use Rattle.model.specs.declared.object.Content.TheVariants as content
+use Rattle.model.specs.declared.object.Object.{Object}
+use Rattle.model.specs.Object.{is_bank, is_free, is_root, limit_in, map_content, role_of, root_in, slots_in}
+use Rattle.model.specs.Revoke.{void_where, without}
+use Rattle.model_laws.proofs.Usage.{AreAlike}
+
+pub at_map : {X : Type 0} (f : X → X) (xs : List X) (i : ℕ) (d : X) → f d ≡ d → get_or (map f xs) i d ≡ f (get_or xs i d)
+at_map f [] i d e = sym e
+at_map f (x ∷ xs) zero d e = refl
+at_map f (x ∷ xs) (suc i) d e = at_map f xs i d e
+
+pub void_void : (goes : Capability → Bool) → void_where goes Void ≡ Void
+void_void goes = cases (goes Void)
+  where
+    cases : (b : Bool) → (if b then Void else Void) ≡ Void
+    cases true = refl
+    cases false = refl
+
+pub record IsMapped (f : Capability → Capability) (c d : Content Capability) : Type 0 where
+  pub role : role_of d ≡ role_of c
+  pub free : is_free d ≡ is_free c
+  pub root : is_root d ≡ is_root c
+  pub bank : is_bank d ≡ is_bank c
+  pub limit : limit_in d ≡ limit_in c
+  pub state : (root_in d).state ≡ (root_in c).state
+  pub annex : (root_in d).annex ≡ (root_in c).annex
+  pub space : f Void ≡ Void → (root_in d).space ≡ f (root_in c).space
+  pub slot : f Void ≡ Void → (i : ℕ) → get_or (slots_in d) i Void ≡ f (get_or (slots_in c) i Void)
+
+pub mapped : (f : Capability → Capability) (c : Content Capability) → IsMapped f c (map_content f c)
+mapped f content.Free =
+    record { role = refl; free = refl; root = refl; bank = refl; limit = refl; state = refl; annex = refl; space = λ e. sym e; slot = λ e i. sym e }
+mapped f (content.Page words) =
+    record { role = refl; free = refl; root = refl; bank = refl; limit = refl; state = refl; annex = refl; space = λ e. sym e; slot = λ e i. sym e }
+mapped f (content.Node slots) =
+    record { role = refl; free = refl; root = refl; bank = refl; limit = refl; state = refl; annex = refl; space = λ e. sym e; slot = λ e i. at_map f slots i Void e }
+mapped f (content.Root r) =
+    record { role = refl; free = refl; root = refl; bank = refl; limit = refl; state = refl; annex = refl; space = λ e. refl; slot = λ e i. sym e }
+mapped f (content.Annex registers) =
+    record { role = refl; free = refl; root = refl; bank = refl; limit = refl; state = refl; annex = refl; space = λ e. sym e; slot = λ e i. at_map f registers i Void e }
+mapped f (content.Bank limit) =
+    record { role = refl; free = refl; root = refl; bank = refl; limit = refl; state = refl; annex = refl; space = λ e. sym e; slot = λ e i. sym e }
+
+-- so is an object with some capabilities put void
+pub without_mapped : (goes : Capability → Bool) (o : Object) → IsMapped (void_where goes) o.content (without goes o).content
+without_mapped goes o = mapped (void_where goes) o.content
+
+pub alike_without : (goes : Capability → Bool) (o : Object) → AreAlike o (without goes o)
+alike_without goes o =
+    let m = without_mapped goes o in
+    record { owner = refl; role = m.role; annex = m.annex; limit = m.limit }
