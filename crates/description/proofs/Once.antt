@@ -75,8 +75,7 @@ module _ {A B : Type 0} (P : Data → A → Type 0) (Q : Data → B → Type 0) 
   pair_once : (d : Data) (x u : A) (y v : B) → IsPair P Q d x y → IsPair P Q d u v → (x ≡ u) × (y ≡ v)
   pair_once d x u y v one other =
       let same = same_array (item one.0 (item one.1 no_items)) (item other.0 (item other.1 no_items)) (sym one.2 ∙ other.2) in
-      let rest = same_rest one.0 other.0 (item one.1 no_items) (item other.1 no_items) same in
-      (
+      let rest = same_rest one.0 other.0 (item one.1 no_items) (item other.1 no_items) same in (
         first other.0 x u (subst (λ (a : Data). P a x) (same_first one.0 other.0 (item one.1 no_items) (item other.1 no_items) same) one.3) other.3,
         second other.1 y v (subst (λ (b : Data). Q b y) (same_first one.1 other.1 no_items no_items rest) one.4) other.4,
       )

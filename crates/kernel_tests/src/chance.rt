@@ -16,6 +16,7 @@ use std::test::Fail;
 type Line = (&'static [u8], Effect);
 
 const SECTORS: u64 = 399;
+
 const IMAGE_SIZE: usize = 204_288;
 
 // Registers 6 to 9 of process 1 get four pages and 10 and 11 two nodes; the second node is the space
@@ -31,22 +32,58 @@ call 1 11 4 1 0 0 0 0 0 0\ncall 1 1 9 0 0 0 28 0 0 0
 checkpoint\nstabilize 99\ncommit\nmigrate 99\n";
 
 const LINES: [Line; 64] = [
-    (b"send 1 6 2 0 1 0 0 0 0 0\n", Effect::Write { index: 0, value: 1 }),
-    (b"call 1 6 2 0 2 0 0 0 0 0\n", Effect::Write { index: 0, value: 2 }),
-    (b"send 1 7 2 0 3 0 0 0 0 0\n", Effect::Write { index: 1, value: 3 }),
-    (b"call 1 7 2 0 4 0 0 0 0 0\n", Effect::Write { index: 1, value: 4 }),
-    (b"send 1 8 2 0 5 0 0 0 0 0\n", Effect::Write { index: 2, value: 5 }),
-    (b"send 1 8 2 0 6 0 0 0 0 0\n", Effect::Write { index: 2, value: 6 }),
-    (b"send 1 9 2 0 7 0 0 0 0 0\n", Effect::Write { index: 3, value: 7 }),
-    (b"call 1 9 2 0 8 0 0 0 0 0\n", Effect::Write { index: 3, value: 8 }),
+    (
+        b"send 1 6 2 0 1 0 0 0 0 0\n",
+        Effect::Write { index: 0, value: 1 },
+    ),
+    (
+        b"call 1 6 2 0 2 0 0 0 0 0\n",
+        Effect::Write { index: 0, value: 2 },
+    ),
+    (
+        b"send 1 7 2 0 3 0 0 0 0 0\n",
+        Effect::Write { index: 1, value: 3 },
+    ),
+    (
+        b"call 1 7 2 0 4 0 0 0 0 0\n",
+        Effect::Write { index: 1, value: 4 },
+    ),
+    (
+        b"send 1 8 2 0 5 0 0 0 0 0\n",
+        Effect::Write { index: 2, value: 5 },
+    ),
+    (
+        b"send 1 8 2 0 6 0 0 0 0 0\n",
+        Effect::Write { index: 2, value: 6 },
+    ),
+    (
+        b"send 1 9 2 0 7 0 0 0 0 0\n",
+        Effect::Write { index: 3, value: 7 },
+    ),
+    (
+        b"call 1 9 2 0 8 0 0 0 0 0\n",
+        Effect::Write { index: 3, value: 8 },
+    ),
     (b"store 1 512 5\n", Effect::Write { index: 0, value: 5 }),
     (b"store 1 512 6\n", Effect::Write { index: 0, value: 6 }),
     (b"store 1 1024 7\n", Effect::Write { index: 1, value: 7 }),
     (b"store 1 1024 8\n", Effect::Write { index: 1, value: 8 }),
-    (b"send 1 10 5 0 1 0 0 0 0 0\n", Effect::Write { index: 4, value: 1 }),
-    (b"call 1 10 5 0 2 0 0 0 0 0\n", Effect::Write { index: 4, value: 2 }),
-    (b"send 1 11 5 0 3 0 0 0 0 0\n", Effect::Write { index: 5, value: 3 }),
-    (b"call 1 11 5 0 4 0 0 0 0 0\n", Effect::Write { index: 5, value: 4 }),
+    (
+        b"send 1 10 5 0 1 0 0 0 0 0\n",
+        Effect::Write { index: 4, value: 1 },
+    ),
+    (
+        b"call 1 10 5 0 2 0 0 0 0 0\n",
+        Effect::Write { index: 4, value: 2 },
+    ),
+    (
+        b"send 1 11 5 0 3 0 0 0 0 0\n",
+        Effect::Write { index: 5, value: 3 },
+    ),
+    (
+        b"call 1 11 5 0 4 0 0 0 0 0\n",
+        Effect::Write { index: 5, value: 4 },
+    ),
     // Pages, nodes, processes and banks are made and given up, a process is started, and answers.
     (b"call 1 2 1 0 0 0 0 0 0 0\n", Effect::Nothing),
     (b"call 1 2 2 0 0 0 0 0 0 0\n", Effect::Nothing),
@@ -141,7 +178,13 @@ struct Stops {
 
 impl Stops {
     // Counts a stop in the course of an effect, after which this is shown.
-    fn count(&mut self, alloc: Global, plain: Plain, effect: Effect, seen: &[u8]) -> Result<(), Fail> {
+    fn count(
+        &mut self,
+        alloc: Global,
+        plain: Plain,
+        effect: Effect,
+        seen: &[u8],
+    ) -> Result<(), Fail> {
         if seen == shown(alloc, plain.saved())?.as_slice() {
             self.at_saved = self.at_saved.wrapping_add(1);
         } else if seen == shown(alloc, plain.next(effect))?.as_slice() {
