@@ -55,7 +55,7 @@ capability_once d (Some c) None one other = absurd (other.2 c one.0 one.1 (same_
 capability_once d (Some b) (Some c) one other =
     ap Some (text_once b c (one.0, one.1) (other.0, other.1) (same_string (capability_text b) (capability_text c) (sym one.2 ∙ other.2)))
 
-state_found : List ℕ → Option State
+abbrev state_found : List ℕ → Option State
 state_found text =
     if bytes_eq text (codes "available") then Some Available else if bytes_eq text (codes "running") then Some Running else if bytes_eq text (codes "waiting") then Some Waiting else None
 
