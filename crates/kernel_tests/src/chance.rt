@@ -252,16 +252,48 @@ fn read_whole<D: Device>(alloc: Global, device: D) -> Result<Vec<u8>, Fail> {
     Ok(bytes)
 }
 
-// A device in memory with these bytes.
-fn device_with(alloc: Global, image: &[u8], outcome: Outcome) -> Result<Memory, Fail> {
-    if image.len() != IMAGE_SIZE {
+// A device with these bytes.
+fn filled<D: Device>(device: D, image: &[u8]) -> Result<D, Fail> {
+    let mut device = device;
+    if device.sectors() != SECTORS || image.len() != IMAGE_SIZE {
         return Err(Fail::new("another size"));
     }
-    let mut device = Memory::new(alloc, SECTORS, 3000, outcome)?;
     if device.write(0, image).is_err() || device.sync().is_err() {
         return Err(Fail::new("not written"));
     }
     Ok(device)
+}
+
+// A device in memory with these bytes.
+fn device_with(alloc: Global, image: &[u8], outcome: Outcome) -> Result<Memory, Fail> {
+    filled(Memory::new(alloc, SECTORS, 3000, outcome)?, image)
+}
+
+// How many calls it takes to open a device.
+fn calls_of_opening<D: Device, S: ObjectStore<Fuse<D>>>(
+    alloc: Global,
+    device: D,
+    setting: S::Setting,
+) -> Result<u64, Fail> {
+    let (calls, _kernel) = opened_at_last::<D, S>(alloc, device, setting)?;
+    Ok(calls)
+}
+
+// Whether the script from a start is done over a device that stops after so many calls. Where it
+// isn't the stop is counted.
+fn is_done_by<D: Device, S: ObjectStore<Fuse<D>>>(
+    alloc: Global,
+    device: D,
+    setting: S::Setting,
+    calls: u64,
+    start: u32,
+    stops: &mut Stops,
+) -> Result<bool, Fail> {
+    let device = Fuse::new(device, calls);
+    let Ok(mut kernel) = Kernel::<Fuse<D>, S>::open(alloc, device, setting) else {
+        return Err(Fail::new("not opened"));
+    };
+    is_done(alloc, &mut kernel, start, stops)
 }
 
 // Counts the stops of the script from a start, at each of its calls of the device in turn.
@@ -274,13 +306,10 @@ fn count_stops<S: ObjectStore<Fuse<Memory>>>(
     stops: &mut Stops,
 ) -> Result<(), Fail> {
     let device = device_with(alloc, image, outcome)?;
-    let (opening, _kernel) = opened_at_last::<Memory, S>(alloc, device, setting)?;
+    let opening = calls_of_opening::<Memory, S>(alloc, device, setting)?;
     for calls in opening..1000 {
-        let device = Fuse::new(device_with(alloc, image, outcome)?, calls);
-        let Ok(mut kernel) = Kernel::<Fuse<Memory>, S>::open(alloc, device, setting) else {
-            return Err(Fail::new("not opened"));
-        };
-        if is_done(alloc, &mut kernel, start, stops)? {
+        let device = device_with(alloc, image, outcome)?;
+        if is_done_by::<Memory, S>(alloc, device, setting, calls, start, stops)? {
             return Ok(());
         }
     }
