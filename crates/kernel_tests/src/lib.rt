@@ -4,15 +4,11 @@
 #![tactic(auto)]
 
 #[cfg(test)]
-mod chance;
-#[cfg(test)]
 mod fused;
 mod images;
 mod kernels;
 #[cfg(test)]
 mod layouts;
-#[cfg(test)]
-mod plain;
 #[cfg(test)]
 mod stops;
 mod worlds;

@@ -1,11 +1,10 @@
 // Scripts that chance makes, over a device that stops at each of its calls in turn: what a power cut
 // then leaves is what a plain machine has saved, or what it was about to save.
-use crate::fused::{answers, device_after, opened_at_last};
-use crate::images::{second_world, written};
 use crate::plain::{Effect, Plain, SHOW_ALL, shown};
 use bounded_cache::{BoundedCache, Capacity};
 use device::Device;
 use kernel::Kernel;
+use kernel_tests::{answers, device_after, opened_at_last, second_world, written};
 use memory_device::{Fuse, Memory, Outcome};
 use object_cache::{ObjectStore, PlainStore};
 use std::alloc::Global;
@@ -231,11 +230,10 @@ fn is_done<D: Device, S: ObjectStore<D>>(
     Ok(true)
 }
 
-// The image that each script begins with, as bytes.
-fn image(alloc: Global) -> Result<Vec<u8>, Fail> {
-    let device = Memory::new(alloc, SECTORS, 5000, Outcome::Keep)?;
+// The image that each script begins with, as bytes, by way of a device.
+fn image_on<D: Device>(alloc: Global, device: D) -> Result<Vec<u8>, Fail> {
     let device = written(alloc, device, &second_world(alloc)?, 0)?;
-    let device = device_after::<Memory, PlainStore<Memory>>(alloc, device, (), SETUP)?;
+    let device = device_after::<D, PlainStore<D>>(alloc, device, (), SETUP)?;
     read_whole(alloc, device)
 }
 
@@ -325,7 +323,7 @@ fn all_stops<S: ObjectStore<Fuse<Memory>>>(
     setting: S::Setting,
     outcome: Outcome,
 ) -> Result<Stops, Fail> {
-    let image = image(alloc)?;
+    let image = image_on(alloc, Memory::new(alloc, SECTORS, 5000, Outcome::Keep)?)?;
     let mut stops = Stops::default();
     for start in 0..SCRIPTS {
         count_stops::<S>(alloc, &image, setting, outcome, start, &mut stops)?;
