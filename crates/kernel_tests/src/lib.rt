@@ -3,8 +3,6 @@
 //! such device is needed for.
 #![tactic(auto)]
 
-#[cfg(test)]
-mod fused;
 mod images;
 mod kernels;
 #[cfg(test)]

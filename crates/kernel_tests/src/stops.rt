@@ -1,12 +1,12 @@
 // Devices that stop or lose power, and what is answered then.
-use crate::fused::{answers, device_after, opened_at_last};
 use crate::images::{second_world, written};
 use crate::kernels::opened;
 use device::Device;
 use kernel::Kernel;
 use memory_device::{Fuse, Memory, Outcome};
-use migrator::Checkpoint;
+use migrator::{Checkpoint, OpenFault, OpenRefused};
 use object_cache::PlainStore;
+use runs::run;
 use std::alloc::Global;
 use std::process::Abort;
 use std::test::Fail;
@@ -149,10 +149,56 @@ fn second_image(alloc: Global, outcome: Outcome) -> Result<Memory, Fail> {
     written(alloc, device, &plain, 0)
 }
 
+// What a run of a script writes. An error where there is no memory for it.
+fn answers<D: Device>(
+    alloc: Global,
+    kernel: &mut Kernel<D, PlainStore<D>>,
+    script: &[u8],
+) -> Result<Vec<u8>, Fail> {
+    let mut reader = script;
+    let mut answers = Vec::new(alloc);
+    run(alloc, kernel, &mut reader, &mut answers)?;
+    Ok(answers)
+}
+
+// A device that holds a world, after a script.
+fn device_after<D: Device>(alloc: Global, device: D, script: &[u8]) -> Result<D, Fail> {
+    let mut kernel = opened(alloc, device)?;
+    answers(alloc, &mut kernel, script)?;
+    Ok(kernel.into_device())
+}
+
+// The kernel over a device that stops after the last call that opening makes, and how many calls
+// these are. Where it stops before, the device is handed back.
+fn opened_at_last<D: Device>(
+    alloc: Global,
+    device: D,
+) -> Result<(u64, Kernel<Fuse<D>, PlainStore<Fuse<D>>>), Fail> {
+    let mut device = device;
+    for calls in 0..200 {
+        let fuse = Fuse::new(device, calls);
+        match Kernel::<Fuse<D>, PlainStore<Fuse<D>>>::open(alloc, fuse, ()) {
+            Ok(kernel) => return Ok((calls, kernel)),
+            Err(
+                OpenRefused {
+                    fault,
+                    device: back,
+                },
+            ) => {
+                if fault != OpenFault::Failed {
+                    return Err(Fail::new("another reason"));
+                }
+                device = back.into_inner();
+            }
+        }
+    }
+    Err(Fail::new("not opened by so many calls"))
+}
+
 // How many calls it takes to open a device after a script.
 fn calls_of_opening<D: Device>(alloc: Global, device: D, past: &[u8]) -> Result<u64, Fail> {
-    let device = device_after::<D, PlainStore<D>>(alloc, device, (), past)?;
-    let (calls, _kernel) = opened_at_last::<D, PlainStore<Fuse<D>>>(alloc, device, ())?;
+    let device = device_after(alloc, device, past)?;
+    let (calls, _kernel) = opened_at_last(alloc, device)?;
     Ok(calls)
 }
 
@@ -164,8 +210,7 @@ fn stopped<D: Device>(
     calls: u64,
     row: Row,
 ) -> Result<Option<Vec<u8>>, Fail> {
-    let device = device_after::<D, PlainStore<D>>(alloc, device, (), row.past)?;
-    let device = Fuse::new(device, calls);
+    let device = Fuse::new(device_after(alloc, device, row.past)?, calls);
     let Ok(mut kernel) = Kernel::<Fuse<D>, PlainStore<Fuse<D>>>::open(alloc, device, ()) else {
         return Ok(None);
     };
@@ -206,13 +251,12 @@ fn count_stops(alloc: Global, outcome: Outcome, row: Row) -> Result<(u64, u64), 
 }
 
 // Each stop ends at what was saved where a power cut drops what isn't synced, or fills it with
-// zeros or 255. One that keeps it, or fills it with ones, ends at what the command saves where only the
+// zeros. One that keeps it, or fills it with ones, ends at what the command saves where only the
 // last sync fails: the gate of the new header is open.
 fn is_stopped(rt: &impl Abort, alloc: Global, row: Row) -> Result<(), Fail> {
     for (outcome, kept) in [
         (Outcome::Drop, 0),
         (Outcome::Fill(0), 0),
-        (Outcome::Fill(255), 0),
         (Outcome::Keep, row.kept),
         (Outcome::Fill(1), row.kept),
     ] {
@@ -230,16 +274,9 @@ fn each_call_of_a_command_is_stopped(rt: HostRuntime) -> Result<(), Fail> {
     Ok(())
 }
 
-// The kernel over the second world on a device that stops after its opening.
-fn kernel_alone(alloc: Global) -> Result<Kernel<Fuse<Memory>, PlainStore<Fuse<Memory>>>, Fail> {
-    let device = second_image(alloc, Outcome::Drop)?;
-    let (_, kernel) = opened_at_last(alloc, device, ())?;
-    Ok(kernel)
-}
-
-// What is answered to a script over it.
+// What is answered to a script over the second world where the device stops after its opening.
 fn answered_alone(alloc: Global, script: &[u8]) -> Result<Vec<u8>, Fail> {
-    let mut kernel = kernel_alone(alloc)?;
+    let (_, mut kernel) = opened_at_last(alloc, second_image(alloc, Outcome::Drop)?)?;
     answers(alloc, &mut kernel, script)
 }
 
@@ -291,7 +328,7 @@ fn is_told<D: Device>(rt: &impl Abort, alloc: Global, device: D) -> Result<(), F
 // A kernel that is down tells nothing, and gives its device back.
 #[test]
 fn a_kernel_that_is_up_tells_what_is_saved(rt: HostRuntime) -> Result<(), Fail> {
-    let mut kernel = kernel_alone(rt.alloc())?;
+    let (_, mut kernel) = opened_at_last(rt.alloc(), second_image(rt.alloc(), Outcome::Drop)?)?;
     answers(rt.alloc(), &mut kernel, STABLE)?;
     assert_eq!(rt; kernel.saved(), None);
     let mut device = kernel.into_device();
