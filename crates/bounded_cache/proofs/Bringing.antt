@@ -12,20 +12,20 @@ use Rattle.model.specs.declared.object.Content.TheVariants as content
 use Rattle.model.specs.Keepable.{AreKeepable}
 use Rattle.model.specs.Revoke.{is_member}
 use Rattle.device.specs.Disk.{Image, Disk}
-use Rattle.migrator.specs.Put.{most}
+use Rattle.checkpoint.specs.Saved.{most}
 use Rattle.migrator.specs.Durable.{DurableState, stored_of}
 use Rattle.capability.specs.Parts.{frames_of}
 use Rattle.capability.specs.declared.present.PrepareFault.TheVariants as fault
-use Rattle.object_cache.specs.Store.{Aside}
-use Rattle.bounded_cache.specs.declared.entry.Entry.{Entry}
-use Rattle.bounded_cache.specs.Entries.{room_of}
+use Rattle.object_store.specs.Store.{Aside}
+use Rattle.cache_entries.specs.declared.entry.Entry.{Entry}
+use Rattle.cache_entries.specs.Entries.{room_of}
 use Rattle.bounded_cache.specs.Memory.{Memory, content_at, contents_in}
-use Rattle.bounded_cache.specs.Order.{without}
+use Rattle.cache_entries.specs.Order.{without}
 use Rattle.bounded_cache.specs.Cache.{CacheState, IsCache, IsFetchedIn, GoesOnIn, cache_of, parts_of, seat_at, seats_in, with_seat}
 use Rattle.bounded_cache.specs.Prepared.{IsRecentIn, on_device_with}
 use Rattle.bounded_cache.specs.CacheLaws.{goes_on_same}
 use Rattle.bounded_cache.proofs.Leading.{leads_seats}
-use Rattle.bounded_cache.proofs.Recent.{front_without}
+use Rattle.cache_entries.proofs.Recent.{front_without}
 
 -- ---- the front of an order
 

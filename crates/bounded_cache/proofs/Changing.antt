@@ -9,11 +9,13 @@ use Rattle.model.specs.declared.object.Content.{Content}
 use Rattle.model.specs.declared.object.Role.TheVariants as role
 use Rattle.model.specs.Frame.{header_at}
 use Rattle.model.specs.Keepable.{AreKeepable}
-use Rattle.migrator.specs.Put.{Kept, most}
+use Rattle.migrator.specs.Put.{Kept}
+use Rattle.checkpoint.specs.Saved.{most}
 use Rattle.migrator.specs.Durable.{Stored, below_at}
-use Rattle.migrator.proofs.Kept.{maps_same, map_set}
-use Rattle.bounded_cache.specs.declared.entry.Entry.{Entry}
-use Rattle.bounded_cache.specs.Entries.{entry_at}
+use Rattle.checkpoint.proofs.Lists.{maps_same}
+use Rattle.migrator.proofs.Kept.{map_set}
+use Rattle.cache_entries.specs.declared.entry.Entry.{Entry}
+use Rattle.cache_entries.specs.Entries.{entry_at}
 use Rattle.bounded_cache.specs.Memory.{Memory, mark_at, present_body, content_at, present_at, newest_body, below_body, apart_body, frozen_body, frozen_frame, frozen_at, owed_of, owed_body, owed_in_memory, contents_in, frozen_in, owed_in}
 use Rattle.bounded_cache.specs.Cache.{IsCache}
 

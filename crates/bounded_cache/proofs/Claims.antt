@@ -18,8 +18,8 @@ use Rattle.capability.specs.declared.present.Fresh.{Fresh}
 use Rattle.capability.specs.declared.present.Fresh.TheVariants as fresh
 use Rattle.capability.specs.Parts.{IsFreshAt}
 use Rattle.capability.specs.Plain.{room_at, room_for}
-use Rattle.bounded_cache.specs.declared.entry.Entry.{Entry}
-use Rattle.bounded_cache.specs.Entries.{entry_at, with_entry, holding, reserving, room_of}
+use Rattle.cache_entries.specs.declared.entry.Entry.{Entry}
+use Rattle.cache_entries.specs.Entries.{entry_at, with_entry, holding, reserving, room_of}
 use Rattle.bounded_cache.specs.Memory.{Memory, present_body, newest_body, contents_in}
 use Rattle.bounded_cache.specs.Cache.{CacheState, IsCache, IsFetchedIn, IsAnnouncedIn, cache_of, seat_at, seats_in}
 use Rattle.bounded_cache.proofs.Changing.{Changes, kept_of, with_objects, still_cache, contents_changed}

@@ -5,7 +5,7 @@ use Rattle.model.specs.Sound.{object_count}
 use Rattle.device.specs.Disk.{Disk}
 use Rattle.migrator.specs.Put.{put_at}
 use Rattle.migrator.specs.Durable.{DurableState, Stored, ReadsStore, below_at, newest, stored_of}
-use Rattle.bounded_cache.specs.declared.entry.Entry.{Entry}
+use Rattle.cache_entries.specs.declared.entry.Entry.{Entry}
 use Rattle.bounded_cache.specs.declared.held.Held.{Held}
 use Rattle.bounded_cache.specs.Memory.{Memory, masked, in_hand, put_body, present_body, newest_body, contents_in}
 use Rattle.bounded_cache.specs.Cache.{CacheState, IsCache, GoesOnIn, cache_of, frozen_seen, seat_at}

@@ -19,14 +19,15 @@ use Rattle.model.specs.Machine.{touched_count, untouched}
 use Rattle.model.specs.Sound.{object_count}
 use Rattle.device.specs.Disk.{Disk}
 use Rattle.model.specs.Object.{role_of}
-use Rattle.migrator.specs.Put.{Put, Absent, Broken, Kept, put_at, put_or, held_slot, sum_of, most}
+use Rattle.migrator.specs.Put.{Put, Absent, Broken, Kept, put_at, put_or, held_slot, sum_of}
+use Rattle.checkpoint.specs.Saved.{most}
 use Rattle.migrator.specs.Durable.{DurableState, FrozenPuts, Stored, below_at, freezing, frozen_put, stored_of}
-use Rattle.migrator.proofs.Kept.{maps_same}
+use Rattle.checkpoint.proofs.Lists.{maps_same}
 use Rattle.capability.proofs.Frames.{frame_in, length_in}
-use Rattle.bounded_cache.specs.declared.entry.Entry.{Entry}
-use Rattle.bounded_cache.specs.Entries.{entry_at}
+use Rattle.cache_entries.specs.declared.entry.Entry.{Entry}
+use Rattle.cache_entries.specs.Entries.{entry_at}
 use Rattle.bounded_cache.specs.Memory.{Memory, mark_at, masked, in_hand, put_body, present_body, content_at, present_at, newest_body, below_body, apart_body, frozen_body, frozen_frame, frozen_at, contents_in, frozen_in}
-use Rattle.object_cache.specs.Store as store
+use Rattle.object_store.specs.Store as store
 use Rattle.bounded_cache.specs.Cache.{CacheState, IsCache, AreFrozen, aside_of, cache_of, frozen_seen, is_kept}
 use Rattle.bounded_cache.proofs.Objects.{content_in}
 use Rattle.bounded_cache.proofs.Puts.{held_touched}

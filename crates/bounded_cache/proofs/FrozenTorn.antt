@@ -9,10 +9,11 @@ use Rattle.model.specs.declared.frame.Frame.{Frame}
 use Rattle.model.specs.declared.object.Content.{Content}
 use Rattle.model.specs.Frame.{frame_at, header_at}
 use Rattle.model.specs.Keepable.{AreKeepable}
-use Rattle.migrator.specs.Put.{Put, Absent, Broken, Kept, put_at, put_or, most}
+use Rattle.migrator.specs.Put.{Put, Absent, Broken, Kept, put_at, put_or}
+use Rattle.checkpoint.specs.Saved.{most}
 use Rattle.migrator.specs.Durable.{FrozenPuts, Stored, below_at, frozen_put, with_frozen, with_put}
-use Rattle.migrator.proofs.Kept.{maps_same}
-use Rattle.bounded_cache.specs.Entries.{entry_at}
+use Rattle.checkpoint.proofs.Lists.{maps_same}
+use Rattle.cache_entries.specs.Entries.{entry_at}
 use Rattle.bounded_cache.specs.Memory.{Memory, mark_at, in_hand, put_body, present_body, content_at, present_at, frozen_body, frozen_frame, frozen_at, contents_in, frozen_in}
 use Rattle.bounded_cache.specs.Cache.{IsCache, AreFrozen, is_kept, frozen_seen}
 

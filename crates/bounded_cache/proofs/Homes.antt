@@ -14,13 +14,13 @@ use Rattle.model.specs.Frame.{blank_frame, frame_at, header_at}
 use Rattle.model.specs.Keepable.{AreKeepable}
 use Rattle.device.specs.Disk.{Disk}
 use Rattle.migrator.specs.Put.{Put, Absent, Broken, Kept, put_at, put_or, overlaid, kept_count, sum_of}
-use Rattle.migrator.specs.Saved.{SavedFrames, LeavesEither, LeavesOneOf, home_saved}
+use Rattle.checkpoint.specs.Saved.{SavedFrames, LeavesEither, LeavesOneOf, home_saved}
 use Rattle.migrator.specs.Durable as durable
 use Rattle.migrator.specs.Durable.{DurableState, FrozenPuts, Stored, below_at, frozen_put, left_of, moved, stored_after_commit, stored_of}
-use Rattle.migrator.proofs.Kept.{maps_same}
-use Rattle.object_cache.specs.Store.{FrozenFrames}
-use Rattle.object_cache.specs.Store as store
-use Rattle.bounded_cache.specs.Entries.{entry_at}
+use Rattle.checkpoint.proofs.Lists.{maps_same}
+use Rattle.object_store.specs.Store.{FrozenFrames}
+use Rattle.object_store.specs.Store as store
+use Rattle.cache_entries.specs.Entries.{entry_at}
 use Rattle.bounded_cache.specs.Memory.{Memory, mark_at, in_hand, put_body, present_body, content_at, present_at, frozen_body, frozen_frame, frozen_at, contents_in, frozen_in}
 use Rattle.bounded_cache.specs.Cache.{CacheState, IsCache, aside_of, cache_of, frozen_seen, is_kept}
 use Rattle.bounded_cache.proofs.Puts.{some_touched}

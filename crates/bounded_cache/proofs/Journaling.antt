@@ -20,19 +20,19 @@ use Rattle.layout.specs.declared.body.Body.{Body}
 use Rattle.layout.specs.declared.body.Body.TheVariants as body
 use Rattle.layout.specs.declared.body.Room.{Room}
 use Rattle.layout.specs.Frame.{content_of, frame_of}
-use Rattle.migrator.specs.Put.{Put, Absent, Broken, Kept, put_at, put_or, most}
-use Rattle.migrator.specs.Saved.{SavedFrames, Holds, LeavesEither, LeavesOneOf}
-use Rattle.migrator.specs.Durable.{DurableState, FrozenPuts, Stored, below_at, ReadsStore, frozen_put, is_sound, journaled_saved, left_of, stored_after_journal, stored_of, with_words}
-use Rattle.migrator.proofs.Kept.{maps_same}
+use Rattle.migrator.specs.Put.{Put, Absent, Broken, Kept, put_at, put_or}
+use Rattle.checkpoint.specs.Saved.{most, SavedFrames, Holds, LeavesEither, LeavesOneOf, journaled_saved, with_words}
+use Rattle.migrator.specs.Durable.{DurableState, FrozenPuts, Stored, below_at, ReadsStore, frozen_put, is_sound, left_of, stored_after_journal, stored_of}
+use Rattle.checkpoint.proofs.Lists.{maps_same}
 use Rattle.capability.proofs.Frames.{frame_in}
-use Rattle.object_cache.specs.declared.journal_fault.JournalFault.{JournalFault}
-use Rattle.object_cache.specs.declared.journal_fault.JournalFault.TheVariants as fault
-use Rattle.object_cache.specs.Journal as journal
-use Rattle.object_cache.specs.Journal.{is_page_role, next_journaled}
-use Rattle.object_cache.specs.Store.{Aside, FrozenFrames}
-use Rattle.object_cache.proofs.Journaling.{page_is, role_is_page, content_is_page, known_page, next_same}
-use Rattle.bounded_cache.specs.declared.entry.Entry.{Entry}
-use Rattle.bounded_cache.specs.Entries.{entry_at}
+use Rattle.object_store.specs.declared.journal_fault.JournalFault.{JournalFault}
+use Rattle.object_store.specs.declared.journal_fault.JournalFault.TheVariants as fault
+use Rattle.object_store.specs.Journal as journal
+use Rattle.object_store.specs.Journal.{is_page_role, next_journaled}
+use Rattle.object_store.specs.Store.{Aside, FrozenFrames}
+use Rattle.object_store.proofs.Journaling.{page_is, role_is_page, content_is_page, known_page, next_same}
+use Rattle.cache_entries.specs.declared.entry.Entry.{Entry}
+use Rattle.cache_entries.specs.Entries.{entry_at}
 use Rattle.bounded_cache.specs.Journaled.{entry_body, held_now}
 use Rattle.bounded_cache.specs.Memory.{Memory, mark_at, masked, in_hand, put_body, newest_body, below_body, present_body, content_at, present_at, frozen_body, frozen_frame, frozen_at, contents_in, frozen_in}
 use Rattle.bounded_cache.specs.Cache.{CacheState, IsCache, aside_of, cache_of, frozen_seen}

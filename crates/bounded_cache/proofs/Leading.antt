@@ -4,7 +4,7 @@ use Rattle.model.specs.declared.capability.Cap.{Cap}
 use Rattle.model.specs.declared.object.Content.{Content}
 use Rattle.device.specs.Disk.{Disk}
 use Rattle.migrator.specs.Durable.{stored_of}
-use Rattle.object_cache.specs.Store.{Aside}
+use Rattle.object_store.specs.Store.{Aside}
 use Rattle.bounded_cache.specs.declared.held.Held.{Held}
 use Rattle.bounded_cache.specs.Memory.{Owed}
 use Rattle.bounded_cache.specs.Cache.{CacheState, GoesOnIn, on_device}

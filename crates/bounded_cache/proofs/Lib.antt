@@ -1,6 +1,3 @@
-mod Lists
-mod Arenas
-mod Orders
 mod Outcomes
 mod Changing
 mod Objects
@@ -12,7 +9,6 @@ mod FrozenPuts
 mod FrozenTorn
 mod PutsOut
 mod Leading
-mod Recent
 mod Homes
 mod Marks
 mod Freezing

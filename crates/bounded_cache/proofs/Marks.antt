@@ -12,12 +12,12 @@ use Rattle.model.specs.Frame.{header_at}
 use Rattle.model.specs.Keepable.{AreKeepable}
 use Rattle.model.specs.Machine.{touched_count, touching}
 use Rattle.device.specs.Disk.{Disk}
-use Rattle.migrator.specs.Put.{most}
+use Rattle.checkpoint.specs.Saved.{most}
 use Rattle.migrator.specs.Durable.{DurableState, FrozenPuts, Stored, below_at, stored_of}
-use Rattle.migrator.proofs.Kept.{maps_same}
+use Rattle.checkpoint.proofs.Lists.{maps_same}
 use Rattle.capability.proofs.Touched.{length-touching}
-use Rattle.bounded_cache.specs.declared.entry.Entry.{Entry}
-use Rattle.bounded_cache.specs.Entries.{entry_at}
+use Rattle.cache_entries.specs.declared.entry.Entry.{Entry}
+use Rattle.cache_entries.specs.Entries.{entry_at}
 use Rattle.bounded_cache.specs.Memory.{Memory, Owed, Shared, mark_at, apart_body, below_body, frozen_body, frozen_frame, frozen_at, owed_of, owed_body, owed_in_memory, contents_in, frozen_in, owed_in}
 use Rattle.bounded_cache.specs.Cache.{CacheState, IsCache, cache_of, owed_at}
 use Rattle.bounded_cache.proofs.Seating.{owed_entry}

@@ -14,8 +14,8 @@ use Rattle.model.specs.declared.object.Role.TheVariants as role
 use Rattle.model.specs.Frame.{blank_header, header_at, held_at}
 use Rattle.device.specs.Disk.{Disk}
 use Rattle.migrator.specs.Durable.{DurableState, FrozenPuts, Stored, stored_of}
-use Rattle.bounded_cache.specs.declared.entry.Entry.{Entry}
-use Rattle.bounded_cache.specs.Entries.{entry_at, with_entry, holding, present_of, room_of}
+use Rattle.cache_entries.specs.declared.entry.Entry.{Entry}
+use Rattle.cache_entries.specs.Entries.{entry_at, with_entry, holding, present_of, room_of}
 use Rattle.bounded_cache.specs.Memory.{Memory, Owed, mark_at, present_body, content_at, newest_body, contents_in, owed_in}
 use Rattle.bounded_cache.specs.Cache.{CacheState, IsCache, IsAnnouncedIn, IsFetchedIn, cache_of, seats_in, seat_at, with_content_in}
 use Rattle.bounded_cache.proofs.Changing.{Changes, kept_of, with_objects, still_cache, contents_changed, contents_same, frozen_same, owed_same}

@@ -14,14 +14,14 @@ use Rattle.model.specs.Object.{role_of}
 use Rattle.model.specs.Sound.{object_count}
 use Rattle.device.specs.Disk.{Image, Disk}
 use Rattle.migrator.specs.Put.{Put, Absent, put_at, put_or}
-use Rattle.migrator.specs.Saved.{SavedFrames, Holds}
+use Rattle.checkpoint.specs.Saved.{SavedFrames, Holds}
 use Rattle.migrator.specs.Opened.{OpensDurable}
 use Rattle.migrator.specs.Durable.{DurableState, FrozenPuts, Stored, below_at, frozen_put, stored_of}
 use Rattle.capability.specs.Parts.{HaveTheirRoles}
 use Rattle.capability.proofs.Frames.{frame_in, length_in}
-use Rattle.object_cache.specs.Store.{OpensStore}
-use Rattle.bounded_cache.specs.declared.entry.Entry.{Entry}
-use Rattle.bounded_cache.specs.Entries.{entry_at}
+use Rattle.object_store.specs.Store.{OpensStore}
+use Rattle.cache_entries.specs.declared.entry.Entry.{Entry}
+use Rattle.cache_entries.specs.Entries.{entry_at}
 use Rattle.bounded_cache.specs.Memory.{Memory, memory_of, mark_at, masked, put_body, newest_body, below_body, present_body, content_at, present_at, frozen_body, frozen_frame, frozen_at, contents_in, frozen_in}
 use Rattle.bounded_cache.specs.Cache.{IsCache, cache_of, parts_of, view_of}
 use Rattle.bounded_cache.proofs.Freezing.{masked_same, none_counted, none_marked, none_put}

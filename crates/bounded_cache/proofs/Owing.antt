@@ -10,15 +10,15 @@ use Rattle.model.specs.declared.object.Content.{Content}
 use Rattle.model.specs.Revoke.{is_member}
 use Rattle.device.specs.Disk.{Disk}
 use Rattle.migrator.specs.Durable.{DurableState, stored_of}
-use Rattle.bounded_cache.specs.declared.entry.Entry.{Entry}
-use Rattle.bounded_cache.specs.Entries.{entry_at, room_of}
+use Rattle.cache_entries.specs.declared.entry.Entry.{Entry}
+use Rattle.cache_entries.specs.Entries.{entry_at, room_of}
 use Rattle.bounded_cache.specs.Memory.{Memory, Owed, Nothing, Shared, Apart, mark_at, is_owing, is_shared, owed_of, content_at, contents_in}
-use Rattle.bounded_cache.specs.Order.{AreOrdered, used_longest_ago, without}
+use Rattle.cache_entries.specs.Order.{AreOrdered, used_longest_ago, without}
 use Rattle.bounded_cache.specs.Cache.{CacheState, IsCache, IsFetchedIn, cache_of, owed_at, seat_at}
-use Rattle.bounded_cache.proofs.Arenas.{some_within}
+use Rattle.cache_entries.proofs.Arenas.{some_within}
 use Rattle.bounded_cache.proofs.Objects.{seat_in}
-use Rattle.bounded_cache.proofs.Orders.{length_without}
-use Rattle.bounded_cache.proofs.Recent.{listed_member, front_stays, front_apart}
+use Rattle.cache_entries.proofs.Orders.{length_without}
+use Rattle.cache_entries.proofs.Recent.{listed_member, front_stays, front_apart}
 use Rattle.bounded_cache.proofs.Seating.{owed_entry}
 
 pub owing_yes : (o : Owed) (b : Bool) → b ≡ is_owing o → b ≡ true → o ≢ Nothing

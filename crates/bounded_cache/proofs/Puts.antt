@@ -12,14 +12,15 @@ use Rattle.model.specs.Frame.{header_at, held_at}
 use Rattle.model.specs.Keepable.{IsKeepable}
 use Rattle.model.specs.Machine.{touched_count}
 use Rattle.device.specs.Disk.{Disk}
-use Rattle.migrator.specs.Put.{Put, Absent, Broken, Kept, put_at, held_slot, sum_of, HasRoom, most}
+use Rattle.migrator.specs.Put.{Put, Absent, Broken, Kept, put_at, held_slot, sum_of, HasRoom}
+use Rattle.checkpoint.specs.Saved.{most}
 use Rattle.migrator.specs.Durable.{DurableState, Stored, GoesOn, stored_of, with_working}
-use Rattle.migrator.proofs.Kept.{maps_same}
-use Rattle.bounded_cache.specs.declared.entry.Entry.{Entry}
-use Rattle.bounded_cache.specs.Entries.{entry_at, present_of}
+use Rattle.checkpoint.proofs.Lists.{maps_same}
+use Rattle.cache_entries.specs.declared.entry.Entry.{Entry}
+use Rattle.cache_entries.specs.Entries.{entry_at, present_of}
 use Rattle.bounded_cache.specs.Memory.{Memory, mark_at, put_body, present_body, content_at, present_at, newest_body, below_body, contents_in, frozen_in, owed_in}
 use Rattle.bounded_cache.specs.Cache.{CacheState, IsCache, IsFetchedIn, GoesOnIn, cache_of, is_kept, frozen_seen}
-use Rattle.bounded_cache.proofs.Arenas.{some_of}
+use Rattle.cache_entries.proofs.Arenas.{some_of}
 use Rattle.bounded_cache.proofs.Objects.{has_entry, fetched_known, content_in, present_is}
 
 -- ---- slots

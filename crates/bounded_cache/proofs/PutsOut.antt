@@ -13,12 +13,13 @@ use Rattle.model.specs.declared.object.Content.{Content}
 use Rattle.model.specs.Frame.{blank_frame, header_at}
 use Rattle.model.specs.Keepable.{IsKeepable}
 use Rattle.device.specs.Disk.{Disk}
-use Rattle.migrator.specs.Put.{Put, Absent, Broken, Kept, put_at, HasRoom, most}
+use Rattle.migrator.specs.Put.{Put, Absent, Broken, Kept, put_at, HasRoom}
+use Rattle.checkpoint.specs.Saved.{most}
 use Rattle.migrator.specs.Durable.{DurableState, FrozenPuts, Stored, GoesOn, below_at, stored_of, with_frozen}
-use Rattle.object_cache.specs.Store.{FrozenFrames}
-use Rattle.bounded_cache.specs.declared.entry.Entry.{Entry}
+use Rattle.object_store.specs.Store.{FrozenFrames}
+use Rattle.cache_entries.specs.declared.entry.Entry.{Entry}
 use Rattle.bounded_cache.specs.declared.held.Held.{Held}
-use Rattle.bounded_cache.specs.Entries.{entry_at, with_entry, keeping}
+use Rattle.cache_entries.specs.Entries.{entry_at, with_entry, keeping}
 use Rattle.bounded_cache.specs.Memory.{Memory, Owed, Nothing, mark_at, in_hand, let_go, own_body, own_frame, present_body, content_at, newest_body, below_body, apart_body, frozen_body, frozen_frame, frozen_at, owed_of, owed_body, owed_in_memory, contents_in, frozen_in, owed_in}
 use Rattle.bounded_cache.specs.Cache.{CacheState, IsCache, IsFetchedIn, GoesOnIn, cache_of, frozen_seen, is_kept, owed_at, seats_in}
 use Rattle.bounded_cache.proofs.Apart.{seats_keep}

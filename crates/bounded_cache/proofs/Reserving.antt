@@ -7,11 +7,11 @@ use Rattle.model.specs.declared.object.Content.{Content}
 use Rattle.model.specs.Frame.{header_at}
 use Rattle.device.specs.Disk.{Disk}
 use Rattle.migrator.specs.Durable.{DurableState, Stored, below_at, stored_of}
-use Rattle.bounded_cache.specs.declared.entry.Entry.{Entry}
-use Rattle.bounded_cache.specs.Entries.{entry_at, with_entry, reserving, room_of}
+use Rattle.cache_entries.specs.declared.entry.Entry.{Entry}
+use Rattle.cache_entries.specs.Entries.{entry_at, with_entry, reserving, room_of}
 use Rattle.bounded_cache.specs.Memory.{Memory, mark_at, present_body, newest_body, below_body, frozen_body, frozen_frame, owed_of, owed_in_memory, owed_in}
 use Rattle.bounded_cache.specs.Cache.{CacheState, IsCache, IsFetchedIn, cache_of, seats_in}
-use Rattle.bounded_cache.proofs.Arenas.{some_of}
+use Rattle.cache_entries.proofs.Arenas.{some_of}
 use Rattle.bounded_cache.proofs.Changing.{with_objects}
 use Rattle.bounded_cache.proofs.Objects.{has_entry, fetched_known}
 use Rattle.bounded_cache.proofs.Seating.{Reseats, seated_cache, owed_stay, seen_seated, seats_set}

@@ -13,15 +13,17 @@ use Rattle.model.specs.declared.object.Role.TheVariants as role
 use Rattle.model.specs.Frame.{header_at, held_at}
 use Rattle.model.specs.Keepable.{AreKeepable}
 use Rattle.device.specs.Disk.{Disk}
-use Rattle.migrator.specs.Put.{Put, Kept, put_at, most}
+use Rattle.migrator.specs.Put.{Put, Kept, put_at}
+use Rattle.checkpoint.specs.Saved.{most}
 use Rattle.migrator.specs.Durable.{DurableState, FrozenPuts, Stored, below_at, stored_of}
-use Rattle.migrator.proofs.Kept.{maps_same, map_set}
-use Rattle.bounded_cache.specs.declared.entry.Entry.{Entry}
+use Rattle.checkpoint.proofs.Lists.{maps_same}
+use Rattle.migrator.proofs.Kept.{map_set}
+use Rattle.cache_entries.specs.declared.entry.Entry.{Entry}
 use Rattle.bounded_cache.specs.declared.held.Held.{Held}
-use Rattle.bounded_cache.specs.Entries.{entry_at, room_of}
+use Rattle.cache_entries.specs.Entries.{entry_at, room_of}
 use Rattle.bounded_cache.specs.Memory.{Memory, Owed, Nothing, mark_at, masked, in_hand, put_body, present_body, content_at, present_at, newest_body, below_body, apart_body, frozen_body, frozen_frame, frozen_at, owed_of, owed_body, owed_in_memory, contents_in, frozen_in, owed_in}
 use Rattle.bounded_cache.specs.Cache.{CacheState, IsCache, IsFetchedIn, cache_of, is_kept, newly_owed, owed_at, seat_at, seats_in, with_seat}
-use Rattle.bounded_cache.specs.Order.{without}
+use Rattle.cache_entries.specs.Order.{without}
 use Rattle.bounded_cache.proofs.Changing.{with_objects}
 use Rattle.bounded_cache.proofs.Objects.{content_in, seat_in}
 

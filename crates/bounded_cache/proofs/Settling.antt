@@ -14,12 +14,13 @@ use Rattle.model.specs.declared.object.Role.TheVariants as role
 use Rattle.model.specs.Frame.{frame_at, header_at}
 use Rattle.model.specs.Keepable.{IsKeepable}
 use Rattle.device.specs.Disk.{Disk}
-use Rattle.migrator.specs.Put.{Put, Absent, Broken, Kept, put_at, put_or, HasRoom, most}
+use Rattle.migrator.specs.Put.{Put, Absent, Broken, Kept, put_at, put_or, HasRoom}
+use Rattle.checkpoint.specs.Saved.{most}
 use Rattle.migrator.specs.Durable.{DurableState, FrozenPuts, Stored, GoesOn, below_at, frozen_put, stored_of, with_frozen, with_put}
-use Rattle.object_cache.specs.Store.{FrozenFrames}
-use Rattle.bounded_cache.specs.declared.entry.Entry.{Entry}
+use Rattle.object_store.specs.Store.{FrozenFrames}
+use Rattle.cache_entries.specs.declared.entry.Entry.{Entry}
 use Rattle.bounded_cache.specs.declared.held.Held.{Held}
-use Rattle.bounded_cache.specs.Entries.{entry_at}
+use Rattle.cache_entries.specs.Entries.{entry_at}
 use Rattle.bounded_cache.specs.Memory.{Memory, Owed, Nothing, mark_at, masked, in_hand, put_body, present_body, content_at, newest_body, below_body, apart_body, frozen_body, frozen_frame, frozen_at, owed_of, owed_in_memory, contents_in, owed_in}
 use Rattle.bounded_cache.specs.Cache.{CacheState, IsCache, GoesOnIn, cache_of, frozen_seen, is_kept, on_device, owed_at}
 use Rattle.bounded_cache.proofs.FrozenPuts.{Releases, one_fewer, with_frame, without_pending, frozen_put_cache, contents_same, frozen_seen_same, owed_now}

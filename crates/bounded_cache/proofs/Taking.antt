@@ -9,11 +9,12 @@ use Rattle.model.specs.Frame.{header_at}
 use Rattle.model.specs.Keepable.{AreKeepable}
 use Rattle.model.specs.Sound.{object_count}
 use Rattle.device.specs.Disk.{Disk}
-use Rattle.migrator.specs.Put.{Kept, put_at, most}
+use Rattle.migrator.specs.Put.{Kept, put_at}
+use Rattle.checkpoint.specs.Saved.{most}
 use Rattle.migrator.specs.Durable.{DurableState, FrozenPuts, Stored, ReadsStore, below_at, stored_of}
-use Rattle.migrator.proofs.Kept.{maps_same}
+use Rattle.checkpoint.proofs.Lists.{maps_same}
 use Rattle.bounded_cache.specs.declared.held.Held.{Held}
-use Rattle.bounded_cache.specs.Entries.{entry_at}
+use Rattle.cache_entries.specs.Entries.{entry_at}
 use Rattle.bounded_cache.specs.Memory.{Memory, Owed, mark_at, in_hand, put_body, below_body, present_body, content_at, present_at, frozen_body, frozen_frame, frozen_at, contents_in, frozen_in, owed_in}
 use Rattle.bounded_cache.specs.Cache.{CacheState, IsCache, GoesOnIn, cache_of, frozen_seen}
 use Rattle.bounded_cache.proofs.Fetched.{read_seen, read_leads}

@@ -7,7 +7,7 @@ use Rattle.model.specs.declared.frame.Frame.{Frame}
 use Rattle.device.specs.Disk.{Image, Disk}
 use Rattle.migrator.specs.Durable.{DurableState, FrozenPuts, stored_of}
 use Rattle.migrator.proofs.Moving.{goes_trans}
-use Rattle.object_cache.specs.Store.{FrozenFrames, Aside, stabilized}
+use Rattle.object_store.specs.Store.{FrozenFrames, Aside, stabilized}
 use Rattle.bounded_cache.specs.declared.held.Held.{Held}
 use Rattle.bounded_cache.specs.Memory.{Memory, frozen_in}
 use Rattle.bounded_cache.specs.Cache.{CacheState, IsCache, AreFrozen, GoesOnIn, PutsBy, aside_of, cache_of, on_device, on_device_frozen, pending_count}

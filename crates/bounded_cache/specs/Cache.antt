@@ -12,15 +12,16 @@ use Rattle.model.specs.Machine.{touched_count}
 use Rattle.model.specs.Sound.{object_count}
 use Rattle.device.specs.Disk.{Disk}
 use Rattle.device.specs.Moments.{Peeks}
-use Rattle.migrator.specs.Put.{Put, Absent, Broken, Kept, put_at, most}
+use Rattle.migrator.specs.Put.{Put, Absent, Broken, Kept, put_at}
+use Rattle.checkpoint.specs.Saved.{most}
 use Rattle.migrator.specs.Durable.{DurableState, FrozenPuts, Stored, GoesOn, stored_of, is_sound}
 use Rattle.capability.specs.Parts.{Parts}
 use Rattle.capability.specs.Plain.{room_at}
-use Rattle.object_cache.specs.Store.{FrozenFrames, Aside, View, stabilized}
-use Rattle.bounded_cache.specs.declared.entry.Entry.{Entry}
+use Rattle.object_store.specs.Store.{FrozenFrames, Aside, View, stabilized}
+use Rattle.cache_entries.specs.declared.entry.Entry.{Entry}
 use Rattle.bounded_cache.specs.declared.held.Held.{Held}
-use Rattle.bounded_cache.specs.Entries.{entry_at, room_of}
-use Rattle.bounded_cache.specs.Order.{without}
+use Rattle.cache_entries.specs.Entries.{entry_at, room_of}
+use Rattle.cache_entries.specs.Order.{without}
 use Rattle.bounded_cache.specs.Memory.{Memory, Owed, Nothing, owed_body, mark_at, present_at, frozen_at, contents_in, frozen_in, owed_in}
 
 -- ---- what is seen of it

@@ -5,7 +5,7 @@ use Rattle.model.specs.declared.object.Content.{Content}
 use Rattle.device.specs.Disk.{Image, Disk}
 use Rattle.device.proofs.Moments.{ends, leaves_on, leaves_weaker, peeks_started}
 use Rattle.migrator.proofs.Moving.{goes_trans, goes_none}
-use Rattle.object_cache.specs.Store.{Aside}
+use Rattle.object_store.specs.Store.{Aside}
 use Rattle.bounded_cache.specs.Cache.{CacheState, GoesOnIn, IsFetchedIn, IsAnnouncedIn, with_content_in}
 
 module _ {D : Type 0} where

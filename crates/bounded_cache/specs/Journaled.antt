@@ -3,8 +3,8 @@ use Rattle.std.specs.Prelude.{ℕ, Option, Some, None, List}
 use Rattle.model.specs.declared.capability.Cap.{Cap}
 use Rattle.model.specs.declared.object.Content.{Content}
 use Rattle.migrator.specs.Durable.{Stored, newest}
-use Rattle.bounded_cache.specs.declared.entry.Entry.{Entry}
-use Rattle.bounded_cache.specs.Entries.{entry_at}
+use Rattle.cache_entries.specs.declared.entry.Entry.{Entry}
+use Rattle.cache_entries.specs.Entries.{entry_at}
 
 -- what its entry holds or, where it has none, the newest body on the device
 abbrev pub entry_body : Option Entry → Content Cap → Content Cap

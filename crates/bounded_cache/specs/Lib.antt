@@ -1,6 +1,6 @@
-pub use Rattle.object_cache.specs.Store
-pub mod Entries
-pub mod Order
+pub use Rattle.cache_entries.specs.Entries
+pub use Rattle.cache_entries.specs.Order
+pub use Rattle.object_store.specs.Store
 pub mod Memory
 pub mod Hand
 pub mod Cache

@@ -11,9 +11,9 @@ use Rattle.model.specs.declared.object.Role.TheVariants as role
 use Rattle.model.specs.Frame.{header_at}
 use Rattle.migrator.specs.Put.{Put, Absent, Broken, Kept, put_at}
 use Rattle.migrator.specs.Durable.{Stored, below_at}
-use Rattle.bounded_cache.specs.declared.entry.Entry.{Entry}
+use Rattle.cache_entries.specs.declared.entry.Entry.{Entry}
 use Rattle.bounded_cache.specs.declared.held.Held.{Held}
-use Rattle.bounded_cache.specs.Entries.{entry_at}
+use Rattle.cache_entries.specs.Entries.{entry_at}
 
 -- What a bounded cache has in memory beside the durable store: headers, and those that were frozen; which numbers were
 -- written since the last checkpoint began, which of them weren't put since they were, and which have a frozen frame that

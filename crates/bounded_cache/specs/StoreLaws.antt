@@ -2,8 +2,8 @@
 use Rattle.std.proofs.Common.{refl}
 use Rattle.device.specs.Disk.{Image, Disk}
 use Rattle.migrator.specs.Durable.{saved_state, stored_of, is_sound}
-use Rattle.migrator.specs.Saved.{Holds}
-use Rattle.object_cache.specs.Store.{Leads}
+use Rattle.checkpoint.specs.Saved.{Holds}
+use Rattle.object_store.specs.Store.{Leads}
 use Rattle.bounded_cache.specs.Cache.{CacheState, GoesOnIn, view_of}
 
 module _ {D : Type 0} (disk : D → Disk) where

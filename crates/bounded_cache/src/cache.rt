@@ -9,15 +9,15 @@ ghost use Rattle.capability.specs.Parts.{frames_of, fresh_content, IsFreshAt};
 ghost use Rattle.model.specs.Keepable.{AreKeepable, IsKeepable};
 ghost use Rattle.model.specs.Revoke.{is_member};
 ghost use Rattle.device.specs.Calls.{Counts};
-ghost use Rattle.migrator.specs.Put.{most};
+ghost use Rattle.checkpoint.specs.Saved.{most};
 ghost use Rattle.model.specs.Machine.{touched_count};
 ghost use Rattle.migrator.specs.Durable.{stored_of};
 
-use crate::entries::Entries;
-use crate::entry::{Entry, is_owing};
 use crate::frozen::put_own;
 use crate::hand::Hand;
 use crate::headers::Headers;
+use crate::owed::is_owing;
+use cache_entries::{Entries, Entry};
 use capability::plain::rooms::filled;
 use capability::{Fresh, ObjectTable};
 use device::{Device, Failed};
@@ -84,7 +84,7 @@ impl<D: Device> Model for BoundedCache<D> {
 impl<D: Device> BoundedCache<D> {
     ghost use Rattle.bounded_cache.specs.Memory.{Nothing, Shared, Apart, let_go, mark_at, masked};
     ghost use Rattle.bounded_cache.specs.Cache.{GoesOnIn, IsFetchedIn, IsAnnouncedIn, on_device, owed_at, parts_of, pending_count, seat_at, with_content_in, with_seat, without_seat};
-    ghost use Rattle.bounded_cache.specs.Order.{without};
+    ghost use Rattle.cache_entries.specs.Order.{without};
     ghost use Rattle.bounded_cache.specs.contracts.cache.BoundedCache.{the_row};
 
     /// How much there is room for.

@@ -3,11 +3,12 @@ ghost use Rattle.std.specs.Prelude.{◌≡◌, ◌<◌, Some, OnOk, OnErr};
 ghost use Rattle.model.specs.Keepable.{IsKeepable};
 ghost use Rattle.device.specs.Calls.{Counts};
 ghost use Rattle.model.specs.Sound.{object_count};
-ghost use Rattle.migrator.specs.Put.{Broken, Kept, most, HasRoom};
+ghost use Rattle.migrator.specs.Put.{Broken, Kept, HasRoom};
+ghost use Rattle.checkpoint.specs.Saved.{most};
 ghost use Rattle.migrator.specs.Durable.{FrozenPuts, stored_of, with_frozen, GoesOn};
 ghost use Rattle.bounded_cache.specs.Memory.{masked, own_frame};
 
-use crate::entry::Entry;
+use cache_entries::Entry;
 use device::{Device, Failed};
 use migrator::Durable;
 use model::{Cap, Content, ObjectHeader, Role};

@@ -14,7 +14,7 @@ use Rattle.device.proofs.Moments.{OnlyNow, leaves_weaker, started}
 use Rattle.layout.specs.Image.{Encodes}
 use Rattle.layout.specs.Superblock.{Plan}
 use Rattle.layout.proofs.Images.{one_state}
-use Rattle.migrator.specs.Saved.{Holds, SavedFrames, kept_of}
+use Rattle.checkpoint.specs.Saved.{Holds, SavedFrames, kept_of}
 use Rattle.image_writer.specs.Written.{IsLeftWriting, first_saved, first_state}
 use Rattle.image_writer.proofs.OldImages.{kept_holds_the_same, none_is_held}
 use Rattle.description.specs.Reading.{IsDescription}

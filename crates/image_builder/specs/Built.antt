@@ -7,7 +7,7 @@ use Rattle.device.specs.Disk.{Disk, Image}
 use Rattle.device.specs.Calls.{Elsewhere}
 use Rattle.layout.specs.Image.{Encodes}
 use Rattle.layout.specs.Superblock.{Plan}
-use Rattle.migrator.specs.Saved.{Holds, SavedFrames}
+use Rattle.checkpoint.specs.Saved.{Holds, SavedFrames}
 use Rattle.image_writer.specs.Laid.{MayBeLaid, plan_from}
 use Rattle.image_writer.specs.Written.{first_saved, first_state}
 use Rattle.consistency.specs.Consistency.{AreBanked, AreNamed}

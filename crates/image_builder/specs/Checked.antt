@@ -8,7 +8,7 @@ use Rattle.model.specs.Frame.{frames_in}
 use Rattle.model.specs.Keepable.{AreKeepable, IsSoundFrames}
 use Rattle.model.specs.Sound.{object_count}
 use Rattle.device.specs.Disk.{Disk, Image}
-use Rattle.migrator.specs.Saved.{Holds, SavedFrames}
+use Rattle.checkpoint.specs.Saved.{Holds, SavedFrames}
 use Rattle.description.specs.declared.entry.Description.{Description}
 use Rattle.described_world.specs.Described.{HasFields, HasNumbers, IsDescribed}
 use Rattle.image_builder.specs.declared.fault.BuildFault.{BuildFault}

@@ -22,7 +22,7 @@ use Rattle.home_ranges.proofs.Places.{places_within}
 use Rattle.frame_io.specs.Frames.{bytes_at}
 use Rattle.ckpt_log.specs.Closing.{AreClosed}
 use Rattle.ckpt_log.proofs.Closings.{none_committed}
-use Rattle.migrator.specs.Saved.{Holds, SavedFrames}
+use Rattle.checkpoint.specs.Saved.{Holds, SavedFrames}
 use Rattle.ckpt_log.proofs.BesideHeaders.{sequences_told}
 use Rattle.image_writer.specs.Written.{AreHome, HasOpeningSectors, IsBeforeOrNone, IsLeftWriting, IsWritten, first_header, first_saved, first_state}
 

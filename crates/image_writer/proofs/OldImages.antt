@@ -2,18 +2,17 @@
 use Rattle.std.proofs.Common.{◌≡◌, ℕ, ◌+◌, ◌*◌, ◌<◌, ◌≤◌, Option, Some, None, List, take, sym, ap, subst, ◌∙◌, arith}
 use Rattle.model.specs.Frame.{frame_at}
 use Rattle.device.specs.Disk.{Image}
-use Rattle.layout.specs.declared.header.CheckpointHeader.{CheckpointHeader}
 use Rattle.layout.specs.declared.directory.Entry.{Entry}
 use Rattle.layout.specs.Frame.{IsFrameOf, frame_length}
 use Rattle.layout.specs.Header.{header_bytes}
-use Rattle.layout.specs.Image.{Encodes, HasNoHeader, SavedState, committed_bytes, directory_in, directory_length, directory_sector, frame_in, frame_sector, option_at, sectors_from}
+use Rattle.layout.specs.Image.{Encodes, SavedState, committed_bytes, directory_in, directory_length, directory_sector, frame_in, frame_sector, option_at, sectors_from}
 use Rattle.layout.specs.Superblock.{Plan, IsPlan}
 use Rattle.layout.proofs.Sectors.{same_sectors}
 use Rattle.home_ranges.proofs.Places.{places_within}
 use Rattle.ckpt_log.specs.Closing.{KeepsImage}
 use Rattle.ckpt_log.proofs.BesideHeaders.{half_behind}
 use Rattle.ckpt_log.proofs.Denoted.{frames_behind}
-use Rattle.migrator.specs.Saved.{Holds, SavedFrames}
+use Rattle.checkpoint.specs.Saved.{Holds, SavedFrames}
 use Rattle.image_writer.specs.Laws.{KeptHoldsTheSame, NoneIsHeld}
 
 module _ (old new : Image) (kept : KeepsImage old new) where

@@ -3,7 +3,7 @@ use Rattle.std.specs.Prelude.{◌↔◌, ℕ}
 use Rattle.device.specs.Disk.{Image}
 use Rattle.layout.specs.Image.{HasNoHeader}
 use Rattle.ckpt_log.specs.Closing.{KeepsImage}
-use Rattle.migrator.specs.Saved.{Holds, SavedFrames}
+use Rattle.checkpoint.specs.Saved.{Holds, SavedFrames}
 
 -- an image of which the gates alone were touched, with the same committed header, holds the same saved frames, or as
 -- before none

@@ -13,7 +13,7 @@ use Rattle.layout.specs.Superblock.{Plan, IsPlan, superblock_bytes}
 use Rattle.frame_io.specs.Frames.{bytes_at}
 use Rattle.home_ranges.specs.Home.{home_place}
 use Rattle.ckpt_log.specs.Closing.{AreClosed, KeepsImage}
-use Rattle.migrator.specs.Saved.{Holds, SavedFrames}
+use Rattle.checkpoint.specs.Saved.{Holds, SavedFrames}
 
 -- the header of a checkpoint of generation 0, all of which is home
 abbrev pub first_header : ℕ → CheckpointHeader

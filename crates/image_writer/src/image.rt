@@ -4,7 +4,7 @@ ghost use Rattle.device.specs.Disk.{Image};
 ghost use Rattle.device.specs.Calls.{Counts, Elsewhere, Only};
 ghost use Rattle.device.specs.Moments.{LeavesOnly};
 ghost use Rattle.layout.specs.Image.{Encodes};
-ghost use Rattle.migrator.specs.Saved.{Holds};
+ghost use Rattle.checkpoint.specs.Saved.{Holds};
 ghost use Rattle.model.specs.Frame.{frames_in};
 ghost use Rattle.model.specs.Keepable.{AreKeepable};
 ghost use Rattle.image_writer.specs.Written.{IsBeforeOrNone, IsLeftWriting, IsWritten, first_state, first_saved};

@@ -6,9 +6,9 @@ use Rattle.model.specs.Machine.{Running, Saved}
 use Rattle.model.specs.Text.{line_of}
 use Rattle.device.specs.Disk.{Disk}
 use Rattle.capability.specs.Parts.{Parts}
-use Rattle.migrator.specs.declared.durable.access.Checkpoint.{Checkpoint}
-use Rattle.migrator.specs.Opened.{Looks}
-use Rattle.object_cache.specs.Store.{View}
+use Rattle.checkpoint.specs.declared.committed.Checkpoint.{Checkpoint}
+use Rattle.checkpoint.specs.Opened.{Looks}
+use Rattle.object_store.specs.Store.{View}
 use Rattle.kernel.specs.declared.power.Power.{Power}
 use Rattle.kernel.specs.declared.power.Power.TheVariants as power
 use Rattle.kernel.specs.Opening.{Opens}

@@ -6,9 +6,9 @@ use Rattle.model.specs.declared.geometry.Geometry.{Geometry}
 use Rattle.model.specs.Machine.{Saved}
 use Rattle.model.specs.Text.{line_of, spaced}
 use Rattle.device.specs.Disk.{Disk}
-use Rattle.migrator.specs.Opened.{Looks}
+use Rattle.checkpoint.specs.Opened.{Looks}
 use Rattle.capability.specs.Parts.{Parts}
-use Rattle.object_cache.specs.Store.{View}
+use Rattle.object_store.specs.Store.{View}
 use Rattle.kernel.specs.declared.power.Power.{Power}
 use Rattle.kernel.specs.Opening.{Opens, RefusesToOpen}
 use Rattle.kernel.specs.Denotes.{Denotes}

@@ -3,7 +3,7 @@ use Rattle.std.specs.Prelude.{ℕ, List}
 use Rattle.model.specs.declared.frame.Frame.{Frame}
 use Rattle.model.specs.Keepable.{IsSoundFrames, world_at}
 use Rattle.device.specs.Disk.{Image}
-use Rattle.migrator.specs.Saved.{Holds}
+use Rattle.checkpoint.specs.Saved.{Holds}
 use Rattle.image_writer.specs.Written.{first_saved}
 use Rattle.kernel.specs.Denotes.{Denotes}
 use Rattle.description.specs.declared.entry.Description.{Description}

@@ -5,9 +5,9 @@ ghost use Rattle.jobs.specs.Images.{ChecksImage, checked_text};
 
 use crate::done::Done;
 use crate::fault::{Fault, status};
+use checkpoint::Checkpoint;
 use device::Device;
 use kernel::Kernel;
-use migrator::Checkpoint;
 use object_cache::PlainStore;
 use script::LineText;
 use std::alloc::Global;

@@ -4,9 +4,9 @@ ghost use Rattle.model.specs.Text.{line_of};
 ghost use Rattle.script.specs.Writing.{Writes};
 ghost use Rattle.jobs.specs.Faults.{IsTold, build_text, fault_text, open_text, reason_number, run_outcome, status_of};
 
+use checkpoint::OpenFault;
 use image_builder::BuildFault;
 use layout::BadImage;
-use migrator::OpenFault;
 use script::{LineText, RunFault};
 use std::io::Write;
 

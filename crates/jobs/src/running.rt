@@ -7,7 +7,7 @@ use crate::done::Done;
 use crate::fault::{Fault, of_run, status};
 use device::Device;
 use kernel::Kernel;
-use object_cache::ObjectStore;
+use object_store::ObjectStore;
 use runs::{Output, Script, run};
 use std::alloc::Global;
 use std::io::Write;

@@ -15,14 +15,14 @@ use Rattle.model.specs.Machine.{Frozen, Running, Saved, Up, touched_count, untou
 use Rattle.model.specs.Step.{Step, moved, refusal_of, second}
 use Rattle.device.specs.declared.device.Failed.{Failed}
 use Rattle.device.specs.Disk.{Image, Disk}
-use Rattle.migrator.specs.declared.checkpoint_fault.CheckpointFault.{CheckpointFault}
-use Rattle.migrator.specs.declared.checkpoint_fault.CheckpointFault.TheVariants as fault
-use Rattle.migrator.specs.Refused.{IsCommitAnswer, IsFreezeAnswer, IsRefused}
-use Rattle.migrator.specs.Saved.{Holds, LeavesSaved, LeavesEither}
+use Rattle.checkpoint.specs.declared.checkpoint_fault.CheckpointFault.{CheckpointFault}
+use Rattle.checkpoint.specs.declared.checkpoint_fault.CheckpointFault.TheVariants as fault
+use Rattle.checkpoint.specs.Refused.{IsCommitAnswer, IsFreezeAnswer, IsRefused}
+use Rattle.checkpoint.specs.Saved.{Holds, LeavesSaved, LeavesEither}
 use Rattle.capability.specs.Parts.{Parts, frames_of, objects_in}
 use Rattle.capability.proofs.Keeping.{keepable_count}
-use Rattle.object_cache.specs.Store.{Aside, FrozenFrames, IsStabilizeAnswer, Leads, MayCommit, View, freezing, left_in, moved_saved, next_saved, stabilized}
-use Rattle.object_cache.specs.Store as store
+use Rattle.object_store.specs.Store.{Aside, FrozenFrames, IsStabilizeAnswer, Leads, MayCommit, View, freezing, left_in, moved_saved, next_saved, stabilized}
+use Rattle.object_store.specs.Store as store
 use Rattle.space_bank.specs.Banks.{AreCounted, BanksState}
 use Rattle.processes.specs.Machine.{Performs, answer_of}
 use Rattle.processes.proofs.Serving.{AreSame}

@@ -7,8 +7,8 @@ use Rattle.model.specs.Machine.{Saved}
 use Rattle.model.specs.Step.{at_home}
 use Rattle.device.specs.Disk.{Image, Disk}
 use Rattle.device.proofs.Moments.{CountsNow, OnlyNow, ends, leaves_weaker, started}
-use Rattle.migrator.specs.Saved.{SavedFrames, Holds, LeavesSaved, LeavesEither, home_saved}
-use Rattle.object_cache.specs.Store.{Aside, moved_saved}
+use Rattle.checkpoint.specs.Saved.{SavedFrames, Holds, LeavesSaved, LeavesEither, home_saved}
+use Rattle.object_store.specs.Store.{Aside, moved_saved}
 use Rattle.kernel.specs.Denotes.{saved_of, IsSoundSaved, Denotes, DenotesOne, Leaves, LeavesOne}
 
 -- frames that are held are denoted

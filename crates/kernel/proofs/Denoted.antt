@@ -7,7 +7,7 @@ use Rattle.model.specs.Sound.{IsSound}
 use Rattle.device.specs.Disk.{Image}
 use Rattle.layout.specs.declared.bad_image.BadImage.{BadImage}
 use Rattle.layout.proofs.Images.{one_state}
-use Rattle.migrator.specs.Saved.{SavedFrames, Holds, kept_of}
+use Rattle.checkpoint.specs.Saved.{SavedFrames, Holds, kept_of}
 use Rattle.consistency.proofs.Unsound.{inconsistent_is_unsound}
 use Rattle.layout.proofs.Denoted.{frames_not_bad}
 use Rattle.kernel.specs.Denotes.{saved_of, IsSoundSaved, Denotes, DenotesOne}

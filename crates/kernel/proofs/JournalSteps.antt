@@ -1,5 +1,5 @@
 -- A page is journaled: the machine after it, and what a crash leaves.
-use Rattle.std.proofs.Common.{◌≡◌, ◌⊎◌, inl, inr, ℕ, ◌+◌, ◌^◌, ◌<◌, ◌≤◌, ◌==◌, Bool, true, false, not, ◌&&◌, Option, None, Some, Err, List, [], ◌∷◌, map, length, set, length-set, refl, sym, ap, ◌∙◌, subst, arith}
+use Rattle.std.proofs.Common.{◌≡◌, inl, inr, ℕ, ◌+◌, ◌^◌, ◌<◌, ◌≤◌, ◌==◌, Bool, true, false, not, ◌&&◌, Option, None, Some, List, [], ◌∷◌, map, length, set, length-set, refl, sym, ap, ◌∙◌, subst, arith}
 use Rattle.std.specs.Prelude.{if◌then◌else◌, nat_lt, slice_index_or}
 use Rattle.std.specs.List.{All, range_with_len}
 use Rattle.std.proofs.Math.ListN.{get_or-map}
@@ -8,7 +8,6 @@ use Rattle.std.proofs.lemmas.Bool.{cases_lt}
 use Rattle.std.proofs.lemmas.Bool.Decides.{nat_tests}
 use Rattle.std.proofs.lemmas.List.{get_or_past, map-set}
 use Rattle.std.proofs.lemmas.List.Elements.{All-nil}
-use Rattle.model.specs.declared.answer.Answer.{Answer}
 use Rattle.model.specs.declared.answer.Answer.TheVariants as answer
 use Rattle.model.specs.declared.answer.Refusal.{Refusal}
 use Rattle.model.specs.declared.answer.Refusal.TheVariants as refusal
@@ -25,7 +24,7 @@ use Rattle.model.specs.declared.object.Object.{Object}
 use Rattle.model.specs.declared.object.Role.{Role}
 use Rattle.model.specs.declared.object.Role.TheVariants as role
 use Rattle.model.specs.Frame.{blank_frame, conveyed, frame_at, header_at, headers, held_at, object_of, objects_of}
-use Rattle.model.specs.Keepable.{AreCurrent, AreKeepable, AreKeptWords, IsCurrent, IsKeepable, IsSoundFrames, MayBeKept, caps_in, world_at}
+use Rattle.model.specs.Keepable.{AreCurrent, AreKeepable, AreKeptWords, IsCurrent, IsKeepable, IsSoundFrames, MayBeKept, caps_in}
 use Rattle.model.specs.Machine.{Frozen, Running, Saved, Up}
 use Rattle.model.specs.Object.{is_page, map_content, role_of, words_in}
 use Rattle.model.specs.Sound.{IsOfKind, IsSound, object_count}
@@ -33,14 +32,13 @@ use Rattle.model.specs.Step.{Step, carried_out, refusal_of, second, unjournaled,
 use Rattle.model.specs.Step as machine
 use Rattle.model.specs.World.{World, content_at, owner_at, with_content}
 use Rattle.model_laws.proofs.Journaling.{journal_keeps_sound}
-use Rattle.migrator.specs.Durable.{journaled_saved, with_words}
-use Rattle.migrator.specs.Saved.{SavedFrames, LeavesSaved, LeavesEither, LeavesOneOf}
-use Rattle.migrator.proofs.Kept.{maps_same}
+use Rattle.checkpoint.specs.Saved.{journaled_saved, with_words, SavedFrames}
+use Rattle.checkpoint.proofs.Lists.{maps_same}
 use Rattle.capability.specs.Parts.{Parts, frames_of, objects_in}
 use Rattle.capability.proofs.Frames.{at_set, frame_in}
 use Rattle.capability.proofs.Keeping.{keepable_count}
-use Rattle.object_cache.specs.Journal.{is_page_now, is_page_role, is_still_saved, aside_after_journal, next_journaled, words_now}
-use Rattle.object_cache.specs.Store.{Aside, FrozenFrames}
+use Rattle.object_store.specs.Journal.{is_page_now, is_page_role, is_still_saved, aside_after_journal, next_journaled, words_now}
+use Rattle.object_store.specs.Store.{Aside}
 use Rattle.space_bank.specs.Banks.{BanksState}
 use Rattle.processes.proofs.Steps.{done_step}
 use Rattle.kernel.specs.Denotes.{saved_of, IsSoundSaved}

@@ -1,9 +1,7 @@
 -- How the journaling of a page ends: refused, done, or in a failure of the device.
-use Rattle.std.proofs.Common.{◌≡◌, ◌⊎◌, inl, inr, ℕ, ◌+◌, ◌^◌, ◌<◌, ◌≤◌, ◌==◌, Bool, true, false, Option, None, Some, Ok, Err, List, [], ◌∷◌, length, refl, sym, ap, ◌∙◌, subst, arith}
+use Rattle.std.proofs.Common.{◌≡◌, ◌⊎◌, inl, inr, ℕ, ◌+◌, ◌^◌, ◌<◌, ◌≤◌, Bool, true, false, Option, None, Some, Ok, Err, List, [], ◌∷◌, length, refl, sym, ap, ◌∙◌, subst, arith}
 use Rattle.std.specs.Prelude.{if◌then◌else◌, nat_lt, IsErrOf}
 use Rattle.std.proofs.lemmas.Bool.Decides.{nat_tests}
-use Rattle.std.proofs.lemmas.Bool.{cases_lt}
-use Rattle.model.specs.declared.answer.Answer.{Answer}
 use Rattle.model.specs.declared.answer.Answer.TheVariants as answer
 use Rattle.model.specs.declared.answer.Refusal.{Refusal}
 use Rattle.model.specs.declared.answer.Refusal.TheVariants as refusal
@@ -11,26 +9,24 @@ use Rattle.model.specs.declared.answer.Unjournaled.TheVariants.{NotPage, Renewed
 use Rattle.model.specs.declared.command.Command.TheVariants as command
 use Rattle.model.specs.declared.geometry.Geometry.{Geometry}
 use Rattle.model.specs.Machine.{Running, Saved, Up}
-use Rattle.model.specs.Sound.{object_count}
 use Rattle.model.specs.Step.{Step, second}
 use Rattle.model.specs.Step as machine
 use Rattle.model.specs.World.{World}
 use Rattle.device.specs.Disk.{Image, Disk}
-use Rattle.migrator.specs.Durable.{journaled_saved}
-use Rattle.migrator.specs.Saved.{SavedFrames, Holds, LeavesSaved, LeavesEither, LeavesOneOf}
+use Rattle.checkpoint.specs.Saved.{journaled_saved, SavedFrames, Holds, LeavesOneOf}
 use Rattle.capability.specs.Parts.{Parts}
 use Rattle.capability.proofs.Keeping.{keepable_count}
-use Rattle.object_cache.specs.declared.journal_fault.JournalFault.{JournalFault}
-use Rattle.object_cache.specs.declared.journal_fault.JournalFault.TheVariants as fault
-use Rattle.object_cache.specs.Journal.{IsJournalAnswer, IsTurnedAway, is_page_now, is_still_saved, aside_after_journal, next_journaled, words_now}
-use Rattle.object_cache.specs.Store.{Aside, View, left_in}
+use Rattle.object_store.specs.declared.journal_fault.JournalFault.{JournalFault}
+use Rattle.object_store.specs.declared.journal_fault.JournalFault.TheVariants as fault
+use Rattle.object_store.specs.Journal.{IsJournalAnswer, IsTurnedAway, is_page_now, is_still_saved, aside_after_journal, next_journaled, words_now}
+use Rattle.object_store.specs.Store.{Aside, View, left_in}
 use Rattle.processes.specs.Machine.{IsUnlooked}
 use Rattle.processes.proofs.Serving.{AreSame}
 use Rattle.processes.proofs.Steps.{refused_step}
 use Rattle.kernel.specs.declared.power.Live.{Live}
 use Rattle.kernel.specs.Denotes.{saved_of, LeavesOne}
 use Rattle.kernel.specs.Journal.{unjournaled_by}
-use Rattle.kernel.specs.Standing.{AreSoundTogether, IsCaused, IsUp, ServesUp, disk_at, running, running_of}
+use Rattle.kernel.specs.Standing.{IsCaused, IsUp, ServesUp, disk_at, running}
 use Rattle.kernel.proofs.Acts.{failed, is_up, refused, refused_again, with_store}
 use Rattle.kernel.proofs.Crashes.{leaves_along, leaves_either}
 use Rattle.kernel.proofs.JournalSteps.{journal_no_page, journal_pending, journal_renewed, journal_running, journal_step, journal_unknown, journal_worn, known_now, next_is, now_is, page_now, running_next, saved_is, saved_next, saved_too, second_of_journal, sound_next, together_next}

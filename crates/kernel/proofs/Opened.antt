@@ -11,12 +11,12 @@ use Rattle.device.specs.Calls.{Only}
 use Rattle.device.specs.Disk.{Image, Disk}
 use Rattle.device.specs.Moments.{Peeks}
 use Rattle.device.proofs.Moments.{CountsNow, ends, leaves_on, leaves_weaker}
-use Rattle.migrator.specs.declared.open_fault.OpenFault.{OpenFault}
-use Rattle.migrator.specs.declared.open_fault.OpenFault.TheVariants as fault
-use Rattle.migrator.specs.Opened.{Looks}
-use Rattle.migrator.specs.Saved.{Holds}
+use Rattle.checkpoint.specs.declared.open_fault.OpenFault.{OpenFault}
+use Rattle.checkpoint.specs.declared.open_fault.OpenFault.TheVariants as fault
+use Rattle.checkpoint.specs.Opened.{Looks}
+use Rattle.checkpoint.specs.Saved.{Holds}
 use Rattle.capability.specs.Parts.{Parts, frames_of, objects_in}
-use Rattle.object_cache.specs.Store.{Aside, FrozenFrames, Leads, OpensStore, View}
+use Rattle.object_store.specs.Store.{Aside, FrozenFrames, Leads, OpensStore, View}
 use Rattle.space_bank.specs.Banks.{AreCounted, BanksState}
 use Rattle.processes.proofs.Serving.{AreSame, same_frames, unfailed}
 use Rattle.kernel.specs.declared.power.Live.{Live}

@@ -16,8 +16,8 @@ use Rattle.model.specs.Machine.{renewing, untouched}
 use Rattle.model.specs.Revoke.{is_given_up}
 use Rattle.capability.specs.Parts.{Parts, Renews, frames_of, objects_in}
 use Rattle.capability.proofs.Frames.{headers_in}
-use Rattle.migrator.specs.Saved.{SavedFrames, home_saved}
-use Rattle.object_cache.specs.Store.{Aside, FrozenFrames, moved, moved_saved}
+use Rattle.checkpoint.specs.Saved.{SavedFrames, home_saved}
+use Rattle.object_store.specs.Store.{Aside, FrozenFrames, moved, moved_saved}
 use Rattle.kernel.specs.Standing.{base_of, renewed_since}
 
 -- the count of allocations of a number, among frames

@@ -10,10 +10,9 @@ use Rattle.model.specs.Sound.{IsSound}
 use Rattle.model.specs.Step.{at_home, moved}
 use Rattle.capability.specs.Parts.{Parts, Renews, frames_of, objects_in}
 use Rattle.capability.proofs.Keeping.{keepable_later}
-use Rattle.migrator.specs.Put.{most}
-use Rattle.migrator.specs.Saved.{SavedFrames, home_saved}
-use Rattle.object_cache.specs.Store.{Aside, FrozenFrames, freezing, next_saved, moved_saved, stabilized}
-use Rattle.object_cache.specs.Store as store
+use Rattle.checkpoint.specs.Saved.{most, SavedFrames, home_saved}
+use Rattle.object_store.specs.Store.{Aside, FrozenFrames, freezing, next_saved, moved_saved, stabilized}
+use Rattle.object_store.specs.Store as store
 use Rattle.space_bank.specs.Banks.{AreCounted, BanksState}
 use Rattle.processes.proofs.Serving.{AreSame, same_frames}
 use Rattle.kernel.specs.Denotes.{saved_of, IsSoundSaved}

@@ -5,7 +5,7 @@ use Rattle.model.specs.Keepable.{IsSoundFrames, world_at}
 use Rattle.model.specs.Machine.{Saved}
 use Rattle.device.specs.Disk.{Image, Disk}
 use Rattle.device.specs.Moments.{LeavesOnly}
-use Rattle.migrator.specs.Saved.{SavedFrames, Holds}
+use Rattle.checkpoint.specs.Saved.{SavedFrames, Holds}
 
 -- the saved part that saved frames stand for
 abbrev pub saved_of : SavedFrames → Saved

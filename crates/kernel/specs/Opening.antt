@@ -13,12 +13,12 @@ use Rattle.device.specs.Disk.{Image, Disk}
 use Rattle.layout.specs.declared.bad_image.BadImage.{BadImage}
 use Rattle.layout.specs.declared.bad_image.BadImage.TheVariants as bad
 use Rattle.layout.specs.Image.{IsBadBy}
-use Rattle.migrator.specs.declared.open_fault.OpenFault.{OpenFault}
-use Rattle.migrator.specs.declared.open_fault.OpenFault.TheVariants as fault
-use Rattle.migrator.specs.Opened.{Looks}
-use Rattle.migrator.specs.Saved.{SavedFrames, Holds}
+use Rattle.checkpoint.specs.declared.open_fault.OpenFault.{OpenFault}
+use Rattle.checkpoint.specs.declared.open_fault.OpenFault.TheVariants as fault
+use Rattle.checkpoint.specs.Opened.{Looks}
+use Rattle.checkpoint.specs.Saved.{SavedFrames, Holds}
 use Rattle.capability.specs.Parts.{Parts}
-use Rattle.object_cache.specs.Store.{View}
+use Rattle.object_store.specs.Store.{View}
 use Rattle.consistency.specs.declared.reason.CheckFault.{CheckFault}
 use Rattle.consistency.specs.declared.reason.CheckFault.TheVariants as check
 use Rattle.consistency.specs.declared.reason.Inconsistency.{Inconsistency}

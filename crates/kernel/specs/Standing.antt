@@ -15,10 +15,10 @@ use Rattle.model.specs.Machine.{Frozen, Running, Machine, Up, Down, candidates}
 use Rattle.model.specs.Step.{Step, second}
 use Rattle.device.specs.Disk.{Disk}
 use Rattle.capability.specs.Parts.{Parts, frames_of, objects_in}
-use Rattle.migrator.specs.declared.checkpoint_fault.CheckpointFault.{CheckpointFault}
-use Rattle.migrator.specs.declared.checkpoint_fault.CheckpointFault.TheVariants as fault
-use Rattle.migrator.specs.declared.durable.access.Checkpoint.{Checkpoint}
-use Rattle.object_cache.specs.Store.{Aside, FrozenFrames, View}
+use Rattle.checkpoint.specs.declared.checkpoint_fault.CheckpointFault.{CheckpointFault}
+use Rattle.checkpoint.specs.declared.checkpoint_fault.CheckpointFault.TheVariants as fault
+use Rattle.checkpoint.specs.declared.committed.Checkpoint.{Checkpoint}
+use Rattle.object_store.specs.Store.{Aside, FrozenFrames, View}
 use Rattle.space_bank.specs.Banks.{AreCounted, BanksState}
 use Rattle.kernel.specs.declared.power.Live.{Live}
 use Rattle.kernel.specs.declared.power.Power.{Power}

@@ -5,10 +5,10 @@ ghost use Rattle.processes.specs.Machine.{IsToldOnce, IsUnlooked, answer_of};
 ghost use Rattle.kernel.specs.Standing.{IsCaused, IsSomeUp, ServesUp, disk_at, refusal_by};
 
 use crate::power::Live;
+use checkpoint::CheckpointFault;
 use device::{Device, Failed};
-use migrator::CheckpointFault;
 use model::{Answer, MAX_AGE, Refusal};
-use object_cache::ObjectStore;
+use object_store::ObjectStore;
 
 // What is answered where the store refuses.
 fn refused(fault: CheckpointFault) -> Result<Answer, Failed>

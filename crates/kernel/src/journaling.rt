@@ -8,7 +8,7 @@ ghost use Rattle.kernel.specs.Journal.{unjournaled_by};
 use crate::power::Live;
 use device::{Device, Failed};
 use model::{Answer, MAX_AGE, Refusal, Unjournaled};
-use object_cache::{JournalFault, ObjectStore};
+use object_store::{JournalFault, ObjectStore};
 
 // What is answered where the store refuses, by whether an object has the number.
 fn refused(fault: JournalFault, is_known: bool) -> Result<Answer, Failed>

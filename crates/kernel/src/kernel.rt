@@ -5,10 +5,10 @@ ghost use Rattle.kernel.specs.Standing.{HasNoneToMove, IsCaused, IsDeviceOf, IsT
 ghost use Rattle.kernel.specs.Opening.{Opens, RefusesToOpen};
 
 use crate::machine::Machine;
+use checkpoint::{Checkpoint, OpenRefused};
 use device::Device;
-use migrator::{Checkpoint, OpenRefused};
 use model::{Answer, Command};
-use object_cache::ObjectStore;
+use object_store::ObjectStore;
 use std::alloc::Global;
 use std::marker::Model;
 

@@ -12,10 +12,10 @@ ghost use Rattle.kernel.specs.Opening.{IsNoReason, IsSomeDown, Opens, RefusesToO
 use crate::power::{Live, Power};
 use crate::serving::serve;
 use crate::waking::wake;
+use checkpoint::{OpenFault, OpenRefused};
 use device::{Device, Failed};
-use migrator::{OpenFault, OpenRefused};
 use model::{Answer, Command, Refusal};
-use object_cache::ObjectStore;
+use object_store::ObjectStore;
 use std::alloc::Global;
 use std::mem;
 

@@ -1,9 +1,9 @@
 // Whether a machine is up.
 ghost use Rattle.kernel.specs.Standing.{HasDevice, IsDeviceOf, IsTold};
 
+use checkpoint::Checkpoint;
 use device::Device;
-use migrator::Checkpoint;
-use object_cache::ObjectStore;
+use object_store::ObjectStore;
 use space_bank::Banks;
 
 /// A store that serves.

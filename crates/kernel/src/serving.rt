@@ -10,7 +10,7 @@ use crate::power::Live;
 use crate::{checkpoints, journaling};
 use device::{Device, Failed};
 use model::{Answer, Command, Refusal};
-use object_cache::ObjectStore;
+use object_store::ObjectStore;
 use std::alloc::Global;
 
 // Asks that an object leave memory. It is refused by `BadNumber` where no object has the number. It

@@ -7,11 +7,11 @@ ghost use Rattle.kernel.specs.Opening.{IsUnfit, RefusesToOpen, Wakes, fault_of};
 
 use crate::power::Live;
 use capability::{PrepareFault, PresentFrames};
+use checkpoint::{OpenFault, OpenRefused};
 use consistency::{CheckFault, Inconsistency, check};
 use device::Device;
 use layout::BadImage;
-use migrator::{OpenFault, OpenRefused};
-use object_cache::ObjectStore;
+use object_store::ObjectStore;
 use space_bank::Banks;
 use std::alloc::Global;
 

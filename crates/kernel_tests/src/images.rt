@@ -4,7 +4,7 @@ ghost use Rattle.model.specs.Keepable.{AreKeepable, IsSoundFrames};
 ghost use Rattle.capability.specs.Parts.{frames_of};
 ghost use Rattle.capability.specs.Plain.{parts_of};
 ghost use Rattle.device.specs.Disk.{Image};
-ghost use Rattle.migrator.specs.Saved.{Holds};
+ghost use Rattle.checkpoint.specs.Saved.{Holds};
 ghost use Rattle.image_writer.specs.Written.{first_saved};
 
 use crate::worlds::{f0, i0};

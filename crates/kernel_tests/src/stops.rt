@@ -1,10 +1,10 @@
 // Devices that stop or lose power, and what is answered then.
 use crate::images::{second_world, written};
 use crate::kernels::opened;
+use checkpoint::{Checkpoint, OpenFault, OpenRefused};
 use device::Device;
 use kernel::Kernel;
 use memory_device::{Fuse, Memory, Outcome};
-use migrator::{Checkpoint, OpenFault, OpenRefused};
 use object_cache::PlainStore;
 use runs::run;
 use std::alloc::Global;

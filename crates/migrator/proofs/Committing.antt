@@ -29,15 +29,16 @@ use Rattle.ckpt_log.proofs.Places.{frames_in_slots, directories_inside, slots_sp
 use Rattle.migrator.specs.declared.table.Place.{Place}
 use Rattle.migrator.specs.declared.table.Place.TheVariants.{Nowhere, Torn, Whole}
 use Rattle.migrator.specs.Table.{place_at, slot_of, taken_count, whole_count, has_slot, IsTable, entries_of}
-use Rattle.migrator.specs.Put.{Put, Absent, put_at, put_or, overlaid, most, slot_bytes, put_of, puts_in, ArePut}
-use Rattle.migrator.specs.Saved.{SavedFrames, kept_of, Holds, LeavesEither}
+use Rattle.migrator.specs.Put.{Put, Absent, put_at, put_or, overlaid, slot_bytes, put_of, puts_in, ArePut}
+use Rattle.checkpoint.specs.Saved.{most, SavedFrames, kept_of, Holds, LeavesEither}
 use Rattle.migrator.proofs.GoingOn.{holds}
 use Rattle.migrator.specs.Durable.{Books, frozen_generation, working_generation, generation_after, Stored, saved_state, frozen_of, stored_in, IsRunning, IsKept, LeavesState, next_header, next_saved, stored_after_commit, books_of}
 use Rattle.migrator.specs.Saving.{MaySave, SavesOnly}
 use Rattle.migrator.specs.Spared.{SparesFrames, Spares}
 use Rattle.migrator.proofs.Tables.{all_whole, whole_taken, entries_directory, length_entries, slot_entries, blank_at, blank_table, tally-blank}
 use Rattle.migrator.proofs.Spared.{state_stays}
-use Rattle.migrator.proofs.Kept.{maps_same, SparesKept, stored_stays, kept_on}
+use Rattle.checkpoint.proofs.Lists.{maps_same}
+use Rattle.migrator.proofs.Kept.{SparesKept, stored_stays, kept_on}
 use Rattle.migrator.proofs.PlacesApart.{in_slot, at_home, frame_apart, home_apart, slot_fits, spares_other, homes_behind, no_slots}
 use Rattle.migrator.proofs.Putting.{put_is, other_parity, half_spares, none_spares, homes_spare}
 

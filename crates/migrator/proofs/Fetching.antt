@@ -22,7 +22,7 @@ use Rattle.frame_io.specs.Calls.{ReadsOnly}
 use Rattle.frame_io.specs.Frames.{IsRefused}
 use Rattle.frame_io.specs.declared.fault.ReadFault.{ReadFault}
 use Rattle.frame_io.specs.declared.fault.ReadFault.TheVariants as fault
-use Rattle.migrator.specs.Saved.{Holds}
+use Rattle.checkpoint.specs.Saved.{Holds}
 use Rattle.migrator.specs.Durable.{Books, DurableState, frozen_generation, working_generation, below_at, frozen_put, frozen_of, newest, IsRunning, stored_in, saved_state, LeavesState, IsKept, GoesOnDisk, ReadsStore}
 use Rattle.migrator.proofs.GoingOn.{holds}
 

@@ -22,7 +22,7 @@ use Rattle.home_ranges.specs.Laws.{home_extent}
 use Rattle.ckpt_log.specs.Places.{directory_extent}
 use Rattle.migrator.specs.declared.table.Place.TheVariants.{Nowhere}
 use Rattle.migrator.specs.Table.{place_at}
-use Rattle.migrator.specs.Saved.{kept_of, home_saved, Holds, LeavesEither}
+use Rattle.checkpoint.specs.Saved.{kept_of, home_saved, Holds, LeavesEither}
 use Rattle.migrator.specs.Durable.{Books, frozen_generation, working_generation, generation_after, Stored, saved_state, stored_in, IsRunning, IsKept, LeavesState, home_header, finished}
 use Rattle.migrator.specs.Saving.{MaySave, SavesOnly}
 use Rattle.migrator.specs.Spared.{SparesFrames, Spares}

@@ -17,9 +17,10 @@ use Rattle.migrator.specs.declared.table.Place.{Place}
 use Rattle.migrator.specs.declared.table.Place.TheVariants.{Nowhere, Whole}
 use Rattle.migrator.specs.Table.{place_at, taken_count, has_slot, IsTable}
 use Rattle.migrator.specs.Put.{Absent, ArePut}
-use Rattle.migrator.specs.Saved.{Holds}
+use Rattle.checkpoint.specs.Saved.{Holds}
 use Rattle.migrator.specs.Durable.{Books, books_of, stored_in, saved_state, IsKept, IsSoundOn}
-use Rattle.migrator.specs.Opened.{IsRead, Looks}
+use Rattle.migrator.specs.Opened.{IsRead}
+use Rattle.checkpoint.specs.Opened.{Looks}
 use Rattle.migrator.proofs.Tables.{blank_at, blank_table, tally-blank}
 use Rattle.migrator.proofs.Freezing.{puts_blank}
 use Rattle.migrator.proofs.GoingOn.{holds}

@@ -15,7 +15,8 @@ use Rattle.ckpt_log.specs.Places.{place_extent}
 use Rattle.migrator.specs.declared.table.Place.{Place}
 use Rattle.migrator.specs.declared.table.Place.TheVariants.{Torn, Whole}
 use Rattle.migrator.specs.Table.{taken_count, slot_for}
-use Rattle.migrator.specs.Put.{Put, Broken, Kept, most, slot_bytes, slot_frame, puts_in, ArePut}
+use Rattle.migrator.specs.Put.{Put, Broken, Kept, slot_bytes, slot_frame, puts_in, ArePut}
+use Rattle.checkpoint.specs.Saved.{most}
 use Rattle.migrator.specs.Durable.{Books, frozen_generation, working_generation, generation_after, FrozenPuts, Stored, GoesOnDisk, stored_in, frozen_of, with_put, IsRunning, IsKept, with_frozen, with_frozen}
 use Rattle.migrator.specs.Spared.{Spares}
 use Rattle.migrator.proofs.Kept.{SparesKept, stored_stays, kept_on}

@@ -5,7 +5,7 @@ use Rattle.device.proofs.Moments.{leaves_weaker}
 use Rattle.layout.specs.declared.extent.Extent.{Extent}
 use Rattle.layout.specs.Image.{Encodes, SavedState}
 use Rattle.migrator.specs.Durable.{Books, saved_state, LeavesState, GoesOnDisk}
-use Rattle.migrator.specs.Saved.{kept_of, Holds}
+use Rattle.checkpoint.specs.Saved.{kept_of, Holds}
 use Rattle.migrator.specs.Spared.{Spares, Touches}
 use Rattle.migrator.proofs.Spared.{sound_spared, moments_spared}
 

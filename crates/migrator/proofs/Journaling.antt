@@ -42,13 +42,14 @@ use Rattle.ckpt_log.proofs.Places.{slots_inside}
 use Rattle.migrator.specs.declared.table.Place.{Place}
 use Rattle.migrator.specs.declared.table.Place.TheVariants.{Nowhere, Torn, Whole}
 use Rattle.migrator.specs.Table.{place_at}
-use Rattle.migrator.specs.Put.{Put, Kept, most, slot_bytes, put_of, puts_in, ArePut}
-use Rattle.migrator.specs.Saved.{SavedFrames, kept_of, Holds, LeavesSaved, LeavesEither}
-use Rattle.migrator.specs.Durable.{Books, books_of, DurableState, frozen_generation, working_generation, generation_after, FrozenPuts, Stored, saved_state, frozen_of, stored_in, stored_of, IsRunning, IsKept, LeavesState, GoesOnDisk, replaced_saved, replaced, with_words, replaced_header, stored_after_journal, journaled_saved, first_bytes, first_frame}
+use Rattle.migrator.specs.Put.{Put, Kept, slot_bytes, put_of, puts_in, ArePut}
+use Rattle.checkpoint.specs.Saved.{most, SavedFrames, kept_of, Holds, LeavesSaved, LeavesEither, replaced_saved, with_words, journaled_saved}
+use Rattle.migrator.specs.Durable.{Books, books_of, DurableState, frozen_generation, working_generation, generation_after, FrozenPuts, Stored, saved_state, frozen_of, stored_in, stored_of, IsRunning, IsKept, LeavesState, GoesOnDisk, replaced, replaced_header, stored_after_journal, first_bytes, first_frame}
 use Rattle.migrator.specs.Saving.{MaySave, SavesOnly}
 use Rattle.migrator.specs.Spared.{SparesFrames}
 use Rattle.migrator.proofs.Spared.{touches}
-use Rattle.migrator.proofs.Kept.{map_set, maps_same, SparesKept, stored_stays, kept_on}
+use Rattle.checkpoint.proofs.Lists.{maps_same}
+use Rattle.migrator.proofs.Kept.{map_set, SparesKept, stored_stays, kept_on}
 use Rattle.migrator.proofs.GoingOn.{holds, goes_spared}
 use Rattle.migrator.proofs.Later.{keepable_later}
 use Rattle.migrator.proofs.PlacesApart.{in_slot, at_home, frame_apart, home_apart, slot_fits, spares_log, no_slots}

@@ -20,20 +20,14 @@ use Rattle.ckpt_log.specs.Places.{place_extent}
 use Rattle.migrator.specs.declared.table.Place.{Place}
 use Rattle.migrator.specs.declared.table.Place.TheVariants.{Nowhere, Torn, Whole}
 use Rattle.migrator.specs.Table.{place_at}
-use Rattle.migrator.specs.Put.{Put, Kept, most, slot_bytes, put_of, puts_in, ArePut}
+use Rattle.migrator.specs.Put.{Put, Kept, slot_bytes, put_of, puts_in, ArePut}
+use Rattle.checkpoint.proofs.Lists.{maps_same}
+use Rattle.checkpoint.specs.Saved.{most, SavedFrames, kept_of}
 use Rattle.migrator.specs.Durable.{Books, frozen_generation, working_generation, FrozenPuts, Stored, saved_state, frozen_of, stored_in, IsHome, IsKept}
-use Rattle.migrator.specs.Saved.{SavedFrames, kept_of}
 use Rattle.migrator.specs.Spared.{SparesFrames}
 use Rattle.migrator.proofs.Spared.{frame_stays, state_stays, bytes_stay}
 
 -- ---- lists by number
-
-pub maps_same : {X : Type 0} (f g : ℕ → X) (n : ℕ) → ((i : ℕ) → i < n → f i ≡ g i) → map f (range_with_len 0 n) ≡ map g (range_with_len 0 n)
-maps_same f g n same =
-    same_lists (map f (range_with_len 0 n)) (map g (range_with_len 0 n)) (length-map-range_with_len f 0 n ∙ sym (length-map-range_with_len g 0 n))
-    (λ i d lt.
-    let few : i < n = omega (arith, lt, length-map-range_with_len f 0 n) in
-    get_or-map-range_with_len f 0 n i i d few (omega arith) ∙ same i few ∙ sym (get_or-map-range_with_len g 0 n i i d few (omega arith)))
 
 -- one of them is another
 pub map_set : {X : Type 0} (f g : ℕ → X) (n k : ℕ) (x : X) → k < n → g k ≡ x → ((i : ℕ) → i < n → (i ≡ k → ⊥) → g i ≡ f i) → map g (range_with_len 0 n) ≡ set (map f (range_with_len 0 n)) k x

@@ -5,7 +5,7 @@ use Rattle.std.proofs.lemmas.Bool.{eq-eqb, ne_eqb}
 use Rattle.device.specs.Disk.{Image, Disk}
 use Rattle.device.specs.Moments.{LeavesOnly}
 use Rattle.device.proofs.Moments.{leaves_weaker, leaves_on}
-use Rattle.migrator.specs.Saved.{SavedFrames, home_saved, Holds, LeavesEither}
+use Rattle.checkpoint.specs.Saved.{SavedFrames, home_saved, Holds, LeavesEither}
 use Rattle.migrator.specs.Durable.{Books, DurableState, Stored, stored_of, is_sound, MovedBy, IsLesser, finished, moved_saved, moved}
 use Rattle.migrator.proofs.Moving.{goes_trans, goes_none}
 

@@ -22,7 +22,7 @@ use Rattle.migrator.specs.declared.table.Place.{Place}
 use Rattle.migrator.specs.declared.table.Place.TheVariants.{Nowhere}
 use Rattle.migrator.specs.Table.{place_at, slot_of, IsTable, taken_count}
 use Rattle.migrator.specs.Put.{slot_bytes}
-use Rattle.migrator.specs.Saved.{SavedFrames, Holds}
+use Rattle.checkpoint.specs.Saved.{SavedFrames, Holds}
 use Rattle.migrator.specs.Durable.{Books, frozen_generation, working_generation, Stored, GoesOnDisk, saved_state, stored_in, IsHome, IsRunning, IsKept}
 use Rattle.migrator.specs.Spared.{Spares, Touches}
 use Rattle.migrator.proofs.Spared.{frame_stays}

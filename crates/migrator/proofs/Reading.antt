@@ -24,9 +24,10 @@ use Rattle.layout.proofs.Spelling.{denotes}
 use Rattle.frame_io.specs.Calls.{ReadsOnly}
 use Rattle.frame_io.specs.declared.fault.ReadFault.TheVariants as fault
 use Rattle.ckpt_log.specs.Log.{HasNoCommitted}
-use Rattle.migrator.specs.declared.open_fault.OpenFault.{OpenFault}
-use Rattle.migrator.specs.declared.open_fault.OpenFault.TheVariants as refusal
-use Rattle.migrator.specs.Opened.{IsBadAt, IsBadFor}
+use Rattle.checkpoint.specs.declared.open_fault.OpenFault.{OpenFault}
+use Rattle.checkpoint.specs.declared.open_fault.OpenFault.TheVariants as refusal
+use Rattle.migrator.specs.Opened.{IsBadAt}
+use Rattle.checkpoint.specs.Opened.{IsBadFor}
 use Rattle.migrator.specs.Durable.{LeavesState}
 
 time_on : (a b c : Disk) → ReadsOnly a b → ReadsOnly b c → Elapses a c

@@ -1,7 +1,6 @@
 -- A durable store: what it keeps in memory, and what that and the device make.
 use Rattle.std.specs.Prelude.{◌≡◌, ◌⊎◌, ◌==◌, if◌then◌else◌, ℕ, ◌+◌, ◌-◌, ◌^◌, ◌<◌, ◌≤◌, Option, Some, None, List, length, option_map, slice_set, take, replicate}
 use Rattle.model.specs.declared.frame.Frame.{Frame}
-use Rattle.model.specs.declared.object.Content.TheVariants as content
 use Rattle.model.specs.declared.object.Role.TheVariants as role
 use Rattle.model.specs.Frame.{frame_at}
 use Rattle.model.specs.Keepable.{AreKeepable}
@@ -21,7 +20,7 @@ use Rattle.migrator.specs.declared.table.Place.{Place}
 use Rattle.migrator.specs.declared.table.Place.TheVariants.{Nowhere}
 use Rattle.migrator.specs.Table.{place_at, taken_count}
 use Rattle.migrator.specs.Put.{Put, Absent, put_at, put_or, kept_count, overlaid, slot_bytes, slot_frame, puts_in, ArePut}
-use Rattle.migrator.specs.Saved.{SavedFrames, kept_of, home_saved, LeavesSaved}
+use Rattle.checkpoint.specs.Saved.{SavedFrames, kept_of, home_saved, LeavesSaved, replaced_saved, with_words}
 
 -- what is kept in memory: the committed header with its directory, of whose entries the first moved are home;
 -- where the frames of the checkpoint on its way were put, and how many objects it writes; and where those put since
@@ -229,20 +228,8 @@ pub record ReadsStore {D : Type 0} (disk : D → Disk) (old new : DurableState D
 
 -- ---- one object is saved anew
 
--- what is saved once another frame of an object is, at an age: its half is that of the saved generation again
-abbrev pub replaced_saved : ℕ → ℕ → Frame → SavedFrames → SavedFrames
-replaced_saved age n f s = record { geometry = s.geometry; frames = slice_set s.frames n f; generation = s.generation + 2; entries = 1; age = age }
-
 abbrev pub replaced : ℕ → ℕ → Frame → Stored → Stored
 replaced age n f s = record { working = s.working; frozen = s.frozen; saved = replaced_saved age n f s.saved; to_move = 1 }
-
--- the frame of a page with other words
-abbrev pub with_words : List ℕ → Frame → Frame
-with_words words f = record { header = f.header; content = content.Page words }
-
--- a page is saved with other words
-abbrev pub journaled_saved : ℕ → ℕ → List ℕ → SavedFrames → SavedFrames
-journaled_saved age n words s = replaced_saved age n (with_words words (frame_at s.frames n)) s
 
 abbrev pub stored_after_journal : ℕ → ℕ → List ℕ → Stored → Stored
 stored_after_journal age n words s = replaced age n (with_words words (frame_at s.saved.frames n)) s

@@ -1,8 +1,6 @@
 pub mod Table
 pub mod Put
-pub mod Saved
 pub mod Durable
-pub mod Refused
 pub mod Spared
 pub mod Saving
 pub mod Opened

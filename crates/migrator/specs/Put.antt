@@ -1,5 +1,5 @@
 -- The frames that were put into a half of the log.
-use Rattle.std.specs.Prelude.{◌≡◌, ◌≢◌, ◌⊎◌, ℕ, ◌+◌, ◌-◌, ◌<◌, ◌≤◌, ◌^◌, List, [], ◌∷◌, length, map, slice_index_or}
+use Rattle.std.specs.Prelude.{◌≡◌, ◌≢◌, ◌⊎◌, ℕ, ◌+◌, ◌<◌, ◌≤◌, List, [], ◌∷◌, length, map, slice_index_or}
 use Rattle.std.specs.List.{range_with_len}
 use Rattle.model.specs.declared.frame.Frame.{Frame}
 use Rattle.model.specs.Frame.{frame_at}
@@ -10,6 +10,7 @@ use Rattle.layout.specs.Image.{slot_sector}
 use Rattle.layout.specs.Spelt.{count_of}
 use Rattle.layout.specs.Superblock.{Plan}
 use Rattle.frame_io.specs.Frames.{bytes_at}
+use Rattle.checkpoint.specs.Saved.{most}
 use Rattle.migrator.specs.declared.table.Place.{Place}
 use Rattle.migrator.specs.declared.table.Place.TheVariants.{Nowhere, Torn, Whole}
 use Rattle.migrator.specs.Table.{place_at, IsTable, taken_count}
@@ -55,10 +56,6 @@ put_or (Kept put) f = put
 -- frames with those in their place that were put
 unfoldable pub overlaid : List Put → List Frame → List Frame
 overlaid puts fs = map (λ n. put_or (put_at puts n) (frame_at fs n)) (range_with_len 0 (length fs))
-
--- the greatest age: frames that are put can be kept at it
-abbrev pub most : ℕ
-most = 2 ^ 64 - 1
 
 -- the bytes of the frame of an object in a slot, and the frame that they would be
 abbrev pub slot_bytes : Image → Plan → ℕ → ℕ → ℕ → List ℕ

@@ -7,14 +7,14 @@ ghost use Rattle.layout.specs.Image.{slot_sector};
 ghost use Rattle.frame_io.specs.Calls.{WritesAt};
 ghost use Rattle.frame_io.specs.Frames.{IsObject};
 ghost use Rattle.migrator.specs.Table.{slot_for, whole_count};
-ghost use Rattle.migrator.specs.Put.{Broken, Kept, most, slot_bytes, puts_in, held_slot, sum_of, HasRoom};
+ghost use Rattle.migrator.specs.Put.{Broken, Kept, slot_bytes, puts_in, held_slot, sum_of, HasRoom};
+ghost use Rattle.checkpoint.specs.Saved.{most, LeavesEither, LeavesOneOf};
 ghost use Rattle.migrator.specs.Durable.{FrozenPuts, frozen_of, left_of, stored_of, is_sound, next_header, next_saved, stored_after_commit, MayCommit, with_working, with_frozen, freezing, GoesOn, working_generation, frozen_generation};
-ghost use Rattle.migrator.specs.Saved.{LeavesEither, LeavesOneOf};
-ghost use Rattle.migrator.specs.Refused.{IsPutAnswer, IsFreezeAnswer, IsCommitAnswer, IsRefused};
+ghost use Rattle.checkpoint.specs.Refused.{IsPutAnswer, IsFreezeAnswer, IsCommitAnswer, IsRefused};
 
-use crate::checkpoint_fault::CheckpointFault;
 use crate::save::save;
 use crate::table::{Place, Table};
+use checkpoint::CheckpointFault;
 use ckpt_log::Log;
 use device::{Device, Failed};
 use home_ranges::Home;
@@ -28,8 +28,7 @@ mod journal;
 mod migrate;
 mod open;
 
-pub use access::Checkpoint;
-pub use open::{OpenRefused, Opened};
+pub use open::Opened;
 
 /// What a device holds: the frames that are saved, those of a checkpoint on its way, and those that
 /// were put since.

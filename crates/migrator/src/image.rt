@@ -7,10 +7,11 @@ ghost use Rattle.layout.specs.Image.{HasPlan};
 ghost use Rattle.layout.specs.Spelt.{count_of, IsSpelt, AreSpelt, frame_read, frames_read};
 ghost use Rattle.frame_io.specs.Calls.{ReadsOnly};
 ghost use Rattle.frame_io.specs.Frames.{IsObject};
-ghost use Rattle.migrator.specs.Opened.{IsBadAt, IsBadFor, IsRead, CountsOpen, Looks};
+ghost use Rattle.migrator.specs.Opened.{IsBadAt, IsRead};
+ghost use Rattle.checkpoint.specs.Opened.{IsBadFor, CountsOpen, Looks};
 
-use crate::open_fault::OpenFault;
 use crate::read::{read_saved, read_superblock};
+use checkpoint::OpenFault;
 use ckpt_log::Log;
 use device::Device;
 use frame_io::ReadFault;

@@ -9,7 +9,8 @@ ghost use Rattle.frame_io.specs.Frames.{IsObject, IsRefused};
 ghost use Rattle.device.specs.Calls.{Counts};
 ghost use Rattle.layout.specs.Spelt.{IsSpelt, frame_read};
 ghost use Rattle.migrator.specs.Opened.{IsNoPlan};
-ghost use Rattle.migrator.specs.Put.{most, slot_bytes, slot_frame};
+ghost use Rattle.migrator.specs.Put.{slot_bytes, slot_frame};
+ghost use Rattle.checkpoint.specs.Saved.{most};
 
 use crate::find::find;
 use ckpt_log::Log;

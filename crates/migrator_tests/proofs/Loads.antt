@@ -12,7 +12,7 @@ use Rattle.model.specs.Keepable.{IsKeepable, AreKeepable, AreKeptWords}
 use Rattle.capability.proofs.Keeping.{frame_later}
 use Rattle.migrator.specs.Put.{Put, Absent, Broken, Kept, put_at, put_or, held_slot, sum_of, overlaid}
 use Rattle.migrator.specs.Durable.{FrozenPuts, Stored, with_working, with_frozen, with_put, freezing, next_saved, stored_after_commit, moved, moved_saved}
-use Rattle.migrator.specs.Saved.{SavedFrames, home_saved}
+use Rattle.checkpoint.specs.Saved.{SavedFrames, home_saved}
 use Rattle.migrator_tests.specs.Rig.{AreLight, IsLight, IsLightFor, IsLoad}
 
 -- ---- a page

@@ -10,7 +10,7 @@ use Rattle.device.specs.Disk.{Image, Disk}
 use Rattle.layout.specs.Image.{SavedState}
 use Rattle.layout.specs.Superblock.{Plan}
 use Rattle.migrator.specs.Put.{Put, Absent, Broken, Kept}
-use Rattle.migrator.specs.Saved.{SavedFrames, Holds}
+use Rattle.checkpoint.specs.Saved.{SavedFrames, Holds}
 use Rattle.migrator.specs.Durable.{DurableState, FrozenPuts, Stored, stored_of, is_sound, with_working, with_frozen, freezing, next_saved, stored_after_commit, stored_after_journal, moved, saved_state, GoesOn, ReadsStore}
 use Rattle.migrator.specs.Opened.{OpensDurable}
 use Rattle.migrator_tests.specs.Rig.{IsLight, IsLightFor, IsLoad, IsRig}

@@ -1,9 +1,10 @@
 // What a store answers, step by step.
 use crate::images::{AT_HOME, IN_LOG, LOGGED, OPENING, image};
 use crate::steps::{Step, try_each};
+use checkpoint::CheckpointFault;
 use device::{Device, Failed};
 use memory_device::Outcome;
-use migrator::{CheckpointFault, Durable};
+use migrator::Durable;
 use model::Role;
 use std::alloc::Global;
 use std::test::Fail;

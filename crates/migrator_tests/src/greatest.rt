@@ -1,9 +1,9 @@
 // An image of the greatest size, of which every second object is put.
 use crate::images::{build, opened};
 use crate::rig::Rig;
+use checkpoint::CheckpointFault;
 use device::{Device, Failed};
 use memory_device::{Memory, Outcome};
-use migrator::CheckpointFault;
 use model::Geometry;
 use std::alloc::Global;
 use std::test::Fail;

@@ -3,9 +3,10 @@ ghost use Rattle.std.specs.Prelude.{◌≡◌, true, None};
 ghost use Rattle.migrator.specs.Durable.{stored_of, MayJournal};
 
 use crate::frames::{frame, value_of};
+use checkpoint::{Checkpoint, CheckpointFault, OpenFault, OpenRefused};
 use device::{Device, Failed};
 use layout::Room;
-use migrator::{Checkpoint, CheckpointFault, Durable, OpenFault, OpenRefused, Opened};
+use migrator::{Durable, Opened};
 use model::{MAX_AGE, Role};
 use std::alloc::Global;
 use std::marker::Model;

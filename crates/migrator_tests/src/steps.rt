@@ -1,9 +1,9 @@
 // Calls of a store, and what each of them answers.
 use crate::images::{LOGGED, image, opened, put_header};
 use crate::rig::Rig;
+use checkpoint::{Checkpoint, CheckpointFault};
 use device::{Device, Failed};
 use memory_device::{Fuse, Outcome};
-use migrator::{Checkpoint, CheckpointFault};
 use std::alloc::Global;
 use std::process::Abort;
 use std::test::Fail;

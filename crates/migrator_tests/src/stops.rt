@@ -2,9 +2,9 @@
 use crate::images::{AT_HOME, IN_LOG, OPENING, OUTCOMES, image};
 use crate::rig::Rig;
 use crate::steps::{Step, Values, answered, take_from};
+use checkpoint::{OpenFault, OpenRefused};
 use device::Device;
 use memory_device::{Fuse, Memory, Outcome};
-use migrator::{OpenFault, OpenRefused};
 use std::alloc::Global;
 use std::process::Abort;
 use std::test::Fail;

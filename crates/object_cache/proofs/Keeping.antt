@@ -12,7 +12,8 @@ use Rattle.model.specs.Frame.{frame_at, frames_in}
 use Rattle.model.specs.Keepable.{AreKeepable}
 use Rattle.model.specs.Machine.{touched_count, touching}
 use Rattle.device.specs.Disk.{Disk}
-use Rattle.migrator.specs.Put.{kept_count, kept_frame, held_slot, put_at, most}
+use Rattle.migrator.specs.Put.{kept_count, kept_frame, held_slot, put_at}
+use Rattle.checkpoint.specs.Saved.{most}
 use Rattle.migrator.specs.Durable.{Stored, FrozenPuts, stored_of}
 use Rattle.capability.specs.Plain.{PlainState, HasRoom}
 use Rattle.capability.proofs.Touched.{marked_stays, length-touching}

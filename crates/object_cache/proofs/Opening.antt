@@ -20,18 +20,18 @@ use Rattle.device.specs.Moments.{Peeks}
 use Rattle.device.proofs.Images.{agrees_is}
 use Rattle.device.proofs.Moments.{leaves_weaker, leaves_on}
 use Rattle.layout.specs.Image.{IsBadBy}
-use Rattle.migrator.specs.declared.open_fault.OpenFault.{OpenFault}
-use Rattle.migrator.specs.declared.open_fault.OpenFault.TheVariants as refusal
+use Rattle.checkpoint.specs.declared.open_fault.OpenFault.{OpenFault}
+use Rattle.checkpoint.specs.declared.open_fault.OpenFault.TheVariants as refusal
 use Rattle.migrator.specs.Put.{Put, Absent, put_at, put_or}
-use Rattle.migrator.specs.Saved.{Holds}
-use Rattle.migrator.specs.Opened.{Looks, IsReason, Refuses}
+use Rattle.checkpoint.specs.Saved.{Holds}
+use Rattle.checkpoint.specs.Opened.{Looks, IsReason, Refuses}
 use Rattle.migrator.specs.Opened as below
 use Rattle.migrator.specs.Durable.{Stored, DurableState, stored_of, newest, frozen_put, ReadsStore}
 use Rattle.migrator.proofs.Moving.{goes_trans}
 use Rattle.capability.specs.Plain.{PlainState}
 use Rattle.object_cache.specs.declared.snapshot.Snapshot.{Snapshot}
 use Rattle.object_cache.specs.declared.snapshot.Snapshot.TheVariants.{Below}
-use Rattle.object_cache.specs.Store.{OpensStore}
+use Rattle.object_store.specs.Store.{OpensStore}
 use Rattle.object_cache.specs.PlainStore.{IsStore, present_frames, frozen_in, parts_of, view_of}
 use Rattle.object_cache.proofs.Stages.{absent_at, opened_stands}
 

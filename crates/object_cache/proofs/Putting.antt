@@ -6,7 +6,8 @@ use Rattle.std.proofs.lemmas.List.{get_or-set_same, get_or-set_other}
 use Rattle.model.specs.declared.frame.Frame.{Frame}
 use Rattle.model.specs.Frame.{frame_at}
 use Rattle.model.specs.Keepable.{AreKeepable, IsKeepable}
-use Rattle.migrator.specs.Put.{Put, Absent, Broken, Kept, put_at, put_or, kept_count, kept_frame, held_slot, most, HasRoom}
+use Rattle.migrator.specs.Put.{Put, Absent, Broken, Kept, put_at, put_or, kept_count, kept_frame, held_slot, HasRoom}
+use Rattle.checkpoint.specs.Saved.{most}
 use Rattle.migrator.specs.Durable.{Stored, FrozenPuts, frozen_put, left_of, with_frozen, with_put}
 use Rattle.capability.specs.Plain.{PlainState}
 use Rattle.object_cache.specs.declared.snapshot.Snapshot.{Snapshot}
@@ -14,7 +15,7 @@ use Rattle.object_cache.specs.declared.snapshot.Snapshot.TheVariants.{Below, Pre
 use Rattle.object_cache.specs.Frozen.{snapshot_at, frozen_frame, frozen_frames, is_pending, pending_count, AreFrozen}
 use Rattle.migrator.specs.Durable.{below_at}
 use Rattle.object_cache.specs.FrozenLaws.{frozen_at, frozen_equal}
-use Rattle.object_cache.specs.Store.{FrozenFrames, stabilized}
+use Rattle.object_store.specs.Store.{FrozenFrames, stabilized}
 use Rattle.object_cache.specs.PlainStore.{IsStore, present_frames, aside_in, frozen_in}
 use Rattle.object_cache.proofs.Counts.{sum-set, pending-set, held_less}
 

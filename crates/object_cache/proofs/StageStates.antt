@@ -5,15 +5,15 @@ use Rattle.model.specs.declared.frame.Frame.{Frame}
 use Rattle.model.specs.Keepable.{AreKeepable}
 use Rattle.model.specs.Machine.{touched_count, untouched}
 use Rattle.device.specs.Disk.{Disk}
-use Rattle.migrator.specs.Put.{held_slot, sum_of, most}
-use Rattle.migrator.specs.Saved.{SavedFrames, LeavesEither, LeavesOneOf}
+use Rattle.migrator.specs.Put.{held_slot, sum_of}
+use Rattle.checkpoint.specs.Saved.{most, SavedFrames, LeavesEither, LeavesOneOf}
 use Rattle.migrator.specs.Durable.{Stored, FrozenPuts, DurableState, left_of, stored_of, is_sound, freezing, stored_after_commit, next_saved, moved}
 use Rattle.migrator.specs.Durable as durable
 use Rattle.capability.specs.Plain.{PlainState}
 use Rattle.object_cache.specs.declared.snapshot.Snapshot.{Snapshot}
 use Rattle.object_cache.specs.Frozen.{snapshot_of, frozen_frames}
-use Rattle.object_cache.specs.Store as store
-use Rattle.object_cache.specs.Store.{FrozenFrames, Aside, IsStabilizeAnswer, MayCommit, left_in}
+use Rattle.object_store.specs.Store as store
+use Rattle.object_store.specs.Store.{FrozenFrames, Aside, MayCommit, left_in}
 use Rattle.object_cache.specs.PlainStore.{StoreState, IsStore, present_frames, aside_in, frozen_in, view_of}
 use Rattle.object_cache.proofs.Counts.{sum-absent}
 use Rattle.object_cache.proofs.Steps.{running_in}

@@ -12,17 +12,17 @@ use Rattle.model.specs.Frame.{blank_frame, frame_at}
 use Rattle.model.specs.Keepable.{AreKeepable}
 use Rattle.model.specs.Machine.{touched_count, untouched}
 use Rattle.model.specs.Sound.{object_count}
-use Rattle.migrator.specs.Put.{Put, Absent, put_at, put_or, overlaid, kept_count, kept_frame, held_slot, most}
-use Rattle.migrator.specs.Saved.{SavedFrames, home_saved}
+use Rattle.migrator.specs.Put.{Put, Absent, put_at, put_or, overlaid, kept_count, kept_frame, held_slot}
+use Rattle.checkpoint.specs.Saved.{most, SavedFrames, home_saved}
 use Rattle.migrator.specs.Durable.{Stored, FrozenPuts, left_of, frozen_put, freezing, stored_after_commit, moved}
-use Rattle.migrator.proofs.Kept.{maps_same}
+use Rattle.checkpoint.proofs.Lists.{maps_same}
 use Rattle.capability.specs.Plain.{PlainState}
 use Rattle.object_cache.specs.declared.snapshot.Snapshot.{Snapshot}
 use Rattle.object_cache.specs.declared.snapshot.Snapshot.TheVariants.{Below, Present, Copied}
 use Rattle.object_cache.specs.Frozen.{snapshot_at, snapshot_of, frozen_frame, frozen_frames, is_pending, AreFrozen}
 use Rattle.migrator.specs.Durable.{below_at}
 use Rattle.object_cache.specs.FrozenLaws.{length_frozen, frozen_at, frozen_equal}
-use Rattle.object_cache.specs.Store as store
+use Rattle.object_store.specs.Store as store
 use Rattle.object_cache.specs.PlainStore.{IsStore, present_frames, aside_in, frozen_in}
 use Rattle.object_cache.proofs.Counts.{sum-absent, none_pending, pending_marks}
 

@@ -5,14 +5,15 @@ use Rattle.model.specs.declared.frame.Frame.{Frame}
 use Rattle.model.specs.Frame.{frame_at}
 use Rattle.model.specs.Keepable.{IsKeepable}
 use Rattle.device.specs.Disk.{Disk}
-use Rattle.migrator.specs.Put.{Broken, Kept, HasRoom, most}
+use Rattle.migrator.specs.Put.{Broken, Kept, HasRoom}
+use Rattle.checkpoint.specs.Saved.{most}
 use Rattle.migrator.specs.Durable.{Stored, FrozenPuts, DurableState, GoesOn, left_of, stored_of, with_frozen}
 use Rattle.migrator.proofs.Moving.{goes_trans, goes_none}
 use Rattle.object_cache.specs.declared.snapshot.Snapshot.{Snapshot}
 use Rattle.object_cache.specs.declared.snapshot.Snapshot.TheVariants.{Below}
 use Rattle.object_cache.specs.Frozen.{snapshot_at, frozen_frame, frozen_frames, pending_count}
 use Rattle.migrator.specs.Durable.{below_at}
-use Rattle.object_cache.specs.Store.{FrozenFrames, Aside, stabilized}
+use Rattle.object_store.specs.Store.{FrozenFrames, Aside, stabilized}
 use Rattle.object_cache.specs.PlainStore.{StoreState, IsStore, PutsBy, present_frames, aside_in, frozen_in, view_of}
 use Rattle.object_cache.proofs.Putting.{room, frame_keepable, stands_put, aside_put, stands_torn, aside_torn}
 

@@ -11,7 +11,7 @@ use Rattle.model.specs.declared.frame.ObjectHeader.{ObjectHeader}
 use Rattle.model.specs.declared.object.Content.{Content}
 use Rattle.model.specs.Frame.{blank_frame, frame_at, frames_in, header_at, held_at}
 use Rattle.migrator.specs.Durable.{Stored}
-use Rattle.migrator.proofs.Kept.{maps_same}
+use Rattle.checkpoint.proofs.Lists.{maps_same}
 use Rattle.capability.proofs.Frames.{frame_in, frame_past}
 use Rattle.object_cache.specs.declared.snapshot.Snapshot.{Snapshot}
 use Rattle.object_cache.specs.declared.snapshot.Snapshot.TheVariants.{Below, Present, Copied}

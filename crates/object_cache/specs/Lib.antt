@@ -1,8 +1,6 @@
 pub use Rattle.capability.specs.Parts
-pub use Rattle.migrator.specs.Saved
-pub use Rattle.migrator.specs.Opened
-pub mod Store
-pub mod Journal
+pub use Rattle.checkpoint.specs.Saved
+pub use Rattle.checkpoint.specs.Opened
 pub mod Frozen
 pub mod PlainStore
 pub mod FrozenLaws

@@ -8,14 +8,15 @@ use Rattle.model.specs.Keepable.{AreKeepable}
 use Rattle.model.specs.Machine.{touched_count}
 use Rattle.model.specs.Sound.{object_count}
 use Rattle.device.specs.Disk.{Disk}
-use Rattle.migrator.specs.Put.{Absent, most}
+use Rattle.migrator.specs.Put.{Absent}
+use Rattle.checkpoint.specs.Saved.{most}
 use Rattle.migrator.specs.Durable.{DurableState, FrozenPuts, Stored, GoesOn, left_of, stored_of, is_sound}
 use Rattle.capability.specs.Parts.{Parts}
 use Rattle.capability.specs.Plain.{PlainState, HasRoom, IsThere, with_content_at}
 use Rattle.object_cache.specs.declared.snapshot.Snapshot.{Snapshot}
 use Rattle.object_cache.specs.declared.snapshot.Snapshot.TheVariants.{Below, Present}
 use Rattle.object_cache.specs.Frozen.{snapshot_at, frozen_frames, AreFrozen}
-use Rattle.object_cache.specs.Store.{FrozenFrames, Aside, View, stabilized}
+use Rattle.object_store.specs.Store.{FrozenFrames, Aside, View, stabilized}
 
 -- the durable store below, the present objects, and where the frozen frames of a checkpoint on its way are
 pub record StoreState (D : Type 0) : Type 0 where

@@ -10,10 +10,9 @@ use Rattle.model.specs.declared.object.Content.TheVariants as content
 use Rattle.model.specs.Frame.{blank_header, frame_at}
 use Rattle.model.specs.Machine.{touched_count}
 use Rattle.migrator.specs.Durable.{Stored, DurableState, stored_of, saved_state, is_sound}
-use Rattle.migrator.specs.Saved.{Holds, LeavesSaved}
+use Rattle.checkpoint.specs.Saved.{Holds, LeavesSaved, most}
 use Rattle.device.specs.Moments.{Peeks}
 use Rattle.device.proofs.Moments.{leaves_weaker, peeks_started}
-use Rattle.migrator.specs.Put.{most}
 use Rattle.model.specs.Keepable.{AreKeepable}
 use Rattle.device.specs.Disk.{Image, Disk}
 use Rattle.capability.specs.Parts.{Parts, with_header, with_both}
@@ -21,7 +20,7 @@ use Rattle.capability.specs.Plain.{PlainState, parts_of, with_content_at}
 use Rattle.object_cache.specs.declared.snapshot.Snapshot.{Snapshot}
 use Rattle.object_cache.specs.declared.snapshot.Snapshot.TheVariants.{Present}
 use Rattle.object_cache.specs.Frozen.{snapshot_at, frozen_frames}
-use Rattle.object_cache.specs.Store.{Leads}
+use Rattle.object_store.specs.Store.{Leads}
 use Rattle.object_cache.specs.PlainStore.{StoreState, IsStore, IsAnnouncedIn, GoesOnIn, present_frames, with_content_in, aside_in, frozen_frames_of, view_of}
 use Rattle.object_cache.specs.FrozenLaws.{frozen_same, frames_elsewhere}
 

@@ -2,15 +2,10 @@
 //! saved.
 #![tactic(auto)]
 
-mod journal_fault;
-mod page;
 mod plain_store;
 mod snapshot;
 mod snapshots;
-mod store;
 
-pub use journal_fault::JournalFault;
-pub use migrator::{Checkpoint, CheckpointFault, OpenFault, OpenRefused};
-pub use page::{may_journal, save_content, save_words};
-pub use plain_store::{PlainStore, held};
-pub use store::ObjectStore;
+pub use checkpoint::{Checkpoint, CheckpointFault, OpenFault, OpenRefused};
+pub use object_store::{JournalFault, ObjectStore};
+pub use plain_store::PlainStore;

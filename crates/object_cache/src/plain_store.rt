@@ -15,12 +15,10 @@ use model::{Cap, Content, Geometry};
 use std::alloc::{AllocError, Global};
 use std::marker::Model;
 
-mod checkpoint;
 mod journal;
 mod open;
+mod putting;
 mod stages;
-
-pub use open::held;
 
 /// An object store that holds all present objects in memory, from its opening on.
 #[derive(Drop)]

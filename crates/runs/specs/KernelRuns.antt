@@ -14,7 +14,7 @@ use Rattle.model.specs.Text.{Says, line_of}
 use Rattle.device.specs.Disk.{Image, Disk}
 use Rattle.device.specs.Moments.{LeavesOnly}
 use Rattle.capability.specs.Parts.{Parts}
-use Rattle.object_cache.specs.Store.{View}
+use Rattle.object_store.specs.Store.{View}
 use Rattle.kernel.specs.declared.power.Power.{Power}
 use Rattle.kernel.specs.Denotes.{DenotesOne}
 use Rattle.kernel.specs.Standing.{Stands, disk_of}

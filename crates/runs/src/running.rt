@@ -15,7 +15,7 @@ use device::Device;
 use kernel::Kernel;
 use memchr::memchr;
 use model::Line;
-use object_cache::ObjectStore;
+use object_store::ObjectStore;
 use script::{LineBuffer, RunFault, print_answer, print_bad_line};
 use std::alloc::Global;
 use std::io::Write;

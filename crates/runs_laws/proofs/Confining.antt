@@ -7,7 +7,7 @@ use Rattle.model.specs.Sound.{IsSound}
 use Rattle.device.specs.Disk.{Disk}
 use Rattle.confinement.proofs.Runs.{run_confined}
 use Rattle.capability.specs.Parts.{Parts}
-use Rattle.object_cache.specs.Store.{View}
+use Rattle.object_store.specs.Store.{View}
 use Rattle.kernel.specs.declared.power.Power.{Power}
 use Rattle.kernel.specs.declared.power.Power.TheVariants as power
 use Rattle.kernel.specs.Standing.{Stands}

@@ -8,10 +8,10 @@ use Rattle.model.specs.Step.{second}
 use Rattle.device.specs.Disk.{Image, Disk}
 use Rattle.device.specs.Moments.{LeavesOnly}
 use Rattle.device.proofs.Moments.{leaves_on, leaves_weaker, started}
-use Rattle.migrator.specs.declared.open_fault.OpenFault.{OpenFault}
-use Rattle.migrator.specs.declared.open_fault.OpenFault.TheVariants as fault
+use Rattle.checkpoint.specs.declared.open_fault.OpenFault.{OpenFault}
+use Rattle.checkpoint.specs.declared.open_fault.OpenFault.TheVariants as fault
 use Rattle.capability.specs.Parts.{Parts}
-use Rattle.object_cache.specs.Store.{View}
+use Rattle.object_store.specs.Store.{View}
 use Rattle.kernel.specs.declared.power.Power.{Power}
 use Rattle.kernel.specs.declared.power.Power.TheVariants as power
 use Rattle.kernel.specs.Denotes.{Denotes, DenotesOne}

@@ -14,10 +14,10 @@ use Rattle.model.specs.Text.{Says}
 use Rattle.model.specs.World.{object_at}
 use Rattle.device.specs.Disk.{Disk, Image}
 use Rattle.device.specs.Moments.{LeavesOnly}
-use Rattle.migrator.specs.declared.open_fault.OpenFault.{OpenFault}
+use Rattle.checkpoint.specs.declared.open_fault.OpenFault.{OpenFault}
 use Rattle.confinement.specs.Confinement.{AreBy, IsKept, with_free}
 use Rattle.capability.specs.Parts.{Parts}
-use Rattle.object_cache.specs.Store.{View}
+use Rattle.object_store.specs.Store.{View}
 use Rattle.kernel.specs.declared.power.Power.{Power}
 use Rattle.kernel.specs.Denotes.{Denotes}
 use Rattle.kernel.specs.Opening.{IsNoReason, Opens, RefusesToOpen}

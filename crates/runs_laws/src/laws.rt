@@ -3,7 +3,7 @@
 ghost use Rattle.runs_laws.specs.Laws.{CrashesAreSurvived, RunsAreConfined, SteadyRunsAgree};
 
 use device::Device;
-use object_cache::ObjectStore;
+use object_store::ObjectStore;
 
 /// Where the machine is up, memory doesn't run out and the device doesn't fail, what is written is
 /// settled by the machine at the start and the script: every store, and every device, writes the same.

@@ -4,7 +4,7 @@ ghost use Rattle.std.specs.List.{All, Contains};
 ghost use Rattle.model.specs.Frame.{held_at};
 ghost use Rattle.model.specs.Keepable.{AreKeepable};
 ghost use Rattle.capability.specs.Parts.{frames_of};
-ghost use Rattle.migrator.specs.Put.{most};
+ghost use Rattle.checkpoint.specs.Saved.{most};
 ghost use Rattle.bounded_cache.specs.Cache.{GoesOnIn, IsFetchedIn, parts_of, seat_at, with_seat};
 ghost use Rattle.bounded_cache.specs.Prepared.{IsRecentIn, on_device_with};
 

@@ -7,20 +7,21 @@ ghost use Rattle.model.specs.Object.{is_page, words_in};
 ghost use Rattle.model.specs.Sound.{object_count};
 ghost use Rattle.device.specs.Calls.{Counts};
 ghost use Rattle.capability.specs.Parts.{frames_of};
-ghost use Rattle.migrator.specs.Saved.{LeavesEither, LeavesOneOf};
-ghost use Rattle.migrator.specs.Durable.{stored_of, is_sound, left_of, newest, stored_after_journal, journaled_saved};
-ghost use Rattle.object_cache.specs.Journal.{IsJournalAnswer, IsTurnedAway, aside_after_journal, is_page_now, is_page_role, is_same_page, is_still_saved, next_journaled, words_now};
-ghost use Rattle.object_cache.specs.Store.{left_in};
+ghost use Rattle.checkpoint.specs.Saved.{LeavesEither, LeavesOneOf, journaled_saved};
+ghost use Rattle.migrator.specs.Durable.{stored_of, is_sound, left_of, newest, stored_after_journal};
+ghost use Rattle.object_store.specs.Journal.{IsJournalAnswer, IsTurnedAway, aside_after_journal, is_page_now, is_page_role, is_same_page, is_still_saved, next_journaled, words_now};
+ghost use Rattle.object_store.specs.Store.{left_in};
 ghost use Rattle.bounded_cache.specs.Journaled.{held_now};
 ghost use Rattle.bounded_cache.specs.Cache.{parts_of, view_of};
 
 use crate::cache::BoundedCache;
-use crate::entries::Entries;
+use cache_entries::Entries;
 use capability::ObjectTable;
 use device::{Device, Failed};
 use layout::Room;
 use migrator::Durable;
-use object_cache::{JournalFault, may_journal, save_content, save_words};
+use object_store::JournalFault;
+use store_parts::{may_journal, save_content, save_words};
 
 // Saves a page with the words that it has on the device. Fails exactly where the device does.
 fn save_read<D: Device>(

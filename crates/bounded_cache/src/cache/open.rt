@@ -1,18 +1,18 @@
 // Opening a device: no object is in memory but for its header.
 ghost use Rattle.std.specs.Prelude.{◌≡◌, ◌≤◌, [], None, false, length, replicate, IfOk, IfErr, OnOk};
-ghost use Rattle.migrator.specs.Opened.{Refuses};
-ghost use Rattle.object_cache.specs.Store.{OpensStore};
+ghost use Rattle.checkpoint.specs.Opened.{Refuses};
+ghost use Rattle.object_store.specs.Store.{OpensStore};
 ghost use Rattle.bounded_cache.specs.Cache.{parts_of, view_of};
 
 use crate::cache::BoundedCache;
-use crate::capacity::Capacity;
-use crate::entries::Entries;
 use crate::hand::Hand;
 use crate::headers::Headers;
+use cache_entries::{Capacity, Entries};
 use capability::ObjectTable;
+use checkpoint::{OpenFault, OpenRefused};
 use device::Device;
 use layout::Room;
-use migrator::{Durable, OpenFault, OpenRefused, Opened};
+use migrator::{Durable, Opened};
 use model::ObjectHeader;
 use number_set::NumberSet;
 use std::alloc::{AllocError, Global};

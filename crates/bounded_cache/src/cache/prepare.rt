@@ -5,14 +5,14 @@ ghost use Rattle.model.specs.Keepable.{AreKeepable};
 ghost use Rattle.model.specs.Machine.{touching, touched_count};
 ghost use Rattle.capability.specs.Parts.{frames_of};
 ghost use Rattle.capability.specs.Plain.{room_at};
-ghost use Rattle.migrator.specs.Put.{most};
+ghost use Rattle.checkpoint.specs.Saved.{most};
 ghost use Rattle.migrator.specs.Durable.{stored_of};
 ghost use Rattle.bounded_cache.specs.Memory.{Shared};
 ghost use Rattle.bounded_cache.specs.Cache.{GoesOnIn, IsAnnouncedIn, IsFetchedIn, owed_at, parts_of};
 ghost use Rattle.bounded_cache.specs.Prepared.{HasRoomIn, on_device_with};
 
 use crate::cache::BoundedCache;
-use crate::entry::is_shared;
+use crate::owed::is_shared;
 use capability::plain::rooms::blank;
 use capability::plain::touched::{fresh_count, mark};
 use capability::{MAX_FETCHED, PrepareFault};

@@ -12,8 +12,8 @@ use device::Device;
 use layout::Room;
 use migrator::Durable;
 use model::{Cap, Content, Role};
-use object_cache::held;
 use std::alloc::Global;
+use store_parts::held;
 
 // Reads the newest body of an object.
 fn read_newest<D: Device>(

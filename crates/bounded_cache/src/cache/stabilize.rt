@@ -1,17 +1,17 @@
 // Frozen frames are put in turn.
-ghost use Rattle.std.specs.Prelude.{◌≡◌, ◌≢◌, ◌⊎◌, ℕ, ◌-◌, ◌<◌, ◌≤◌, None, Some, length, true, IfErr, IfSome, OnOk, OnErr};
+ghost use Rattle.std.specs.Prelude.{◌≡◌, ◌≢◌, ◌⊎◌, ℕ, ◌-◌, ◌<◌, ◌≤◌, None, Some, true, IfErr, OnOk, OnErr};
 ghost use Rattle.device.specs.Calls.{Counts};
 ghost use Rattle.migrator.specs.Durable.{is_sound};
-ghost use Rattle.migrator.specs.Refused.{IsRefused};
-ghost use Rattle.migrator.specs.Saved.{LeavesSaved};
-ghost use Rattle.object_cache.specs.Store.{FrozenFrames, IsStabilizeAnswer, left_in, stabilized};
+ghost use Rattle.checkpoint.specs.Refused.{IsRefused};
+ghost use Rattle.checkpoint.specs.Saved.{LeavesSaved};
+ghost use Rattle.object_store.specs.Store.{FrozenFrames, IsStabilizeAnswer, left_in, stabilized};
 ghost use Rattle.bounded_cache.specs.declared.held.Held.{Held};
 ghost use Rattle.bounded_cache.specs.Memory.{Nothing, mark_at};
 ghost use Rattle.bounded_cache.specs.Cache.{GoesOnIn, PutsBy, on_device, on_device_frozen, owed_at, parts_of, pending_count, view_of};
 
 use crate::cache::BoundedCache;
+use checkpoint::CheckpointFault;
 use device::{Device, Failed};
-use migrator::CheckpointFault;
 
 impl<D: Device> BoundedCache<D> {
     // Takes the frozen body of an object up of which no entry has anything. At `Failed` all stays.

@@ -1,19 +1,18 @@
 // The stages of a checkpoint.
-ghost use Rattle.std.specs.Prelude.{◌≡◌, ℕ, ◌-◌, Some, IfOk, OnOk, OnErr};
+ghost use Rattle.std.specs.Prelude.{◌≡◌, ◌-◌, Some, IfOk, OnOk, OnErr};
 ghost use Rattle.model.specs.Keepable.{AreKeepable};
 ghost use Rattle.model.specs.Machine.{touched_count, untouched};
 ghost use Rattle.device.specs.Calls.{Counts};
 ghost use Rattle.capability.specs.Parts.{frames_of};
-ghost use Rattle.migrator.specs.Put.{most};
+ghost use Rattle.checkpoint.specs.Saved.{most, LeavesEither};
 ghost use Rattle.migrator.specs.Durable.{stored_of, is_sound};
-ghost use Rattle.migrator.specs.Saved.{LeavesEither};
-ghost use Rattle.migrator.specs.Refused.{IsCommitAnswer, IsFreezeAnswer, IsRefused};
-ghost use Rattle.object_cache.specs.Store.{FrozenFrames, MayCommit, aside_after_commit, freezing, left_in, moved, moved_saved, next_saved};
+ghost use Rattle.checkpoint.specs.Refused.{IsCommitAnswer, IsFreezeAnswer, IsRefused};
+ghost use Rattle.object_store.specs.Store.{FrozenFrames, MayCommit, aside_after_commit, freezing, left_in, moved, moved_saved, next_saved};
 ghost use Rattle.bounded_cache.specs.Cache.{parts_of, view_of};
 
 use crate::cache::BoundedCache;
+use checkpoint::{Checkpoint, CheckpointFault};
 use device::{Device, Failed};
-use migrator::{Checkpoint, CheckpointFault};
 use std::mem;
 
 impl<D: Device> BoundedCache<D> {

@@ -2,10 +2,10 @@
 ghost use Rattle.bounded_cache.specs.Cache.{view_of};
 
 use crate::cache::BoundedCache;
-use crate::capacity::Capacity;
+use cache_entries::Capacity;
+use checkpoint::{Checkpoint, CheckpointFault, OpenRefused};
 use device::{Device, Failed};
-use migrator::{Checkpoint, CheckpointFault, OpenRefused};
-use object_cache::{JournalFault, ObjectStore};
+use object_store::{JournalFault, ObjectStore};
 use std::alloc::Global;
 
 impl<D: Device> ObjectStore<D> for BoundedCache<D> {

@@ -11,18 +11,10 @@ ghost use Rattle.migrator.specs.Durable.{below_at, stored_of, newest, working_ge
 use crate::durable::Durable;
 use crate::read::{read_again, read_put};
 use crate::table::Place;
+use checkpoint::Checkpoint;
 use device::{Device, Failed};
 use layout::{Body, Room};
 use model::{Geometry, ObjectHeader};
-
-/// What is told of the committed checkpoint.
-#[derive(Clone, Copy, PartialEq, Eq, Debug)]
-pub struct Checkpoint {
-    pub generation: u64,
-    pub age: u64,
-    /// How many of its objects lie in the log.
-    pub entries: u64,
-}
 
 impl<D: Device> Durable<D> {
     /// How much there is room for.

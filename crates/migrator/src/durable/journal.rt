@@ -5,13 +5,13 @@ ghost use Rattle.layout.specs.Frame.{IsFrameOf};
 ghost use Rattle.model.specs.Frame.{frame_at};
 ghost use Rattle.model.specs.declared.object.Role.TheVariants as role;
 ghost use Rattle.frame_io.specs.Frames.{IsObject};
-ghost use Rattle.migrator.specs.Refused.{IsJournalAnswer, IsRefused};
-ghost use Rattle.migrator.specs.Saved.{LeavesEither};
-ghost use Rattle.migrator.specs.Durable.{stored_of, is_sound, left_of, first_bytes, first_frame, stored_after_journal, journaled_saved, MayJournal, replaced, replaced_header, replaced_saved, with_words, GoesOn, ReadsStore};
+ghost use Rattle.checkpoint.specs.Refused.{IsJournalAnswer, IsRefused};
+ghost use Rattle.checkpoint.specs.Saved.{LeavesEither, journaled_saved, replaced_saved, with_words};
+ghost use Rattle.migrator.specs.Durable.{stored_of, is_sound, left_of, first_bytes, first_frame, stored_after_journal, MayJournal, replaced, replaced_header, GoesOn, ReadsStore};
 
-use crate::checkpoint_fault::CheckpointFault;
 use crate::durable::Durable;
 use crate::save::save;
+use checkpoint::CheckpointFault;
 use device::{Device, Failed};
 use frame_io::read_header;
 use layout::{CheckpointHeader, Entry};

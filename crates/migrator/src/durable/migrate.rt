@@ -1,7 +1,7 @@
 // What is saved goes home.
 ghost use Rattle.std.specs.Prelude.{◌≡◌, ◌⊎◌, ℕ, ◌+◌, ◌-◌, ◌<◌, ◌≤◌, true, false, IfOk, OnOk, OnErr};
 ghost use Rattle.device.specs.Calls.{Counts};
-ghost use Rattle.migrator.specs.Saved.{LeavesEither, home_saved};
+ghost use Rattle.checkpoint.specs.Saved.{LeavesEither, home_saved};
 ghost use Rattle.migrator.specs.Durable.{stored_of, is_sound, MovedBy, IsLesser, finished, moved_saved, moved};
 
 use crate::copy::copy_home;

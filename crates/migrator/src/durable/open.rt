@@ -4,13 +4,14 @@ ghost use Rattle.device.specs.Calls.{Only};
 ghost use Rattle.layout.specs.Image.{HasPlan};
 ghost use Rattle.layout.specs.Superblock.{Plan};
 ghost use Rattle.frame_io.specs.Calls.{ReadsOnly};
-ghost use Rattle.migrator.specs.Opened.{IsBadFor, IsRead, CountsOpen, Looks, OpensDurable, Refuses};
+ghost use Rattle.migrator.specs.Opened.{IsRead, OpensDurable};
+ghost use Rattle.checkpoint.specs.Opened.{IsBadFor, CountsOpen, Looks, Refuses};
 ghost use Rattle.migrator.specs.Reserve.{IsReserve, IsTables};
 
 use crate::durable::Durable;
 use crate::image::{read_image, read_plan};
-use crate::open_fault::OpenFault;
 use crate::table::{Place, Table};
+use checkpoint::{OpenFault, OpenRefused};
 use ckpt_log::Log;
 use device::Device;
 use home_ranges::Home;
@@ -23,13 +24,6 @@ use std::alloc::{AllocError, Global};
 pub struct Opened<D: Device> {
     pub store: Durable<D>,
     pub headers: Vec<ObjectHeader>,
-}
-
-/// Why a device wasn't opened, and the device.
-#[derive(Drop)]
-pub struct OpenRefused<D> {
-    pub fault: OpenFault,
-    pub device: D,
 }
 
 // All the memory that a store takes, and that opening it takes.

@@ -4,15 +4,15 @@ ghost use Rattle.model.specs.declared.object.Role.TheVariants as role;
 ghost use Rattle.model.specs.Frame.{frame_at, held_at, header_at};
 ghost use Rattle.model.specs.Object.{is_page, words_in};
 ghost use Rattle.model.specs.Sound.{object_count};
-ghost use Rattle.migrator.specs.Saved.{LeavesOneOf};
+ghost use Rattle.checkpoint.specs.Saved.{LeavesOneOf};
 ghost use Rattle.migrator.specs.Durable.{stored_of, is_sound, left_of, stored_after_journal};
-ghost use Rattle.object_cache.specs.Journal.{IsJournalAnswer, IsTurnedAway, is_page_role, is_same_page, next_journaled};
+ghost use Rattle.object_store.specs.Journal.{IsJournalAnswer, IsTurnedAway, is_page_role, is_same_page, next_journaled};
 
-use crate::journal_fault::JournalFault;
-use crate::page::{may_journal, save_content};
 use capability::{Plain, PresentFrames};
 use device::Device;
 use migrator::Durable;
+use object_store::JournalFault;
+use store_parts::{may_journal, save_content};
 
 /// Saves a page with the words that it has now, where nothing refuses it.
 pub(crate) fn journal_page<D: Device>(

@@ -3,43 +3,29 @@ ghost use Rattle.std.specs.Prelude.{◌≡◌, ◌+◌, ◌<◌, ◌≤◌, ◌+
 ghost use Rattle.std.specs.List.{range_with_len};
 ghost use Rattle.model.specs.Machine.{untouched};
 ghost use Rattle.model.specs.Sound.{object_count};
-ghost use Rattle.layout.specs.Frame.{content_of};
 ghost use Rattle.frame_io.specs.Frames.{IsObject};
 ghost use Rattle.migrator.specs.Durable.{stored_of, newest, ReadsStore};
-ghost use Rattle.migrator.specs.Opened.{IsReason, Refuses};
+ghost use Rattle.checkpoint.specs.Opened.{IsReason, Refuses};
 ghost use Rattle.object_cache.specs.declared.snapshot.Snapshot.TheVariants.{Below};
-ghost use Rattle.object_cache.specs.Store.{OpensStore};
+ghost use Rattle.object_store.specs.Store.{OpensStore};
 ghost use Rattle.object_cache.specs.PlainStore.{parts_of, view_of};
 
 use crate::plain_store::PlainStore;
 use crate::snapshots::Snapshots;
 use capability::Plain;
+use checkpoint::{OpenFault, OpenRefused};
 use device::Device;
-use layout::{Body, Room};
-use migrator::{Durable, OpenFault, OpenRefused, Opened};
+use layout::Room;
+use migrator::{Durable, Opened};
 use model::{Cap, Content, Geometry, ObjectHeader};
 use std::alloc::{AllocError, Global};
+use store_parts::held;
 
 // The present objects, and where the frozen frames are.
 #[derive(Drop)]
 struct Objects {
     present: Plain,
     snapshots: Snapshots,
-}
-
-/// What an object holds, of which the body was read, in memory of its own. The slots of a node or
-/// an annex and the words of a page are those in `room`. Fails only where memory runs out.
-pub fn held(alloc: Global, body: Body, room: &Room) -> Result<Content<Cap>, AllocError>
-    ensures { IfOk result (λ content. content ≡ content_of body room.now.slots room.now.words) }
-{
-    match body {
-        Body::Free => Ok(Content::Free),
-        Body::Page => Ok(Content::Page(room.words.copy(alloc)?)),
-        Body::Node => Ok(Content::Node(room.slots.copy(alloc)?)),
-        Body::Root(root) => Ok(Content::Root(root)),
-        Body::Annex => Ok(Content::Annex(room.slots.copy(alloc)?)),
-        Body::Bank { limit } => Ok(Content::Bank { limit }),
-    }
 }
 
 // Reads what an object holds.

@@ -1,15 +1,14 @@
 // The stages of a checkpoint.
 ghost use Rattle.object_cache.specs.PlainStore.{view_of};
 
-use crate::journal_fault::JournalFault;
 use crate::plain_store::PlainStore;
 use crate::plain_store::journal::journal_page;
 use crate::plain_store::open::open_plain;
 use crate::snapshots::freeze_written;
-use crate::store::ObjectStore;
 use capability::PresentFrames;
+use checkpoint::{Checkpoint, CheckpointFault, OpenRefused};
 use device::{Device, Failed};
-use migrator::{Checkpoint, CheckpointFault, OpenRefused};
+use object_store::{JournalFault, ObjectStore};
 use std::alloc::Global;
 
 impl<D: Device> ObjectStore<D> for PlainStore<D> {

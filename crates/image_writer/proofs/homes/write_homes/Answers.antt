@@ -2,7 +2,7 @@ use Rattle.std.proofs.Common.{rules, ◌≡◌, ◌<◌, ◌∙◌, inr}
 use Rattle.layout.specs.Frame.{frame_length}
 use Rattle.home_ranges.specs.Home.{home_place}
 use Rattle.home_ranges.proofs.Places.{places_within}
-use Rattle.image_writer.proofs.ClosedGates.{closed_first, closed_on, leaves_closed}
+use Rattle.image_writer.proofs.ClosedGates.{closed_on, leaves_closed}
 use Rattle.image_writer.proofs.HomeFrames.{stays_between, one_more}
 use Rattle.image_writer.proofs.homes.write_homes.Goals as goal
 

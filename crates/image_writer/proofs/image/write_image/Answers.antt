@@ -3,7 +3,7 @@ use Rattle.device.specs.Disk.{Image}
 use Rattle.device.proofs.Images.{elsewhere_on}
 use Rattle.layout.specs.Gate.{is_open}
 use Rattle.model.specs.Frame.{frames_in}
-use Rattle.migrator.specs.Saved.{Holds}
+use Rattle.checkpoint.specs.Saved.{Holds}
 use Rattle.image_writer.specs.Written.{first_saved, first_state}
 use Rattle.image_writer.proofs.FreshImages.{denotes, durable_is, five, not_yet, on_ok, opening_run, widened}
 use Rattle.image_writer.proofs.image.write_image.Goals as goal

@@ -2,11 +2,11 @@ use Rattle.std.proofs.Common.{ℕ, ◌≡◌, ◌+◌, ◌∙◌, ap, length, sy
 use Rattle.std.specs.Prelude.{nat_lt}
 use Rattle.model.specs.declared.answer.Answer.{Answer}
 use Rattle.model.specs.declared.command.Command.TheVariants as command
-use Rattle.migrator.specs.Saved.{LeavesOneOf}
+use Rattle.checkpoint.specs.Saved.{LeavesOneOf}
 use Rattle.processes.specs.Machine.{IsUnlooked}
 use Rattle.processes.proofs.Serving.{AreSame}
-use Rattle.object_cache.specs.Store.{left_in}
-use Rattle.object_cache.specs.Journal.{is_page_now, is_still_saved, aside_after_journal, next_journaled, words_now}
+use Rattle.object_store.specs.Store.{left_in}
+use Rattle.object_store.specs.Journal.{is_page_now, is_still_saved, aside_after_journal, next_journaled, words_now}
 use Rattle.kernel.specs.Standing.{IsCaused, ServesUp}
 use Rattle.kernel.proofs.Acts.{with_store}
 use Rattle.kernel.proofs.Journals.{journal_cause, journal_refused, journal_went, lies_past, lies_within, sound_done, too_old, unlooked_same}

@@ -1,5 +1,6 @@
 use Rattle.layout.specs.Frame.{frame_of}
-use Rattle.migrator.specs.Put.{most, slot_bytes, slot_frame}
+use Rattle.migrator.specs.Put.{slot_bytes, slot_frame}
+use Rattle.checkpoint.specs.Saved.{most}
 use Rattle.migrator.proofs.Fetching.{read_is, only_failed}
 use Rattle.migrator.proofs.read.read_put.Goals as goal
 

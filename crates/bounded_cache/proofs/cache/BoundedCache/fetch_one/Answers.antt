@@ -1,6 +1,6 @@
 use Rattle.std.proofs.Common.{◌∷◌, sym, subst, ◌∙◌}
 use Rattle.bounded_cache.specs.Memory.{memory_of}
-use Rattle.bounded_cache.specs.Order.{without}
+use Rattle.cache_entries.specs.Order.{without}
 use Rattle.bounded_cache.specs.Cache.{CacheState, GoesOnIn}
 use Rattle.bounded_cache.specs.Prepared.{IsRecentIn}
 use Rattle.bounded_cache.proofs.Bringing.{use_first, use_recent}

@@ -1,5 +1,5 @@
 use Rattle.std.proofs.Common.{set, None}
-use Rattle.bounded_cache.specs.Order.{without}
+use Rattle.cache_entries.specs.Order.{without}
 use Rattle.bounded_cache.specs.CacheLaws.{goes_on_twice}
 use Rattle.bounded_cache.proofs.Leading.{leads_seats}
 use Rattle.bounded_cache.proofs.cache.BoundedCache.put_away.Goals as goal

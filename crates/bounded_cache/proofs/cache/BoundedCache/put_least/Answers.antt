@@ -1,5 +1,5 @@
 use Rattle.std.proofs.Common.{refl, sym, ◌∙◌, ◌<◌, ◌≡◌, length, take, subst, None}
-use Rattle.migrator.specs.Put.{most}
+use Rattle.checkpoint.specs.Saved.{most}
 use Rattle.migrator.specs.Durable.{stored_of}
 use Rattle.capability.proofs.Keeping.{keepable_at}
 use Rattle.bounded_cache.specs.Cache.{CacheState, on_device, parts_of, seat_at, without_seat}

@@ -1,6 +1,6 @@
 use Rattle.std.proofs.Common.{sym, ap, ◌∙◌}
 use Rattle.std.specs.Prelude.{option_copied}
-use Rattle.bounded_cache.specs.Entries.{entry_at}
+use Rattle.cache_entries.specs.Entries.{entry_at}
 use Rattle.bounded_cache.proofs.Objects.{has_entry}
 use Rattle.bounded_cache.proofs.Outcomes.{on_err}
 use Rattle.bounded_cache.proofs.Owing.{none_there}

@@ -1,9 +1,9 @@
 use Rattle.std.proofs.Common.{sym, subst, ap, ◌∙◌, ℕ, Option, Some}
 use Rattle.std.proofs.lemmas.Option.{same_Some}
 use Rattle.migrator.specs.Durable.{is_sound, stored_of}
-use Rattle.migrator.specs.Refused.{IsCommitAnswer}
-use Rattle.migrator.specs.Saved.{LeavesEither}
-use Rattle.object_cache.specs.Store.{FrozenFrames, next_saved}
+use Rattle.checkpoint.specs.Refused.{IsCommitAnswer}
+use Rattle.checkpoint.specs.Saved.{LeavesEither}
+use Rattle.object_store.specs.Store.{FrozenFrames, next_saved}
 use Rattle.bounded_cache.specs.Cache.{CacheState}
 use Rattle.bounded_cache.proofs.Homes.{save_left, save_ready, save_moments, save_stands, save_contents, save_rest, save_aside}
 use Rattle.bounded_cache.specs.Memory.{memory_of}

@@ -1,8 +1,8 @@
 use Rattle.std.proofs.Common.{◌≤◌, None, refl, sym, ap, subst, ◌∙◌}
 use Rattle.model.specs.declared.object.Content.TheVariants as content
 use Rattle.migrator.specs.Durable.{stored_of}
-use Rattle.bounded_cache.specs.declared.entry.Entry.{Entry}
-use Rattle.bounded_cache.specs.Order.{EntriesState, with_new}
+use Rattle.cache_entries.specs.declared.entry.Entry.{Entry}
+use Rattle.cache_entries.specs.Order.{EntriesState, with_new}
 use Rattle.bounded_cache.specs.Memory.{memory_of}
 use Rattle.bounded_cache.specs.Cache.{CacheState, IsCache, IsFetchedIn, cache_of}
 use Rattle.bounded_cache.proofs.Outcomes.{either_way, ok_then}

@@ -1,6 +1,6 @@
 use Rattle.std.proofs.Common.{◌∷◌, ap}
 use Rattle.bounded_cache.specs.Memory.{memory_of}
-use Rattle.bounded_cache.specs.Order.{without}
+use Rattle.cache_entries.specs.Order.{without}
 use Rattle.bounded_cache.specs.Cache.{CacheState}
 use Rattle.bounded_cache.proofs.Objects.{has_entry}
 use Rattle.bounded_cache.proofs.cache.BoundedCache.use_now.Goals as goal

@@ -3,7 +3,7 @@ use Rattle.layout.specs.declared.directory.Entry.{Entry}
 use Rattle.layout.specs.Image.{SavedState}
 use Rattle.model.specs.Keepable.{AreKeepable}
 use Rattle.migrator.specs.Table.{whole_count}
-use Rattle.migrator.specs.Saved.{LeavesEither}
+use Rattle.checkpoint.specs.Saved.{LeavesEither}
 use Rattle.migrator.specs.Durable.{Books, books_of, stored_of, stored_in, frozen_of, is_sound, next_header, next_saved, stored_after_commit, saved_state, IsKept, LeavesState}
 use Rattle.migrator.proofs.Tables.{rewritten}
 use Rattle.migrator.proofs.Saving.{on_err}

@@ -1,7 +1,8 @@
 use Rattle.std.proofs.Common.{◌∙◌, ℕ, sym, ap, subst}
 use Rattle.frame_io.specs.Frames.{IsObject}
 use Rattle.layout.specs.Frame.{IsFrameOf}
-use Rattle.migrator.specs.Put.{most, slot_bytes, slot_frame}
+use Rattle.migrator.specs.Put.{slot_bytes, slot_frame}
+use Rattle.checkpoint.specs.Saved.{most}
 use Rattle.migrator.specs.Durable.{Books, books_of, ReadsStore, working_generation}
 use Rattle.migrator.proofs.Fetching.{fetched_kept, reads_store, whole_low}
 use Rattle.migrator.proofs.durable.Durable.fetch_working.Goals as goal

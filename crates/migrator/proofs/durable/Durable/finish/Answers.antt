@@ -1,6 +1,6 @@
 use Rattle.std.proofs.Common.{◌≡◌, ◌<◌, sym, subst}
 use Rattle.layout.specs.Image.{SavedState}
-use Rattle.migrator.specs.Saved.{LeavesEither, home_saved}
+use Rattle.checkpoint.specs.Saved.{LeavesEither, home_saved}
 use Rattle.migrator.specs.Durable.{Books, books_of, stored_of, stored_in, is_sound, finished, IsKept, LeavesState}
 use Rattle.migrator.proofs.Saving.{on_err}
 use Rattle.migrator.proofs.Finishing.{home_books, may_finish, finished_kept, finished_stored, finished_state, unfinished_kept, unfinished_stored, finish_moments}

@@ -2,7 +2,8 @@ use Rattle.std.proofs.Common.{◌≡◌, ◌∙◌, ◌≤◌, ◌<◌, ◌+◌,
 use Rattle.model.specs.Frame.{frame_at}
 use Rattle.model.specs.declared.object.Role.TheVariants as role
 use Rattle.layout.specs.Frame.{IsFrameOf}
-use Rattle.migrator.specs.Durable.{Books, Stored, books_of, stored_of, first_bytes, with_words, GoesOn}
+use Rattle.migrator.specs.Durable.{Books, Stored, books_of, stored_of, first_bytes, GoesOn}
+use Rattle.checkpoint.specs.Saved.{with_words}
 use Rattle.migrator.proofs.Saving.{ok_then}
 use Rattle.migrator.proofs.Moving.{goes_trans}
 use Rattle.migrator.proofs.Journaling.{page_known, put_kept, put_stored, put_goes_on, put_spelt, words_fit}

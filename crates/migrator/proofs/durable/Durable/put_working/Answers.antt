@@ -1,7 +1,8 @@
 use Rattle.std.proofs.Common.{◌∙◌, ◌<◌, ◌≡◌, ap, sym, subst}
 use Rattle.frame_io.specs.Frames.{IsObject}
 use Rattle.model.specs.Keepable.{IsKeepable}
-use Rattle.migrator.specs.Put.{most, HasRoom, Kept, Broken}
+use Rattle.migrator.specs.Put.{HasRoom, Kept, Broken}
+use Rattle.checkpoint.specs.Saved.{most}
 use Rattle.migrator.specs.Durable.{Books, books_of, stored_of, stored_in, working_generation, with_working, GoesOn}
 use Rattle.layout.specs.Spelt.{count_of}
 use Rattle.migrator.proofs.Putting.{slot_room}

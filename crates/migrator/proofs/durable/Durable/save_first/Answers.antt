@@ -4,8 +4,8 @@ use Rattle.frame_io.specs.Frames.{IsObject}
 use Rattle.layout.specs.declared.directory.Entry.{Entry}
 use Rattle.layout.specs.Frame.{IsFrameOf}
 use Rattle.layout.specs.Image.{SavedState}
-use Rattle.migrator.specs.Saved.{LeavesEither}
-use Rattle.migrator.specs.Durable.{Books, books_of, stored_of, stored_in, is_sound, saved_state, IsKept, LeavesState, first_bytes, first_frame, replaced, replaced_header, replaced_saved}
+use Rattle.checkpoint.specs.Saved.{LeavesEither, replaced_saved}
+use Rattle.migrator.specs.Durable.{Books, books_of, stored_of, stored_in, is_sound, saved_state, IsKept, LeavesState, first_bytes, first_frame, replaced, replaced_header}
 use Rattle.migrator.proofs.Saving.{on_err}
 use Rattle.migrator.proofs.Journaling.{first_set, replaced_books, books_again, may_replace, failed_kept, failed_stored, replace_moments, done_kept, done_stored, done_state}
 use Rattle.migrator.proofs.durable.Durable.save_first.Goals as goal

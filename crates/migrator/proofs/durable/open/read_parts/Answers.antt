@@ -2,7 +2,8 @@ use Rattle.std.proofs.Common.{sym, subst, ℕ}
 use Rattle.device.specs.Disk.{Image}
 use Rattle.device.proofs.Images.{agrees_is}
 use Rattle.layout.specs.Superblock.{Plan}
-use Rattle.migrator.specs.Opened.{IsBadFor, IsRead}
+use Rattle.migrator.specs.Opened.{IsRead}
+use Rattle.checkpoint.specs.Opened.{IsBadFor}
 use Rattle.migrator.proofs.Reading.{if_both, err_weaker}
 use Rattle.migrator.proofs.durable.open.read_parts.Goals as goal
 

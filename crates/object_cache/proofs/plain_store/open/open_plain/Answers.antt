@@ -1,6 +1,6 @@
 use Rattle.std.proofs.Common.{subst, sym}
 use Rattle.layout.proofs.Spelling.{length_read}
-use Rattle.migrator.specs.Opened.{Refuses}
+use Rattle.checkpoint.specs.Opened.{Refuses}
 use Rattle.object_cache.proofs.Opening.{open_stands, open_opens, open_refuses}
 use Rattle.object_cache.proofs.plain_store.open.open_plain.Goals as goal
 

@@ -1,6 +1,7 @@
 use Rattle.migrator.specs.Durable.{stored_of}
 use Rattle.object_cache.specs.PlainStore.{StoreState}
-use Rattle.object_cache.proofs.Journaling.{journal_aside, journal_moments, journal_stands, journal_there, journal_unchanged, roles_here}
+use Rattle.object_store.proofs.Journaling.{journal_there}
+use Rattle.object_cache.proofs.Journaling.{journal_aside, journal_moments, journal_stands, journal_unchanged, roles_here}
 use Rattle.object_cache.proofs.plain_store.stages.PlainStoreObjectStore.journal.Goals as goal
 
 pub journal_page-requires-clause-roles : goal.journal_page-requires-clause-roles

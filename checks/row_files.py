@@ -1,0 +1,96 @@
+"""Reads the rows of checks/rows, and runs them over an image, as `checks/try-rows` tells."""
+import os
+import shutil
+import subprocess
+import sys
+
+from common import EXAMPLES, ROOT
+
+ROWS, SECTOR = ROOT / "checks" / "rows", 512
+ROW, IMAGE, BYTES = b"# Row: ", b"# Image: ", b"# Bytes: "
+# What ends a run, and how the image is changed or looked at then.
+ENDS = (b"# Poke: ", b"# Length: ", BYTES, b"# Check", b"# Again", b"# Fresh")
+
+
+def rows_of(file):
+    """The beginning of each row, and the rows by name, as lines with their ends."""
+    begin, rows = [], {}
+    lines = begin
+    for line in file.read_bytes().splitlines(keepends=True):
+        if line.startswith(ROW):
+            name = line[len(ROW) :].decode().strip()
+            if name in rows:
+                sys.exit(f"{file.name}: two rows are named {name}")
+            lines = rows[name] = []
+        else:
+            lines.append(line)
+    return begin, rows or {"": []}
+
+
+def description_of(file, begin):
+    """The description of the image that the rows of a file run over."""
+    names = [it[len(IMAGE) :].decode().strip() for it in begin if it.startswith(IMAGE)]
+    if len(names) != 1:
+        sys.exit(f"{file.name}: one line '# Image: ..' is wanted before its rows")
+    found = [it for it in (ROWS / names[0], EXAMPLES / names[0]) if it.is_file()]
+    if not found:
+        sys.exit(f"{file.name}: there is no description {names[0]}")
+    return found[0]
+
+
+def printed(*words):
+    """What the program prints, and the line of its fault."""
+    ran = subprocess.run(words, stdin=subprocess.DEVNULL, capture_output=True, timeout=120)
+    is_told = ran.returncode == 0 and not ran.stderr or ran.returncode == 1 and ran.stderr
+    return ran.stdout + ran.stderr + (b"" if is_told else b"ended in %d\n" % ran.returncode)
+
+
+def bytes_at(file, line):
+    """The bytes of an image that a line `# Bytes: ..` names, as a line of numbers."""
+    sector, place, count = (int(it) for it in line[len(BYTES) :].split())
+    start = SECTOR * sector + place
+    return b"%s\n" % " ".join(str(it) for it in file.read_bytes()[start : start + count]).encode()
+
+
+class Image:
+    """The image that a row runs over."""
+
+    def __init__(self, program, store, built, file):
+        self.program, self.store, self.built, self.file = program, store, built, file
+        shutil.copyfile(built, file)
+
+    def run(self, script):
+        """What is printed for a script, which changes the image. One of comments alone isn't run."""
+        if all(it.startswith(b"#") for it in script):
+            return b""
+        file = self.file.with_suffix(".eros")
+        file.write_bytes(b"".join(script))
+        return printed(self.program, "run", *self.store, self.file, file)
+
+    def go_on(self, line):
+        """Does what a line says at which a run ends, and returns what is printed."""
+        word, _, rest = line.partition(b": ")
+        numbers = [int(it) for it in rest.split()]
+        if word == b"# Poke":
+            with open(self.file, "r+b") as it:
+                it.seek(SECTOR * numbers[0] + numbers[1])
+                it.write(bytes(numbers[2:]))
+        elif word == b"# Length":
+            os.truncate(self.file, numbers[0])
+        elif word == b"# Bytes":
+            return bytes_at(self.file, line)
+        elif word.startswith(b"# Fresh"):
+            shutil.copyfile(self.built, self.file)
+        elif word.startswith(b"# Check"):
+            return printed(self.program, "check", self.file)
+        return b""
+
+    def take(self, lines):
+        """What is printed for all runs of a row."""
+        said, script = b"", []
+        for line in lines:
+            if line.startswith(ENDS):
+                said, script = said + self.run(script) + self.go_on(line), []
+            else:
+                script.append(line)
+        return said + self.run(script)

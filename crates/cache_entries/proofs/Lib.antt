@@ -1,0 +1,4 @@
+pub mod Lists
+pub mod Arenas
+pub mod Orders
+pub mod Recent

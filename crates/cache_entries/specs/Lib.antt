@@ -1,0 +1,3 @@
+pub mod Entries
+pub mod NumberHasher
+pub mod Order

@@ -1,0 +1,204 @@
+// Entries in the order of their last use.
+ghost use Rattle.std.specs.Prelude.{◌≡◌, ◌<◌, ◌≤◌, [], Some, None, ◌↔◌, length, replicate, is_some, nat_le, option_copied, option_map, slice_get, IfOk, IsSome, IsTrue, OnOk, OnErr};
+ghost use Rattle.std.specs.Borrow.{Lends, sem};
+ghost use Rattle.model.specs.contracts.object.Content.{the_row as content_row};
+ghost use Rattle.model.specs.contracts.capability.Cap.{the_row as cap_row};
+ghost use Rattle.cache_entries.specs.Entries.{entry_at, holding, keeping, reserving, present_of, room_of};
+ghost use Rattle.cache_entries.specs.Order.{AreOrdered, used_longest_ago, with_entry_of, with_new, without_entry, used_now};
+
+use crate::arena::Arena;
+use crate::capacity::Capacity;
+use crate::entry::Entry;
+use crate::number_hasher::NumberHasher;
+use lru::LruCache;
+use model::{Cap, Content};
+use std::alloc::{AllocError, Global};
+use std::hash::BuildHasherDefault;
+use std::marker::Model;
+use std::num::NonZeroUsize;
+
+/// Entries by number, no more than a capacity, in the order of their last use.
+#[derive(Drop)]
+pub struct Entries {
+    order: LruCache<u64, (), BuildHasherDefault<NumberHasher>>,
+    arena: Arena,
+}
+
+impl Model for Entries {
+    ghost use Rattle.std.specs.Map.{keys_of};
+    ghost use Rattle.cache_entries.specs.Order.{EntriesState, AreKept, entries_of};
+
+    ghost Value = { EntriesState };
+
+    ghost view = { λ e. entries_of e.arena (keys_of e.order.entries) };
+
+    ghost invariant = { λ e. AreKept e.arena (keys_of e.order.entries) e.order.cap };
+}
+
+impl Entries {
+    ghost use Rattle.cache_entries.specs.contracts.entries.Entries.{the_row};
+
+    /// Room for as many entries as the capacity, of so many numbers, none of which has one. Fails
+    /// only where memory runs out.
+    pub fn new(alloc: Global, capacity: Capacity, count: usize) -> Result<Entries, AllocError>
+        ensures none { IfOk result (λ entries. entries
+            ≡ record { at = replicate count None; order = []; most = capacity }) }
+        ensures least { 8 ≤ capacity }
+    {
+        let most = capacity.count() as usize;
+        match NonZeroUsize::new(most) {
+            Some(room) => Ok(Entries {
+                order: LruCache::with_hasher(alloc, room, BuildHasherDefault::new())?,
+                arena: Arena::new(alloc, most, count)?,
+            }),
+            None => unreachable!(),
+        }
+    }
+
+    /// How many entries there are.
+    pub fn len(&self) -> usize
+        ensures count { result ≡ length self.now.order }
+        ensures ordered { AreOrdered self.now }
+    {
+        self.order.len()
+    }
+
+    /// Whether there are as many as there may be.
+    pub fn is_full(&self) -> bool
+        ensures full { result ≡ nat_le self.now.most (length self.now.order) }
+        ensures ordered { AreOrdered self.now }
+    {
+        self.order.len() >= self.order.cap().get()
+    }
+
+    /// The entry of a number.
+    pub fn get(&self, number: u64) -> Option<&Entry>
+        requires { number < length self.now.at }
+        ensures { option_copied result ≡ entry_at self.now.at number }
+    {
+        self.arena.get(number)
+    }
+
+    /// Whether a number has an entry.
+    pub fn holds(&self, number: u64) -> bool
+        requires { number < length self.now.at }
+        ensures { result ≡ is_some (entry_at self.now.at number) }
+    {
+        self.get(number).is_some()
+    }
+
+    /// What an object that has an entry holds now.
+    pub fn present(&self, number: u64) -> &Content<Cap>
+        requires { IsSome (entry_at self.now.at number) }
+        ensures { option_map present_of (entry_at self.now.at number) ≡ Some result.now }
+    {
+        match self.get(number) {
+            Some(entry) => &entry.present,
+            None => unreachable!(),
+        }
+    }
+
+    /// Lends what an object that has an entry holds now.
+    pub fn present_mut(&mut self, number: u64) -> &mut Content<Cap>
+        requires { IsSome (entry_at self.old.at number) }
+        ensures* writes_back { sem 𝓛 (Lends the_row (content_row cap_row) self.entry result
+            (λ c. with_entry_of (holding c) number self.old)) }
+        ensures value { option_map present_of (entry_at self.old.at number) ≡ Some result.now }
+    {
+        self.arena.present_mut(number)
+    }
+
+    /// Says what is kept apart of what an object that has an entry was frozen as.
+    pub fn set_kept(&mut self, number: u64, kept: Option<Content<Cap>>)
+        requires { IsSome (entry_at self.old.at number) }
+        ensures { self.new ≡ with_entry_of (keeping kept) number self.old }
+    {
+        self.arena.set_kept(number, kept);
+    }
+
+    /// Puts another room aside for a number that has an entry, and hands out the one before.
+    pub fn replace_room(&mut self, number: u64, room: Content<Cap>) -> Content<Cap>
+        requires { IsSome (entry_at self.old.at number) }
+        ensures room { option_map room_of (entry_at self.old.at number) ≡ Some result }
+        ensures entries { self.new ≡ with_entry_of (reserving room) number self.old }
+    {
+        self.arena.replace_room(number, room)
+    }
+
+    /// Leaves nothing in an object, where it has an entry.
+    pub fn free(&mut self, number: u64)
+        requires { number < length self.old.at }
+        ensures { self.new ≡ with_entry_of (holding Content.Free) number self.old }
+    {
+        if self.holds(number) {
+            *self.present_mut(number) = Content::Free;
+        }
+    }
+
+    /// Puts an entry of a number in that has none, which was so used last. There are fewer than
+    /// there may be. Fails only where memory runs out, and then all is as it was.
+    pub fn insert(&mut self, entry: Entry) -> Result<(), AllocError>
+        requires known { entry.number < length self.old.at }
+        requires absent { entry_at self.old.at entry.number ≡ None }
+        requires room { length self.old.order < self.old.most }
+        ensures inserted { OnOk result (self.new ≡ with_new entry self.old) }
+        ensures unchanged { OnErr result (self.new ≡ self.old) }
+    {
+        match self.order.put(entry.number, ()) {
+            Ok(_) => {
+                self.arena.insert(entry);
+                Ok(())
+            }
+            Err(_) => Err(AllocError),
+        }
+    }
+
+    /// Takes the entry of a number out.
+    pub fn remove(&mut self, number: u64) -> Entry
+        requires { IsSome (entry_at self.old.at number) }
+        ensures entry { entry_at self.old.at number ≡ Some result }
+        ensures entries { self.new ≡ without_entry number self.old }
+    {
+        self.order.pop(&number);
+        self.arena.remove(number)
+    }
+
+    // Whether a number was used last.
+    fn is_first(&self, number: u64) -> bool
+        ensures { IsTrue result ↔ (slice_get self.now.order 0 ≡ Some number) }
+    {
+        match self.order.peek_mru() {
+            Some((first, _)) => *first == number,
+            None => false,
+        }
+    }
+
+    // Puts a number that has an entry in front of the others.
+    fn put_first(&mut self, number: u64)
+        requires { IsSome (entry_at self.old.at number) }
+        ensures { self.new ≡ used_now number self.old }
+    {
+        self.order.promote(&number);
+    }
+
+    /// Says that a number that has an entry was used last.
+    pub fn promote(&mut self, number: u64)
+        requires { IsSome (entry_at self.old.at number) }
+        ensures { self.new ≡ used_now number self.old }
+    {
+        if !self.is_first(number) {
+            self.put_first(number);
+        }
+    }
+
+    /// The number whose entry was used longest ago.
+    pub fn least(&self) -> Option<u64>
+        ensures least { result ≡ used_longest_ago self.now.order }
+        ensures ordered { AreOrdered self.now }
+    {
+        match self.order.peek_lru() {
+            Some((number, _)) => Some(*number),
+            None => None,
+        }
+    }
+}

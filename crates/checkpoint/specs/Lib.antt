@@ -1,0 +1,3 @@
+pub mod Saved
+pub mod Refused
+pub mod Opened

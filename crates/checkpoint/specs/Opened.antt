@@ -1,0 +1,37 @@
+-- What opening a device comes to, and why one isn't opened.
+use Rattle.std.specs.Prelude.{◌≡◌, ◌↔◌, ℕ, ◌<◌, ◌≤◌, Result, IsErrOf, ⊤}
+use Rattle.device.specs.Disk.{Image, Disk}
+use Rattle.device.specs.Calls.{Agrees, Narrows}
+use Rattle.device.specs.Moments.{Peeks}
+use Rattle.layout.specs.Image.{IsBadBy}
+use Rattle.checkpoint.specs.declared.open_fault.OpenFault.{OpenFault}
+use Rattle.checkpoint.specs.declared.open_fault.OpenFault.TheVariants as refusal
+
+-- why an image is refused, where the device didn't fail
+abbrev pub IsBadFor : Image → ℕ → OpenFault → Type 0
+IsBadFor image size refusal.Failed = ⊤
+IsBadFor image size refusal.NoMemory = ⊤
+IsBadFor image size (refusal.Bad reason) = IsBadBy image size reason
+
+-- the count of failures rises exactly where the device failed, and never falls
+pub record CountsOpen {T : Type 0} (old new : Disk) (result : Result T OpenFault) : Type 0 where
+  pub never_falls : old.failures ≤ new.failures
+  pub cause : IsErrOf result refusal.Failed ↔ (old.failures < new.failures)
+
+-- nothing was written: a crash leaves nothing that it couldn't have left before
+pub record Looks (old new : Disk) : Type 0 where
+  pub size : new.sectors ≡ old.sectors
+  pub seen : Agrees new.seen old.seen
+  pub crash : Narrows old new
+  pub any_moment : Peeks old new
+
+-- why a device wasn't opened: of the reasons 1 to 7 the least that holds
+abbrev pub IsReason : Disk → Disk → OpenFault → Type 0
+IsReason old new refusal.Failed = old.failures < new.failures
+IsReason old new refusal.NoMemory = new.failures ≡ old.failures
+IsReason old new (refusal.Bad reason) = (new.failures ≡ old.failures) × IsBadBy old.seen old.sectors reason
+
+-- a device wasn't opened, and nothing was written
+pub record Refuses {D : Type 0} (disk : D → Disk) (device back : D) (fault : OpenFault) : Type 0 where
+  pub why : IsReason (disk device) (disk back) fault
+  pub looks : Looks (disk device) (disk back)

@@ -1,0 +1,64 @@
+-- What a committed checkpoint saves, as frames.
+use Rattle.std.specs.Prelude.{◌≡◌, ◌⊎◌, ℕ, ◌+◌, ◌-◌, ◌^◌, Option, Some, None, List, slice_set}
+use Rattle.model.specs.declared.frame.Frame.{Frame}
+use Rattle.model.specs.declared.geometry.Geometry.{Geometry}
+use Rattle.model.specs.declared.object.Content.TheVariants as content
+use Rattle.model.specs.Frame.{frame_at}
+use Rattle.device.specs.Disk.{Image, Disk}
+use Rattle.device.specs.Moments.{LeavesOnly}
+use Rattle.layout.specs.Image.{SavedState, Encodes}
+
+-- the frames of all objects, and what is told of the checkpoint; entries counts those that lie in the log
+pub record SavedFrames : Type 0 where
+  pub geometry : Geometry
+  pub frames : List Frame
+  pub generation : ℕ
+  pub entries : ℕ
+  pub age : ℕ
+
+-- what is kept of a saved state of an image, whatever its places
+abbrev pub kept_of : SavedState → SavedFrames
+kept_of s = record {
+  geometry = s.plan.geometry;
+  frames = s.frames;
+  generation = s.header.generation;
+  entries = s.header.entries;
+  age = s.header.age;
+}
+
+-- so many sectors hold saved frames
+abbrev pub Holds : ℕ → Image → SavedFrames → Type 0
+Holds size c saved = (s : SavedState) × Encodes c size s × (kept_of s ≡ saved)
+
+-- a crash at any moment since old leaves what is saved
+abbrev pub LeavesSaved : Disk → Disk → SavedFrames → Type 0
+LeavesSaved old new saved = LeavesOnly old new (λ c. Holds old.sectors c saved)
+
+-- or what is saved next
+abbrev pub LeavesEither : Disk → Disk → SavedFrames → SavedFrames → Type 0
+LeavesEither old new saved next = LeavesOnly old new (λ c. Holds old.sectors c saved ⊎ Holds old.sectors c next)
+
+-- or what is saved next, if anything is
+abbrev pub LeavesOneOf : Disk → Disk → SavedFrames → Option SavedFrames → Type 0
+LeavesOneOf old new saved None = LeavesSaved old new saved
+LeavesOneOf old new saved (Some next) = LeavesEither old new saved next
+
+-- what is saved once all of it is home
+abbrev pub home_saved : SavedFrames → SavedFrames
+home_saved s = record { geometry = s.geometry; frames = s.frames; generation = s.generation; entries = 0; age = s.age }
+
+-- what is saved once another frame of an object is, at an age: its half is that of the saved generation again
+abbrev pub replaced_saved : ℕ → ℕ → Frame → SavedFrames → SavedFrames
+replaced_saved age n f s = record { geometry = s.geometry; frames = slice_set s.frames n f; generation = s.generation + 2; entries = 1; age = age }
+
+-- the frame of a page with other words
+abbrev pub with_words : List ℕ → Frame → Frame
+with_words words f = record { header = f.header; content = content.Page words }
+
+-- a page is saved with other words
+abbrev pub journaled_saved : ℕ → ℕ → List ℕ → SavedFrames → SavedFrames
+journaled_saved age n words s = replaced_saved age n (with_words words (frame_at s.frames n)) s
+
+-- the greatest age: frames that are put can be kept at it
+abbrev pub most : ℕ
+most = 2 ^ 64 - 1

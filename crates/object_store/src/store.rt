@@ -1,0 +1,205 @@
+// The trait of object stores.
+ghost use Rattle.std.specs.Prelude.{◌≡◌, ◌⊎◌, ℕ, ◌-◌, ◌<◌, ◌≤◌, ◌^◌, None, Some, length, IfOk, IfErr, OnOk, OnErr, IsErrOf};
+ghost use Rattle.model.specs.Keepable.{AreKeepable};
+ghost use Rattle.model.specs.Machine.{untouched, touched_count};
+ghost use Rattle.device.specs.Disk.{Image};
+ghost use Rattle.device.specs.Calls.{Counts};
+ghost use Rattle.device.specs.Moments.{Peeks};
+ghost use Rattle.checkpoint.specs.Saved.{Holds, LeavesSaved, LeavesEither, LeavesOneOf};
+ghost use Rattle.object_store.specs.Journal.{IsJournalAnswer, IsTurnedAway, is_page_now, is_still_saved, aside_after_journal, next_journaled, words_now};
+ghost use Rattle.checkpoint.specs.Opened.{Refuses};
+ghost use Rattle.capability.specs.Parts.{frames_of};
+ghost use Rattle.checkpoint.specs.Refused.{IsCommitAnswer, IsFreezeAnswer, IsRefused};
+ghost use Rattle.object_store.specs.Store.{FrozenFrames, View, Leads, OpensStore, freezing, stabilized, next_saved, aside_after_commit, IsStabilizeAnswer, MayCommit, left_in, moved, moved_saved};
+
+use crate::journal_fault::JournalFault;
+use capability::PresentFrames;
+use checkpoint::{Checkpoint, CheckpointFault, OpenRefused};
+use device::{Device, Failed};
+use std::alloc::Global;
+
+/// The present objects, those of a checkpoint on its way as they were when it began, and those that
+/// the committed checkpoint saves, over a device.
+///
+/// Until a `commit`, a `journal`, or the `migrate` that brings the last object home, fails, a crash
+/// leaves what is saved, whatever else fails. After a failure of the device the store is to be opened again.
+pub trait ObjectStore<D: Device>: PresentFrames + Sized {
+    /// How a store is set up.
+    type Setting: Copy;
+
+    /// The device beneath, what is kept beside the present objects, and whether a crash is sure to
+    /// leave what is saved.
+    ghost view: { Self → View D };
+
+    /// Opens a device, and writes nothing to it. The present objects are the saved ones.
+    ///
+    /// A refusal hands the device back: `Failed` exactly where the device failed, `NoMemory` only
+    /// where memory ran out, and else the least of the reasons 1 to 7 to refuse an image.
+    fn open(alloc: Global, device: D, setting: Self::Setting) -> Result<Self, OpenRefused<D>>
+        ensures opened { IfOk result (λ s. OpensStore D.disk device (Self.parts s) (view s)) }
+        ensures refused { IfErr result (λ r. Refuses D.disk device r.device r.fault) };
+
+    /// Gives the device back, and makes no call of it.
+    fn into_device(self) -> D
+        ensures { result ≡ (view self).beneath };
+
+    /// What is told of the committed checkpoint.
+    fn saved(&self) -> Checkpoint
+        ensures generation { result.generation ≡ (view self.now).aside.saved.generation }
+        ensures age { result.age ≡ (view self.now).aside.saved.age }
+        ensures entries { result.entries ≡ (view self.now).aside.saved.entries };
+
+    /// How many objects of a checkpoint on its way aren't in the log, where there is one.
+    fn left(&self) -> Option<u64>
+        ensures { result ≡ left_in (view self.now).aside };
+
+    /// Puts an object out of memory, where the store may. Fails exactly where the device does.
+    fn evict(&mut self, number: u64) -> Result<(), Failed>
+        requires known { number < length (Self.parts self.old).headers }
+        requires keepable { AreKeepable (Self.parts self.old).geometry u64.MAX
+            (frames_of (Self.parts self.old)) }
+        ensures headers { (Self.parts self.new).headers ≡ (Self.parts self.old).headers }
+        ensures contents { (Self.parts self.new).contents ≡ (Self.parts self.old).contents }
+        ensures touched { (Self.parts self.new).touched ≡ (Self.parts self.old).touched }
+        ensures geometry { (Self.parts self.new).geometry ≡ (Self.parts self.old).geometry }
+        ensures leads { Self.LeadsTo self.old self.new }
+        ensures cause { Counts (D.disk (view self.old).beneath) (D.disk (view self.new).beneath) result };
+
+    /// Begins a checkpoint: all objects are frozen as they are. Answers how many were written since
+    /// the last one began. It takes no memory, and makes no call of the device.
+    ///
+    /// It is refused by `CheckpointRunning` exactly where one is on its way, and else by
+    /// `MigrationPending` exactly where something saved isn't home, and changes nothing then.
+    fn freeze(&mut self) -> Result<u64, CheckpointFault>
+        requires keepable { AreKeepable (Self.parts self.old).geometry u64.MAX
+            (frames_of (Self.parts self.old)) }
+        ensures answer { IsFreezeAnswer (left_in (view self.old).aside)
+            (view self.old).aside.saved.entries result }
+        ensures unchanged { OnErr result (self.new ≡ self.old) }
+        ensures size { IfOk result (λ n. n ≡ touched_count (Self.parts self.old).touched) }
+        ensures headers { (Self.parts self.new).headers ≡ (Self.parts self.old).headers }
+        ensures contents { (Self.parts self.new).contents ≡ (Self.parts self.old).contents }
+        ensures touched { OnOk result
+            ((Self.parts self.new).touched ≡ untouched (Self.parts self.old).geometry) }
+        ensures geometry { (Self.parts self.new).geometry ≡ (Self.parts self.old).geometry }
+        ensures aside { OnOk result ((view self.new).aside
+            ≡ freezing (frames_of (Self.parts self.old)) (touched_count (Self.parts self.old).touched) (view self.old).aside) }
+        ensures beneath { (view self.new).beneath ≡ (view self.old).beneath }
+        ensures sound { (view self.old).is_sound → (view self.new).is_sound };
+
+    /// Writes so many of the frozen objects to the log, and answers how many are left.
+    ///
+    /// It is refused by `NoCheckpoint` exactly where none is on its way, and changes nothing then.
+    /// At `Failed`, which is told exactly where the device failed, some were written, no more than
+    /// so many.
+    fn stabilize(&mut self, count: u64) -> Result<u64, CheckpointFault>
+        ensures answer { IsStabilizeAnswer (D.disk (view self.old).beneath) (D.disk (view self.new).beneath)
+            (left_in (view self.old).aside) count result }
+        ensures unchanged { IsRefused result → self.new ≡ self.old }
+        ensures headers { (Self.parts self.new).headers ≡ (Self.parts self.old).headers }
+        ensures contents { (Self.parts self.new).contents ≡ (Self.parts self.old).contents }
+        ensures touched { (Self.parts self.new).touched ≡ (Self.parts self.old).touched }
+        ensures geometry { (Self.parts self.new).geometry ≡ (Self.parts self.old).geometry }
+        ensures aside { (f : FrozenFrames) → (view self.old).aside.frozen ≡ Some f
+            → OnOk result ((view self.new).aside ≡ stabilized count f (view self.old).aside) }
+        ensures stopped { (f : FrozenFrames) → (view self.old).aside.frozen ≡ Some f
+            → OnErr result ((k : ℕ) × (k ≤ count)
+            × ((view self.new).aside ≡ stabilized k f (view self.old).aside)) }
+        ensures sound { (view self.old).is_sound → (view self.new).is_sound }
+        ensures size { (D.disk (view self.new).beneath).sectors ≡ (D.disk (view self.old).beneath).sectors }
+        ensures any_moment { (view self.old).is_sound
+            → LeavesSaved (D.disk (view self.old).beneath) (D.disk (view self.new).beneath) (view self.old).aside.saved };
+
+    /// Commits the checkpoint on its way: its frames are saved, at an age. Answers its generation.
+    ///
+    /// It is refused by `NoCheckpoint` exactly where none is on its way, and else by
+    /// `NotStable(left)` exactly where so many of its objects aren't in the log, and changes nothing
+    /// then. At `Failed`, which is told exactly where the device failed, a crash leaves what was
+    /// saved or what is frozen.
+    fn commit(&mut self, age: u64) -> Result<u64, CheckpointFault>
+        requires sound { (view self.old).is_sound }
+        requires ready { (f : FrozenFrames) → (view self.old).aside.frozen ≡ Some f
+            → MayCommit age f (view self.old).aside.saved }
+        ensures answer { IsCommitAnswer (D.disk (view self.old).beneath) (D.disk (view self.new).beneath)
+            (left_in (view self.old).aside) (view self.old).aside.saved.generation result }
+        ensures unchanged { IsRefused result → self.new ≡ self.old }
+        ensures headers { (Self.parts self.new).headers ≡ (Self.parts self.old).headers }
+        ensures contents { (Self.parts self.new).contents ≡ (Self.parts self.old).contents }
+        ensures touched { (Self.parts self.new).touched ≡ (Self.parts self.old).touched }
+        ensures geometry { (Self.parts self.new).geometry ≡ (Self.parts self.old).geometry }
+        ensures aside { (f : FrozenFrames) → (view self.old).aside.frozen ≡ Some f
+            → OnOk result ((view self.new).aside ≡ aside_after_commit age f (view self.old).aside) }
+        ensures sound { OnOk result ((view self.new).is_sound) }
+        ensures size { (D.disk (view self.new).beneath).sectors ≡ (D.disk (view self.old).beneath).sectors }
+        ensures any_moment { (f : FrozenFrames) → (view self.old).aside.frozen ≡ Some f → f.left ≡ 0
+            → LeavesEither (D.disk (view self.old).beneath) (D.disk (view self.new).beneath)
+            (view self.old).aside.saved (next_saved age f (view self.old).aside.saved) };
+
+    /// Copies so many of the saved objects home, and answers how many are left. Fails exactly where
+    /// the device does, and then a crash leaves what was saved, or the same with all of it home
+    /// where that was to be reached. Where all of it is home already, as the header says, it makes
+    /// no call of the device.
+    fn migrate(&mut self, count: u64) -> Result<u64, Failed>
+        requires sound { (view self.old).is_sound }
+        ensures headers { (Self.parts self.new).headers ≡ (Self.parts self.old).headers }
+        ensures contents { (Self.parts self.new).contents ≡ (Self.parts self.old).contents }
+        ensures touched { (Self.parts self.new).touched ≡ (Self.parts self.old).touched }
+        ensures geometry { (Self.parts self.new).geometry ≡ (Self.parts self.old).geometry }
+        ensures left { IfOk result (λ n. n ≡ (view self.old).aside.to_move - count) }
+        ensures aside { OnOk result ((view self.new).aside ≡ moved count (view self.old).aside) }
+        ensures untouched { (view self.old).aside.saved.entries ≡ 0 → self.new ≡ self.old }
+        ensures sound { OnOk result ((view self.new).is_sound) }
+        ensures size { (D.disk (view self.new).beneath).sectors ≡ (D.disk (view self.old).beneath).sectors }
+        ensures any_moment { LeavesEither (D.disk (view self.old).beneath) (D.disk (view self.new).beneath)
+            (view self.old).aside.saved (moved_saved count (view self.old).aside) }
+        ensures cause { Counts (D.disk (view self.old).beneath) (D.disk (view self.new).beneath) result };
+
+    /// Saves a page with the words that it has now, at an age; of the page nothing else, and of the
+    /// other objects what was saved: one page is durable without a checkpoint. Answers the new
+    /// generation. It takes no memory.
+    ///
+    /// It is refused by `CheckpointRunning` exactly where a checkpoint is on its way, else by
+    /// `MigrationPending` exactly where something saved isn't home, else by `NotPage` exactly where
+    /// the number isn't that of a page, else by `Renewed` exactly where no page is saved, or the
+    /// one that is was given up since; nothing is written then, and before `Renewed` nothing is
+    /// asked of the device. `Failed` is told exactly where the device failed, and then a crash
+    /// leaves what was saved or, where nothing else refuses it, that with the page.
+    fn journal(&mut self, number: u64, age: u64) -> Result<u64, JournalFault>
+        requires keepable { AreKeepable (Self.parts self.old).geometry u64.MAX
+            (frames_of (Self.parts self.old)) }
+        requires sound { (view self.old).is_sound }
+        requires later { (view self.old).aside.saved.age < age }
+        requires most { age ≤ 2 ^ 62 }
+        ensures answer { IsJournalAnswer (D.disk (view self.old).beneath) (D.disk (view self.new).beneath)
+            (left_in (view self.old).aside) (view self.old).aside.saved
+            (is_page_now (Self.parts self.old) number)
+            (is_still_saved (Self.parts self.old) (view self.old).aside.saved number) result }
+        ensures turned_away { IsTurnedAway result → self.new ≡ self.old }
+        ensures headers { (Self.parts self.new).headers ≡ (Self.parts self.old).headers }
+        ensures contents { (Self.parts self.new).contents ≡ (Self.parts self.old).contents }
+        ensures touched { (Self.parts self.new).touched ≡ (Self.parts self.old).touched }
+        ensures geometry { (Self.parts self.new).geometry ≡ (Self.parts self.old).geometry }
+        ensures aside { OnOk result ((view self.new).aside ≡ aside_after_journal age number
+            (words_now (Self.parts self.old) number) (view self.old).aside) }
+        ensures unchanged { OnErr result ((view self.new).aside ≡ (view self.old).aside) }
+        ensures sound { IsErrOf result JournalFault.Failed ⊎ (view self.new).is_sound }
+        ensures size { (D.disk (view self.new).beneath).sectors ≡ (D.disk (view self.old).beneath).sectors }
+        ensures any_moment { LeavesOneOf (D.disk (view self.old).beneath) (D.disk (view self.new).beneath)
+            (view self.old).aside.saved (next_journaled age number
+            (words_now (Self.parts self.old) number) (view self.old).aside.frozen
+            (view self.old).aside.saved (is_page_now (Self.parts self.old) number)
+            (is_still_saved (Self.parts self.old) (view self.old).aside.saved number)) };
+
+    /// What happens to the present objects leaves the rest alone.
+    ghost leads: { (s t : Self) → Self.LeadsTo s t → Leads D.disk (view s) (view t) };
+
+    /// Where nothing was written since and no checkpoint is on its way, the device was only read.
+    ghost leads_peeks: { (s t : Self) → Self.LeadsTo s t → touched_count (Self.parts t).touched ≡ 0 → (view s).aside.frozen ≡ None → Peeks (D.disk (view s).beneath) (D.disk (view t).beneath) };
+
+    /// A sound store: a crash leaves what is saved.
+    ghost sound_holds: { (s : Self) (c : Image) → (view s).is_sound → (D.disk (view s).beneath).may_leave c → Holds (D.disk (view s).beneath).sectors c (view s).aside.saved };
+
+    ghost failures_are: { (s : Self) → (Self.parts s).failures ≡ (D.disk (view s).beneath).failures };
+
+    ghost geometry_is: { (s : Self) → (Self.parts s).geometry ≡ (view s).aside.saved.geometry };
+}
