@@ -71,3 +71,10 @@ writes_same a b r text other same w = subst (Writes a b r) same w
 -- all bytes were taken
 pub taken_all : (a b : Option (List ℕ)) (bytes : List ℕ) (n : ℕ) → n ≡ length bytes → Appends a b (take n bytes) → Appends a b bytes
 taken_all a b bytes n all h = subst (Appends a b) (take_all n bytes (omega arith)) h
+
+-- the first n bytes were written, and then the rest or a beginning of it
+pub rest_written : (a b c : Option (List ℕ)) (r : Result (Unit {0}) RunFault) (bytes : List ℕ) (n : ℕ) → Appends a b (take n bytes)
+    → Writes b c r (take (length bytes - n) (drop n bytes)) → Writes a c r bytes
+rest_written a b c r bytes n h w =
+    let whole : take (length bytes - n) (drop n bytes) ≡ drop n bytes = take_all (length bytes - n) (drop n bytes) (omega (arith, length-drop n bytes)) in
+    subst (Writes a c r) (take-append-drop n bytes) (writes_after a b c r (take n bytes) (drop n bytes) h (subst (Writes b c r) whole w))

@@ -5,6 +5,8 @@ mod Digits
 mod FirstWords
 mod Fronts
 mod Numbers
+mod ShortInvocations
+mod ShortNumbers
 mod Spellings
 mod Split
 mod Tables

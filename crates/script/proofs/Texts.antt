@@ -1,8 +1,10 @@
 -- The lines of an object, one for each of its parts.
-use Rattle.std.proofs.Common.{Option, ◌≡◌, ◌≢◌, ℕ, suc, add-one, length-take-le, ◌+◌, ◌<◌, ◌≤◌, List, [], ◌∷◌, ◌++◌, map, length, get_or, take, drop, codes, decimal, refl, sym, ap, ◌∙◌, append_assoc, append-nil, arith}
+use Rattle.std.proofs.Common.{Option, ◌≡◌, ◌≢◌, ℕ, suc, add-one, length-take-le, ◌+◌, ◌/◌, ◌%◌, ◌<◌, ◌≤◌, List, [], ◌∷◌, ◌++◌, map, length, get_or, take, drop, codes, decimal, refl, sym, ap, ◌∙◌, append_assoc, append-nil, arith}
 use Rattle.std.specs.List.{flat_map, enumerate_from}
+use Rattle.std.proofs.lemmas.Fmt.{decimal_digit, decimal_step}
 use Rattle.std.proofs.lemmas.Grind.{flat_map-append}
 use Rattle.std.proofs.lemmas.List.{take-append-drop, take_all}
+use Rattle.std.proofs.lemmas.Nat.{div_below}
 use Rattle.std.proofs.lemmas.List.Folds.{flat_map-map}
 use Rattle.std.proofs.Math.Seq.{take-suc}
 use Rattle.model.specs.declared.capability.Capability.{Capability}
@@ -141,3 +143,12 @@ module _ (n : ℕ) (o : Object) (registers : Option (List Capability)) (used : �
       → object_text n o registers used ≡ line_of (spaced (headed (codes "bank") n o.owner ++ (codes "limit" ∷ decimal limit ∷ codes "used" ∷ decimal used ∷ [])))
   unfolding object_text
   object_bank limit is = rw is refl
+
+-- a space and the digits of a small number
+pub one_digit_text : (line : List ℕ) (n : ℕ) → n < 10 → (line ++ 32 ∷ []) ++ (48 + n) ∷ [] ≡ line ++ 32 ∷ decimal n
+one_digit_text line n small = rw (decimal_digit n small) (append_assoc line (32 ∷ []) ((48 + n) ∷ []))
+
+pub two_digits_text : (line : List ℕ) (n : ℕ) → 10 ≤ n → n < 100 → ((line ++ 32 ∷ []) ++ (48 + n / 10) ∷ []) ++ (48 + n % 10) ∷ [] ≡ line ++ 32 ∷ decimal n
+two_digits_text line n long small =
+    rw (decimal_step n long (omega arith), decimal_digit (n / 10) (div_below n 10 10 (omega arith) (omega (arith, small))))
+    (append_assoc (line ++ 32 ∷ []) ((48 + n / 10) ∷ []) ((48 + n % 10) ∷ []) ∙ append_assoc line (32 ∷ []) ((48 + n / 10) ∷ (48 + n % 10) ∷ []))

@@ -9,6 +9,7 @@ mod named;
 mod number;
 mod parse;
 mod print;
+mod short;
 mod shown;
 mod words;
 mod writing;

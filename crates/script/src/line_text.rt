@@ -6,7 +6,6 @@ ghost use Rattle.script.specs.Writing.{Writes};
 
 use crate::fault::RunFault;
 use crate::writing::write_fully;
-use arrayvec::ArrayVec;
 use itoa::Buffer;
 use std::io::Write;
 use std::marker::Model;
@@ -14,15 +13,18 @@ use std::marker::Model;
 /// A line of text of at most 320 bytes that is put together before it is written.
 #[derive(Drop)]
 pub struct LineText {
-    bytes: ArrayVec<u8, 320>,
+    bytes: [u8; 320],
+    size: usize,
 }
 
 impl Model for LineText {
-    ghost use Rattle.std.specs.Prelude.{ℕ, List};
+    ghost use Rattle.std.specs.Prelude.{ℕ, List, ◌≤◌, take};
 
     ghost Value = { List ℕ };
 
-    ghost view = { λ t. t.bytes.items };
+    ghost view = { λ t. take t.size t.bytes };
+
+    ghost invariant = { λ t. t.size ≤ 320 };
 }
 
 impl LineText {
@@ -31,11 +33,30 @@ impl LineText {
         requires { length word.now ≤ 320 }
         ensures { result ≡ word.now }
     {
-        let mut line = LineText {
-            bytes: ArrayVec::new(),
-        };
+        let mut line = LineText::empty();
         line.push(word);
         line
+    }
+
+    /// A line of no text.
+    #[inline(always)]
+    pub fn empty() -> Self
+        ensures { result ≡ [] }
+    {
+        LineText {
+            bytes: [0; 320],
+            size: 0,
+        }
+    }
+
+    /// Begins another line, with the word.
+    #[inline(always)]
+    pub fn begin(&mut self, first: &[u8])
+        requires { length first.now ≤ 320 }
+        ensures { self.new ≡ first.now }
+    {
+        self.size = 0;
+        self.push(first);
     }
 
     /// A line that begins with the word and the number.
@@ -54,7 +75,19 @@ impl LineText {
         requires { length self.old + length text.now ≤ 320 }
         ensures { self.new ≡ self.old ++ text.now }
     {
-        let _fits = self.bytes.try_extend_from_slice(text);
+        let end = self.size + text.len();
+        self.bytes[self.size..end].copy_from_slice(text);
+        self.size = end;
+    }
+
+    // Adds the byte.
+    #[inline(always)]
+    fn byte(&mut self, byte: u8)
+        requires { length self.old < 320 }
+        ensures { self.new ≡ self.old ++ byte ∷ [] }
+    {
+        self.bytes[self.size] = byte;
+        self.size += 1;
     }
 
     /// Adds a space and the word.
@@ -62,12 +95,31 @@ impl LineText {
         requires { length self.old + length word.now < 320 }
         ensures { self.new ≡ self.old ++ 32 ∷ word.now }
     {
-        self.push(b" ");
+        self.byte(b' ');
         self.push(word);
     }
 
     /// Adds a space and the number.
     pub fn number(&mut self, number: u64)
+        requires { length self.old + 21 ≤ 320 }
+        ensures text { self.new ≡ self.old ++ 32 ∷ decimal number }
+        ensures short { length self.new ≤ length self.old + 21 }
+    {
+        if number < 10 {
+            self.byte(b' ');
+            self.byte(b'0' + number as u8);
+        } else if number < 100 {
+            self.byte(b' ');
+            self.byte(b'0' + (number / 10) as u8);
+            self.byte(b'0' + (number % 10) as u8);
+        } else {
+            self.long_number(number);
+        }
+    }
+
+    // Adds a space and the number.
+    #[inline(never)]
+    fn long_number(&mut self, number: u64)
         requires { length self.old + 21 ≤ 320 }
         ensures text { self.new ≡ self.old ++ 32 ∷ decimal number }
         ensures short { length self.new ≤ length self.old + 21 }
@@ -97,12 +149,20 @@ impl LineText {
         }
     }
 
+    /// Writes the line, and a newline. What it then holds isn't said.
+    pub fn print<W: Write>(&mut self, writer: &mut W) -> Result<(), RunFault>
+        requires { length self.old < 320 }
+        ensures { Writes (W.contents writer.old) (W.contents writer.new) result (line_of self.old) }
+    {
+        self.byte(b'\n');
+        write_fully(writer, &self.bytes[..self.size])
+    }
+
     /// Writes the line, and a newline.
     pub fn write_to<W: Write>(mut self, writer: &mut W) -> Result<(), RunFault>
         requires { length self < 320 }
         ensures { Writes (W.contents writer.old) (W.contents writer.new) result (line_of self) }
     {
-        self.push(b"\n");
-        write_fully(writer, self.bytes.as_slice())
+        self.print(writer)
     }
 }

@@ -1,5 +1,5 @@
 // Numbers in decimal.
-ghost use Rattle.std.specs.Prelude.{◌≡◌, ◌≢◌, ℕ, ◌<◌, ◌≤◌, ◌^◌, IfSome, IfNone, decimal, take};
+ghost use Rattle.std.specs.Prelude.{◌≡◌, ◌≢◌, ℕ, ◌+◌, ◌*◌, ◌<◌, ◌≤◌, ◌^◌, IfSome, IfNone, decimal, take};
 ghost use Rattle.std.specs.Str.Parse.{AllDigits, digits_value};
 ghost use Rattle.script.specs.Reading.{first_end, first_word};
 
@@ -9,6 +9,22 @@ pub struct Front {
     pub number: u64,
     /// How many bytes of the text it takes.
     pub size: usize,
+}
+
+// To a number below this any digit can be added.
+const TENTH: u64 = u64::MAX / 10;
+
+// The number with one digit more, where it is below 2^64.
+#[inline(always)]
+fn with_digit(number: u64, digit: u64) -> Option<u64>
+    requires { digit < 10 }
+    ensures some { IfSome result (λ n. (n < 2 ^ 64) × (n ≡ number * 10 + digit)) }
+    ensures none { IfNone result (2 ^ 64 ≤ number * 10 + digit) }
+{
+    if number < TENTH {
+        return Some(number * 10 + digit);
+    }
+    number.checked_mul(10)?.checked_add(digit)
 }
 
 // The value of the first word of a text, if it is digits alone and below 2^64.
@@ -27,9 +43,7 @@ fn value_in_front(text: &[u8]) -> Option<Front>
             }
             return None;
         }
-        number = number
-            .checked_mul(10)?
-            .checked_add(u64::from(*byte - b'0'))?;
+        number = with_digit(number, u64::from(*byte - b'0'))?;
     }
     Some(Front {
         number,

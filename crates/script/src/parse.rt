@@ -7,20 +7,21 @@ ghost use Rattle.model.specs.Text.{Says, Fits, IsSkipped, spelling, command_word
 ghost use Rattle.script.specs.Reading.{Gives, invocation_at, arguments_at, words_of};
 
 use crate::keyword::{Keyword, keyword_of};
+use crate::short::short_invocation;
 use crate::words::Words;
 use model::{Command, Invocation, Line, Operation};
 
 /// The longest line that isn't bad, in bytes.
 pub const LONGEST_LINE: usize = 256;
 
-// Takes the first word as a keyword. Most lines are calls.
+// Takes the first word as a keyword.
 #[inline(always)]
 fn keyword(words: &mut Words<'_>) -> Option<Keyword>
     ensures found { IfSome result (λ k. words.old ≡ keyword_name k ∷ words.new) }
     ensures none { IfNone result ((k : Keyword) (rest : List (List ℕ)) → words.old ≢ keyword_name k ∷ rest) }
 {
-    if words.takes_call() {
-        return Some(Keyword::Invoke(Operation::Call));
+    if let Some(keyword) = words.common_keyword() {
+        return Some(keyword);
     }
     keyword_of(words.next()?)
 }
@@ -110,6 +111,9 @@ pub fn parse_line(line: &[u8]) -> Line
     // A command's spelling is read as that command.
     ensures reads { (c : Command) → Fits c → line.now ≡ spelling c → result ≡ Line.Command c }
 {
+    if let Some(invocation) = short_invocation(line) {
+        return Line::Command(Command::Invoke(invocation));
+    }
     if line.len() > LONGEST_LINE {
         return Line::Bad;
     }

@@ -51,7 +51,10 @@ fn print_numbered<W: Write>(word: &[u8], number: u64, writer: &mut W) -> Result<
     ensures { Writes (W.contents writer.old) (W.contents writer.new) result
         (line_of (spaced (word.now ∷ decimal number ∷ []))) }
 {
-    LineText::numbered(word, number).write_to(writer)
+    let mut line = LineText::empty();
+    line.begin(word);
+    line.number(number);
+    line.print(writer)
 }
 
 // Writes at which generation and age the machine stands.
@@ -60,9 +63,11 @@ fn print_place<W: Write>(generation: u64, age: u64, writer: &mut W) -> Result<()
     ensures { Writes (W.contents writer.old) (W.contents writer.new) result
         (line_of (spaced (codes "at" ∷ decimal generation ∷ decimal age ∷ []))) }
 {
-    let mut line = LineText::numbered(b"at", generation);
+    let mut line = LineText::empty();
+    line.begin(b"at");
+    line.number(generation);
     line.number(age);
-    line.write_to(writer)
+    line.print(writer)
 }
 
 // Writes a refusal.

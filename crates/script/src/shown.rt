@@ -9,17 +9,15 @@ use bitflags::Flags;
 use model::{Access, Capability, Content, Object, Root, Slots, State};
 use std::io::Write;
 
-// The line `NAME number owner OWNER`, as far as it is the same for all objects.
-fn heading(name: &[u8], number: u64, owner: u64) -> LineText
+// Begins the line `NAME number owner OWNER`, as far as it is the same for all objects.
+fn begin_heading(line: &mut LineText, name: &[u8], number: u64, owner: u64)
     requires { length name.now ≤ 8 }
-    ensures text { result ≡ spaced (headed name.now number owner) }
-    ensures short { length result ≤ 56 }
+    ensures text { line.new ≡ spaced (headed name.now number owner) }
+    ensures short { length line.new ≤ 56 }
 {
-    let mut line = LineText::new(name);
+    line.begin(name);
     line.number(number);
-    line.word(b"owner");
-    line.number(owner);
-    line
+    line.named(b"owner", owner);
 }
 
 // Adds what a capability is restricted to, where it is.
@@ -85,63 +83,67 @@ pub fn state_word(state: State) -> &'static [u8]
     }
 }
 
-// The first line of a process.
-fn process_line(number: u64, owner: u64, root: &Root<Capability>) -> LineText
-    ensures text { result ≡ spaced (headed (codes "process") number owner
+// Begins the first line of a process.
+fn begin_process(line: &mut LineText, number: u64, owner: u64, root: &Root<Capability>)
+    ensures text { line.new ≡ spaced (headed (codes "process") number owner
         ++ (codes "annex" ∷ decimal root.now.annex ∷ state_text root.now.state
         ∷ codes "key" ∷ decimal root.now.key ∷ codes "words" ∷ [])
         ++ map decimal root.now.words ++ (codes "space" ∷ capability_text root.now.space ∷ [])) }
-    ensures short { length result < 320 }
+    ensures short { length line.new < 320 }
 {
-    let mut line = heading(b"process", number, owner);
+    begin_heading(line, b"process", number, owner);
     line.named(b"annex", root.annex);
     line.word(state_word(root.state));
     line.named(b"key", u64::from(root.key));
     line.word(b"words");
     line.numbers(&root.words);
     line.word(b"space");
-    push_capability(&mut line, root.space);
-    line
+    push_capability(line, root.space);
 }
 
-// The line of a bank.
-fn bank_line(number: u64, owner: u64, limit: u64, used: u64) -> LineText
-    ensures text { result ≡ spaced (headed (codes "bank") number owner
+// Begins the line of a bank.
+fn begin_bank(line: &mut LineText, number: u64, owner: u64, limit: u64, used: u64)
+    ensures text { line.new ≡ spaced (headed (codes "bank") number owner
         ++ (codes "limit" ∷ decimal limit ∷ codes "used" ∷ decimal used ∷ [])) }
-    ensures short { length result < 320 }
+    ensures short { length line.new < 320 }
 {
-    let mut line = heading(b"bank", number, owner);
+    begin_heading(line, b"bank", number, owner);
     line.named(b"limit", limit);
     line.named(b"used", used);
-    line
 }
 
 // Writes the line of a word that isn't 0.
-fn print_word<W: Write>(index: usize, word: u64, writer: &mut W) -> Result<(), RunFault>
+fn print_word<W: Write>(
+    line: &mut LineText,
+    index: usize,
+    word: u64,
+    writer: &mut W,
+) -> Result<(), RunFault>
     ensures { Writes (W.contents writer.old) (W.contents writer.new) result
         (word_line (index, word)) }
 {
     if word == 0 {
         return Ok(());
     }
-    let mut line = LineText::new(b"word");
+    line.begin(b"word");
     line.number(index as u64);
     line.number(word);
-    line.write_to(writer)
+    line.print(writer)
 }
 
 // Writes the lines of the words that aren't 0.
-fn print_words<W: Write>(words: &[u64], writer: &mut W) -> Result<(), RunFault>
+fn print_words<W: Write>(line: &mut LineText, words: &[u64], writer: &mut W) -> Result<(), RunFault>
     ensures { Writes (W.contents writer.old) (W.contents writer.new) result (word_lines words.now) }
 {
     for (index, word) in words.iter().enumerate() {
-        print_word(index, *word, writer)?;
+        print_word(line, index, *word, writer)?;
     }
     Ok(())
 }
 
 // Writes the line of a capability that isn't void.
 fn print_capability<W: Write>(
+    line: &mut LineText,
     name: &[u8],
     index: usize,
     capability: Capability,
@@ -154,14 +156,15 @@ fn print_capability<W: Write>(
     if let Capability::Void = capability {
         return Ok(());
     }
-    let mut line = LineText::new(name);
+    line.begin(name);
     line.number(index as u64);
-    push_capability(&mut line, capability);
-    line.write_to(writer)
+    push_capability(line, capability);
+    line.print(writer)
 }
 
 // Writes the lines of the capabilities that aren't void.
 fn print_capabilities<W: Write>(
+    line: &mut LineText,
     name: &[u8],
     capabilities: &[Capability],
     writer: &mut W,
@@ -171,7 +174,7 @@ fn print_capabilities<W: Write>(
         (capability_lines name.now capabilities.now) }
 {
     for (index, capability) in capabilities.iter().enumerate() {
-        print_capability(name, index, *capability, writer)?;
+        print_capability(line, name, index, *capability, writer)?;
     }
     Ok(())
 }
@@ -199,24 +202,36 @@ pub fn print_object<W: Write>(
         (object_text number object.now registers.now used) }
 {
     let owner = object.owner;
+    let mut line = LineText::empty();
     match &object.content {
-        Content::Free => LineText::numbered(b"free", number).write_to(writer),
+        Content::Free => {
+            line.begin(b"free");
+            line.number(number);
+            line.print(writer)
+        }
         Content::Page(words) => {
-            heading(b"page", number, owner).write_to(writer)?;
-            print_words(words.as_slice(), writer)
+            begin_heading(&mut line, b"page", number, owner);
+            line.print(writer)?;
+            print_words(&mut line, words.as_slice(), writer)
         }
         Content::Node(slots) => {
-            heading(b"node", number, owner).write_to(writer)?;
-            print_capabilities(b"slot", slots.as_slice(), writer)
+            begin_heading(&mut line, b"node", number, owner);
+            line.print(writer)?;
+            print_capabilities(&mut line, b"slot", slots.as_slice(), writer)
         }
         Content::Root(root) => {
-            process_line(number, owner, root).write_to(writer)?;
-            print_capabilities(b"register", held_by(registers), writer)
+            begin_process(&mut line, number, owner, root);
+            line.print(writer)?;
+            print_capabilities(&mut line, b"register", held_by(registers), writer)
         }
         Content::Annex(slots) => {
-            heading(b"annex", number, owner).write_to(writer)?;
-            print_capabilities(b"register", slots.as_slice(), writer)
+            begin_heading(&mut line, b"annex", number, owner);
+            line.print(writer)?;
+            print_capabilities(&mut line, b"register", slots.as_slice(), writer)
         }
-        Content::Bank { limit } => bank_line(number, owner, *limit, used).write_to(writer),
+        Content::Bank { limit } => {
+            begin_bank(&mut line, number, owner, *limit, used);
+            line.print(writer)
+        }
     }
 }

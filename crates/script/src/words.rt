@@ -1,10 +1,12 @@
 // The words of a line.
-ghost use Rattle.std.specs.Prelude.{◌≡◌, ◌==◌, [], ◌∷◌, MatchOption, IfSome, IsSome, IsTrue, ◌↔◌, ◌<◌, codes, option_map};
+ghost use Rattle.std.specs.Prelude.{◌≡◌, ◌==◌, [], ◌∷◌, MatchOption, IfSome, IfNone, IsSome, IsTrue, ◌↔◌, ◌<◌, option_map};
 ghost use Rattle.std.specs.List.{position};
+ghost use Rattle.script.specs.Keywords.{keyword_name};
 ghost use Rattle.script.specs.Reading.{first_end, first_word, words_left, words_of, Gives, number_at, register_at, numbers_at, registers_at};
 
+use crate::keyword::Keyword;
 use crate::number::number_in_front;
-use model::Register;
+use model::{Operation, Register};
 use std::marker::Model;
 
 // Where the first space is.
@@ -27,8 +29,9 @@ fn behind_first(text: &[u8], end: usize) -> Option<&[u8]>
     }
 }
 
-// The register of a number, where a process has it.
-fn register_of(number: u64) -> Option<Register>
+/// The register of a number, where a process has it.
+#[inline(always)]
+pub fn register_of(number: u64) -> Option<Register>
     ensures register { IfSome result (λ r. r ≡ number) }
     ensures some { IsSome result ↔ (number < 32) }
 {
@@ -87,21 +90,28 @@ impl<'a> Words<'a> {
         }
     }
 
-    /// Takes the word `call`, where it is the next one and another follows.
+    /// Takes one of the words that most lines begin with, where it is the next one and another
+    /// follows.
     #[inline(always)]
-    pub fn takes_call(&mut self) -> bool
-        ensures taken { IsTrue result → self.old ≡ codes "call" ∷ self.new }
-        ensures kept { (IsTrue result → ⊥) → self.new ≡ self.old }
+    pub fn common_keyword(&mut self) -> Option<Keyword>
+        ensures taken { IfSome result (λ k. self.old ≡ keyword_name k ∷ self.new) }
+        ensures kept { IfNone result (self.new ≡ self.old) }
     {
-        let rest = match self.rest {
-            Some(rest) => rest,
-            None => return false,
-        };
-        if let [b'c', b'a', b'l', b'l', b' ', more @ ..] = rest {
-            self.rest = Some(more);
-            return true;
+        match self.rest? {
+            [b'c', b'a', b'l', b'l', b' ', more @ ..] => {
+                self.rest = Some(more);
+                Some(Keyword::Invoke(Operation::Call))
+            }
+            [b'l', b'o', b'a', b'd', b' ', more @ ..] => {
+                self.rest = Some(more);
+                Some(Keyword::Load)
+            }
+            [b's', b't', b'o', b'r', b'e', b' ', more @ ..] => {
+                self.rest = Some(more);
+                Some(Keyword::Store)
+            }
+            _ => None,
         }
-        false
     }
 
     /// Takes the next word as a number.

@@ -4,8 +4,9 @@ ghost use Rattle.script.specs.Writing.{Writes};
 use crate::fault::RunFault;
 use std::io::{ErrorKind, Write};
 
-/// Writes all of the bytes. A write that was interrupted is tried again.
-pub fn write_fully<W: Write>(writer: &mut W, bytes: &[u8]) -> Result<(), RunFault>
+// Writes all of the bytes, of which a writer took none, or not all at once.
+#[inline(never)]
+fn write_rest<W: Write>(writer: &mut W, bytes: &[u8]) -> Result<(), RunFault>
     ensures { Writes (W.contents writer.old) (W.contents writer.new) result bytes.now }
 {
     let mut done = 0;
@@ -24,4 +25,28 @@ pub fn write_fully<W: Write>(writer: &mut W, bytes: &[u8]) -> Result<(), RunFaul
         }
     }
     Err(RunFault::Write)
+}
+
+/// Writes all of the bytes, mostly by one write. A write that was interrupted is tried again.
+#[inline(always)]
+pub fn write_fully<W: Write>(writer: &mut W, bytes: &[u8]) -> Result<(), RunFault>
+    ensures { Writes (W.contents writer.old) (W.contents writer.new) result bytes.now }
+{
+    match writer.write(bytes) {
+        Ok(count) => {
+            if count == bytes.len() {
+                return Ok(());
+            }
+            if count == 0 {
+                return Err(RunFault::Write);
+            }
+            write_rest(writer, &bytes[count..])
+        }
+        Err(error) => {
+            if error.kind() != ErrorKind::Interrupted {
+                return Err(RunFault::Write);
+            }
+            write_rest(writer, bytes)
+        }
+    }
 }

@@ -20,18 +20,12 @@ returns-then-not-is_ascii_digit-clause-none c = λ digits.
     let digit = digit_at (first_word c.args.text.now) c.loop-size.size digits reads.0 in
     absurd (omega (arith, digit, reads.1, c.if-not-is_ascii_digit.ensures.cases))
 
-pub returns-in_err-checked_mul-clause-none : goal.returns-in_err-checked_mul-clause-none
-returns-in_err-checked_mul-clause-none c = rw c.from_residual.ensures (λ digits.
-    let past = goes_on c.args.text.now c.loop-size.size c.loop-size.invariant.first c.loop-size-test.true (λ space. omega (arith, space, c.if-not-is_ascii_digit.ensures.cases)) in
-    word_great c.args.text.now c.loop-size.size c.loop-size.number past c.loop-size.invariant.value
-    c.if-not-is_ascii_digit.ensures.cases (λ small. c.in_err-checked_mul.ensures (omega (arith, small))))
-
 pub returns-in_err-number-clause-none : goal.returns-in_err-number-clause-none
-returns-in_err-number-clause-none c = rw c.from_residual-in_err-number.ensures (λ digits.
+returns-in_err-number-clause-none c = rw c.from_residual.ensures (λ digits.
     let past = goes_on c.args.text.now c.loop-size.size c.loop-size.invariant.first c.loop-size-test.true (λ space. omega (arith, space, c.if-not-is_ascii_digit.ensures.cases)) in
     word_great c.args.text.now c.loop-size.size c.loop-size.number past c.loop-size.invariant.value
     c.if-not-is_ascii_digit.ensures.cases
-    (λ small. c.in_err-number.ensures (omega (arith, small, c.in_ok-checked_mul.ensures.1, c.from.ensures))))
+    (λ small. omega (arith, small, c.in_err-number.ensures.none, c.from.ensures)))
 
 pub loop-size-preserved : goal.loop-size-preserved
 loop-size-preserved c =
@@ -39,10 +33,10 @@ loop-size-preserved c =
     let more = value_more c.args.text.now c.loop-size.size c.loop-size.number c.loop-size-test.true c.loop-size.invariant.digits
     c.loop-size.invariant.value c.if-not-is_ascii_digit.ensures.cases in
     record {
-      small = omega (arith, c.in_ok-number.ensures.0, c.in_ok-number.ensures.1);
+      small = omega (arith, c.in_ok-number.ensures.some.0);
       first = omega (arith, past);
       digits = more.0;
-      value = omega (arith, more.1, c.in_ok-checked_mul.ensures.1, c.in_ok-number.ensures.1, c.from.ensures);
+      value = omega (arith, more.1, c.in_ok-number.ensures.some.1, c.from.ensures);
     }
 
 pub returns-clause-size : goal.returns-clause-size

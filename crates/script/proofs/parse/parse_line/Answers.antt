@@ -1,5 +1,6 @@
 use Rattle.std.proofs.Common.{ap, inr, arith, subst, length}
 use Rattle.model.specs.Text.{IsSkipped}
+use Rattle.model.specs.declared.command.Command.TheVariants as command
 use Rattle.model.specs.declared.line.Line.TheVariants as line
 use Rattle.model_laws.proofs.Spelling.{length-spelling, spelling_from_words}
 use Rattle.script.proofs.Spellings.{spelling_said, one_spelling, no_spelling}
@@ -12,11 +13,20 @@ pub returns-then-is_skipped-clause-reads : goal.returns-then-is_skipped-clause-r
 returns-then-is_skipped-clause-reads c = λ d fits spelt. let skipped : IsSkipped c.args.line.now = grind arith in absurd (spelling_said d fits (subst IsSkipped spelt skipped))
 
 pub returns-in-Some-clause-says : goal.returns-in-Some-clause-says
-returns-in-Some-clause-says c = (c.in-Some.ensures.found.0, spelling_from_words c.args.line.now c.in-Some.command c.in-Some.ensures.found.1)
+returns-in-Some-clause-says c = (c.in-Some.ensures.0, spelling_from_words c.args.line.now (command.Invoke c.in-Some.invocation) c.in-Some.ensures.1)
 
 pub returns-in-Some-clause-reads : goal.returns-in-Some-clause-reads
 returns-in-Some-clause-reads c = λ d fits spelt.
-    ap (λ e. line.Command e) (one_spelling c.args.line.now c.in-Some.command d c.in-Some.ensures.found.0 fits c.in-Some.ensures.found.1 spelt)
+    ap (λ e. line.Command e) (one_spelling c.args.line.now (command.Invoke c.in-Some.invocation) d c.in-Some.ensures.0 fits c.in-Some.ensures.1 spelt)
+
+pub returns-in-Some-command_in-clause-says : goal.returns-in-Some-command_in-clause-says
+returns-in-Some-command_in-clause-says c =
+    (c.in-Some-command_in.ensures.found.0, spelling_from_words c.args.line.now c.in-Some-command_in.command c.in-Some-command_in.ensures.found.1)
+
+pub returns-in-Some-command_in-clause-reads : goal.returns-in-Some-command_in-clause-reads
+returns-in-Some-command_in-clause-reads c = λ d fits spelt.
+    ap (λ e. line.Command e)
+    (one_spelling c.args.line.now c.in-Some-command_in.command d c.in-Some-command_in.ensures.found.0 fits c.in-Some-command_in.ensures.found.1 spelt)
 
 pub returns-in-None-clause-says : goal.returns-in-None-clause-says
 returns-in-None-clause-says c = inr (grind arith, λ d fits. no_spelling c.args.line.now d fits (c.in-None.ensures.none d fits))

@@ -1,5 +1,5 @@
 use Rattle.script.proofs.Texts.{process_text}
-use Rattle.script.proofs.shown.process_line.Goals as goal
+use Rattle.script.proofs.shown.begin_process.Goals as goal
 
 pub returns-clause-text : goal.returns-clause-text
 returns-clause-text c =
@@ -13,6 +13,6 @@ returns-clause-text c =
       c.word.ensures,
       c.state_word.ensures.word,
       c.named.ensures.text,
-      c.heading-line.ensures.text,
+      c.begin_heading.ensures.text,
     )
     (process_text c.args.number c.args.owner c.args.root.now.annex c.args.root.now.key _ c.args.root.now.words _)

@@ -1,0 +1,133 @@
+-- A number of one to three digits at a place of a text, with a space behind it or at the end.
+use Rattle.std.proofs.Common.{◌≡◌, ℕ, ◌<◌, ◌≤◌, ◌^◌, ◌+◌, ◌*◌, ◌-◌, ◌==◌, List, [], Some, length, get_or, take, drop, decimal, refl, sym, ap, subst, ◌∙◌, arith}
+use Rattle.std.specs.Int.{IsInRange}
+use Rattle.std.specs.Str.Parse.{AllDigits, digits_value}
+use Rattle.std.proofs.lemmas.Bool.Decides.{nat_tests}
+use Rattle.std.proofs.lemmas.List.{get_or-take, get_or-drop, take_all, length-drop, drop-drop, length-take-le}
+use Rattle.std.proofs.lemmas.List.Sums.{position_or_len_is}
+use Rattle.std.proofs.lemmas.Str.Parse.{digit_at}
+use Rattle.script.specs.Reading.{first_end, first_word, number_at, words_of}
+use Rattle.script.proofs.Commands.{number_gives}
+use Rattle.script.proofs.Numbers.{digits_are_decimal, value_more}
+use Rattle.script.proofs.Split.{word_alone, word_and_more}
+
+-- a text that begins with so many digits, up to a space or the end
+abbrev Begins : List ℕ → ℕ → ℕ → Type 0
+Begins text size n =
+    (0 < size) × (size ≤ length text) × AllDigits 10 (take size text) × (get_or text 0 0 ≡ 48 → size ≡ 1) × (n ≡ digits_value 10 (take size text)) × (n < 2 ^ 64)
+
+word_ends : (text : List ℕ) (size n : ℕ) → Begins text size n → (size < length text → get_or text size 0 ≡ 32) → first_end text ≡ size
+word_ends text size n begins space =
+    let long : length (take size text) ≡ size = length-take-le size text begins.1 in
+    position_or_len_is (λ b. b == 32) text size 0 begins.1
+    (λ k lt.
+    let digit = digit_at (take size text) k begins.2 (omega (arith, long, lt)) in
+    let same = get_or-take size text k 0 lt in
+    let other : get_or text k 0 ≡ 32 → ⊥ = λ e. omega (arith, e, digit, same) in grind (arith, nat_tests))
+    (λ lt. let here = space lt in grind (arith, nat_tests))
+
+word_is : (text : List ℕ) (size n : ℕ) → Begins text size n → first_end text ≡ size → first_word text ≡ decimal n
+word_is text size n begins ends =
+    let long : length (take size text) ≡ size = length-take-le size text begins.1 in
+    ap (λ (k : ℕ). take k text) ends
+    ∙ digits_are_decimal (take size text) begins.2 (omega (arith, long, begins.0))
+    (λ zero. long ∙ begins.3 (sym (get_or-take size text 0 0 begins.0) ∙ zero)) (omega (arith, begins.4, begins.5))
+    ∙ ap (λ (k : ℕ). decimal k) (sym begins.4)
+
+digits_first : (text : List ℕ) (size n : ℕ) → Begins text size n → size < length text → get_or text size 0 ≡ 32
+    → number_at (words_of text) ≡ Some (n, words_of (drop (size + 1) text))
+digits_first text size n begins within space =
+    let ends = word_ends text size n begins (λ _. space) in
+    let left : take (length text - (size + 1)) (drop (size + 1) text) ≡ drop (size + 1) text =
+    take_all (length text - (size + 1)) (drop (size + 1) text) (omega (arith, length-drop (size + 1) text)) in
+    subst (λ (rest : List ℕ). number_at (words_of text) ≡ Some (n, words_of rest)) left
+    (number_gives (Some n) (first_word text) (words_of text) (words_of (take (length text - (size + 1)) (drop (size + 1) text)))
+    (word_and_more text size (sym ends) within) (begins.5, word_is text size n begins ends) tt)
+
+digits_alone : (text : List ℕ) (size n : ℕ) → Begins text size n → size ≡ length text → number_at (words_of text) ≡ Some (n, [])
+digits_alone text size n begins whole =
+    let ends = word_ends text size n begins (λ lt. absurd (omega (arith, lt, whole))) in
+    number_gives (Some n) (first_word text) (words_of text) [] (word_alone text size (sym ends) (omega (arith, whole))) (begins.5, word_is text size n begins ends) tt
+
+-- the value of the first digits behind a place
+abbrev Values : List ℕ → ℕ → ℕ → ℕ → Type 0
+Values text at size n = AllDigits 10 (take size (drop at text)) × (n ≡ digits_value 10 (take size (drop at text)))
+
+abbrev IsDigit : List ℕ → ℕ → ℕ → Type 0
+IsDigit text at digit = IsInRange 48 57 (get_or text at 0) × (digit ≡ get_or text at 0 - 48)
+
+digit_more : (text : List ℕ) (at size value digit : ℕ) → at + size < length text → Values text at size value → IsDigit text (at + size) digit
+    → Values text at (size + 1) (value * 10 + digit)
+digit_more text at size value digit within so_far is =
+    let same = get_or-drop at text size 0 in
+    let more = value_more (drop at text) size value (omega (arith, within, length-drop at text)) so_far.0 so_far.1
+    (subst (λ (d : ℕ). IsInRange 48 57 d) (sym same) is.0) in
+    (more.0, omega (arith, more.1, same, is.1))
+
+values_one : (text : List ℕ) (at one : ℕ) → at < length text → IsDigit text at one → Values text at 1 one
+values_one text at one within first =
+    let here : at ≡ at + 0 = omega arith in
+    let more = digit_more text at 0 0 one (omega (arith, within)) (tt, refl) (subst (λ (k : ℕ). IsDigit text k one) here first) in
+    (more.0, omega (arith, more.1))
+
+values_two : (text : List ℕ) (at one two : ℕ) → at + 1 < length text → IsDigit text at one → IsDigit text (at + 1) two → Values text at 2 (one * 10 + two)
+values_two text at one two within first second = digit_more text at 1 one two within (values_one text at one (omega (arith, within)) first) second
+
+values_three : (text : List ℕ) (at one two three : ℕ) → at + 2 < length text → IsDigit text at one → IsDigit text (at + 1) two → IsDigit text (at + 2) three
+    → Values text at 3 ((one * 10 + two) * 10 + three)
+values_three text at one two three within first second third =
+    digit_more text at 2 (one * 10 + two) three within (values_two text at one two (omega (arith, within)) first second) third
+
+begins_behind : (text : List ℕ) (at size n : ℕ) → at + size ≤ length text → 0 < size → Values text at size n → (get_or text at 0 ≡ 48 → size ≡ 1) → n < 2 ^ 64
+    → Begins (drop at text) size n
+begins_behind text at size n within some values first small = (
+  some,
+  omega (arith, within, length-drop at text),
+  values.0,
+  λ zero. first (sym (get_or-drop at text 0 0 ∙ ap (λ (k : ℕ). get_or text k 0) (omega arith)) ∙ zero),
+  values.1,
+  small,
+)
+
+number_read : (text : List ℕ) (at size next n : ℕ) → next ≡ at + size + 1 → at + size < length text → get_or text (at + size) 0 ≡ 32 → Begins (drop at text) size n
+    → number_at (words_of (drop at text)) ≡ Some (n, words_of (drop next text))
+number_read text at size next n behind within space begins =
+    let rest : drop (size + 1) (drop at text) ≡ drop next text = drop-drop (size + 1) at text ∙ ap (λ (k : ℕ). drop k text) (omega (arith, behind)) in
+    subst (λ (r : List ℕ). number_at (words_of (drop at text)) ≡ Some (n, words_of r)) rest
+    (digits_first (drop at text) size n begins (omega (arith, within, length-drop at text)) (get_or-drop at text size 0 ∙ space))
+
+pub one_digit : (text : List ℕ) (at n : ℕ) → at + 1 < length text → IsDigit text at n → get_or text (at + 1) 0 ≡ 32
+    → number_at (words_of (drop at text)) ≡ Some (n, words_of (drop (at + 2) text))
+one_digit text at n within first space =
+    number_read text at 1 (at + 2) n (omega arith) within space
+    (begins_behind text at 1 n (omega (arith, within)) (omega arith) (values_one text at n (omega (arith, within)) first) (λ _. refl) (omega (arith, first)))
+
+pub two_digits : (text : List ℕ) (at one two n : ℕ) → at + 2 < length text → IsDigit text at one → (get_or text at 0 ≡ 48 → ⊥) → IsDigit text (at + 1) two
+    → get_or text (at + 2) 0 ≡ 32 → n ≡ one * 10 + two → number_at (words_of (drop at text)) ≡ Some (n, words_of (drop (at + 3) text))
+two_digits text at one two n within first some second space is =
+    rw is
+    (number_read text at 2 (at + 3) (one * 10 + two) (omega arith) within space
+    (begins_behind text at 2 (one * 10 + two) (omega (arith, within)) (omega arith) (values_two text at one two (omega (arith, within)) first second) (λ zero. absurd (some zero)) (omega (arith, first, second))))
+
+pub three_digits : (text : List ℕ) (at one two three n : ℕ) → at + 3 < length text → IsDigit text at one → (get_or text at 0 ≡ 48 → ⊥) → IsDigit text (at + 1) two
+    → IsDigit text (at + 2) three → get_or text (at + 3) 0 ≡ 32 → n ≡ (one * 10 + two) * 10 + three
+    → number_at (words_of (drop at text)) ≡ Some (n, words_of (drop (at + 4) text))
+three_digits text at one two three n within first some second third space is =
+    rw is
+    (number_read text at 3 (at + 4) ((one * 10 + two) * 10 + three) (omega arith) within space
+    (begins_behind text at 3 ((one * 10 + two) * 10 + three) (omega (arith, within)) (omega arith) (values_three text at one two three (omega (arith, within)) first second third)
+    (λ zero. absurd (some zero)) (omega (arith, first, second, third))))
+
+pub last_one : (text : List ℕ) (at n : ℕ) → length text ≡ at + 1 → IsDigit text at n → number_at (words_of (drop at text)) ≡ Some (n, [])
+last_one text at n whole first =
+    digits_alone (drop at text) 1 n
+    (begins_behind text at 1 n (omega (arith, whole)) (omega arith) (values_one text at n (omega (arith, whole)) first) (λ _. refl) (omega (arith, first)))
+    (omega (arith, whole, length-drop at text))
+
+pub last_two : (text : List ℕ) (at one two n : ℕ) → length text ≡ at + 2 → IsDigit text at one → (get_or text at 0 ≡ 48 → ⊥) → IsDigit text (at + 1) two → n ≡ one * 10 + two
+    → number_at (words_of (drop at text)) ≡ Some (n, [])
+last_two text at one two n whole first some second is =
+    rw is
+    (digits_alone (drop at text) 2 (one * 10 + two)
+    (begins_behind text at 2 (one * 10 + two) (omega (arith, whole)) (omega arith) (values_two text at one two (omega (arith, whole)) first second) (λ zero. absurd (some zero)) (omega (arith, first, second)))
+    (omega (arith, whole, length-drop at text)))

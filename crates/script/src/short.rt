@@ -1,0 +1,235 @@
+// Short numbers, each read at a place of a line. They are what most invocations have; where `None`
+// is answered, the line may still say one.
+ghost use Rattle.std.specs.Prelude.{◌≡◌, ◌+◌, ◌*◌, ◌<◌, ◌≤◌, [], ◌∷◌, Some, IfSome, length, drop, slice_index_or};
+ghost use Rattle.model.specs.declared.command.Command.{Command};
+ghost use Rattle.model.specs.Text.{Fits, command_words, operation_name};
+ghost use Rattle.script.specs.Reading.{words_of, number_at, register_at, registers_at};
+
+use crate::words::register_of;
+use model::{Invocation, Operation, Register};
+
+// The first four bytes of `0 0 0 0`, and the last four.
+const VOID_BEGIN: u64 = 0x2030_2030;
+
+const VOID_END: u64 = 0x3020_3020;
+
+// The first four bytes of `call`, `send` and `return`.
+const CALL: u64 = 0x6c6c_6163;
+
+const SEND: u64 = 0x646e_6573;
+
+const RETURN: u64 = 0x7574_6572;
+
+// A number of a text, and where the word behind it begins.
+#[derive(Clone, Copy)]
+struct Short {
+    number: u64,
+    next: usize,
+}
+
+// Four bytes of a text as one number, of which the first counts least.
+#[inline(always)]
+fn four_at(text: &[u8], at: usize) -> u64
+    requires { at + 3 < length text.now }
+    ensures { result ≡ slice_index_or text.now at 0 + slice_index_or text.now (at + 1) 0 * 256
+        + slice_index_or text.now (at + 2) 0 * 65536 + slice_index_or text.now (at + 3) 0 * 16777216 }
+{
+    u64::from(text[at])
+        + u64::from(text[at + 1]) * 0x100
+        + u64::from(text[at + 2]) * 0x1_0000
+        + u64::from(text[at + 3]) * 0x100_0000
+}
+
+// The number at a place, where it has two or three digits and a space follows it.
+#[inline(always)]
+fn longer_before(text: &[u8], at: usize, behind: usize) -> Option<Short>
+    requires room { at + behind < length text.now }
+    requires more { 2 ≤ behind }
+    ensures reads { IfSome result (λ s. number_at (words_of (drop at text.now))
+        ≡ Some (s.number, words_of (drop s.next text.now))) }
+    ensures room { IfSome result (λ s. s.next + behind < length text.now + 2) }
+{
+    let (first, second) = (text[at], text[at + 1]);
+    if first < b'1' || b'9' < first || !second.is_ascii_digit() {
+        return None;
+    }
+    let number = u64::from(first - b'0') * 10 + u64::from(second - b'0');
+    let third = text[at + 2];
+    if third == b' ' {
+        if text.len() <= at + 1 + behind {
+            return None;
+        }
+        return Some(Short {
+            number,
+            next: at + 3,
+        });
+    }
+    if text.len() <= at + 2 + behind {
+        return None;
+    }
+    if !third.is_ascii_digit() || text[at + 3] != b' ' {
+        return None;
+    }
+    Some(Short {
+        number: number * 10 + u64::from(third - b'0'),
+        next: at + 4,
+    })
+}
+
+// The number at a place, where it has at most three digits and a space follows it. At least
+// `behind` bytes follow its first, and two fewer the first of the next word.
+#[inline(always)]
+fn number_before(text: &[u8], at: usize, behind: usize) -> Option<Short>
+    requires room { at + behind < length text.now }
+    requires more { 2 ≤ behind }
+    ensures reads { IfSome result (λ s. number_at (words_of (drop at text.now))
+        ≡ Some (s.number, words_of (drop s.next text.now))) }
+    ensures room { IfSome result (λ s. s.next + behind < length text.now + 2) }
+{
+    if text[at + 1] != b' ' {
+        return longer_before(text, at, behind);
+    }
+    let digit = text[at];
+    if !digit.is_ascii_digit() {
+        return None;
+    }
+    Some(Short {
+        number: u64::from(digit - b'0'),
+        next: at + 2,
+    })
+}
+
+// A register that a text names, and where the word behind it begins.
+#[derive(Clone, Copy)]
+struct ShortRegister {
+    register: Register,
+    next: usize,
+}
+
+// The register at a place, where it is such a number.
+#[inline(always)]
+fn register_before(text: &[u8], at: usize, behind: usize) -> Option<ShortRegister>
+    requires room { at + behind < length text.now }
+    requires more { 2 ≤ behind }
+    ensures reads { IfSome result (λ s. register_at (words_of (drop at text.now))
+        ≡ Some (s.register, words_of (drop s.next text.now))) }
+    ensures room { IfSome result (λ s. s.next + behind < length text.now + 2) }
+{
+    let short = number_before(text, at, behind)?;
+    Some(ShortRegister {
+        register: register_of(short.number)?,
+        next: short.next,
+    })
+}
+
+// The number at a place, where it has at most two digits and is the last word.
+#[inline(always)]
+fn last_number(text: &[u8], at: usize) -> Option<u64>
+    requires { at < length text.now }
+    ensures { IfSome result (λ n. number_at (words_of (drop at text.now)) ≡ Some (n, [])) }
+{
+    let first = text[at];
+    if !first.is_ascii_digit() {
+        return None;
+    }
+    let number = u64::from(first - b'0');
+    if text.len() == at + 1 {
+        return Some(number);
+    }
+    let second = text[at + 1];
+    if text.len() != at + 2 || first == b'0' || !second.is_ascii_digit() {
+        return None;
+    }
+    Some(number * 10 + u64::from(second - b'0'))
+}
+
+// The register at a place, where it is the last word.
+#[inline(always)]
+fn last_register(text: &[u8], at: usize) -> Option<Register>
+    requires { at < length text.now }
+    ensures { IfSome result (λ r. register_at (words_of (drop at text.now)) ≡ Some (r, [])) }
+{
+    register_of(last_number(text, at)?)
+}
+
+// The registers at a place, which are the last words. Mostly nothing is sent.
+#[inline(always)]
+fn last_registers(text: &[u8], at: usize) -> Option<[Register; 4]>
+    requires { at + 6 < length text.now }
+    ensures { IfSome result (λ r. registers_at (words_of (drop at text.now)) ≡ Some (r, [])) }
+{
+    if text.len() == at + 7
+        && four_at(text, at) == VOID_BEGIN
+        && four_at(text, at + 3) == VOID_END
+    {
+        let void = register_of(0)?;
+        return Some([void, void, void, void]);
+    }
+    let first = register_before(text, at, 6)?;
+    let second = register_before(text, first.next, 4)?;
+    let third = register_before(text, second.next, 2)?;
+    let fourth = last_register(text, third.next)?;
+    Some([first.register, second.register, third.register, fourth])
+}
+
+// An operation that a line names, and where the words behind its name begin.
+#[derive(Clone, Copy)]
+struct Named {
+    operation: Operation,
+    next: usize,
+}
+
+// The operation that a line names first, where ten numbers can follow.
+#[inline(always)]
+fn operation_in(line: &[u8]) -> Option<Named>
+    ensures reads { IfSome result (λ n. words_of line.now
+        ≡ operation_name n.operation ∷ words_of (drop n.next line.now)) }
+    ensures room { IfSome result (λ n. n.next + 18 < length line.now) }
+{
+    if line.len() < 24 {
+        return None;
+    }
+    let name = four_at(line, 0);
+    if name == CALL && line[4] == b' ' {
+        return Some(Named {
+            operation: Operation::Call,
+            next: 5,
+        });
+    }
+    if name == SEND && line[4] == b' ' {
+        return Some(Named {
+            operation: Operation::Send,
+            next: 5,
+        });
+    }
+    if name == RETURN && line[4] == b'r' && line[5] == b'n' && line[6] == b' ' && line.len() > 25 {
+        return Some(Named {
+            operation: Operation::Return,
+            next: 7,
+        });
+    }
+    None
+}
+
+/// The invocation that a line says, where its numbers are short.
+#[inline(always)]
+pub fn short_invocation(line: &[u8]) -> Option<Invocation>
+    ensures { IfSome result (λ i. Fits (Command.Invoke i)
+        × (words_of line.now ≡ command_words (Command.Invoke i))) }
+{
+    let named = operation_in(line)?;
+    let process = number_before(line, named.next, 18)?;
+    let register = register_before(line, process.next, 16)?;
+    let first = number_before(line, register.next, 14)?;
+    let second = number_before(line, first.next, 12)?;
+    let third = number_before(line, second.next, 10)?;
+    let fourth = number_before(line, third.next, 8)?;
+    let sent = last_registers(line, fourth.next)?;
+    Some(Invocation {
+        operation: named.operation,
+        process: process.number,
+        register: register.register,
+        words: [first.number, second.number, third.number, fourth.number],
+        sent,
+    })
+}
