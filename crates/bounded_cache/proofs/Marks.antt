@@ -15,7 +15,7 @@ use Rattle.device.specs.Disk.{Disk}
 use Rattle.checkpoint.specs.Saved.{most}
 use Rattle.migrator.specs.Durable.{DurableState, FrozenPuts, Stored, below_at, stored_of}
 use Rattle.checkpoint.proofs.Lists.{maps_same}
-use Rattle.capability.proofs.Touched.{length-touching}
+use Rattle.capability.proofs.Touched.{length-touching, set-marked}
 use Rattle.cache_entries.specs.declared.entry.Entry.{Entry}
 use Rattle.cache_entries.specs.Entries.{entry_at}
 use Rattle.bounded_cache.specs.Memory.{Memory, Owed, Shared, mark_at, apart_body, below_body, frozen_body, frozen_frame, frozen_at, owed_of, owed_body, owed_in_memory, contents_in, frozen_in, owed_in}
@@ -61,6 +61,14 @@ listed_by ts (n ∷ ns) (suc i) k lt is within = listed_by (set ts n true) ns i 
 
 pub listed_is_marked : (ts : List Bool) (ns : List ℕ) (k : ℕ) → Contains ns k → k < length ts → mark_at (touching ts ns) k ≡ true
 listed_is_marked ts ns k has within = listed_by ts ns has.0 k has.1 has.2 within
+
+-- where what is listed is marked already, nothing changes
+pub all_marked : (ts : List Bool) (ns : List ℕ) → ((k : ℕ) → Contains ns k → mark_at ts k ≡ true) → touching ts ns ≡ ts
+all_marked ts [] marked = refl
+all_marked ts (n ∷ ns) marked =
+    let here = set-marked ts n (marked n (0, omega arith, refl)) in
+    ap (λ (us : List Bool). touching us ns) here
+    ∙ all_marked ts ns (λ k has. marked k (suc has.0, omega (arith, has.1), has.2))
 
 -- the frozen frame of an object doesn't change with its mark, unless its frozen body is the present one as well
 frozen_marked : (o : Option Entry) (pending touched : Bool) (h : ObjectHeader) (below : Content Cap) (under : Frame) → owed_of o pending touched ≢ Shared →

@@ -1,5 +1,5 @@
 -- What a call that may fail leaves, told for each outcome.
-use Rattle.std.proofs.Common.{◌≡◌, Result, Ok, Err, sym, subst}
+use Rattle.std.proofs.Common.{◌≡◌, Bool, true, false, Result, Ok, Err, refl, sym, subst}
 use Rattle.std.specs.Prelude.{OnOk, OnErr}
 
 -- what holds of both
@@ -22,3 +22,8 @@ on_ok (Err e) holds = tt
 pub on_err : {T E P : Type 0} (r : Result T E) → P → OnErr r P
 on_err (Ok t) holds = tt
 on_err (Err e) holds = holds
+
+-- the same by an answer
+pub whichever : {X : Type 0} (b : Bool) (P : X → Type 0) (x y z : X) → (b ≡ true → x ≡ y) → (b ≡ false → x ≡ z) → P y → P z → P x
+whichever true P x y z if_true if_false on_true on_false = subst P (sym (if_true refl)) on_true
+whichever false P x y z if_true if_false on_true on_false = subst P (sym (if_false refl)) on_false

@@ -1,24 +1,26 @@
 -- Numbers are made ready to be written: room, and what was frozen, are put aside, and marks come last.
-use Rattle.std.proofs.Common.{◌≡◌, inl, inr, ℕ, ◌<◌, ◌≤◌, Bool, List, length, set, Option, Some, None, IsSome, is_some, true≢false, refl, sym, ap, subst, ◌∙◌, arith}
+use Rattle.std.proofs.Common.{◌≡◌, ◌≢◌, inl, inr, ℕ, ◌<◌, ◌≤◌, Bool, List, length, set, Option, Some, None, IsSome, is_some, true, true≢false, refl, sym, ap, subst, ◌∙◌, arith}
 use Rattle.std.specs.List.{Contains}
 use Rattle.std.proofs.lemmas.Bool.{cases_eq}
 use Rattle.std.proofs.lemmas.List.{get_or-set_same, get_or-set_other}
 use Rattle.std.proofs.lemmas.List.FromFn.{length-map-range_with_len}
 use Rattle.model.specs.declared.capability.Cap.{Cap}
 use Rattle.model.specs.declared.object.Content.{Content}
+use Rattle.model.specs.declared.object.Role.TheVariants as role
+use Rattle.model.specs.Frame.{header_at}
 use Rattle.model.specs.Machine.{touched_count, touching}
 use Rattle.device.specs.Disk.{Image, Disk}
 use Rattle.device.proofs.Moments.{peeks_started}
 use Rattle.migrator.specs.Durable.{DurableState, stored_of}
 use Rattle.migrator.proofs.Moving.{goes_none}
 use Rattle.capability.specs.Plain.{room_at}
-use Rattle.bounded_cache.specs.Memory.{Memory, content_at, contents_in}
+use Rattle.bounded_cache.specs.Memory.{Memory, content_at, contents_in, mark_at}
 use Rattle.bounded_cache.specs.Cache.{CacheState, IsCache, IsFetchedIn, IsAnnouncedIn, GoesOnIn, cache_of, on_device, seat_at}
 use Rattle.bounded_cache.specs.Prepared.{HasRoomIn, on_device_with}
 use Rattle.bounded_cache.proofs.Bringing.{seat_within, still_seated}
 use Rattle.bounded_cache.specs.CacheLaws.{goes_on_same}
 use Rattle.bounded_cache.proofs.Leading.{leads_seats}
-use Rattle.bounded_cache.proofs.Marks.{listed_is_marked}
+use Rattle.bounded_cache.proofs.Marks.{all_marked, listed_is_marked}
 
 module _ {D : Type 0} where
   pub fetched_same : (s t : CacheState D) (n : ℕ) → t.headers ≡ s.headers → t.contents ≡ s.contents → t.seats ≡ s.seats → IsFetchedIn s n → IsFetchedIn t n
@@ -91,3 +93,22 @@ module _ {D : Type 0} (disk : D → Disk) (d : DurableState D) (m : Memory) (lef
 
   pub count_within : touched_count s.touched ≤ (stored_of disk s.durable).saved.geometry.log
   count_within = omega (arith, count_seen, is.within, ap (λ (t : CacheState D). (stored_of disk t.durable).saved.geometry.log) view)
+
+  -- what is to be put already, and isn't free, may be written
+  module _ (ns : List ℕ) (known : (n : ℕ) → Contains ns n → n < length s.headers) (same : touching m.dirty ns ≡ m.dirty)
+      (used : (n : ℕ) → Contains ns n → (header_at m.headers n).role ≢ role.Free) where
+    dirty_already : (n : ℕ) → Contains ns n → mark_at m.dirty n ≡ true
+    dirty_already n has =
+        ap (λ (ts : List Bool). mark_at ts n) (sym same)
+        ∙ listed_is_marked m.dirty ns n has (let there = known n has in omega (arith, there, is.headers, is.dirty_marks, ap (λ (t : CacheState D). length t.headers) view))
+
+    pub ready_touched : touching s.touched ns ≡ s.touched
+    ready_touched = subst (λ (t : CacheState D). touching t.touched ns ≡ t.touched) view (all_marked m.touched ns (λ n has. is.marked n (dirty_already n has)))
+
+    pub ready_announced : (n : ℕ) → Contains ns n → IsAnnouncedIn disk s n
+    ready_announced n has = record {
+      header = known n has;
+      content = let there = known n has in omega (arith, there, contents_count, ap (λ (t : CacheState D). length t.headers) view, ap (λ (t : CacheState D). length t.contents) view);
+      dirty = ap (λ (t : CacheState D). mark_at t.dirty n) (sym view) ∙ dirty_already n has;
+      room = λ free some. absurd (used n has (ap (λ (t : CacheState D). (header_at t.headers n).role) view ∙ free));
+    }

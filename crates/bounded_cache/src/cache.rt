@@ -196,12 +196,16 @@ impl<D: Device> BoundedCache<D> {
         })
     }
 
-    // Says that an object with an entry was used last.
-    pub(crate) fn use_now(&mut self, number: u64)
-        requires { IsFetchedIn self.old number }
-        ensures { self.new ≡ record self.old { order = number ∷ without number self.old.order } }
+    // Says that an object was used last, where it has an entry, and tells whether it has one.
+    pub(crate) fn use_now(&mut self, number: u64) -> bool
+        requires { number < length self.old.headers }
+        ensures fetched { result ≡ true → IsFetchedIn self.old number }
+        ensures unseated { result ≡ false → seat_at self.old.seats number ≡ None }
+        ensures used { result ≡ true → self.new
+            ≡ record self.old { order = number ∷ without number self.old.order } }
+        ensures unchanged { result ≡ false → self.new ≡ self.old }
     {
-        self.entries.promote(number);
+        self.entries.promote(number)
     }
 
     // Copies what an object holds that is also what it was frozen as, so that it can be changed.

@@ -2,3 +2,4 @@ pub mod Lists
 pub mod Arenas
 pub mod Orders
 pub mod Recent
+pub mod Turns

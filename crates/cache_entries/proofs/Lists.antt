@@ -1,6 +1,6 @@
 -- What stands at a place of a list.
-use Rattle.std.proofs.Common.{◌≡◌, ◌≢◌, ◌⊎◌, inl, inr, ℕ, zero, suc, ◌+◌, ◌-◌, ◌<◌, List, [], ◌∷◌, ◌++◌, length, set, take, get_or, Option, Some, None, refl, sym, ap, ◌∙◌, arith, length-append, length-set}
-use Rattle.std.proofs.lemmas.List.{length-take-le}
+use Rattle.std.proofs.Common.{◌≡◌, ◌≢◌, ◌⊎◌, inl, inr, ℕ, zero, suc, ◌+◌, ◌-◌, ◌<◌, ◌≤◌, List, [], ◌∷◌, ◌++◌, length, set, take, drop, get_or, Option, Some, None, refl, sym, ap, ◌∙◌, arith, length-append, length-set}
+use Rattle.std.proofs.lemmas.List.{get_or-drop, get_or_default, length-drop, length-take-le, same_lists, take-append-drop}
 use Rattle.std.specs.List.{slice_get, swap_remove}
 use Rattle.std.proofs.lemmas.Bool.{cases_eq, cases_lt}
 use Rattle.std.proofs.lemmas.Option.{slice_get_within, slice_get-get_or, same_Some}
@@ -90,3 +90,17 @@ module _ {X : Type 0} where
             let last : j ≡ length xs - 1 = omega (arith, inside, end) in
             (k, swapped_here xs k d (grind (arith, within, other, last)) ∙ ap (slice_get xs) (sym last) ∙ e)
       ]
+
+  -- a list ends with another where it has the same at its last places
+  pub end_of : (e : X) (xs ys : List X) → length ys ≤ length xs → ((k : ℕ) → k < length ys → get_or xs (length xs - length ys + k) e ≡ get_or ys k e) →
+      (front : List X) × (xs ≡ front ++ ys)
+  end_of e xs ys few same =
+      let start = length xs - length ys in (
+        take start xs,
+        sym (take-append-drop start xs) ∙ ap (λ (zs : List X). take start xs ++ zs) (same_lists (drop start xs) ys (omega (arith, few, length-drop start xs)) (λ k d within.
+            let below : k < length ys = omega (arith, few, within, length-drop start xs) in
+            get_or-drop start xs k d
+            ∙ get_or_default xs (start + k) d e (omega (arith, few, below))
+            ∙ same k below
+            ∙ get_or_default ys k e d below)),
+      )

@@ -1,9 +1,7 @@
 -- Numbers in the order of their last use, and pairs of a cache with them as its keys.
-use Rattle.std.proofs.Common.{◌≡◌, ◌≢◌, inl, inr, ℕ, ◌+◌, ◌-◌, ◌<◌, nat_eq, Bool, true, false, cond, ◌||◌, true≢false, List, [], ◌∷◌, length, take, Option, Some, None, is_some, IsSome, set, refl, sym, ap, ◌∙◌, arith, subst}
+use Rattle.std.proofs.Common.{◌≡◌, ◌≢◌, inl, inr, ℕ, ◌+◌, ◌-◌, ◌<◌, nat_eq, Bool, true, false, cond, ◌||◌, true≢false, List, [], ◌∷◌, length, take, Option, Some, None, is_some, IsSome, set, refl, sym, ap, ◌∙◌, arith}
 use Rattle.std.specs.Map.{keys_of, lookup, lookup_entry, remove_entry}
 use Rattle.std.specs.Option.{option_map_or}
-use Rattle.std.proofs.lemmas.Option.{same_Some}
-use Rattle.std.specs.List.{slice_get}
 use Rattle.std.proofs.lemmas.Bool.{eqb-true, eq-eqb, ne_eqb, cases_eq}
 use Rattle.std.proofs.lemmas.List.{take_all, get_or-set_same, get_or-set_other}
 use Rattle.lru.specs.LruCache.{LruCache, promoted, put_entries}
@@ -61,10 +59,10 @@ module _ (n : ℕ) where
 
 -- ---- members
 
-member_tail : (n m : ℕ) (ms : List ℕ) → m ≢ n → is_member (m ∷ ms) n ≡ is_member ms n
+pub member_tail : (n m : ℕ) (ms : List ℕ) → m ≢ n → is_member (m ∷ ms) n ≡ is_member ms n
 member_tail n m ms other = ap (λ (t : Bool). t || is_member ms n) (ne_eqb n m (λ same. other (sym same)))
 
-member_head : (n m : ℕ) (ms : List ℕ) → n ≡ m → is_member (m ∷ ms) n ≡ true
+pub member_head : (n m : ℕ) (ms : List ℕ) → n ≡ m → is_member (m ∷ ms) n ≡ true
 member_head n m ms same = ap (λ (t : Bool). t || is_member ms n) (eq-eqb n m same)
 
 -- a number more, and one less
@@ -171,10 +169,3 @@ module _ (a : ArenaState) (order : List ℕ) (room : ℕ) (kept : AreKept a orde
       count = omega (arith, kept.count, length_without n order is_listed);
       same_most = kept.same_most;
     }
-
--- the number that was used last stays in front
-pub first_stays : (n : ℕ) (ns : List ℕ) → slice_get ns 0 ≡ Some n → n ∷ without n ns ≡ ns
-first_stays n [] first = cc
-first_stays n (m ∷ ms) first =
-    subst (λ (k : ℕ). k ∷ without k (m ∷ ms) ≡ m ∷ ms) (same_Some m n first)
-    (ap (λ (is : Bool). m ∷ cond is ms (m ∷ without m ms)) (eq-eqb m m refl))

@@ -1,5 +1,5 @@
 -- Numbers in the order of their last use, the one used last first.
-use Rattle.std.specs.Prelude.{◌≡◌, ◌==◌, ◌-◌, ◌≤◌, if◌then◌else◌, ℕ, false, Option, Some, None, is_some, List, [], ◌∷◌, length, slice_get, slice_set}
+use Rattle.std.specs.Prelude.{◌≡◌, ◌==◌, ◌-◌, ◌≤◌, if◌then◌else◌, ℕ, Bool, true, false, Option, Some, None, is_some, List, [], ◌∷◌, length, take, slice_get, slice_set}
 use Rattle.model.specs.Revoke.{is_member}
 use Rattle.cache_entries.specs.declared.entry.Entry.{Entry}
 use Rattle.cache_entries.specs.Entries.{entry_at, with_entry, ArenaState}
@@ -17,6 +17,33 @@ without n (m ∷ ms) = if n == m then ms else m ∷ without n ms
 -- the number used longest ago
 abbrev pub used_longest_ago : List ℕ → Option ℕ
 used_longest_ago ns = slice_get ns (length ns - 1)
+
+-- the order once numbers were used in turn
+abbrev pub used_in_turn : List ℕ → List ℕ → List ℕ
+used_in_turn [] order = order
+used_in_turn (n ∷ ns) order = used_in_turn ns (n ∷ without n order)
+
+-- numbers that were used after all others, in turn, which their order needn't say yet: each of them once
+pub record AreLatest (latest order : List ℕ) : Type 0 where
+  pub once : AllDiffer latest
+  pub listed : (n : ℕ) → is_member latest n ≡ true → is_member order n ≡ true
+
+-- numbers in the order of their last use, and how many there may be
+pub record OrderState : Type 0 where
+  pub numbers : List ℕ
+  pub most : ℕ
+
+-- a number of the order was used last
+abbrev pub used_last : ℕ → OrderState → OrderState
+used_last n s = record { numbers = n ∷ without n s.numbers; most = s.most }
+
+-- so many of a list of numbers of the order were used in turn, and all of them where it is said so
+pub record Uses (s t : OrderState) (ns : List ℕ) (said : Bool) : Type 0 where
+  pub count : ℕ
+  pub numbers : t.numbers ≡ used_in_turn (take count ns) s.numbers
+  pub same_most : t.most ≡ s.most
+  pub listed : (n : ℕ) → is_member (take count ns) n ≡ true → is_member s.numbers n ≡ true
+  pub whole : said ≡ true → length ns ≤ count
 
 -- entries by number, the numbers that have one in the order of their last use, and how many there may be
 pub record EntriesState : Type 0 where

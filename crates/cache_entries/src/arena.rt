@@ -89,6 +89,16 @@ impl Arena {
         Some(&self.items[place])
     }
 
+    /// What an object that has an entry holds now.
+    pub(crate) fn present(&self, number: u64) -> &Content<Cap>
+        requires { IsSome (entry_at self.now.at number) }
+        ensures { option_map present_of (entry_at self.now.at number) ≡ Some result.now }
+    {
+        let place = self.places[number as usize] as usize;
+        let entry = &self.items[place];
+        &entry.present
+    }
+
     /// Lends what an object that has an entry holds now.
     pub(crate) fn present_mut(&mut self, number: u64) -> &mut Content<Cap>
         requires { IsSome (entry_at self.old.at number) }

@@ -1,38 +1,36 @@
 // Entries in the order of their last use.
-ghost use Rattle.std.specs.Prelude.{◌≡◌, ◌<◌, ◌≤◌, [], Some, None, ◌↔◌, length, replicate, is_some, nat_le, option_copied, option_map, slice_get, IfOk, IsSome, IsTrue, OnOk, OnErr};
+ghost use Rattle.std.specs.Prelude.{◌≡◌, ℕ, ◌<◌, ◌≤◌, [], Some, None, true, false, length, replicate, is_some, nat_le, option_copied, option_map, IfOk, IsSome, OnOk, OnErr};
 ghost use Rattle.std.specs.Borrow.{Lends, sem};
+ghost use Rattle.std.specs.List.{Contains};
 ghost use Rattle.model.specs.contracts.object.Content.{the_row as content_row};
 ghost use Rattle.model.specs.contracts.capability.Cap.{the_row as cap_row};
 ghost use Rattle.cache_entries.specs.Entries.{entry_at, holding, keeping, reserving, present_of, room_of};
-ghost use Rattle.cache_entries.specs.Order.{AreOrdered, used_longest_ago, with_entry_of, with_new, without_entry, used_now};
+ghost use Rattle.cache_entries.specs.Order.{AreOrdered, used_longest_ago, with_entry_of, with_new, without_entry, used_in_turn, used_now};
 
 use crate::arena::Arena;
 use crate::capacity::Capacity;
 use crate::entry::Entry;
-use crate::number_hasher::NumberHasher;
-use lru::LruCache;
+use crate::use_order::UseOrder;
 use model::{Cap, Content};
 use std::alloc::{AllocError, Global};
-use std::hash::BuildHasherDefault;
 use std::marker::Model;
 use std::num::NonZeroUsize;
 
 /// Entries by number, no more than a capacity, in the order of their last use.
 #[derive(Drop)]
 pub struct Entries {
-    order: LruCache<u64, (), BuildHasherDefault<NumberHasher>>,
+    order: UseOrder,
     arena: Arena,
 }
 
 impl Model for Entries {
-    ghost use Rattle.std.specs.Map.{keys_of};
     ghost use Rattle.cache_entries.specs.Order.{EntriesState, AreKept, entries_of};
 
     ghost Value = { EntriesState };
 
-    ghost view = { λ e. entries_of e.arena (keys_of e.order.entries) };
+    ghost view = { λ e. entries_of e.arena e.order.numbers };
 
-    ghost invariant = { λ e. AreKept e.arena (keys_of e.order.entries) e.order.cap };
+    ghost invariant = { λ e. AreKept e.arena e.order.numbers e.order.most };
 }
 
 impl Entries {
@@ -48,7 +46,7 @@ impl Entries {
         let most = capacity.count() as usize;
         match NonZeroUsize::new(most) {
             Some(room) => Ok(Entries {
-                order: LruCache::with_hasher(alloc, room, BuildHasherDefault::new())?,
+                order: UseOrder::new(alloc, room)?,
                 arena: Arena::new(alloc, most, count)?,
             }),
             None => unreachable!(),
@@ -68,7 +66,7 @@ impl Entries {
         ensures full { result ≡ nat_le self.now.most (length self.now.order) }
         ensures ordered { AreOrdered self.now }
     {
-        self.order.len() >= self.order.cap().get()
+        self.order.is_full()
     }
 
     /// The entry of a number.
@@ -92,10 +90,7 @@ impl Entries {
         requires { IsSome (entry_at self.now.at number) }
         ensures { option_map present_of (entry_at self.now.at number) ≡ Some result.now }
     {
-        match self.get(number) {
-            Some(entry) => &entry.present,
-            None => unreachable!(),
-        }
+        self.arena.present(number)
     }
 
     /// Lends what an object that has an entry holds now.
@@ -144,8 +139,8 @@ impl Entries {
         ensures inserted { OnOk result (self.new ≡ with_new entry self.old) }
         ensures unchanged { OnErr result (self.new ≡ self.old) }
     {
-        match self.order.put(entry.number, ()) {
-            Ok(_) => {
+        match self.order.insert(entry.number) {
+            Ok(()) => {
                 self.arena.insert(entry);
                 Ok(())
             }
@@ -159,46 +154,41 @@ impl Entries {
         ensures entry { entry_at self.old.at number ≡ Some result }
         ensures entries { self.new ≡ without_entry number self.old }
     {
-        self.order.pop(&number);
+        self.order.remove(number);
         self.arena.remove(number)
     }
 
-    // Whether a number was used last.
-    fn is_first(&self, number: u64) -> bool
-        ensures { IsTrue result ↔ (slice_get self.now.order 0 ≡ Some number) }
+    /// Says that numbers were used, in turn, as far as that takes no look at all entries, and tells
+    /// whether it said so of each. Then each has an entry.
+    pub fn use_again(&mut self, numbers: &[u64]) -> bool
+        ensures held { result ≡ true → (n : ℕ) → Contains numbers.now n
+            → IsSome (entry_at self.old.at n) }
+        ensures used { result ≡ true → self.new.order ≡ used_in_turn numbers.now self.old.order }
+        ensures rest { self.new ≡ record self.old { order = self.new.order } }
     {
-        match self.order.peek_mru() {
-            Some((first, _)) => *first == number,
-            None => false,
-        }
+        self.order.use_again(numbers)
     }
 
-    // Puts a number that has an entry in front of the others.
-    fn put_first(&mut self, number: u64)
-        requires { IsSome (entry_at self.old.at number) }
-        ensures { self.new ≡ used_now number self.old }
+    /// Says that a number was used last, where it has an entry, and tells whether it has one.
+    pub fn promote(&mut self, number: u64) -> bool
+        requires { number < length self.old.at }
+        ensures held { result ≡ is_some (entry_at self.old.at number) }
+        ensures used { result ≡ true → self.new ≡ used_now number self.old }
+        ensures unchanged { result ≡ false → self.new ≡ self.old }
     {
-        self.order.promote(&number);
-    }
-
-    /// Says that a number that has an entry was used last.
-    pub fn promote(&mut self, number: u64)
-        requires { IsSome (entry_at self.old.at number) }
-        ensures { self.new ≡ used_now number self.old }
-    {
-        if !self.is_first(number) {
-            self.put_first(number);
+        if !self.holds(number) {
+            return false;
         }
+        self.order.use_now(number);
+        true
     }
 
     /// The number whose entry was used longest ago.
-    pub fn least(&self) -> Option<u64>
-        ensures least { result ≡ used_longest_ago self.now.order }
-        ensures ordered { AreOrdered self.now }
+    pub fn least(&mut self) -> Option<u64>
+        ensures least { result ≡ used_longest_ago self.old.order }
+        ensures ordered { AreOrdered self.old }
+        ensures same { self.new ≡ self.old }
     {
-        match self.order.peek_lru() {
-            Some((number, _)) => Some(*number),
-            None => None,
-        }
+        self.order.least()
     }
 }

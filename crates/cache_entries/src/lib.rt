@@ -6,6 +6,7 @@ mod capacity;
 mod entries;
 mod entry;
 mod number_hasher;
+mod use_order;
 
 pub use capacity::Capacity;
 pub use entries::Entries;

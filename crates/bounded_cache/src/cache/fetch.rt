@@ -55,6 +55,7 @@ impl<D: Device> BoundedCache<D> {
 
     // Brings an object into memory that has no entry, where no body is in the hand. Of the eight
     // used last the first seven stay.
+    #[inline(never)]
     fn bring(&mut self, alloc: Global, number: u64) -> Result<(), PrepareFault>
         requires known { number < length self.old.headers }
         requires unseated { seat_at self.old.seats number ≡ None }
@@ -92,8 +93,7 @@ impl<D: Device> BoundedCache<D> {
         ensures cause { IsErrOf result PrepareFault.Failed
             ↔ ((D.disk self.old.durable.beneath).failures < (D.disk self.new.durable.beneath).failures) }
     {
-        if self.entries.holds(number) {
-            self.use_now(number);
+        if self.use_now(number) {
             return Ok(());
         }
         self.bring(alloc, number)

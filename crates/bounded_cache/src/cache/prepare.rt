@@ -7,6 +7,7 @@ ghost use Rattle.capability.specs.Parts.{frames_of};
 ghost use Rattle.capability.specs.Plain.{room_at};
 ghost use Rattle.checkpoint.specs.Saved.{most};
 ghost use Rattle.migrator.specs.Durable.{stored_of};
+ghost use Rattle.cache_entries.specs.Order.{used_in_turn};
 ghost use Rattle.bounded_cache.specs.Memory.{Shared};
 ghost use Rattle.bounded_cache.specs.Cache.{GoesOnIn, IsAnnouncedIn, IsFetchedIn, owed_at, parts_of};
 ghost use Rattle.bounded_cache.specs.Prepared.{HasRoomIn, on_device_with};
@@ -14,16 +15,42 @@ ghost use Rattle.bounded_cache.specs.Prepared.{HasRoomIn, on_device_with};
 use crate::cache::BoundedCache;
 use crate::owed::is_shared;
 use capability::plain::rooms::blank;
-use capability::plain::touched::{fresh_count, mark};
+use capability::plain::touched::{are_ready, fresh_count, mark};
 use capability::{MAX_FETCHED, PrepareFault};
 use device::Device;
 use model::Role;
 use std::alloc::{AllocError, Global};
 
 impl<D: Device> BoundedCache<D> {
+    // Says that objects were used, in turn, as far as they were used lately, and tells whether it
+    // said so of each. Then they are in memory.
+    fn use_again(&mut self, numbers: &[u64]) -> bool
+        requires { All (λ n. n < length self.old.headers) numbers.now }
+        ensures fetched { result ≡ true → (n : ℕ) → Contains numbers.now n → IsFetchedIn self.new n }
+        ensures used { result ≡ true → self.new.order ≡ used_in_turn numbers.now self.old.order }
+        ensures rest { self.new ≡ record self.old { order = self.new.order } }
+        ensures leads { GoesOnIn D.disk self.old self.new }
+    {
+        self.entries.use_again(numbers)
+    }
+
+    // Whether all numbers of a list are to be put already, and none of them is free: they may be
+    // written with nothing done for it.
+    fn is_ready(&self, written: &[u64]) -> bool
+        requires { All (λ n. n < length self.now.headers) written.now }
+        ensures touched { result ≡ true → touching self.now.touched written.now ≡ self.now.touched }
+        ensures announced { result ≡ true → (n : ℕ) → Contains written.now n
+            → IsAnnouncedIn D.disk self.now n }
+        ensures within { touched_count self.now.touched
+            ≤ (stored_of D.disk self.now.durable).saved.geometry.log }
+    {
+        are_ready(&self.table, &self.dirty, written)
+    }
+
     // Marks numbers that are to be written. Of none of them is what it holds also what is still to
     // be put as it was frozen. `LogFull` exactly where more would be marked than half of the log
     // holds, and then all is as it was.
+    #[inline(never)]
     pub(crate) fn announce(&mut self, written: &[u64]) -> Result<(), PrepareFault>
         requires known { All (λ n. n < length self.old.headers) written.now }
         requires apart { (n : ℕ) → Contains written.now n → owed_at self.old.owed n ≢ Shared }
@@ -173,6 +200,7 @@ impl<D: Device> BoundedCache<D> {
     }
 
     // Makes numbers ready that are to be marked.
+    #[inline(never)]
     fn make_ready(&mut self, alloc: Global, written: &[u64]) -> Result<(), PrepareFault>
         requires { All (λ n. n < length self.old.headers) written.now }
         ensures apart { OnOk result ((n : ℕ) → Contains written.now n
@@ -226,6 +254,44 @@ impl<D: Device> BoundedCache<D> {
         self.fetch_all(alloc, fetched)
     }
 
+    // Does what `prepare` does, object by object.
+    #[inline(never)]
+    fn prepare_anew(
+        &mut self,
+        alloc: Global,
+        fetched: &[u64],
+        written: &[u64],
+    ) -> Result<(), PrepareFault>
+        requires few { length fetched.now ≤ MAX_FETCHED }
+        requires known { All (λ n. n < length self.old.headers) fetched.now }
+        requires announced { All (λ n. n < length self.old.headers) written.now }
+        requires keepable { AreKeepable (parts_of D.disk self.old).geometry most
+            (frames_of (parts_of D.disk self.old)) }
+        ensures fetched { OnOk result ((n : ℕ) → Contains fetched.now n → IsFetchedIn self.new n) }
+        ensures announced { OnOk result ((n : ℕ) → Contains written.now n
+            → IsAnnouncedIn D.disk self.new n) }
+        ensures touched { OnOk result (self.new.touched ≡ touching self.old.touched written.now) }
+        ensures untouched { OnErr result (self.new.touched ≡ self.old.touched) }
+        ensures within { touched_count self.new.touched
+            ≤ (stored_of D.disk self.new.durable).saved.geometry.log }
+        ensures before { touched_count self.old.touched
+            ≤ (stored_of D.disk self.old.durable).saved.geometry.log }
+        ensures rest { self.new ≡ record (on_device_with self.old self.new) { touched = self.new.touched } }
+        ensures full { IsErrOf result PrepareFault.LogFull
+            → (stored_of D.disk self.old.durable).saved.geometry.log
+            < touched_count (touching self.old.touched written.now) }
+        ensures cause { IsErrOf result PrepareFault.Failed
+            ↔ ((D.disk self.old.durable.beneath).failures < (D.disk self.new.durable.beneath).failures) }
+        ensures leads { GoesOnIn D.disk self.old self.new }
+    {
+        self.bring_all(alloc, fetched)?;
+        if self.is_ready(written) {
+            return Ok(());
+        }
+        self.make_ready(alloc, written)?;
+        self.announce(written)
+    }
+
     /// Brings what the objects hold that are to be read or changed into memory, at most 8, announces
     /// the numbers that are to be written, and puts the room aside that a free one among them needs.
     ///
@@ -260,8 +326,9 @@ impl<D: Device> BoundedCache<D> {
             ↔ ((D.disk self.old.durable.beneath).failures < (D.disk self.new.durable.beneath).failures) }
         ensures leads { GoesOnIn D.disk self.old self.new }
     {
-        self.bring_all(alloc, fetched)?;
-        self.make_ready(alloc, written)?;
-        self.announce(written)
+        if self.use_again(fetched) && self.is_ready(written) {
+            return Ok(());
+        }
+        self.prepare_anew(alloc, fetched, written)
     }
 }

@@ -1,8 +1,12 @@
-use Rattle.std.proofs.Common.{refl, sym, ◌∙◌, ◌<◌, ◌≡◌, length, take, subst, None}
+use Rattle.std.proofs.Common.{refl, sym, ap, ◌∙◌, ◌<◌, ◌≡◌, length, take, subst, None}
+use Rattle.std.specs.Prelude.{OnOk, OnErr}
+use Rattle.model.specs.Frame.{header_at, held_at}
+use Rattle.model.specs.Keepable.{IsKeepable}
 use Rattle.checkpoint.specs.Saved.{most}
 use Rattle.migrator.specs.Durable.{stored_of}
 use Rattle.capability.proofs.Keeping.{keepable_at}
-use Rattle.bounded_cache.specs.Cache.{CacheState, on_device, parts_of, seat_at, without_seat}
+use Rattle.cache_entries.specs.Order.{EntriesState}
+use Rattle.bounded_cache.specs.Cache.{CacheState, IsFetchedIn, cache_of, on_device, parts_of, seat_at, without_seat}
 use Rattle.bounded_cache.proofs.Outcomes.{ok_then, either_way}
 use Rattle.bounded_cache.proofs.Owing.{some_least, least_known, least_fetched, least_room, least_order, least_others, still_unseated}
 use Rattle.bounded_cache.specs.Memory.{memory_of}
@@ -18,36 +22,60 @@ pub put_away-requires-clause-fetched : goal.put_away-requires-clause-fetched
 put_away-requires-clause-fetched g c =
     let i = c.self.inside in
     let m = memory_of i.table i.frozen_headers i.touched i.dirty i.pending i.entries.at i.hand in
-    least_fetched g.D.Device.disk i.durable m i.left i.count i.entries.order i.entries.most c.args.self.now c.self.view_is c.self.invariant.0 c.self.invariant.1 c.least.ensures.ordered c.requires.full c.in-Some.number (sym c.in-Some.is ∙ c.least.ensures.least)
+    let seen = ap (λ (e : EntriesState). cache_of g.D.Device.disk i.durable (memory_of i.table i.frozen_headers i.touched i.dirty i.pending e.at i.hand) i.left e.order e.most) c.least.ensures.same ∙ c.self.view_is in
+    subst (λ (t : CacheState g.row.D.Denot). IsFetchedIn t c.in-Some.number) (sym seen) (least_fetched g.D.Device.disk i.durable m i.left i.count i.entries.order i.entries.most c.args.self.now c.self.view_is c.self.invariant.0 c.self.invariant.1 c.least.ensures.ordered c.requires.full c.in-Some.number (sym c.in-Some.is ∙ c.least.ensures.least))
 
 pub put_away-requires-clause-keepable : goal.put_away-requires-clause-keepable
 put_away-requires-clause-keepable g c =
     let i = c.self.inside in
     let m = memory_of i.table i.frozen_headers i.touched i.dirty i.pending i.entries.at i.hand in
-    keepable_at (stored_of g.D.Device.disk c.args.self.now.durable).saved.geometry most (parts_of g.D.Device.disk c.args.self.now) c.in-Some.number (least_known g.D.Device.disk i.durable m i.left i.count i.entries.order i.entries.most c.args.self.now c.self.view_is c.self.invariant.0 c.self.invariant.1 c.least.ensures.ordered c.requires.full c.in-Some.number (sym c.in-Some.is ∙ c.least.ensures.least)) c.requires.keepable
+    let seen = ap (λ (e : EntriesState). cache_of g.D.Device.disk i.durable (memory_of i.table i.frozen_headers i.touched i.dirty i.pending e.at i.hand) i.left e.order e.most) c.least.ensures.same ∙ c.self.view_is in
+    subst (λ (t : CacheState g.row.D.Denot). IsKeepable (stored_of g.D.Device.disk t.durable).saved.geometry most c.in-Some.number (record { header = header_at t.headers c.in-Some.number; content = held_at t.contents c.in-Some.number })) (sym seen)
+    (keepable_at (stored_of g.D.Device.disk c.args.self.now.durable).saved.geometry most (parts_of g.D.Device.disk c.args.self.now) c.in-Some.number (least_known g.D.Device.disk i.durable m i.left i.count i.entries.order i.entries.most c.args.self.now c.self.view_is c.self.invariant.0 c.self.invariant.1 c.least.ensures.ordered c.requires.full c.in-Some.number (sym c.in-Some.is ∙ c.least.ensures.least)) c.requires.keepable)
 
 pub returns-clause-room : goal.returns-clause-room
 returns-clause-room g c =
     let i = c.self.inside in
     let m = memory_of i.table i.frozen_headers i.touched i.dirty i.pending i.entries.at i.hand in
-    ok_then c.put_away.result c.put_away.ensures.away (λ away. subst (λ (t : CacheState g.row.D.Denot). length t.order < t.most) (sym away) (least_room g.D.Device.disk i.durable m i.left i.count i.entries.order i.entries.most c.args.self.now c.self.view_is c.self.invariant.0 c.self.invariant.1 c.least.ensures.ordered c.requires.full c.in-Some.number (sym c.in-Some.is ∙ c.least.ensures.least)))
+    let seen = ap (λ (e : EntriesState). cache_of g.D.Device.disk i.durable (memory_of i.table i.frozen_headers i.touched i.dirty i.pending e.at i.hand) i.left e.order e.most) c.least.ensures.same ∙ c.self.view_is in
+    let r = c.put_away.result in
+    let u = c.put_away.new.self in
+    let away = subst (λ (t : CacheState g.row.D.Denot). OnOk r (u ≡ without_seat c.in-Some.number (on_device t u))) seen c.put_away.ensures.away in
+    ok_then r away (λ gone. subst (λ (t : CacheState g.row.D.Denot). length t.order < t.most) (sym gone) (least_room g.D.Device.disk i.durable m i.left i.count i.entries.order i.entries.most c.args.self.now c.self.view_is c.self.invariant.0 c.self.invariant.1 c.least.ensures.ordered c.requires.full c.in-Some.number (sym c.in-Some.is ∙ c.least.ensures.least)))
 
 pub returns-clause-others : goal.returns-clause-others
 returns-clause-others g c =
     let i = c.self.inside in
     let m = memory_of i.table i.frozen_headers i.touched i.dirty i.pending i.entries.at i.hand in
-    λ k recent. either_way c.put_away.result (λ (t : CacheState g.row.D.Denot). seat_at t.seats k ≡ seat_at c.args.self.now.seats k) c.put_away.new.self
-    (without_seat c.in-Some.number (on_device c.args.self.now c.put_away.new.self)) (on_device c.args.self.now c.put_away.new.self) c.put_away.ensures.away c.put_away.ensures.stays (least_others g.D.Device.disk i.durable m i.left i.count i.entries.order i.entries.most c.args.self.now c.self.view_is c.self.invariant.0 c.self.invariant.1 c.least.ensures.ordered c.requires.full c.in-Some.number (sym c.in-Some.is ∙ c.least.ensures.least) k recent) refl
+    let seen = ap (λ (e : EntriesState). cache_of g.D.Device.disk i.durable (memory_of i.table i.frozen_headers i.touched i.dirty i.pending e.at i.hand) i.left e.order e.most) c.least.ensures.same ∙ c.self.view_is in
+    let r = c.put_away.result in
+    let u = c.put_away.new.self in
+    let away = subst (λ (t : CacheState g.row.D.Denot). OnOk r (u ≡ without_seat c.in-Some.number (on_device t u))) seen c.put_away.ensures.away in
+    let stays = subst (λ (t : CacheState g.row.D.Denot). OnErr r (u ≡ on_device t u)) seen c.put_away.ensures.stays in
+    λ k recent. either_way r (λ (t : CacheState g.row.D.Denot). seat_at t.seats k ≡ seat_at c.args.self.now.seats k)
+    u (without_seat c.in-Some.number (on_device c.args.self.now u)) (on_device c.args.self.now u) away stays (least_others g.D.Device.disk i.durable m i.left i.count i.entries.order i.entries.most c.args.self.now c.self.view_is c.self.invariant.0 c.self.invariant.1 c.least.ensures.ordered c.requires.full c.in-Some.number (sym c.in-Some.is ∙ c.least.ensures.least) k recent) refl
 
 pub returns-clause-order : goal.returns-clause-order
 returns-clause-order g c =
     let i = c.self.inside in
     let m = memory_of i.table i.frozen_headers i.touched i.dirty i.pending i.entries.at i.hand in
-    either_way c.put_away.result (λ (t : CacheState g.row.D.Denot). take 7 t.order ≡ take 7 c.args.self.now.order) c.put_away.new.self
-    (without_seat c.in-Some.number (on_device c.args.self.now c.put_away.new.self)) (on_device c.args.self.now c.put_away.new.self) c.put_away.ensures.away c.put_away.ensures.stays (least_order g.D.Device.disk i.durable m i.left i.count i.entries.order i.entries.most c.args.self.now c.self.view_is c.self.invariant.0 c.self.invariant.1 c.least.ensures.ordered c.requires.full c.in-Some.number (sym c.in-Some.is ∙ c.least.ensures.least)) refl
+    let seen = ap (λ (e : EntriesState). cache_of g.D.Device.disk i.durable (memory_of i.table i.frozen_headers i.touched i.dirty i.pending e.at i.hand) i.left e.order e.most) c.least.ensures.same ∙ c.self.view_is in
+    let r = c.put_away.result in
+    let u = c.put_away.new.self in
+    let away = subst (λ (t : CacheState g.row.D.Denot). OnOk r (u ≡ without_seat c.in-Some.number (on_device t u))) seen c.put_away.ensures.away in
+    let stays = subst (λ (t : CacheState g.row.D.Denot). OnErr r (u ≡ on_device t u)) seen c.put_away.ensures.stays in
+    either_way r (λ (t : CacheState g.row.D.Denot). take 7 t.order ≡ take 7 c.args.self.now.order)
+    u (without_seat c.in-Some.number (on_device c.args.self.now u)) (on_device c.args.self.now u) away stays (least_order g.D.Device.disk i.durable m i.left i.count i.entries.order i.entries.most c.args.self.now c.self.view_is c.self.invariant.0 c.self.invariant.1 c.least.ensures.ordered c.requires.full c.in-Some.number (sym c.in-Some.is ∙ c.least.ensures.least)) refl
 
 pub returns-clause-unseated : goal.returns-clause-unseated
 returns-clause-unseated g c =
-    λ k none. either_way c.put_away.result (λ (t : CacheState g.row.D.Denot). seat_at t.seats k ≡ None) c.put_away.new.self
-    (without_seat c.in-Some.number (on_device c.args.self.now c.put_away.new.self)) (on_device c.args.self.now c.put_away.new.self) c.put_away.ensures.away c.put_away.ensures.stays
+    let i = c.self.inside in
+    let m = memory_of i.table i.frozen_headers i.touched i.dirty i.pending i.entries.at i.hand in
+    let seen = ap (λ (e : EntriesState). cache_of g.D.Device.disk i.durable (memory_of i.table i.frozen_headers i.touched i.dirty i.pending e.at i.hand) i.left e.order e.most) c.least.ensures.same ∙ c.self.view_is in
+    let r = c.put_away.result in
+    let u = c.put_away.new.self in
+    let away = subst (λ (t : CacheState g.row.D.Denot). OnOk r (u ≡ without_seat c.in-Some.number (on_device t u))) seen c.put_away.ensures.away in
+    let stays = subst (λ (t : CacheState g.row.D.Denot). OnErr r (u ≡ on_device t u)) seen c.put_away.ensures.stays in
+    λ k none. either_way r (λ (t : CacheState g.row.D.Denot). seat_at t.seats k ≡ None)
+    u (without_seat c.in-Some.number (on_device c.args.self.now u)) (on_device c.args.self.now u) away stays
     (still_unseated c.args.self.now.seats c.in-Some.number k none) none

@@ -1,10 +1,12 @@
-use Rattle.std.proofs.Common.{ℕ, List, sym, ap}
+use Rattle.std.proofs.Common.{is_some, sym, ap, ◌∙◌}
+use Rattle.cache_entries.specs.Entries.{entry_at}
 use Rattle.cache_entries.specs.Order.{EntriesState}
-use Rattle.cache_entries.proofs.Orders.{first_stays}
+use Rattle.cache_entries.proofs.Orders.{kept_used}
 use Rattle.cache_entries.proofs.entries.Entries.promote.Goals as goal
 
-pub returns-else-not-is_first : goal.returns-else-not-is_first
-returns-else-not-is_first c =
-    let old = c.args.self.now in
-    ap (λ (order : List ℕ). let s : EntriesState = record { at = old.at; order = order; most = old.most } in s)
-    (sym (first_stays c.args.number old.order (c.is_first.ensures.0 c.if-not-is_first.false)))
+pub invariant_of-self : goal.invariant_of-self
+invariant_of-self c =
+    let i = c.self.inside in
+    rw c.use_now.ensures
+    (kept_used i.arena i.order.numbers i.order.most c.self.invariant c.args.number
+    (ap (λ (s : EntriesState). is_some (entry_at s.at c.args.number)) c.self.view_is ∙ sym c.holds.ensures ∙ c.if-not-holds.false))

@@ -1,0 +1,329 @@
+-- Numbers that are used in turn, and those whose use the order doesn't have yet.
+use Rattle.std.proofs.Common.{◌≡◌, ◌≢◌, ◌⊎◌, inl, inr, ℕ, zero, suc, ◌+◌, nat_eq, Bool, true, false, cond, ◌||◌, true≢false, List, [], ◌∷◌, ◌++◌, length, set, take, drop, get_or, ◌<◌, ◌≤◌, Some, refl, sym, ap, subst, ◌∙◌, arith}
+use Rattle.std.specs.List.{Contains, slice_get}
+use Rattle.std.proofs.lemmas.List.{take_more}
+use Rattle.std.proofs.lemmas.Bool.{eqb-true, eq-eqb, ne_eqb, cases_eq}
+use Rattle.std.proofs.lemmas.Option.{none-some, same_Some}
+use Rattle.model.specs.Revoke.{is_member}
+use Rattle.cache_entries.specs.Entries.{ArenaState}
+use Rattle.cache_entries.specs.Order.{AllDiffer, AreKept, AreLatest, used_in_turn, without}
+use Rattle.cache_entries.proofs.Orders.{differ_without, gone, kept_used, length_without, member_head, member_tail, still}
+use Rattle.cache_entries.proofs.Recent.{listed_member}
+
+-- ---- members
+
+-- a list with a number more in front, or at its end
+either : (t b : Bool) → (t || b) ≡ true → (t ≡ true) ⊎ (b ≡ true)
+either true b is = inl refl
+either false b is = inr is
+
+neither : (t b : Bool) → (t || b) ≡ false → (t ≡ false) × (b ≡ false)
+neither true b is = absurd (true≢false is)
+neither false b is = (refl, is)
+
+or_true : (t b : Bool) → b ≡ true → (t || b) ≡ true
+or_true true b is = refl
+or_true false b is = is
+
+pub in_tail : (m : ℕ) (ms : List ℕ) (n : ℕ) → is_member ms n ≡ true → is_member (m ∷ ms) n ≡ true
+in_tail m ms n is = or_true (nat_eq n m) (is_member ms n) is
+
+pub not_here : (m : ℕ) (ms : List ℕ) (n : ℕ) → is_member (m ∷ ms) n ≡ false → (n ≢ m) × (is_member ms n ≡ false)
+not_here m ms n none = (λ same. true≢false (sym (member_head n m ms same) ∙ none), (neither (nat_eq n m) (is_member ms n) none).1)
+
+pub at_end : (ns : List ℕ) (n m : ℕ) → is_member (ns ++ n ∷ []) m ≡ true → (is_member ns m ≡ true) ⊎ (m ≡ n)
+at_end [] n m is = elim (either (nat_eq m n) false is) [ inl same ↦ inr (eqb-true m n same) | inr none ↦ absurd (true≢false (sym none)) ]
+at_end (k ∷ ns) n m is = elim (either (nat_eq m k) (is_member (ns ++ n ∷ []) m) is) [
+  | inl same ↦ inl (ap (λ (t : Bool). t || is_member ns m) same)
+  | inr later ↦ elim (at_end ns n m later) [
+    | inl has ↦ inl (in_tail k ns m has)
+    | inr last ↦ inr last
+  ]
+]
+
+pub not_at_end : (ns : List ℕ) (n m : ℕ) → is_member ns m ≡ false → m ≢ n → is_member (ns ++ n ∷ []) m ≡ false
+not_at_end [] n m none other = member_tail m n [] (λ same. other (sym same))
+not_at_end (k ∷ ns) n m none other =
+    let apart = not_here k ns m none in
+    member_tail m k (ns ++ n ∷ []) (λ same. apart.0 (sym same)) ∙ not_at_end ns n m apart.1 other
+
+-- a number that is listed keeps its place among the members when it is used
+pub member_used : (n : ℕ) (ns : List ℕ) (m : ℕ) → is_member ns n ≡ true → is_member (n ∷ without n ns) m ≡ is_member ns m
+member_used n ns m is = elim (cases_eq m n) [
+  | inl same ↦ member_head m n (without n ns) same ∙ sym (ap (is_member ns) same ∙ is)
+  | inr other ↦ member_tail m n (without n ns) (λ same. other (sym same)) ∙ still n ns m other
+]
+
+pub member_in_turn : (ns order : List ℕ) (m : ℕ) → ((k : ℕ) → is_member ns k ≡ true → is_member order k ≡ true) → is_member (used_in_turn ns order) m ≡ is_member order m
+member_in_turn [] order m listed = refl
+member_in_turn (n ∷ ns) order m listed =
+    let here = listed n (member_head n n ns refl) in
+    member_in_turn ns (n ∷ without n order) m (λ k is. member_used n order k here ∙ listed k (in_tail n ns k is))
+    ∙ member_used n order m here
+
+pub length_in_turn : (ns order : List ℕ) → ((k : ℕ) → is_member ns k ≡ true → is_member order k ≡ true) → length (used_in_turn ns order) ≡ length order
+length_in_turn [] order listed = refl
+length_in_turn (n ∷ ns) order listed =
+    let here = listed n (member_head n n ns refl) in
+    let rest = length_in_turn ns (n ∷ without n order) (λ k is. member_used n order k here ∙ listed k (in_tail n ns k is)) in
+    omega (arith, rest, length_without n order here)
+
+-- ---- the order
+
+without_here : (n m : ℕ) (ms : List ℕ) → n ≡ m → without n (m ∷ ms) ≡ ms
+without_here n m ms same = ap (λ (t : Bool). cond t ms (m ∷ without n ms)) (eq-eqb n m same)
+
+without_tail : (n m : ℕ) (ms : List ℕ) → n ≢ m → without n (m ∷ ms) ≡ m ∷ without n ms
+without_tail n m ms other = ap (λ (t : Bool). cond t ms (m ∷ without n ms)) (ne_eqb n m other)
+
+-- two numbers are taken out in any turn
+without_both : (n m : ℕ) (ns : List ℕ) → n ≢ m → without n (without m ns) ≡ without m (without n ns)
+without_both n m [] other = refl
+without_both n m (k ∷ ks) other = elim (cases_eq n k) [
+  | inl first ↦
+      let apart : m ≢ k = λ same. other (first ∙ sym same) in
+      ap (without n) (without_tail m k ks apart)
+      ∙ without_here n k (without m ks) first
+      ∙ sym (ap (without m) (without_here n k ks first))
+  | inr apart ↦ elim (cases_eq m k) [
+    | inl second ↦
+        ap (without n) (without_here m k ks second)
+        ∙ sym (ap (without m) (without_tail n k ks apart) ∙ without_here m k (without n ks) second)
+    | inr differs ↦
+        ap (without n) (without_tail m k ks differs)
+        ∙ without_tail n k (without m ks) apart
+        ∙ ap (λ (rest : List ℕ). k ∷ rest) (without_both n m ks other)
+        ∙ sym (ap (without m) (without_tail n k ks apart) ∙ without_tail m k (without n ks) differs)
+  ]
+]
+
+-- a number is used after others
+pub used_at_end : (ns : List ℕ) (n : ℕ) (order : List ℕ) → used_in_turn (ns ++ n ∷ []) order ≡ n ∷ without n (used_in_turn ns order)
+used_at_end [] n order = refl
+used_at_end (m ∷ ms) n order = used_at_end ms n (m ∷ without m order)
+
+-- the uses of others leave it where it is
+without_in_turn : (n : ℕ) (ns order : List ℕ) → is_member ns n ≡ false → without n (used_in_turn ns order) ≡ used_in_turn ns (without n order)
+without_in_turn n [] order none = refl
+without_in_turn n (m ∷ ms) order none =
+    let apart = not_here m ms n none in
+    without_in_turn n ms (m ∷ without m order) apart.1
+    ∙ ap (used_in_turn ms) (without_tail n m (without m order) apart.0 ∙ ap (λ (rest : List ℕ). m ∷ rest) (without_both n m order apart.0))
+
+-- what is used once more needn't have been used before
+without_earlier : (n : ℕ) (ns order : List ℕ) → AllDiffer ns → without n (used_in_turn (without n ns) order) ≡ without n (used_in_turn ns order)
+without_earlier n [] order once = refl
+without_earlier n (m ∷ ms) order once = elim (cases_eq n m) [
+  | inl same ↦
+      let none : is_member ms n ≡ false = ap (is_member ms) same ∙ once.0 in
+      ap (λ (ks : List ℕ). without n (used_in_turn ks order)) (without_here n m ms same)
+      ∙ without_in_turn n ms order none
+      ∙ ap (used_in_turn ms) (ap (λ (k : ℕ). without k order) same ∙ sym (without_here n m (without m order) same))
+      ∙ sym (without_in_turn n ms (m ∷ without m order) none)
+  | inr other ↦
+      ap (λ (ks : List ℕ). without n (used_in_turn ks order)) (without_tail n m ms other)
+      ∙ without_earlier n ms (m ∷ without m order) once.1
+]
+
+pub used_once_more : (n : ℕ) (ns order : List ℕ) → AllDiffer ns → used_in_turn (without n ns ++ n ∷ []) order ≡ n ∷ without n (used_in_turn ns order)
+used_once_more n ns order once = used_at_end (without n ns) n order ∙ ap (λ (rest : List ℕ). n ∷ rest) (without_earlier n ns order once)
+
+-- ---- used again in the same turn
+
+without_behind : (n : ℕ) (front ns : List ℕ) → is_member front n ≡ false → without n (front ++ ns) ≡ front ++ without n ns
+without_behind n [] ns none = refl
+without_behind n (m ∷ ms) ns none =
+    let apart = not_here m ms n none in
+    without_tail n m (ms ++ ns) apart.0 ∙ ap (λ (rest : List ℕ). m ∷ rest) (without_behind n ms ns apart.1)
+
+-- what was used in turn before others, and is used in turn after them, needn't have been used before
+used_behind : (ns front order : List ℕ) → AllDiffer ns → ((k : ℕ) → is_member ns k ≡ true → is_member front k ≡ false) →
+    used_in_turn ns (front ++ used_in_turn ns order) ≡ used_in_turn ns (front ++ order)
+used_behind [] front order once apart = refl
+used_behind (n ∷ ns) front order once apart =
+    let here = apart n (member_head n n ns refl) in
+    let moved : without n (used_in_turn ns (n ∷ without n order)) ≡ used_in_turn ns (without n order) =
+    without_in_turn n ns (n ∷ without n order) once.0 ∙ ap (used_in_turn ns) (without_here n n (without n order) refl) in
+    ap (λ (rest : List ℕ). used_in_turn ns (n ∷ rest)) (without_behind n front (used_in_turn ns (n ∷ without n order)) here ∙ ap (λ (rest : List ℕ). front ++ rest) moved)
+    ∙ used_behind ns (n ∷ front) (without n order) once.1 (λ k is.
+    member_tail k n front (λ same. true≢false (sym is ∙ ap (is_member ns) (sym same) ∙ once.0)) ∙ apart k (in_tail n ns k is))
+    ∙ ap (λ (rest : List ℕ). used_in_turn ns (n ∷ rest)) (sym (without_behind n front order here))
+
+differ_behind : (front ns : List ℕ) → AllDiffer (front ++ ns) → AllDiffer ns
+differ_behind [] ns once = once
+differ_behind (m ∷ ms) ns once = differ_behind ms ns once.1
+
+pub in_behind : (front ns : List ℕ) (k : ℕ) → is_member ns k ≡ true → is_member (front ++ ns) k ≡ true
+in_behind [] ns k is = is
+in_behind (m ∷ ms) ns k is = in_tail m (ms ++ ns) k (in_behind ms ns k is)
+
+used_front : (front ns order : List ℕ) → used_in_turn (front ++ ns) order ≡ used_in_turn ns (used_in_turn front order)
+used_front [] ns order = refl
+used_front (m ∷ ms) ns order = used_front ms ns (m ∷ without m order)
+
+-- what was used last, in turn, is used again
+pub used_again : (front ns order : List ℕ) → AllDiffer (front ++ ns) → used_in_turn (front ++ ns) order ≡ used_in_turn ns (used_in_turn (front ++ ns) order)
+used_again front ns order once =
+    used_front front ns order
+    ∙ sym (used_behind ns [] (used_in_turn front order) (differ_behind front ns once) (λ k is. refl))
+    ∙ ap (used_in_turn ns) (sym (used_front front ns order))
+
+-- what a list has is one of its members
+member_by : (ns : List ℕ) (i n : ℕ) → i < length ns → get_or ns i n ≡ n → is_member ns n ≡ true
+member_by [] i n within at = absurd (omega (arith, within))
+member_by (m ∷ ms) zero n within at = member_head n m ms (sym at)
+member_by (m ∷ ms) (suc i) n within at = in_tail m ms n (member_by ms i n (omega (arith, within)) at)
+
+pub contains_member : (ns : List ℕ) (n : ℕ) → Contains ns n → is_member ns n ≡ true
+contains_member ns n has = member_by ns has.0 n has.1 has.2
+
+-- one more of a list is used
+pub one_more : (s t : List ℕ) (ns : List ℕ) (i : ℕ) → i < length ns → t ≡ used_in_turn (take i ns) s →
+    get_or ns i 0 ∷ without (get_or ns i 0) t ≡ used_in_turn (take (i + 1) ns) s
+one_more s t ns i below is =
+    ap (λ (ks : List ℕ). get_or ns i 0 ∷ without (get_or ns i 0) ks) is
+    ∙ sym (used_at_end (take i ns) (get_or ns i 0) s)
+    ∙ ap (λ (ks : List ℕ). used_in_turn ks s) (sym (take_more ns i 0 below))
+
+pub listed_more : (s t : List ℕ) (ns : List ℕ) (i : ℕ) → i < length ns → t ≡ used_in_turn (take i ns) s → is_member t (get_or ns i 0) ≡ true →
+    ((n : ℕ) → is_member (take i ns) n ≡ true → is_member s n ≡ true) → (n : ℕ) → is_member (take (i + 1) ns) n ≡ true → is_member s n ≡ true
+listed_more s t ns i below is here listed n has =
+    elim (at_end (take i ns) (get_or ns i 0) n (sym (ap (λ (ks : List ℕ). is_member ks n) (take_more ns i 0 below)) ∙ has)) [
+      | inl there ↦ listed n there
+      | inr same ↦
+          ap (is_member s) same
+          ∙ sym (member_in_turn (take i ns) s (get_or ns i 0) listed)
+          ∙ ap (λ (ks : List ℕ). is_member ks (get_or ns i 0)) (sym is) ∙ here
+    ]
+
+-- ---- the latest
+
+pub differ_end : (ns : List ℕ) (n : ℕ) → AllDiffer ns → is_member ns n ≡ false → AllDiffer (ns ++ n ∷ [])
+differ_end [] n once none = (refl, tt)
+differ_end (m ∷ ms) n once none =
+    let apart = not_here m ms n none in
+    (not_at_end ms n m once.0 (λ same. apart.0 (sym same)), differ_end ms n once.1 apart.1)
+
+module _ (latest order : List ℕ) (are : AreLatest latest order) (n : ℕ) where
+  -- one of them is used again
+  pub again_latest : is_member latest n ≡ true → AreLatest (without n latest ++ n ∷ []) order
+  again_latest has = record {
+    once = differ_end (without n latest) n (differ_without n latest are.once) (gone n latest are.once);
+    listed = λ m is. elim (cases_eq m n) [
+      | inl same ↦ ap (is_member order) same ∙ are.listed n has
+      | inr other ↦ elim (at_end (without n latest) n m is) [
+        | inl there ↦ are.listed m (sym (still n latest m other) ∙ there)
+        | inr same ↦ absurd (other same)
+      ]
+    ];
+  }
+
+  -- another one is used
+  pub more_latest : is_member latest n ≡ false → is_member order n ≡ true → AreLatest (latest ++ n ∷ []) order
+  more_latest none here = record {
+    once = differ_end latest n are.once none;
+    listed = λ m is. elim (at_end latest n m is) [
+      | inl has ↦ are.listed m has
+      | inr same ↦ ap (is_member order) same ∙ here
+    ];
+  }
+
+-- the order is told of the first of them
+pub settled_latest : (n : ℕ) (ns order : List ℕ) → AreLatest (n ∷ ns) order → AreLatest ns (n ∷ without n order)
+settled_latest n ns order are = record {
+  once = are.once.1;
+  listed = λ m is. member_used n order m (are.listed n (member_head n n ns refl)) ∙ are.listed m (in_tail n ns m is);
+}
+
+-- what telling it leaves
+pub record Settles (latest rest order told : List ℕ) : Type 0 where
+  pub same : used_in_turn rest told ≡ used_in_turn latest order
+  pub are : AreLatest rest told
+  pub others : (m : ℕ) → is_member latest m ≡ false → is_member rest m ≡ false
+  pub members : (m : ℕ) → is_member told m ≡ is_member order m
+  pub fewer : length rest + 1 ≡ length latest
+
+pub settles : (latest rest order told : List ℕ) (n : ℕ) → 0 < length latest → n ≡ get_or latest 0 n → rest ≡ take 0 latest ++ drop 1 latest →
+    (is_member order n ≡ true → told ≡ n ∷ without n order) → AreLatest latest order → Settles latest rest order told
+settles [] rest order told n some first is tells are = absurd (omega (arith, some))
+settles (m ∷ ms) rest order told n some first is tells are =
+    let here : is_member order m ≡ true = are.listed m (member_head m m ms refl) in
+    let on : told ≡ m ∷ without m order = subst (λ (k : ℕ). told ≡ k ∷ without k order) first (tells (ap (is_member order) first ∙ here)) in
+    record {
+      same = ap (λ (ks : List ℕ). used_in_turn ks told) is ∙ ap (used_in_turn ms) on;
+      are = subst (λ (ks : List ℕ). AreLatest ks told) (sym is) (subst (AreLatest ms) (sym on) (settled_latest m ms order are));
+      others = λ k none. ap (λ (ks : List ℕ). is_member ks k) is ∙ (not_here m ms k none).1;
+      members = λ k. ap (λ (ks : List ℕ). is_member ks k) on ∙ member_used m order k here;
+      fewer = omega (arith, ap length is);
+    }
+
+pub none_latest : (order : List ℕ) → AreLatest [] order
+none_latest order = record { once = tt; listed = λ n is. absurd (true≢false (sym is)) }
+
+-- ---- a number is moved to the end of a list
+
+-- those behind the first move up, one after the other
+up_one : (m : ℕ) (ms : List ℕ) (i : ℕ) → i < length ms → set (take i ms ++ drop i (m ∷ ms)) i (get_or (take i ms ++ drop i (m ∷ ms)) (suc i) 0) ≡ take (suc i) ms ++ drop i ms
+up_one m [] i below = absurd (omega (arith, below))
+up_one m (k ∷ ks) zero below = refl
+up_one m (k ∷ ks) (suc i) below = ap (λ (rest : List ℕ). k ∷ rest) (up_one k ks i (omega (arith, below)))
+
+up_last : (m n : ℕ) (ms : List ℕ) (i : ℕ) → i ≡ length ms → set (take i ms ++ drop i (m ∷ ms)) i n ≡ ms ++ n ∷ []
+up_last m n [] zero is = refl
+up_last m n [] (suc i) is = absurd (omega (arith, is))
+up_last m n (k ∷ ks) zero is = absurd (omega (arith, is))
+up_last m n (k ∷ ks) (suc i) is = ap (λ (rest : List ℕ). k ∷ rest) (up_last k n ks i (omega (arith, is)))
+
+apart_from : (m : ℕ) (ms : List ℕ) (place n : ℕ) → slice_get ms place ≡ Some n → is_member ms m ≡ false → n ≢ m
+apart_from m ms place n at none same = true≢false (sym (listed_member ms place n at) ∙ ap (is_member ms) same ∙ none)
+
+module _ (n : ℕ) where
+  pub move_begun : (ns : List ℕ) (place : ℕ) → slice_get ns place ≡ Some n → AllDiffer ns → ns ≡ take place (without n ns) ++ drop place ns
+  move_begun [] place at once = absurd (none-some n at)
+  move_begun (m ∷ ms) zero at once = refl
+  move_begun (m ∷ ms) (suc place) at once =
+      ap (λ (rest : List ℕ). m ∷ rest) (move_begun ms place at once.1)
+      ∙ ap (λ (rest : List ℕ). take (suc place) rest ++ drop place ms) (sym (without_tail n m ms (apart_from m ms place n at once.0)))
+
+  move_up : (ns : List ℕ) (place i : ℕ) → slice_get ns place ≡ Some n → AllDiffer ns → place ≤ i → suc i < length ns →
+      set (take i (without n ns) ++ drop i ns) i (get_or (take i (without n ns) ++ drop i ns) (suc i) 0) ≡ take (suc i) (without n ns) ++ drop (suc i) ns
+  move_up [] place i at once from below = absurd (none-some n at)
+  move_up (m ∷ ms) zero i at once from below =
+      subst (λ (rest : List ℕ). set (take i rest ++ drop i (m ∷ ms)) i (get_or (take i rest ++ drop i (m ∷ ms)) (suc i) 0) ≡ take (suc i) rest ++ drop i ms)
+      (sym (without_here n m ms (sym (same_Some m n at)))) (up_one m ms i (omega (arith, below)))
+  move_up (m ∷ ms) (suc place) zero at once from below = absurd (omega (arith, from))
+  move_up (m ∷ ms) (suc place) (suc i) at once from below =
+      subst (λ (rest : List ℕ). set (take (suc i) rest ++ drop i ms) (suc i) (get_or (take (suc i) rest ++ drop i ms) (suc (suc i)) 0) ≡ take (suc (suc i)) rest ++ drop (suc i) ms)
+      (sym (without_tail n m ms (apart_from m ms place n at once.0)))
+      (ap (λ (rest : List ℕ). m ∷ rest) (move_up ms place i at once.1 (omega (arith, from)) (omega (arith, below))))
+
+  pub moved_up : (xs ns : List ℕ) (place i j : ℕ) → slice_get ns place ≡ Some n → AllDiffer ns → place ≤ i → j ≡ suc i → j < length ns →
+      xs ≡ take i (without n ns) ++ drop i ns → set xs i (get_or xs j 0) ≡ take j (without n ns) ++ drop j ns
+  moved_up xs ns place i j at once from next below is =
+      ap (λ (ys : List ℕ). set ys i (get_or ys j 0)) is
+      ∙ subst (λ (k : ℕ). set (take i (without n ns) ++ drop i ns) i (get_or (take i (without n ns) ++ drop i ns) k 0) ≡ take k (without n ns) ++ drop k ns) (sym next)
+      (move_up ns place i at once from (omega (arith, next, below)))
+
+  move_last : (ns : List ℕ) (place i : ℕ) → slice_get ns place ≡ Some n → AllDiffer ns → place ≤ i → suc i ≡ length ns →
+      set (take i (without n ns) ++ drop i ns) i n ≡ without n ns ++ n ∷ []
+  move_last [] place i at once from last = absurd (none-some n at)
+  move_last (m ∷ ms) zero i at once from last =
+      subst (λ (rest : List ℕ). set (take i rest ++ drop i (m ∷ ms)) i n ≡ rest ++ n ∷ []) (sym (without_here n m ms (sym (same_Some m n at)))) (up_last m n ms i (omega (arith, last)))
+  move_last (m ∷ ms) (suc place) zero at once from last = absurd (omega (arith, from))
+  move_last (m ∷ ms) (suc place) (suc i) at once from last =
+      subst (λ (rest : List ℕ). set (take (suc i) rest ++ drop i ms) (suc i) n ≡ rest ++ n ∷ []) (sym (without_tail n m ms (apart_from m ms place n at once.0)))
+      (ap (λ (rest : List ℕ). m ∷ rest) (move_last ms place i at once.1 (omega (arith, from)) (omega (arith, last))))
+
+  pub moved_last : (xs ns : List ℕ) (place i : ℕ) → slice_get ns place ≡ Some n → AllDiffer ns → place ≤ i → suc i ≡ length ns →
+      xs ≡ take i (without n ns) ++ drop i ns → set xs i n ≡ without n ns ++ n ∷ []
+  moved_last xs ns place i at once from last is = ap (λ (ys : List ℕ). set ys i n) is ∙ move_last ns place i at once from last
+
+-- ---- entries
+
+module _ (a : ArenaState) (room : ℕ) where
+  pub kept_in_turn : (ns order : List ℕ) → AreKept a order room → ((n : ℕ) → is_member ns n ≡ true → is_member order n ≡ true) → AreKept a (used_in_turn ns order) room
+  kept_in_turn [] order kept listed = kept
+  kept_in_turn (n ∷ ns) order kept listed =
+      let here = listed n (member_head n n ns refl) in
+      kept_in_turn ns (n ∷ without n order) (kept_used a order room kept n (sym (kept.ordered.listed n) ∙ here))
+      (λ k is. member_used n order k here ∙ listed k (in_tail n ns k is))

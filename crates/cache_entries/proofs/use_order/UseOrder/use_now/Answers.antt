@@ -1,0 +1,56 @@
+use Rattle.std.proofs.Common.{◌≡◌, ℕ, List, [], ◌∷◌, true, false, length, refl, sym, ap, subst, ◌∙◌, arith, length-append}
+use Rattle.std.specs.Map.{keys_of}
+use Rattle.model.specs.Revoke.{is_member}
+use Rattle.cache_entries.specs.Order.{AreLatest, OrderState, used_in_turn, used_last, without}
+use Rattle.cache_entries.proofs.Orders.{length_without}
+use Rattle.cache_entries.proofs.Recent.{listed_member}
+use Rattle.cache_entries.proofs.Turns.{again_latest, member_in_turn, more_latest, used_at_end, used_once_more}
+use Rattle.cache_entries.proofs.use_order.UseOrder.use_now.Goals as goal
+
+has_number : (c : goal.After-move_to_end) → is_member c.self.inside.latest.items c.args.number ≡ true
+has_number c = listed_member c.self.inside.latest.items c.in-Some.place c.args.number (rw c.deref.ensures.value at c.in-Some.ensures.some)
+
+pub invariant_of-self : goal.invariant_of-self
+invariant_of-self c =
+    let i = c.self.inside in
+    let n = c.args.number in
+    let moved = c.move_to_end.ensures.moved in (
+      subst (λ (ns : List ℕ). AreLatest ns (keys_of i.order.entries)) (sym moved) (again_latest i.latest.items (keys_of i.order.entries) c.self.invariant.0 n (has_number c)),
+      omega (arith, c.self.invariant.1, ap length moved, length-append (without n i.latest.items) (n ∷ []), length_without n i.latest.items (has_number c)),
+      omega (arith, c.self.invariant.2, c.move_to_end.ensures.capacity),
+    )
+
+pub returns-in-Some : goal.returns-in-Some
+returns-in-Some c =
+    let i = c.self.inside in
+    let n = c.args.number in
+    let keys = keys_of i.order.entries in
+    ap (λ (ns : List ℕ). let o : OrderState = record { numbers = used_in_turn ns keys; most = i.order.cap } in o) c.move_to_end.ensures.moved
+    ∙ ap (λ (ns : List ℕ). let o : OrderState = record { numbers = ns; most = i.order.cap } in o) (used_once_more n i.latest.items keys c.self.invariant.0.once)
+    ∙ ap (used_last n) c.self.view_is
+
+pub invariant_of-self-in-None : goal.invariant_of-self-in-None
+invariant_of-self-in-None c =
+    let i = c.self.inside in
+    let n = c.args.number in
+    let latest = c.spare_place.new.latest.items in
+    let keys = keys_of c.spare_place.new.order.entries in
+    let none : is_member i.latest.items n ≡ false = rw c.deref.ensures.value at (c.in-None.ensures.none refl) in
+    let here : is_member (keys_of i.order.entries) n ≡ true =
+    sym (member_in_turn i.latest.items (keys_of i.order.entries) n c.self.invariant.0.listed) ∙ ap (λ (o : OrderState). is_member o.numbers n) c.self.view_is ∙ c.requires in
+    let more = c.put_at_end.ensures.more in (
+      subst (λ (ns : List ℕ). AreLatest ns keys) (sym more) (more_latest latest keys c.spare_place.ensures.latest n (c.spare_place.ensures.others n none) (c.spare_place.ensures.members n ∙ here)),
+      omega (arith, c.spare_place.ensures.room, ap length more, length-append latest (n ∷ [])),
+      omega (arith, c.self.invariant.2, c.spare_place.ensures.capacity, c.put_at_end.ensures.capacity),
+    )
+
+pub returns-in-None : goal.returns-in-None
+returns-in-None c =
+    let n = c.args.number in
+    let latest = c.spare_place.new.latest.items in
+    let keys = keys_of c.spare_place.new.order.entries in
+    let most = c.spare_place.new.order.cap in
+    ap (λ (ns : List ℕ). let o : OrderState = record { numbers = used_in_turn ns keys; most = most } in o) c.put_at_end.ensures.more
+    ∙ ap (λ (ns : List ℕ). let o : OrderState = record { numbers = ns; most = most } in o) (used_at_end latest n keys ∙ ap (λ (ns : List ℕ). n ∷ without n ns) c.spare_place.ensures.same)
+    ∙ ap (λ (m : ℕ). let o : OrderState = record { numbers = n ∷ without n (used_in_turn c.self.inside.latest.items (keys_of c.self.inside.order.entries)); most = m } in o) c.spare_place.ensures.most
+    ∙ ap (used_last n) c.self.view_is

@@ -1,0 +1,6 @@
+use Rattle.std.proofs.Common.{◌≡◌, false, drop}
+use Rattle.model.specs.Revoke.{is_member}
+use Rattle.cache_entries.proofs.use_order.place_of.Given as goal
+
+abbrev pub invariant-loop-place : goal.invariant-loop-place
+invariant-loop-place l = is_member (drop l.place l.numbers) l.number ≡ false

@@ -1,0 +1,272 @@
+// Numbers in the order of their last use.
+ghost use Rattle.std.specs.Prelude.{◌≡◌, ℕ, List, ◌+◌, ◌<◌, ◌≤◌, [], ◌∷◌, ◌++◌, None, Some, true, false, length, nat_le, slice_get, vec_capacity, IfSome, IfOk, OnOk, OnErr};
+ghost use Rattle.std.specs.Map.{keys_of};
+ghost use Rattle.std.specs.NonZero.{non_zero_usize_get};
+ghost use Rattle.model.specs.Revoke.{is_member};
+ghost use Rattle.cache_entries.specs.Order.{AllDiffer, AreLatest, Uses, used_in_turn, used_last, used_longest_ago, without};
+
+use crate::number_hasher::NumberHasher;
+use lru::LruCache;
+use std::alloc::{AllocError, Global};
+use std::hash::BuildHasherDefault;
+use std::marker::Model;
+use std::num::NonZeroUsize;
+
+// How many numbers are at most found without their hash.
+const MOST_LATEST: usize = 8;
+
+type Order = LruCache<u64, (), BuildHasherDefault<NumberHasher>>;
+
+/// Numbers in the order of their last use, no more than so many.
+///
+/// What is used is mostly what was used a moment ago: the last few uses are kept apart, each number
+/// once, and told to the order when others take their place, or when it is asked for.
+#[derive(Drop)]
+pub(crate) struct UseOrder {
+    order: Order,
+    /// Numbers that were used after all others, the one used last at the end.
+    latest: Vec<u64>,
+}
+
+impl Model for UseOrder {
+    ghost use Rattle.std.specs.Prelude.{◌≤◌, length, vec_capacity};
+    ghost use Rattle.std.specs.Map.{keys_of};
+    ghost use Rattle.cache_entries.specs.Order.{AreLatest, OrderState, used_in_turn};
+
+    ghost Value = { OrderState };
+
+    ghost view = { λ o. record {
+      numbers = used_in_turn o.latest.items (keys_of o.order.entries);
+      most = o.order.cap;
+    } };
+
+    ghost invariant = { λ o. AreLatest o.latest.items (keys_of o.order.entries)
+        × (length o.latest.items ≤ 8)
+        × (8 ≤ vec_capacity o.latest) };
+}
+
+// Where a number stands, if it does. Those at the end are looked at first.
+fn place_of(numbers: &[u64], number: u64) -> Option<usize>
+    ensures some { IfSome result (λ place. slice_get numbers.now place ≡ Some number) }
+    ensures none { result ≡ None → is_member numbers.now number ≡ false }
+{
+    for place in (0..numbers.len()).rev() {
+        if numbers[place] == number {
+            return Some(place);
+        }
+    }
+    None
+}
+
+// Whether a list ends with another.
+fn ends_with(numbers: &[u64], end: &[u64]) -> bool
+    ensures { result ≡ true → (front : List ℕ) × (numbers.now ≡ front ++ end.now) }
+{
+    if end.len() > numbers.len() {
+        return false;
+    }
+    let start = numbers.len() - end.len();
+    for i in 0..end.len() {
+        if numbers[start + i] != end[i] {
+            return false;
+        }
+    }
+    true
+}
+
+// Puts a number at the end that stands at a place, and those behind it one place further to the front.
+fn shift_to_end(numbers: &mut [u64], place: usize, number: u64)
+    requires there { slice_get numbers.old place ≡ Some number }
+    requires once { AllDiffer numbers.old }
+    ensures { numbers.new ≡ without number numbers.old ++ number ∷ [] }
+{
+    let last = numbers.len() - 1;
+    for i in place..last {
+        numbers[i] = numbers[i + 1];
+    }
+    numbers[last] = number;
+}
+
+// Does so in a `Vec`.
+fn move_to_end(numbers: &mut Vec<u64>, place: usize, number: u64)
+    requires there { slice_get numbers.old.items place ≡ Some number }
+    requires once { AllDiffer numbers.old.items }
+    ensures moved { numbers.new.items ≡ without number numbers.old.items ++ number ∷ [] }
+    ensures capacity { vec_capacity numbers.old ≤ vec_capacity numbers.new }
+{
+    shift_to_end(numbers, place, number);
+}
+
+// Puts a number at the end, for which there is room.
+fn put_at_end(numbers: &mut Vec<u64>, number: u64)
+    requires { length numbers.old.items < vec_capacity numbers.old }
+    ensures more { numbers.new.items ≡ numbers.old.items ++ number ∷ [] }
+    ensures capacity { vec_capacity numbers.old ≤ vec_capacity numbers.new }
+{
+    match numbers.push(number) {
+        Ok(()) => {}
+        Err(_) => unreachable!(),
+    }
+}
+
+// Tells the order the use of the first of the latest numbers.
+fn settle_first(order: &mut Order, latest: &mut Vec<u64>)
+    requires some { 0 < length latest.old.items }
+    requires latest { AreLatest latest.old.items (keys_of order.old.entries) }
+    ensures same { used_in_turn latest.new.items (keys_of order.new.entries)
+        ≡ used_in_turn latest.old.items (keys_of order.old.entries) }
+    ensures latest { AreLatest latest.new.items (keys_of order.new.entries) }
+    ensures others { (n : ℕ) → is_member latest.old.items n ≡ false
+        → is_member latest.new.items n ≡ false }
+    ensures members { (n : ℕ) → is_member (keys_of order.new.entries) n
+        ≡ is_member (keys_of order.old.entries) n }
+    ensures fewer { length latest.new.items + 1 ≡ length latest.old.items }
+    ensures capacity { vec_capacity latest.old ≤ vec_capacity latest.new }
+    ensures most { order.new.cap ≡ order.old.cap }
+{
+    let first = latest.remove(0);
+    order.promote(&first);
+}
+
+// Tells the order the uses of all of them.
+#[inline(never)]
+fn settle(order: &mut Order, latest: &mut Vec<u64>)
+    requires { AreLatest latest.old.items (keys_of order.old.entries) }
+    ensures order { keys_of order.new.entries
+        ≡ used_in_turn latest.old.items (keys_of order.old.entries) }
+    ensures latest { latest.new.items ≡ [] }
+    ensures capacity { vec_capacity latest.old ≤ vec_capacity latest.new }
+    ensures most { order.new.cap ≡ order.old.cap }
+{
+    for _ in 0..latest.len() {
+        settle_first(order, latest);
+    }
+}
+
+// Leaves room for one more among the latest numbers.
+fn spare_place(order: &mut Order, latest: &mut Vec<u64>)
+    requires latest { AreLatest latest.old.items (keys_of order.old.entries) }
+    requires few { length latest.old.items ≤ 8 }
+    ensures same { used_in_turn latest.new.items (keys_of order.new.entries)
+        ≡ used_in_turn latest.old.items (keys_of order.old.entries) }
+    ensures latest { AreLatest latest.new.items (keys_of order.new.entries) }
+    ensures others { (n : ℕ) → is_member latest.old.items n ≡ false
+        → is_member latest.new.items n ≡ false }
+    ensures members { (n : ℕ) → is_member (keys_of order.new.entries) n
+        ≡ is_member (keys_of order.old.entries) n }
+    ensures room { length latest.new.items < 8 }
+    ensures capacity { vec_capacity latest.old ≤ vec_capacity latest.new }
+    ensures most { order.new.cap ≡ order.old.cap }
+{
+    if latest.len() == MOST_LATEST {
+        settle_first(order, latest);
+    }
+}
+
+impl UseOrder {
+    ghost use Rattle.cache_entries.specs.contracts.use_order.UseOrder.{the_row};
+
+    /// Room for so many numbers, of which there is none. Fails only where memory runs out.
+    pub(crate) fn new(alloc: Global, most: NonZeroUsize) -> Result<UseOrder, AllocError>
+        ensures { IfOk result (λ order. order
+            ≡ record { numbers = []; most = non_zero_usize_get most }) }
+    {
+        let order = LruCache::with_hasher(alloc, most, BuildHasherDefault::new())?;
+        let latest = Vec::with_capacity(alloc, MOST_LATEST)?;
+        Ok(UseOrder { order, latest })
+    }
+
+    /// How many numbers there are.
+    pub(crate) fn len(&self) -> usize
+        ensures { result ≡ length self.now.numbers }
+    {
+        self.order.len()
+    }
+
+    /// Whether there are as many as there may be.
+    pub(crate) fn is_full(&self) -> bool
+        ensures { result ≡ nat_le self.now.most (length self.now.numbers) }
+    {
+        self.order.len() >= self.order.cap().get()
+    }
+
+    // Says that a number was used last, where it is among the latest, and tells whether it is.
+    fn use_one_again(&mut self, number: u64) -> bool
+        ensures listed { result ≡ true → is_member self.old.numbers number ≡ true }
+        ensures used { result ≡ true → self.new ≡ used_last number self.old }
+        ensures unchanged { result ≡ false → self.new ≡ self.old }
+    {
+        let Some(place) = place_of(&self.latest, number) else {
+            return false;
+        };
+        move_to_end(&mut self.latest, place, number);
+        true
+    }
+
+    /// Says that numbers were used, in turn, as far as that takes no look at all of them, and tells
+    /// whether it said so of each.
+    pub(crate) fn use_again(&mut self, numbers: &[u64]) -> bool
+        ensures { Uses self.old self.new numbers.now result }
+    {
+        if ends_with(&self.latest, numbers) {
+            return true;
+        }
+        for number in numbers {
+            if !self.use_one_again(*number) {
+                return false;
+            }
+        }
+        true
+    }
+
+    /// Says that a number of them was used last.
+    #[inline(never)]
+    pub(crate) fn use_now(&mut self, number: u64)
+        requires { is_member self.old.numbers number ≡ true }
+        ensures { self.new ≡ used_last number self.old }
+    {
+        match place_of(&self.latest, number) {
+            Some(place) => move_to_end(&mut self.latest, place, number),
+            None => {
+                spare_place(&mut self.order, &mut self.latest);
+                put_at_end(&mut self.latest, number);
+            }
+        }
+    }
+
+    /// Puts a number in that was so used last. It is none of them, and there are fewer than there
+    /// may be. Fails only where memory runs out, and then all is as it was.
+    pub(crate) fn insert(&mut self, number: u64) -> Result<(), AllocError>
+        requires other { is_member self.old.numbers number ≡ false }
+        requires room { length self.old.numbers < self.old.most }
+        ensures inserted { OnOk result (self.new
+            ≡ record { numbers = number ∷ self.old.numbers; most = self.old.most }) }
+        ensures unchanged { OnErr result (self.new ≡ self.old) }
+    {
+        settle(&mut self.order, &mut self.latest);
+        match self.order.put(number, ()) {
+            Ok(_) => Ok(()),
+            Err(_) => Err(AllocError),
+        }
+    }
+
+    /// Takes a number of them out.
+    pub(crate) fn remove(&mut self, number: u64)
+        ensures { self.new ≡ record { numbers = without number self.old.numbers; most = self.old.most } }
+    {
+        settle(&mut self.order, &mut self.latest);
+        self.order.pop(&number);
+    }
+
+    /// The number that was used longest ago.
+    pub(crate) fn least(&mut self) -> Option<u64>
+        ensures least { result ≡ used_longest_ago self.old.numbers }
+        ensures same { self.new ≡ self.old }
+    {
+        settle(&mut self.order, &mut self.latest);
+        match self.order.peek_lru() {
+            Some((number, _)) => Some(*number),
+            None => None,
+        }
+    }
+}
