@@ -1,10 +1,11 @@
 -- What lies apart from the headers.
 use Rattle.std.proofs.Common.{◌+◌, ◌*◌, ◌≤◌, ℕ, List, take, ap, arith}
 use Rattle.layout.specs.Superblock.{Plan, IsPlan}
-use Rattle.layout.specs.Frame.{frame_length}
+use Rattle.layout.specs.Homes.{shape_of, place_length}
 use Rattle.layout.specs.Image.{frame_sector, half_sector, slot_sector, directory_sector, directory_length}
 use Rattle.layout.proofs.Halves.{half_within}
 use Rattle.layout.proofs.Sectors.{same_sectors}
+use Rattle.layout.proofs.Shapes.{same_shaped}
 use Rattle.ckpt_log.specs.HeaderLaws.{SequencesAreTold, NextFollows, HeadersSpareSectors, HeadersSpareFrames, HeadersSpareSlots, HeadersSpareDirectories}
 use Rattle.ckpt_log.proofs.Commits.{sequence_of, next_fits, precedes}
 
@@ -19,7 +20,7 @@ spare_sectors old new h at n behind e = (e.before 0 (omega arith), λ i lt. e.af
 
 pub spare_frames : HeadersSpareFrames
 spare_frames old new h p generation es object behind e =
-    same_sectors (frame_sector p generation es object) (frame_length p.geometry object) old new (spare_sectors old new h (frame_sector p generation es object) (frame_length p.geometry object) behind e).1
+    same_shaped (frame_sector p generation es object) (shape_of p object) old new (spare_sectors old new h (frame_sector p generation es object) (place_length p object) behind e).1
 
 pub half_behind : (p : Plan) (generation : ℕ) → IsPlan p → 5 ≤ half_sector p generation
 half_behind p generation fits = (half_within p generation fits).0
@@ -27,7 +28,7 @@ half_behind p generation fits = (half_within p generation fits).0
 pub spare_slots : HeadersSpareSlots
 spare_slots old new h p generation slot object fits e =
     let behind = half_behind p generation fits in
-    same_sectors (slot_sector p generation slot) (frame_length p.geometry object) old new (spare_sectors old new h (slot_sector p generation slot) (frame_length p.geometry object) (omega (arith, behind)) e).1
+    same_shaped (slot_sector p generation slot) (shape_of p object) old new (spare_sectors old new h (slot_sector p generation slot) (place_length p object) (omega (arith, behind)) e).1
 
 pub spare_directories : HeadersSpareDirectories
 spare_directories old new h p generation n fits e =

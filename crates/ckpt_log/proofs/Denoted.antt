@@ -4,8 +4,9 @@ use Rattle.device.specs.Disk.{Image}
 use Rattle.device.specs.Calls.{Elsewhere}
 use Rattle.layout.specs.declared.header.CheckpointHeader.{CheckpointHeader}
 use Rattle.layout.specs.Frame.{IsFrameOf}
+use Rattle.layout.specs.Homes.{home_place}
 use Rattle.layout.specs.Superblock.{Plan}
-use Rattle.layout.specs.Image.{SavedState, Encodes, half_sector, home_sector, slot_in, slot_sector, sector_or}
+use Rattle.layout.specs.Image.{SavedState, Encodes, half_sector, seat_in, slot_sector, sector_or}
 use Rattle.model.specs.Frame.{frame_at}
 use Rattle.ckpt_log.specs.Commit.{header_sector}
 use Rattle.ckpt_log.specs.CommitLaws.{HomesAreBehind, FramesAreBehind, IsReady, NewIsDenoted, OldIsDenoted}
@@ -16,7 +17,7 @@ behind_by None p generation home half le = le
 behind_by (Some slot) p generation home half le = omega (arith, half)
 
 pub frames_behind : FramesAreBehind
-frames_behind p generation es object fits behind = behind_by (slot_in es object) p generation (home_sector p.geometry p.ranges object) (half_behind p generation fits) behind
+frames_behind p generation es object fits behind = behind_by (seat_in p es object) p generation (home_place p object) (half_behind p generation fits) behind
 
 -- a change of a header's slot leaves all else of a state
 ready_stays : (old new : Image) (size : ℕ) (s : SavedState) (h : CheckpointHeader) → HomesAreBehind s.plan → Elsewhere (header_sector h) 2 old new → IsReady old size s → IsReady new size s

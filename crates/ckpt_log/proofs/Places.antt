@@ -1,19 +1,16 @@
 -- Where slots and directories lie in a half of the log.
-use Rattle.std.proofs.Common.{◌≤◌, Bool, true, false, nat_lt, inl, inr, arith}
-use Rattle.std.specs.Prelude.{if◌then◌else◌}
+use Rattle.std.proofs.Common.{◌≤◌, inl, inr, arith}
 use Rattle.std.proofs.lemmas.Bool.{cases_lt}
+use Rattle.layout.specs.Homes.{shape_of}
 use Rattle.layout.proofs.Halves.{half_within, half_apart}
+use Rattle.layout.proofs.Shapes.{few_sectors}
 use Rattle.ckpt_log.specs.Places.{SlotsAreInside, FramesAreInSlots, DirectoriesAreInside, HalvesAreWithin, HalvesAreApart, SlotsAreApart, SlotsSpareDirectories}
 
 pub slots_inside : SlotsAreInside
 slots_inside p generation slot lt = record { starts = omega arith; ends = omega arith }
 
-short : (test : Bool) → (if test then 2 else 9) ≤ 9
-short true = omega arith
-short false = omega arith
-
 pub frames_in_slots : FramesAreInSlots
-frames_in_slots p generation slot object = let le = short (nat_lt object p.geometry.nodes) in record { starts = omega arith; ends = omega (arith, le) }
+frames_in_slots p generation slot object = let le = few_sectors (shape_of p object) in record { starts = omega arith; ends = omega (arith, le) }
 
 pub directories_inside : DirectoriesAreInside
 directories_inside p generation n le = record { starts = omega arith; ends = omega arith }

@@ -1,10 +1,11 @@
 -- Images that agree in the sectors that a saved state is read from.
 use Rattle.std.proofs.Common.{◌≡◌, ◌<◌, ◌+◌, ◌*◌, ℕ, Option, Some, None, List, take, refl, sym, ap, subst, ◌∙◌, arith}
 use Rattle.device.specs.Disk.{Image}
-use Rattle.layout.specs.Frame.{frame_length}
+use Rattle.layout.specs.Homes.{shape_of}
 use Rattle.layout.specs.Frame.{IsFrameOf}
 use Rattle.layout.specs.Image.{committed_slot, option_at, frame_sector, directory_sector, directory_length}
 use Rattle.layout.proofs.Sectors.{same_sectors}
+use Rattle.layout.proofs.Shapes.{same_shaped}
 use Rattle.ckpt_log.specs.SavedSectors.{SameFrom, SameHeader, SameDirectory, SameFrames, SameSaved}
 use Rattle.ckpt_log.proofs.Winners.{slot_of_image}
 use Rattle.model.specs.Frame.{frame_at}
@@ -38,7 +39,7 @@ same_directory old new p h es same is = record {
 }
 
 pub same_frames : SameFrames
-same_frames old new p h es object same = same_sectors (frame_sector p h.generation es object) (frame_length p.geometry object) old new same
+same_frames old new p h es object same = same_shaped (frame_sector p h.generation es object) (shape_of p object) old new same
 
 pub same_saved : SameSaved
 same_saved old new size s superblock same is = record {

@@ -6,7 +6,8 @@ use Rattle.layout.specs.declared.directory.Entry.{Entry}
 use Rattle.layout.specs.Header.{IsHeader}
 use Rattle.layout.specs.Frame.{IsFrameOf}
 use Rattle.layout.specs.Superblock.{Plan, IsPlan}
-use Rattle.layout.specs.Image.{HasPlan, HasDirectory, SavedState, Encodes, frame_in, frame_sector, home_sector, committed_bytes}
+use Rattle.layout.specs.Homes.{home_place}
+use Rattle.layout.specs.Image.{HasPlan, HasDirectory, SavedState, Encodes, frame_in, frame_sector, committed_bytes}
 use Rattle.frame_io.specs.Frames.{IsObject}
 use Rattle.model.specs.Frame.{frame_at}
 use Rattle.layout.specs.declared.header.CheckpointHeader.{CheckpointHeader}
@@ -14,11 +15,11 @@ use Rattle.ckpt_log.specs.Commit.{header_sector, HasNew}
 
 -- home frames lie behind the headers
 abbrev pub HomesAreBehind : Plan → Type 0
-HomesAreBehind p = (object : ℕ) → IsObject p.geometry object → 5 ≤ home_sector p.geometry p.ranges object
+HomesAreBehind p = (object : ℕ) → IsObject p.geometry object → 5 ≤ home_place p object
 
 -- then so do all frames
 abbrev pub FramesAreBehind : Type 0
-FramesAreBehind = (p : Plan) (generation : ℕ) (es : List Entry) (object : ℕ) → IsPlan p → 5 ≤ home_sector p.geometry p.ranges object → 5 ≤ frame_sector p generation es object
+FramesAreBehind = (p : Plan) (generation : ℕ) (es : List Entry) (object : ℕ) → IsPlan p → 5 ≤ home_place p object → 5 ≤ frame_sector p generation es object
 
 -- all of a state is on an image but, perhaps, that its header is committed
 pub record IsReady (image : Image) (size : ℕ) (s : SavedState) : Type 0 where

@@ -4,12 +4,11 @@ use Rattle.layout.specs.declared.directory.Entry.{Entry}
 use Rattle.layout.specs.declared.header.CheckpointHeader.{CheckpointHeader}
 use Rattle.layout.specs.Header.{header_bytes, IsHeader}
 use Rattle.layout.specs.Superblock.{Plan, IsPlan}
-use Rattle.layout.specs.Image.{sequence_in, frame_in, frame_sector, slot_sector, directory_in}
+use Rattle.layout.specs.Image.{sequence_in, bytes_at, frame_in, frame_sector, slot_sector, directory_in}
 use Rattle.device.specs.Disk.{Image}
 use Rattle.device.specs.Calls.{Elsewhere}
 use Rattle.ckpt_log.specs.Commit.{header_sector, Commits, Precedes}
 use Rattle.ckpt_log.specs.SavedSectors.{SameFrom}
-use Rattle.frame_io.specs.Frames.{bytes_at}
 
 -- the bytes of a header have its sequence number
 abbrev pub SequencesAreTold : Type 0
@@ -31,7 +30,7 @@ HeadersSpareFrames = (old new : Image) (h : CheckpointHeader) (p : Plan) (genera
 -- those in the slots of the log,
 abbrev pub HeadersSpareSlots : Type 0
 HeadersSpareSlots = (old new : Image) (h : CheckpointHeader) (p : Plan) (generation slot object : ℕ) → IsPlan p → Elsewhere (header_sector h) 2 old new
-    → bytes_at new (slot_sector p generation slot) p.geometry object ≡ bytes_at old (slot_sector p generation slot) p.geometry object
+    → bytes_at new (slot_sector p generation slot) p object ≡ bytes_at old (slot_sector p generation slot) p object
 
 -- and the directories
 abbrev pub HeadersSpareDirectories : Type 0

@@ -2,7 +2,7 @@
 use Rattle.std.specs.Prelude.{◌≡◌, ℕ, ◌%◌, ◌<◌, ◌≤◌}
 use Rattle.layout.specs.declared.extent.Extent.{Extent}
 use Rattle.layout.specs.Superblock.{Plan, IsPlan, IsWithin, IsApart, IsInside, half_extent}
-use Rattle.layout.specs.Frame.{frame_length}
+use Rattle.layout.specs.Homes.{place_length}
 use Rattle.layout.specs.Image.{half_sector, slot_sector, directory_sector, directory_length}
 
 -- the sectors of a slot in the half of a generation
@@ -11,7 +11,7 @@ slot_extent p generation slot = record { sector = slot_sector p generation slot;
 
 -- those of the frame of an object in a slot
 abbrev pub place_extent : Plan → ℕ → ℕ → ℕ → Extent
-place_extent p generation slot object = record { sector = slot_sector p generation slot; length = frame_length p.geometry object }
+place_extent p generation slot object = record { sector = slot_sector p generation slot; length = place_length p object }
 
 -- the sectors of a directory of n entries
 abbrev pub directory_extent : Plan → ℕ → ℕ → Extent

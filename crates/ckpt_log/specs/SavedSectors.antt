@@ -3,7 +3,7 @@ use Rattle.std.specs.Prelude.{◌≡◌, ℕ, ◌+◌, ◌<◌, List}
 use Rattle.layout.specs.declared.directory.Entry.{Entry}
 use Rattle.layout.specs.declared.header.CheckpointHeader.{CheckpointHeader}
 use Rattle.device.specs.Disk.{Image}
-use Rattle.layout.specs.Frame.{frame_length}
+use Rattle.layout.specs.Homes.{place_length}
 use Rattle.layout.specs.Image.{HasDirectory, frame_in, frame_sector, directory_sector, directory_length, SavedState, Encodes, committed_slot, committed_bytes}
 use Rattle.layout.specs.Superblock.{Plan}
 
@@ -15,7 +15,7 @@ SameFrom at n old new = (i : ℕ) → i < n → new (at + i) ≡ old (at + i)
 pub record SameWhereRead (p : Plan) (h : CheckpointHeader) (es : List Entry) (old new : Image) : Type 0 where
   pub headers : SameFrom 1 4 old new
   pub directory : SameFrom (directory_sector p h.generation) (directory_length h.entries) old new
-  pub frames : (object : ℕ) → object < p.geometry.nodes + p.geometry.pages → SameFrom (frame_sector p h.generation es object) (frame_length p.geometry object) old new
+  pub frames : (object : ℕ) → object < p.geometry.nodes + p.geometry.pages → SameFrom (frame_sector p h.generation es object) (place_length p object) old new
 
 -- images that agree in these sectors have the same committed header
 abbrev pub SameHeader : Type 0
@@ -28,7 +28,7 @@ SameDirectory = (old new : Image) (p : Plan) (h : CheckpointHeader) (es : List E
 
 -- the same frames
 abbrev pub SameFrames : Type 0
-SameFrames = (old new : Image) (p : Plan) (h : CheckpointHeader) (es : List Entry) (object : ℕ) → SameFrom (frame_sector p h.generation es object) (frame_length p.geometry object) old new
+SameFrames = (old new : Image) (p : Plan) (h : CheckpointHeader) (es : List Entry) (object : ℕ) → SameFrom (frame_sector p h.generation es object) (place_length p object) old new
     → frame_in new p h.generation es object ≡ frame_in old p h.generation es object
 
 -- and denote the same saved state, where the superblock is the same too

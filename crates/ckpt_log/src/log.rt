@@ -1,9 +1,11 @@
 // Where the log lies.
 ghost use Rattle.std.specs.Prelude.{◌≡◌, ◌+◌, ◌<◌, ◌≤◌};
+ghost use Rattle.layout.specs.Homes.{shape_of};
+ghost use Rattle.layout.specs.Shape.{IsShapeFor, shape_length};
 ghost use Rattle.layout.specs.Superblock.{IsWithin, half_extent};
 ghost use Rattle.layout.specs.Image.{half_sector, slot_sector, directory_sector, directory_length};
 
-use layout::{Half, Superblock};
+use layout::{Half, Shape, Superblock};
 use model::Geometry;
 use std::marker::Model;
 
@@ -39,6 +41,15 @@ impl Log {
         ensures total { 5 ≤ self.now.total }
     {
         self.superblock.geometry()
+    }
+
+    // How the frame of an object lies in its slot, which has room for any.
+    pub(crate) fn shape(&self, number: u64) -> Shape
+        ensures value { result ≡ shape_of self.now number }
+        ensures fits { IsShapeFor self.now.geometry number result }
+        ensures few { shape_length result ≤ 9 }
+    {
+        self.superblock.shape(number)
     }
 
     // The first sector of the half of a generation.

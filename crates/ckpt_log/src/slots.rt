@@ -2,11 +2,12 @@
 ghost use Rattle.std.specs.Prelude.{◌≡◌, ◌<◌, ◌≤◌, length, IfOk, IfErr, OnOk};
 ghost use Rattle.model.specs.declared.object.Content.TheVariants as content;
 ghost use Rattle.device.specs.Calls.{Counts};
-ghost use Rattle.layout.specs.Frame.{IsFrameOf, frame_bytes, frame_length, frame_of, page_frame_bytes};
-ghost use Rattle.layout.specs.Image.{sectors_from, slot_sector};
+ghost use Rattle.layout.specs.Frame.{IsFrameOf, frame_bytes, frame_of, page_frame_bytes};
+ghost use Rattle.layout.specs.Homes.{place_length};
+ghost use Rattle.layout.specs.Image.{bytes_at, sectors_from, slot_sector};
 ghost use Rattle.frame_io.specs.Calls.{ReadsOnly, WritesAt};
 ghost use Rattle.frame_io.specs.Fault.{CountsFailed};
-ghost use Rattle.frame_io.specs.Frames.{IsObject, IsRefused, bytes_at};
+ghost use Rattle.frame_io.specs.Frames.{IsObject, IsRefused};
 
 use crate::log::Log;
 use device::{Device, Failed};
@@ -35,15 +36,16 @@ impl Log {
         requires inside { self.now.total ≤ (D.disk device.old).sectors }
         ensures found { IfOk result (λ read. IsFrameOf self.now.geometry age number
             (bytes_at (D.disk device.new).seen (slot_sector self.now generation slot)
-            self.now.geometry number) (frame_of read room.new)) }
+            self.now number) (frame_of read room.new)) }
         ensures refused { IfErr result (λ e. IsRefused self.now.geometry age number
             (bytes_at (D.disk device.new).seen (slot_sector self.now generation slot)
-            self.now.geometry number) e) }
+            self.now number) e) }
         ensures reads { ReadsOnly (D.disk device.old) (D.disk device.new) }
         ensures cause { CountsFailed (D.disk device.old) (D.disk device.new) result }
     {
         let at = self.slot_sector(generation, slot);
-        read_frame(device, at, self.geometry(), number, age, room)
+        let shape = self.shape(number);
+        read_frame(device, at, shape, self.geometry(), number, age, room)
     }
 
     /// Writes the frame of an object into a slot of the half of a generation, and touches that slot
@@ -61,15 +63,16 @@ impl Log {
         requires slot { slot < self.now.geometry.log }
         requires inside { self.now.total ≤ (D.disk device.old).sectors }
         ensures written { OnOk result (bytes_at (D.disk device.new).seen
-            (slot_sector self.now generation slot) self.now.geometry number
+            (slot_sector self.now generation slot) self.now number
             ≡ frame_bytes self.now.geometry number
             (record { header = header; content = content.now })) }
         ensures writes { WritesAt (slot_sector self.now generation slot)
-            (frame_length self.now.geometry number) (D.disk device.old) (D.disk device.new) }
+            (place_length self.now number) (D.disk device.old) (D.disk device.new) }
         ensures cause { Counts (D.disk device.old) (D.disk device.new) result }
     {
         let at = self.slot_sector(generation, slot);
-        write_frame(device, at, self.geometry(), number, header, content)
+        let shape = self.shape(number);
+        write_frame(device, at, shape, self.geometry(), number, header, content)
     }
 
     /// Writes the frame of a page with these words into a slot of the half of a generation, and

@@ -15,15 +15,11 @@ use Rattle.frame_io.specs.declared.fault.ReadFault.TheVariants.{Failed, Bad}
 abbrev pub IsObject : Geometry → ℕ → Type 0
 IsObject g number = number < g.nodes + g.pages
 
--- the bytes of the frame of a number that lies at a sector
-abbrev pub bytes_at : Image → ℕ → Geometry → ℕ → List ℕ
-bytes_at image at g number = sectors_from image at (frame_length g number)
-
 -- bytes are refused where they spell no frame of the number
 abbrev pub IsRefused : Geometry → ℕ → ℕ → List ℕ → ReadFault → Type 0
 IsRefused g age number bytes Failed = ⊤
 IsRefused g age number bytes (Bad reason) = (reason ≡ BadFrame) × ((f : Frame) → IsFrameOf g age number bytes f → ⊥)
 
--- a header is that of the frame that lies at a sector, of whatever number
+-- a header is that of the frame that lies at a sector, of whatever number, in sectors of its own
 abbrev pub IsHeaderAt : Image → ℕ → ObjectHeader → Type 0
-IsHeaderAt image at header = (g : Geometry) (number : ℕ) → header ≡ (frame_from g number (bytes_at image at g number)).header
+IsHeaderAt image at header = (g : Geometry) (number : ℕ) → header ≡ (frame_from g number (sectors_from image at (frame_length g number))).header

@@ -2,22 +2,24 @@
 ghost use Rattle.std.specs.Prelude.{◌≡◌, ◌+◌, ◌<◌, ◌≤◌, length, IfOk, IfErr, OnOk};
 ghost use Rattle.model.specs.declared.object.Content.TheVariants as content;
 ghost use Rattle.device.specs.Calls.{Counts};
-ghost use Rattle.layout.specs.Frame.{IsFrameOf, frame_bytes, frame_length, frame_of, page_frame_bytes};
-ghost use Rattle.layout.specs.Image.{sectors_from};
+ghost use Rattle.layout.specs.declared.shape.Shape.TheVariants as shape;
+ghost use Rattle.layout.specs.Frame.{IsFrameOf, frame_bytes, frame_of, page_frame_bytes};
+ghost use Rattle.layout.specs.Image.{sectors_from, shaped_at};
+ghost use Rattle.layout.specs.Shape.{IsShapeFor, shape_length};
 ghost use Rattle.frame_io.specs.Calls.{ReadsOnly, WritesAt};
 ghost use Rattle.frame_io.specs.Fault.{CountsFailed};
-ghost use Rattle.frame_io.specs.Frames.{IsHeaderAt, IsObject, IsRefused, bytes_at};
+ghost use Rattle.frame_io.specs.Frames.{IsHeaderAt, IsObject, IsRefused};
 
 use crate::fault::ReadFault;
 use crate::sectors::{read_sectors, write_sectors};
 use device::{Device, Failed, SECTOR_SIZE};
 use layout::{
-    Body, NODE_FRAME_BYTES, PAGE_FRAME_BYTES, Room, decode_frame, encode_frame, encode_page,
-    header_in,
+    Body, CLUSTER_BYTES, NODE_FRAME_BYTES, PAGE_FRAME_BYTES, Room, Shape, decode_frame,
+    encode_frame, encode_page, header_in, pack_node, unpack_node,
 };
 use model::{Cap, Content, Geometry, ObjectHeader};
 
-// Reads the frame of a node's number: 2 sectors.
+// Reads the frame of a node's number in 2 sectors of its own.
 fn read_node_frame<D: Device>(
     device: &mut D,
     at: u64,
@@ -37,6 +39,55 @@ fn read_node_frame<D: Device>(
 {
     let mut node = [0; NODE_FRAME_BYTES];
     read_sectors(device, at, 2, &mut node)?;
+    let read = decode_frame(&node, geometry, number, age, room)?;
+    Ok(read)
+}
+
+/// Fills the 1024 bytes of `node` with the frame of a rank in the cluster of 8 sectors from `at` on.
+/// After `Failed`, which is told exactly where the device failed, they may be any bytes.
+pub fn read_packed<D: Device>(
+    device: &mut D,
+    at: u64,
+    rank: u64,
+    node: &mut [u8],
+) -> Result<(), Failed>
+    requires rank { rank < 5 }
+    requires node { length node.old ≡ 1024 }
+    requires inside { at + 8 ≤ (D.disk device.old).sectors }
+    ensures found { OnOk result
+        (shaped_at (D.disk device.new).seen at (shape.Packed rank) ≡ node.new) }
+    ensures length { length node.new ≡ 1024 }
+    ensures reads { ReadsOnly (D.disk device.old) (D.disk device.new) }
+    ensures cause { Counts (D.disk device.old) (D.disk device.new) result }
+{
+    let mut cluster = [0; CLUSTER_BYTES];
+    read_sectors(device, at, 8, &mut cluster)?;
+    unpack_node(&cluster, rank as usize, node);
+    Ok(())
+}
+
+// Reads the frame of a node's number in a cluster.
+fn read_packed_frame<D: Device>(
+    device: &mut D,
+    at: u64,
+    rank: u64,
+    geometry: Geometry,
+    number: u64,
+    age: u64,
+    room: &mut Room,
+) -> Result<(ObjectHeader, Body), ReadFault>
+    requires node { number < geometry.nodes }
+    requires rank { rank < 5 }
+    requires inside { at + 8 ≤ (D.disk device.old).sectors }
+    ensures found { IfOk result (λ read. IsFrameOf geometry age number
+        (shaped_at (D.disk device.new).seen at (shape.Packed rank)) (frame_of read room.new)) }
+    ensures refused { IfErr result (λ e. IsRefused geometry age number
+        (shaped_at (D.disk device.new).seen at (shape.Packed rank)) e) }
+    ensures reads { ReadsOnly (D.disk device.old) (D.disk device.new) }
+    ensures cause { CountsFailed (D.disk device.old) (D.disk device.new) result }
+{
+    let mut node = [0; NODE_FRAME_BYTES];
+    read_packed(device, at, rank, &mut node)?;
     let read = decode_frame(&node, geometry, number, age, room)?;
     Ok(read)
 }
@@ -66,8 +117,8 @@ fn read_page_frame<D: Device>(
     Ok(read)
 }
 
-/// Reads the frame of an object from the sectors from `at` on: 2 for a node, 9 for a page. The
-/// slots of a node or an annex and the words of a page are left in `room`, and no memory is taken.
+/// Reads the frame of an object of this shape from the sectors from `at` on. The slots of a node or
+/// an annex and the words of a page are left in `room`, and no memory is taken.
 ///
 /// It is refused by `Failed` exactly where the device failed, and by `BadImage::BadFrame` exactly
 /// where the sectors spell no frame that can be kept at the age. Either leaves anything in the
@@ -75,29 +126,31 @@ fn read_page_frame<D: Device>(
 pub fn read_frame<D: Device>(
     device: &mut D,
     at: u64,
+    shape: Shape,
     geometry: Geometry,
     number: u64,
     age: u64,
     room: &mut Room,
 ) -> Result<(ObjectHeader, Body), ReadFault>
     requires object { IsObject geometry number }
-    requires inside { at + frame_length geometry number ≤ (D.disk device.old).sectors }
+    requires shape { IsShapeFor geometry number shape }
+    requires inside { at + shape_length shape ≤ (D.disk device.old).sectors }
     ensures found { IfOk result (λ read. IsFrameOf geometry age number
-        (bytes_at (D.disk device.new).seen at geometry number) (frame_of read room.new)) }
+        (shaped_at (D.disk device.new).seen at shape) (frame_of read room.new)) }
     ensures refused { IfErr result (λ e. IsRefused geometry age number
-        (bytes_at (D.disk device.new).seen at geometry number) e) }
+        (shaped_at (D.disk device.new).seen at shape) e) }
     ensures reads { ReadsOnly (D.disk device.old) (D.disk device.new) }
     ensures cause { CountsFailed (D.disk device.old) (D.disk device.new) result }
 {
-    if number < geometry.nodes {
-        read_node_frame(device, at, geometry, number, age, room)
-    } else {
-        read_page_frame(device, at, geometry, number, age, room)
+    match shape {
+        Shape::Node => read_node_frame(device, at, geometry, number, age, room),
+        Shape::Packed(rank) => read_packed_frame(device, at, rank, geometry, number, age, room),
+        Shape::Page => read_page_frame(device, at, geometry, number, age, room),
     }
 }
 
-/// Reads the header of the frame that lies in the sectors from `at` on, whatever else they hold:
-/// the first of them is read alone. It is refused exactly where the device failed. No memory is
+/// Reads the header of the frame that lies in the sectors from `at` on, which are its own, whatever
+/// else they hold: the first of them is read alone. It is refused exactly where the device failed. No memory is
 /// taken.
 #[tactic(auto, using(crate::proofs::Runs::header_at_is))]
 pub fn read_header<D: Device>(device: &mut D, at: u64) -> Result<ObjectHeader, Failed>
@@ -111,7 +164,7 @@ pub fn read_header<D: Device>(device: &mut D, at: u64) -> Result<ObjectHeader, F
     Ok(header_in(&first))
 }
 
-// Writes the frame of a node's number: 2 sectors.
+// Writes the frame of a node's number into 2 sectors of its own.
 fn write_node_frame<D: Device>(
     device: &mut D,
     at: u64,
@@ -130,6 +183,32 @@ fn write_node_frame<D: Device>(
     let mut node = [0; NODE_FRAME_BYTES];
     encode_frame(geometry, number, header, content, &mut node);
     write_sectors(device, at, 2, &node)
+}
+
+// Writes the frame of a node's number into the 8 sectors of a cluster, with zeros in the place of
+// each other rank.
+fn write_packed_frame<D: Device>(
+    device: &mut D,
+    at: u64,
+    rank: u64,
+    geometry: Geometry,
+    number: u64,
+    header: ObjectHeader,
+    content: &Content<Cap>,
+) -> Result<(), Failed>
+    requires node { number < geometry.nodes }
+    requires rank { rank < 5 }
+    requires inside { at + 8 ≤ (D.disk device.old).sectors }
+    ensures written { OnOk result (shaped_at (D.disk device.new).seen at (shape.Packed rank)
+        ≡ frame_bytes geometry number (record { header = header; content = content.now })) }
+    ensures writes { WritesAt at 8 (D.disk device.old) (D.disk device.new) }
+    ensures cause { Counts (D.disk device.old) (D.disk device.new) result }
+{
+    let mut node = [0; NODE_FRAME_BYTES];
+    encode_frame(geometry, number, header, content, &mut node);
+    let mut cluster = [0; CLUSTER_BYTES];
+    pack_node(&node, rank as usize, &mut cluster);
+    write_sectors(device, at, 8, &cluster)
 }
 
 // Writes the frame of a page's number: 9 sectors.
@@ -175,28 +254,31 @@ pub fn write_page<D: Device>(
     write_sectors(device, at, 9, &bytes)
 }
 
-/// Writes the frame of an object into the sectors from `at` on, 2 for a node and 9 for a page, and
-/// touches those alone: a crash at any moment leaves all other sectors as they could have been left
-/// before. It is refused exactly where the device fails, and those sectors may then hold any bytes.
-/// No memory is taken.
+/// Writes the frame of an object of this shape into the sectors from `at` on, and touches those
+/// alone: a crash at any moment leaves all other sectors as they could have been left before. In a
+/// cluster the places of the other nodes get zeros. It is refused exactly where the device fails,
+/// and those sectors may then hold any bytes. No memory is taken.
 pub fn write_frame<D: Device>(
     device: &mut D,
     at: u64,
+    shape: Shape,
     geometry: Geometry,
     number: u64,
     header: ObjectHeader,
     content: &Content<Cap>,
 ) -> Result<(), Failed>
-    requires inside { at + frame_length geometry number ≤ (D.disk device.old).sectors }
-    ensures written { OnOk result (bytes_at (D.disk device.new).seen at geometry number
+    requires shape { IsShapeFor geometry number shape }
+    requires inside { at + shape_length shape ≤ (D.disk device.old).sectors }
+    ensures written { OnOk result (shaped_at (D.disk device.new).seen at shape
         ≡ frame_bytes geometry number (record { header = header; content = content.now })) }
-    ensures writes { WritesAt at (frame_length geometry number)
-        (D.disk device.old) (D.disk device.new) }
+    ensures writes { WritesAt at (shape_length shape) (D.disk device.old) (D.disk device.new) }
     ensures cause { Counts (D.disk device.old) (D.disk device.new) result }
 {
-    if number < geometry.nodes {
-        write_node_frame(device, at, geometry, number, header, content)
-    } else {
-        write_page_frame(device, at, geometry, number, header, content)
+    match shape {
+        Shape::Node => write_node_frame(device, at, geometry, number, header, content),
+        Shape::Packed(rank) => {
+            write_packed_frame(device, at, rank, geometry, number, header, content)
+        }
+        Shape::Page => write_page_frame(device, at, geometry, number, header, content),
     }
 }

@@ -8,5 +8,5 @@ mod frames;
 mod sectors;
 
 pub use fault::ReadFault;
-pub use frames::{read_frame, read_header, write_frame, write_page};
+pub use frames::{read_frame, read_header, read_packed, write_frame, write_page};
 pub use sectors::{read_sectors, write_sectors};

@@ -1,66 +1,60 @@
 -- Places of numbers in ranges that cover them.
-use Rattle.std.proofs.Common.{◌≡◌, ℕ, suc, ◌+◌, ◌-◌, ◌<◌, ◌≤◌, List, [], ◌∷◌, length, get_or, map, drop, sym, ap, subst, ◌∙◌, inl, inr, arith, Bool, true, false, nat_lt, nat_le, ◌&&◌}
-use Rattle.std.specs.Prelude.{if◌then◌else◌}
+use Rattle.std.proofs.Common.{◌≡◌, ◌⊎◌, ℕ, zero, suc, refl, ◌+◌, ◌-◌, ◌*◌, ◌/◌, ◌%◌, ◌<◌, ◌≤◌, Option, Some, None, List, [], ◌∷◌, length, get_or, map, sym, ap, subst, ◌∙◌, inl, inr, arith, Result, Ok, Err, Bool, true, false, nat_lt, nat_le, min, ◌&&◌}
+use Rattle.std.specs.Prelude.{if◌then◌else◌, OnOk, ⊤}
 use Rattle.std.proofs.lemmas.Bool.{cases_lt}
-use Rattle.std.proofs.lemmas.List.{length-map, get_or_append_left, get_or-map, drop_more, drop_all}
+use Rattle.std.proofs.lemmas.List.{length-map, get_or_append_left, get_or-map}
 use Rattle.std.proofs.lemmas.Bool.Decides.{nat_tests}
 use Rattle.model.specs.declared.geometry.Geometry.{Geometry}
+use Rattle.device.specs.Disk.{Image}
 use Rattle.layout.specs.declared.extent.Extent.{Extent}
 use Rattle.layout.specs.declared.extent.HomeRange.{HomeRange}
-use Rattle.layout.specs.Superblock.{Plan, IsPlan, Cover, IsOfOneKind, IsWithin, IsApart, IsInside, extent_at, extents, range_extent, half_extent, half_start}
 use Rattle.layout.specs.declared.half.Half.{Half}
 use Rattle.layout.specs.declared.half.Half.TheVariants.{First, Second}
-use Rattle.layout.specs.Frame.{frame_length}
+use Rattle.layout.specs.declared.shape.Shape.{Shape}
+use Rattle.layout.specs.declared.shape.Shape.TheVariants.{Node, Packed, Page}
+use Rattle.layout.specs.declared.version.Version.{Version}
+use Rattle.layout.specs.declared.version.Version.TheVariants.{One, Two}
 use Rattle.layout.specs.Half.{half_of}
-use Rattle.layout.specs.Image.{home_sector}
+use Rattle.layout.specs.Homes.{range_with, node_offset, place_in, place_by, home_place, rank_in, shape_of, place_length}
+use Rattle.layout.specs.Image.{sectors_from}
+use Rattle.layout.specs.Shape.{node_shape, shape_bytes, shape_length}
+use Rattle.layout.specs.Superblock.{Plan, IsPlan, Cover, IsOfOneKind, IsWithin, IsApart, IsInside, extent_at, extents, nodes_length, range_extent, half_extent, half_start}
 use Rattle.layout.proofs.Halves.{itself, apart_inside, apart_turned, many, half_at}
 use Rattle.frame_io.specs.Frames.{IsObject}
-use Rattle.home_ranges.specs.Home.{home_place, place_in}
-use Rattle.home_ranges.specs.Laws.{home_extent, PlacesAreWithin, PlacesAreApart, PlacesSpareLog}
+use Rattle.home_ranges.specs.Home.{HaveHome, HoldsHome}
+use Rattle.home_ranges.specs.Laws.{home_extent, PlacesAreWithin, PlacesAreApart, NumbersAreApart, PlacesSpareLog}
 
-abbrev range_at : List HomeRange → ℕ → HomeRange
+abbrev pub range_at : List HomeRange → ℕ → HomeRange
 range_at rs i = get_or rs i (record { first = 0; count = 0; sector = 0 })
 
 -- a range has a number, and all of its numbers are of one kind
-record Has (g : Geometry) (r : HomeRange) (number : ℕ) : Type 0 where
+pub record Has (g : Geometry) (r : HomeRange) (number : ℕ) : Type 0 where
   pub low : r.first ≤ number
   pub high : number < r.first + r.count
   pub kind : IsOfOneKind g r
 
 -- the range i has the number
-record IsFound (g : Geometry) (rs : List HomeRange) (number i : ℕ) : Type 0 where
+pub record IsFound (g : Geometry) (rs : List HomeRange) (number i : ℕ) : Type 0 where
   pub within : i < length rs
   pub has : Has g (range_at rs i) number
-  pub place : home_sector g rs number ≡ place_in g (range_at rs i) number
+  pub found : range_with rs number ≡ Some (range_at rs i)
 
-lt_true : (a b : ℕ) → a < b → nat_lt a b ≡ true
+pub lt_true : (a b : ℕ) → a < b → nat_lt a b ≡ true
 lt_true a b lt = grind (arith, nat_tests)
 
-lt_false : (a b : ℕ) → b ≤ a → nat_lt a b ≡ false
+pub lt_false : (a b : ℕ) → b ≤ a → nat_lt a b ≡ false
 lt_false a b le = grind (arith, nat_tests)
 
 in_true : (a n b : ℕ) → a ≤ n → n < b → (nat_le a n && nat_lt n b) ≡ true
 in_true a n b low high = grind (arith, nat_tests)
 
-before_false : (a n b : ℕ) → n < a → (nat_le a n && nat_lt n b) ≡ false
-before_false a n b lt = grind (arith, nat_tests)
-
 in_false : (a n b : ℕ) → b ≤ n → (nat_le a n && nat_lt n b) ≡ false
 in_false a n b le = grind (arith, nat_tests)
 
-not_in : (a n b : ℕ) → (a ≤ n → n < b → ⊥) → (nat_le a n && nat_lt n b) ≡ false
-not_in a n b hold = elim (cases_lt n b) [
-  | inl lt ↦ elim (cases_lt n a) [
-    | inl below ↦ before_false a n b below
-    | inr le ↦ absurd (hold le lt)
-  ]
-  | inr le ↦ in_false a n b le
-]
-
-if_true : (test : Bool) (x y : ℕ) → test ≡ true → (if test then x else y) ≡ x
+if_true : (test : Bool) (x y : Option HomeRange) → test ≡ true → (if test then x else y) ≡ x
 if_true test x y e = rw e
 
-if_false : (test : Bool) (x y : ℕ) → test ≡ false → (if test then x else y) ≡ y
+if_false : (test : Bool) (x y : Option HomeRange) → test ≡ false → (if test then x else y) ≡ y
 if_false test x y e = rw e
 
 find_in : (g : Geometry) (n number : ℕ) (rs : List HomeRange) → Cover g n rs → n ≤ number → number < g.nodes + g.pages → (i : ℕ) × IsFound g rs number i
@@ -73,7 +67,7 @@ find_in g n number (r ∷ rs) c low high = elim (cases_lt number (n + r.count)) 
         record {
           within = omega arith;
           has = record { low = low; high = high; kind = c.0.2 };
-          place = if_true (nat_le r.first number && nat_lt number (r.first + r.count)) (place_in g r number) (home_sector g rs number) (in_true r.first number (r.first + r.count) low high);
+          found = if_true (nat_le r.first number && nat_lt number (r.first + r.count)) (Some r) (range_with rs number) (in_true r.first number (r.first + r.count) low high);
         },
       )
   | inr le ↦
@@ -83,86 +77,122 @@ find_in g n number (r ∷ rs) c low high = elim (cases_lt number (n + r.count)) 
         record {
           within = omega (arith, rest.1.within);
           has = rest.1.has;
-          place = if_false (nat_le r.first number && nat_lt number (r.first + r.count)) (place_in g r number) (home_sector g rs number) (in_false r.first number (r.first + r.count) past) ∙ rest.1.place;
+          found = if_false (nat_le r.first number && nat_lt number (r.first + r.count)) (Some r) (range_with rs number) (in_false r.first number (r.first + r.count) past) ∙ rest.1.found;
         },
       )
 ]
 
-found : (p : Plan) (number : ℕ) → IsPlan p → IsObject p.geometry number → (i : ℕ) × IsFound p.geometry p.ranges number i
+pub found : (p : Plan) (number : ℕ) → IsPlan p → IsObject p.geometry number → (i : ℕ) × IsFound p.geometry p.ranges number i
 found p number fits is = find_in p.geometry 0 number p.ranges fits.cover (omega arith) is
 
--- how many sectors the frame of a number takes
-abbrev length_of : Geometry → ℕ → ℕ
-length_of g number = if nat_lt number g.nodes then 2 else 9
+-- ---- in one range
 
--- the sectors of a number in a range
-abbrev extent_in : Geometry → HomeRange → ℕ → Extent
-extent_in g r number = record { sector = place_in g r number; length = length_of g number }
+-- how the frame of a number in a range lies
+abbrev shape_in : Version → Geometry → HomeRange → ℕ → Shape
+shape_in v g r number = if nat_lt number g.nodes then node_shape v ((number - r.first) % 5) else Page
 
 abbrev extent_of : ℕ → ℕ → Extent
 extent_of sector length = record { sector = sector; length = length }
 
-inside_range : (g : Geometry) (r : HomeRange) (number : ℕ) → Has g r number → IsInside (extent_in g r number) (range_extent g r)
-inside_range g r number has = elim has.kind [
+-- the sectors of a number in a range
+abbrev extent_in : Version → Geometry → HomeRange → ℕ → Extent
+extent_in v g r number = extent_of (place_in v g r number) (shape_length (shape_in v g r number))
+
+-- those of the i-th node lie among those of so many
+node_inside : (v : Version) (i rank count : ℕ) → i < count → node_offset v i + shape_length (node_shape v rank) ≤ nodes_length v count
+node_inside One i rank count lt = omega (arith, lt)
+node_inside Two i rank count lt = omega (arith, lt)
+
+inside_range : (v : Version) (g : Geometry) (r : HomeRange) (number : ℕ) → Has g r number → IsInside (extent_in v g r number) (range_extent v g r)
+inside_range v g r number has = elim has.kind [
   | inl nodes ↦
-      let number_lt : nat_lt number g.nodes ≡ true = lt_true number g.nodes (omega arith) in
-      let first_lt : nat_lt r.first g.nodes ≡ true = lt_true r.first g.nodes (omega arith) in
-      record { starts = rw number_lt (omega arith); ends = rw (number_lt, first_lt) (omega arith) }
+      let number_lt : nat_lt number g.nodes ≡ true = lt_true number g.nodes (omega (arith, nodes, has.high)) in
+      let first_lt : nat_lt r.first g.nodes ≡ true = lt_true r.first g.nodes (omega (arith, nodes, has.low, has.high)) in
+      let inside = node_inside v (number - r.first) ((number - r.first) % 5) r.count (omega (arith, has.low, has.high)) in
+      record { starts = rw number_lt (omega arith); ends = rw (number_lt, first_lt) (omega (arith, inside)) }
   | inr pages ↦
-      let number_ge : nat_lt number g.nodes ≡ false = lt_false number g.nodes (omega arith) in
-      let first_ge : nat_lt r.first g.nodes ≡ false = lt_false r.first g.nodes (omega arith) in
-      record { starts = rw number_ge (omega arith); ends = rw (number_ge, first_ge) (omega arith) }
+      let number_ge : nat_lt number g.nodes ≡ false = lt_false number g.nodes (omega (arith, pages, has.low)) in
+      let first_ge : nat_lt r.first g.nodes ≡ false = lt_false r.first g.nodes (omega (arith, pages)) in
+      record { starts = rw number_ge (omega arith); ends = rw (number_ge, first_ge) (omega (arith, has.low, has.high)) }
 ]
 
--- of two numbers of a range the lesser lies first
-ends_before : (g : Geometry) (r : HomeRange) (a b : ℕ) → Has g r a → Has g r b → a < b → place_in g r a + length_of g a ≤ place_in g r b
-ends_before g r a b has_a has_b lt = elim has_a.kind [
-  | inl nodes ↦
-      let a_lt : nat_lt a g.nodes ≡ true = lt_true a g.nodes (omega arith) in
-      let b_lt : nat_lt b g.nodes ≡ true = lt_true b g.nodes (omega arith) in
-      rw (a_lt, b_lt) (omega arith)
-  | inr pages ↦
-      let a_ge : nat_lt a g.nodes ≡ false = lt_false a g.nodes (omega arith) in
-      let b_ge : nat_lt b g.nodes ≡ false = lt_false b g.nodes (omega arith) in
-      rw (a_ge, b_ge) (omega arith)
+-- of two nodes of a range one begins behind the other, or where it does
+node_apart : (v : Version) (i j a b : ℕ) → (node_offset v i ≡ node_offset v j → ⊥) → (node_offset v i + shape_length (node_shape v a) ≤ node_offset v j) ⊎ (node_offset v j + shape_length (node_shape v b) ≤ node_offset v i)
+node_apart One i j a b differ = elim (cases_lt i j) [
+  | inl lt ↦ inl (omega (arith, lt))
+  | inr le ↦ inr (omega (arith, le, differ))
+]
+node_apart Two i j a b differ = elim (cases_lt (i / 5) (j / 5)) [
+  | inl lt ↦ inl (omega (arith, lt))
+  | inr le ↦ inr (omega (arith, le, differ))
 ]
 
-apart_in_one : (g : Geometry) (r : HomeRange) (a b : ℕ) → Has g r a → Has g r b → (a ≡ b → ⊥) → IsApart (extent_in g r a) (extent_in g r b)
-apart_in_one g r a b has_a has_b differ = elim (cases_lt a b) [
-  | inl lt ↦ inl (ends_before g r a b has_a has_b lt)
-  | inr le ↦ inr (ends_before g r b a has_b has_a (omega (arith, differ)))
+apart_in_one : (v : Version) (g : Geometry) (r : HomeRange) (a b : ℕ) → Has g r a → Has g r b → (place_in v g r a ≡ place_in v g r b → ⊥) → IsApart (extent_in v g r a) (extent_in v g r b)
+apart_in_one v g r a b has_a has_b = elim has_a.kind [
+  | inl nodes ↦
+      let a_lt : nat_lt a g.nodes ≡ true = lt_true a g.nodes (omega (arith, nodes, has_a.high)) in
+      let b_lt : nat_lt b g.nodes ≡ true = lt_true b g.nodes (omega (arith, nodes, has_b.high)) in
+      rw (a_lt, b_lt) (λ differ. elim (node_apart v (a - r.first) (b - r.first) ((a - r.first) % 5) ((b - r.first) % 5) (λ same. differ (ap (λ (offset : ℕ). r.sector + offset) same))) [
+        | inl before ↦ inl (omega (arith, before))
+        | inr behind ↦ inr (omega (arith, behind))
+      ])
+  | inr pages ↦
+      let a_ge : nat_lt a g.nodes ≡ false = lt_false a g.nodes (omega (arith, pages, has_a.low)) in
+      let b_ge : nat_lt b g.nodes ≡ false = lt_false b g.nodes (omega (arith, pages, has_b.low)) in
+      rw (a_ge, b_ge) (λ differ. elim (cases_lt a b) [
+        | inl lt ↦ inl (omega (arith, lt, has_a.low))
+        | inr le ↦ inr (omega (arith, le, differ, has_b.low))
+      ])
+]
+
+-- by version 1 two numbers of a range that have one place are one
+same_number : (v : Version) (g : Geometry) (r : HomeRange) (a b : ℕ) → v ≡ One → Has g r a → Has g r b → place_in v g r a ≡ place_in v g r b → a ≡ b
+same_number v g r a b first has_a has_b = elim has_a.kind [
+  | inl nodes ↦
+      let a_lt : nat_lt a g.nodes ≡ true = lt_true a g.nodes (omega (arith, nodes, has_a.high)) in
+      let b_lt : nat_lt b g.nodes ≡ true = lt_true b g.nodes (omega (arith, nodes, has_b.high)) in
+      rw (first, a_lt, b_lt) (λ same. omega (arith, same, has_a.low, has_b.low))
+  | inr pages ↦
+      let a_ge : nat_lt a g.nodes ≡ false = lt_false a g.nodes (omega (arith, pages, has_a.low)) in
+      let b_ge : nat_lt b g.nodes ≡ false = lt_false b g.nodes (omega (arith, pages, has_b.low)) in
+      rw (a_ge, b_ge) (λ same. omega (arith, same, has_a.low, has_b.low))
 ]
 
 -- ---- ranges and log halves as extents
 
-ranges_extent : (p : Plan) (i : ℕ) → i < length p.ranges → extent_at (extents p) i ≡ range_extent p.geometry (range_at p.ranges i)
+ranges_extent : (p : Plan) (i : ℕ) → i < length p.ranges → extent_at (extents p) i ≡ range_extent p.version p.geometry (range_at p.ranges i)
 ranges_extent p i lt =
-    let size : length (map (range_extent p.geometry) p.ranges) ≡ length p.ranges = length-map p.ranges (range_extent p.geometry) in
-    get_or_append_left (map (range_extent p.geometry) p.ranges) (half_extent p.geometry p.half_0 ∷ half_extent p.geometry p.half_1 ∷ []) (record { sector = 0; length = 0 }) i (omega arith)
-    ∙ get_or-map (range_extent p.geometry) p.ranges i (record { first = 0; count = 0; sector = 0 }) (record { sector = 0; length = 0 }) lt
+    let size : length (map (range_extent p.version p.geometry) p.ranges) ≡ length p.ranges = length-map p.ranges (range_extent p.version p.geometry) in
+    get_or_append_left (map (range_extent p.version p.geometry) p.ranges) (half_extent p.geometry p.half_0 ∷ half_extent p.geometry p.half_1 ∷ []) (record { sector = 0; length = 0 }) i (omega arith)
+    ∙ get_or-map (range_extent p.version p.geometry) p.ranges i (record { first = 0; count = 0; sector = 0 }) (record { sector = 0; length = 0 }) lt
 
-range_within : (p : Plan) (i : ℕ) → IsPlan p → i < length p.ranges → IsWithin p.total (range_extent p.geometry (range_at p.ranges i))
+range_within : (p : Plan) (i : ℕ) → IsPlan p → i < length p.ranges → IsWithin p.total (range_extent p.version p.geometry (range_at p.ranges i))
 range_within p i fits lt = subst (IsWithin p.total) (ranges_extent p i lt) (fits.within i (record { sector = 0; length = 0 }) (omega (arith, many p)))
 
-ranges_apart : (p : Plan) (i j : ℕ) → IsPlan p → i < j → j < length p.ranges → IsApart (range_extent p.geometry (range_at p.ranges i)) (range_extent p.geometry (range_at p.ranges j))
+ranges_apart : (p : Plan) (i j : ℕ) → IsPlan p → i < j → j < length p.ranges → IsApart (range_extent p.version p.geometry (range_at p.ranges i)) (range_extent p.version p.geometry (range_at p.ranges j))
 ranges_apart p i j fits lt within =
     let apart = fits.apart i j lt (omega (arith, many p)) in
     let in_i : i < length p.ranges = omega arith in
-    subst (λ (e : Extent). IsApart e (range_extent p.geometry (range_at p.ranges j))) (ranges_extent p i in_i) (subst (IsApart (extent_at (extents p) i)) (ranges_extent p j within) apart)
+    subst (λ (e : Extent). IsApart e (range_extent p.version p.geometry (range_at p.ranges j))) (ranges_extent p i in_i) (subst (IsApart (extent_at (extents p) i)) (ranges_extent p j within) apart)
 
-range_spares_half : (p : Plan) (i k : ℕ) → IsPlan p → i < length p.ranges → k < 2 → IsApart (range_extent p.geometry (range_at p.ranges i)) (extent_at (half_extent p.geometry p.half_0 ∷ half_extent p.geometry p.half_1 ∷ []) k)
+range_spares_half : (p : Plan) (i k : ℕ) → IsPlan p → i < length p.ranges → k < 2 → IsApart (range_extent p.version p.geometry (range_at p.ranges i)) (extent_at (half_extent p.geometry p.half_0 ∷ half_extent p.geometry p.half_1 ∷ []) k)
 range_spares_half p i k fits lt few =
     let apart = fits.apart i (length p.ranges + k) (omega arith) (omega (arith, many p)) in
     subst (λ (e : Extent). IsApart e (extent_at (half_extent p.geometry p.half_0 ∷ half_extent p.geometry p.half_1 ∷ []) k)) (ranges_extent p i lt) (subst (IsApart (extent_at (extents p) i)) (half_at p k) apart)
 
 -- ---- the laws
 
--- the sectors of a number are those in its range
-home_is : (p : Plan) (number i : ℕ) → IsFound p.geometry p.ranges number i → home_extent p number ≡ extent_in p.geometry (range_at p.ranges i) number
-home_is p number i at = ap (λ (sector : ℕ). extent_of sector (frame_length p.geometry number)) at.place
+-- the place of a number is that in its range,
+pub place_is : (p : Plan) (number i : ℕ) → IsFound p.geometry p.ranges number i → home_place p number ≡ place_in p.version p.geometry (range_at p.ranges i) number
+place_is p number i at = ap (λ (r : Option HomeRange). place_by p.version p.geometry r number) at.found
 
-home_inside : (p : Plan) (number i : ℕ) → IsFound p.geometry p.ranges number i → IsInside (home_extent p number) (range_extent p.geometry (range_at p.ranges i))
-home_inside p number i at = subst (λ (e : Extent). IsInside e (range_extent p.geometry (range_at p.ranges i))) (sym (home_is p number i at)) (inside_range p.geometry (range_at p.ranges i) number at.has)
+-- and so are its sectors
+home_is : (p : Plan) (number i : ℕ) → IsFound p.geometry p.ranges number i → home_extent p number ≡ extent_in p.version p.geometry (range_at p.ranges i) number
+home_is p number i at =
+    ap (λ (r : Option HomeRange). extent_of (place_by p.version p.geometry r number) (shape_length (if nat_lt number p.geometry.nodes then node_shape p.version (rank_in r number) else Page))) at.found
+
+home_inside : (p : Plan) (number i : ℕ) → IsFound p.geometry p.ranges number i → IsInside (home_extent p number) (range_extent p.version p.geometry (range_at p.ranges i))
+home_inside p number i at = subst (λ (e : Extent). IsInside e (range_extent p.version p.geometry (range_at p.ranges i))) (sym (home_is p number i at)) (inside_range p.version p.geometry (range_at p.ranges i) number at.has)
 
 pub places_within : PlacesAreWithin
 places_within p a fits is =
@@ -171,97 +201,344 @@ places_within p a fits is =
     let within = range_within p at.0 fits at.1.within in
     (omega (arith, inside.starts, within.0), omega (arith, inside.ends, within.1))
 
-pub places_apart : PlacesAreApart
-places_apart p a b fits is_a is_b differ =
+-- two homes are apart where they are in each range that has both
+apart_by : (p : Plan) (a b : ℕ) → IsPlan p → IsObject p.geometry a → IsObject p.geometry b
+    → ((i : ℕ) → IsFound p.geometry p.ranges a i → IsFound p.geometry p.ranges b i → IsApart (extent_in p.version p.geometry (range_at p.ranges i) a) (extent_in p.version p.geometry (range_at p.ranges i) b))
+    → IsApart (home_extent p a) (home_extent p b)
+apart_by p a b fits is_a is_b in_one =
     let at_a = found p a fits is_a in
     let at_b = found p b fits is_b in
     let in_a = home_inside p a at_a.0 at_a.1 in
     let in_b = home_inside p b at_b.0 at_b.1 in
+    let range_a : Extent = range_extent p.version p.geometry (range_at p.ranges at_a.0) in
+    let range_b : Extent = range_extent p.version p.geometry (range_at p.ranges at_b.0) in
     elim (cases_lt at_a.0 at_b.0) [
-      | inl lt ↦ apart_inside (home_extent p a) (home_extent p b) (range_extent p.geometry (range_at p.ranges at_a.0)) (range_extent p.geometry (range_at p.ranges at_b.0)) in_a in_b (ranges_apart p at_a.0 at_b.0 fits lt at_b.1.within)
+      | inl lt ↦ apart_inside (home_extent p a) (home_extent p b) range_a range_b in_a in_b (ranges_apart p at_a.0 at_b.0 fits lt at_b.1.within)
       | inr le ↦ elim (cases_lt at_b.0 at_a.0) [
-        | inl lt ↦ apart_turned (home_extent p b) (home_extent p a)
-            (apart_inside (home_extent p b) (home_extent p a) (range_extent p.geometry (range_at p.ranges at_b.0)) (range_extent p.geometry (range_at p.ranges at_a.0)) in_b in_a (ranges_apart p at_b.0 at_a.0 fits lt at_a.1.within))
+        | inl lt ↦ apart_turned (home_extent p b) (home_extent p a) (apart_inside (home_extent p b) (home_extent p a) range_b range_a in_b in_a (ranges_apart p at_b.0 at_a.0 fits lt at_a.1.within))
         | inr ge ↦
             let one : at_b.0 ≡ at_a.0 = omega (arith, le, ge) in
             let b_there : IsFound p.geometry p.ranges b at_a.0 = subst (IsFound p.geometry p.ranges b) one at_b.1 in
             subst (IsApart (home_extent p a)) (sym (home_is p b at_a.0 b_there))
-            (subst (λ (e : Extent). IsApart e (extent_in p.geometry (range_at p.ranges at_a.0) b)) (sym (home_is p a at_a.0 at_a.1))
-            (apart_in_one p.geometry (range_at p.ranges at_a.0) a b at_a.1.has b_there.has differ))
+            (subst (λ (e : Extent). IsApart e (extent_in p.version p.geometry (range_at p.ranges at_a.0) b)) (sym (home_is p a at_a.0 at_a.1)) (in_one at_a.0 at_a.1 b_there))
       ]
     ]
+
+pub places_apart : PlacesAreApart
+places_apart p a b fits is_a is_b differ = apart_by p a b fits is_a is_b (λ i at_a at_b.
+    apart_in_one p.version p.geometry (range_at p.ranges i) a b at_a.has at_b.has (λ same. differ (place_is p a i at_a ∙ same ∙ sym (place_is p b i at_b))))
+
+pub numbers_apart : NumbersAreApart
+numbers_apart p a b fits first is_a is_b differ = apart_by p a b fits is_a is_b (λ i at_a at_b.
+    apart_in_one p.version p.geometry (range_at p.ranges i) a b at_a.has at_b.has (λ same. differ (same_number p.version p.geometry (range_at p.ranges i) a b first at_a.has at_b.has same)))
 
 spares_half : (p : Plan) (a : ℕ) (h : Half) → IsPlan p → IsObject p.geometry a → IsApart (home_extent p a) (half_extent p.geometry (half_start p h))
 spares_half p a First fits is =
     let at = found p a fits is in
-    apart_inside (home_extent p a) (half_extent p.geometry p.half_0) (range_extent p.geometry (range_at p.ranges at.0)) (half_extent p.geometry p.half_0)
+    apart_inside (home_extent p a) (half_extent p.geometry p.half_0) (range_extent p.version p.geometry (range_at p.ranges at.0)) (half_extent p.geometry p.half_0)
     (home_inside p a at.0 at.1) (itself (half_extent p.geometry p.half_0)) (range_spares_half p at.0 0 fits at.1.within (omega arith))
 spares_half p a Second fits is =
     let at = found p a fits is in
-    apart_inside (home_extent p a) (half_extent p.geometry p.half_1) (range_extent p.geometry (range_at p.ranges at.0)) (half_extent p.geometry p.half_1)
+    apart_inside (home_extent p a) (half_extent p.geometry p.half_1) (range_extent p.version p.geometry (range_at p.ranges at.0)) (half_extent p.geometry p.half_1)
     (home_inside p a at.0 at.1) (itself (half_extent p.geometry p.half_1)) (range_spares_half p at.0 1 fits at.1.within (omega arith))
 
 pub places_spare_log : PlacesSpareLog
 places_spare_log p a generation fits is = spares_half p a (half_of generation) fits is
 
--- ---- the search for the range
+-- ---- objects that have one home
 
--- the ranges before the i-th don't have the number
-pub search_ends : (p : Plan) (number i : ℕ) → IsPlan p → IsObject p.geometry number → length p.ranges ≤ i → home_sector p.geometry (drop i p.ranges) number ≡ home_place p number → ⊥
-search_ends p number i fits is done same =
-    let within = places_within p number fits is in
-    let none : home_sector p.geometry (drop i p.ranges) number ≡ 0 = ap (λ (rs : List HomeRange). home_sector p.geometry rs number) (drop_all i p.ranges done) in
-    omega (arith, within.0, none, same)
+-- another number of the range that was found
+covered_from : (g : Geometry) (n i : ℕ) (rs : List HomeRange) → Cover g n rs → i < length rs → n ≤ (range_at rs i).first
+covered_from g n i [] c lt = absurd (omega (arith, lt))
+covered_from g n zero (r ∷ rs) c lt = omega (arith, c.0.0)
+covered_from g n (suc i) (r ∷ rs) c lt = let later = covered_from g (n + r.count) i rs c.1 (omega (arith, lt)) in omega (arith, later)
 
-step : (p : Plan) (number i : ℕ) → i < length p.ranges → home_sector p.geometry (drop i p.ranges) number ≡ home_sector p.geometry (range_at p.ranges i ∷ drop (i + 1) p.ranges) number
-step p number i lt = ap (λ (rs : List HomeRange). home_sector p.geometry rs number) (drop_more p.ranges i (record { first = 0; count = 0; sector = 0 }) lt)
+pub found_too : (g : Geometry) (n i number : ℕ) (rs : List HomeRange) → Cover g n rs → i < length rs → Has g (range_at rs i) number → IsFound g rs number i
+found_too g n i number [] c lt has = absurd (omega (arith, lt))
+found_too g n zero number (r ∷ rs) c lt has = record {
+  within = lt;
+  has = has;
+  found = if_true (nat_le r.first number && nat_lt number (r.first + r.count)) (Some r) (range_with rs number) (in_true r.first number (r.first + r.count) has.low has.high);
+}
+found_too g n (suc i) number (r ∷ rs) c lt has =
+    let rest = found_too g (n + r.count) i number rs c.1 (omega (arith, lt)) has in
+    let later = covered_from g (n + r.count) i rs c.1 (omega (arith, lt)) in
+    let past : r.first + r.count ≤ number = omega (arith, c.0.0, later, has.low) in record {
+      within = lt;
+      has = has;
+      found = if_false (nat_le r.first number && nat_lt number (r.first + r.count)) (Some r) (range_with rs number) (in_false r.first number (r.first + r.count) past) ∙ rest.found;
+    }
 
-pub search_found : (p : Plan) (number i : ℕ) → i < length p.ranges → home_sector p.geometry (drop i p.ranges) number ≡ home_place p number → (range_at p.ranges i).first ≤ number → number < (range_at p.ranges i).first + (range_at p.ranges i).count
-    → place_in p.geometry (range_at p.ranges i) number ≡ home_place p number
-search_found p number i lt same low high =
-    let r : HomeRange = range_at p.ranges i in
-    sym (if_true (nat_le r.first number && nat_lt number (r.first + r.count)) (place_in p.geometry r number) (home_sector p.geometry (drop (i + 1) p.ranges) number) (in_true r.first number (r.first + r.count) low high))
-    ∙ sym (step p number i lt) ∙ same
+some_sectors : (s : Shape) → 1 ≤ shape_length s
+some_sectors Node = omega arith
+some_sectors (Packed rank) = omega arith
+some_sectors Page = omega arith
 
-pub search_goes_on : (p : Plan) (number i : ℕ) → i < length p.ranges → home_sector p.geometry (drop i p.ranges) number ≡ home_place p number → ((range_at p.ranges i).first ≤ number → number < (range_at p.ranges i).first + (range_at p.ranges i).count → ⊥)
-    → home_sector p.geometry (drop (i + 1) p.ranges) number ≡ home_place p number
-search_goes_on p number i lt same hold =
-    let r : HomeRange = range_at p.ranges i in
-    sym (if_false (nat_le r.first number && nat_lt number (r.first + r.count)) (place_in p.geometry r number) (home_sector p.geometry (drop (i + 1) p.ranges) number) (not_in r.first number (r.first + r.count) hold))
-    ∙ sym (step p number i lt) ∙ same
+-- two extents that begin in one sector aren't apart
+never_apart : (d e : Extent) → d.sector ≡ e.sector → 1 ≤ d.length → 1 ≤ e.length → IsApart d e → ⊥
+never_apart d e same some_d some_e (inl before) = omega (arith, same, some_d, before)
+never_apart d e same some_d some_e (inr behind) = omega (arith, same, some_e, behind)
+
+-- a range that has both of two numbers
+pub record HasBoth (p : Plan) (a b : ℕ) (i : ℕ) : Type 0 where
+  pub one : IsFound p.geometry p.ranges a i
+  pub other : IsFound p.geometry p.ranges b i
+  pub place : place_in p.version p.geometry (range_at p.ranges i) a ≡ place_in p.version p.geometry (range_at p.ranges i) b
+
+pub one_range : (p : Plan) (a b : ℕ) → IsPlan p → IsObject p.geometry a → IsObject p.geometry b → home_place p a ≡ home_place p b → (i : ℕ) × HasBoth p a b i
+one_range p a b fits is_a is_b same =
+    let at_a = found p a fits is_a in
+    let at_b = found p b fits is_b in
+    let in_a = home_inside p a at_a.0 at_a.1 in
+    let in_b = home_inside p b at_b.0 at_b.1 in
+    let range_a : Extent = range_extent p.version p.geometry (range_at p.ranges at_a.0) in
+    let range_b : Extent = range_extent p.version p.geometry (range_at p.ranges at_b.0) in
+    let some_a : 1 ≤ place_length p a = some_sectors (shape_of p a) in
+    let some_b : 1 ≤ place_length p b = some_sectors (shape_of p b) in
+    elim (cases_lt at_a.0 at_b.0) [
+      | inl lt ↦ absurd (never_apart (home_extent p a) (home_extent p b) same some_a some_b
+          (apart_inside (home_extent p a) (home_extent p b) range_a range_b in_a in_b (ranges_apart p at_a.0 at_b.0 fits lt at_b.1.within)))
+      | inr le ↦ elim (cases_lt at_b.0 at_a.0) [
+        | inl lt ↦ absurd (never_apart (home_extent p b) (home_extent p a) (sym same) some_b some_a
+            (apart_inside (home_extent p b) (home_extent p a) range_b range_a in_b in_a (ranges_apart p at_b.0 at_a.0 fits lt at_a.1.within)))
+        | inr ge ↦
+            let one : at_b.0 ≡ at_a.0 = omega (arith, le, ge) in
+            let b_there : IsFound p.geometry p.ranges b at_a.0 = subst (IsFound p.geometry p.ranges b) one at_b.1 in
+            (at_a.0, record { one = at_a.1; other = b_there; place = sym (place_is p a at_a.0 at_a.1) ∙ same ∙ place_is p b at_a.0 b_there })
+      ]
+    ]
+
+-- the shape of a number is that in its range
+pub shape_is : (p : Plan) (number i : ℕ) → IsFound p.geometry p.ranges number i → shape_of p number ≡ shape_in p.version p.geometry (range_at p.ranges i) number
+shape_is p number i at = ap (λ (r : Option HomeRange). if nat_lt number p.geometry.nodes then node_shape p.version (rank_in r number) else Page) at.found
+
+node_lengths : (v : Version) (a b : ℕ) → shape_length (node_shape v a) ≡ shape_length (node_shape v b)
+node_lengths One a b = refl
+node_lengths Two a b = refl
+
+lengths_in : (v : Version) (g : Geometry) (r : HomeRange) (a b : ℕ) → Has g r a → Has g r b → shape_length (shape_in v g r a) ≡ shape_length (shape_in v g r b)
+lengths_in v g r a b has_a has_b = elim has_a.kind [
+  | inl nodes ↦
+      let a_lt : nat_lt a g.nodes ≡ true = lt_true a g.nodes (omega (arith, nodes, has_a.high)) in
+      let b_lt : nat_lt b g.nodes ≡ true = lt_true b g.nodes (omega (arith, nodes, has_b.high)) in
+      rw (a_lt, b_lt) (node_lengths v ((a - r.first) % 5) ((b - r.first) % 5))
+  | inr pages ↦
+      let a_ge : nat_lt a g.nodes ≡ false = lt_false a g.nodes (omega (arith, pages, has_a.low)) in
+      let b_ge : nat_lt b g.nodes ≡ false = lt_false b g.nodes (omega (arith, pages, has_b.low)) in
+      rw (a_ge, b_ge) refl
+]
+
+-- what has one home has as many sectors
+pub one_length : (p : Plan) (a b : ℕ) → IsPlan p → IsObject p.geometry a → IsObject p.geometry b → home_place p a ≡ home_place p b → place_length p a ≡ place_length p b
+one_length p a b fits is_a is_b same =
+    let there = one_range p a b fits is_a is_b same in
+    let at = there.1 in
+    ap shape_length (shape_is p a there.0 at.one) ∙ lengths_in p.version p.geometry (range_at p.ranges there.0) a b at.one.has at.other.has ∙ ap shape_length (sym (shape_is p b there.0 at.other))
+
+-- so the bytes of a home are the frames of all that have it
+pub home_held : (p : Plan) (number at n : ℕ) (s : Shape) (bytes : List ℕ) (image : Image) → IsPlan p → IsObject p.geometry number → at ≡ home_place p number → s ≡ shape_of p number → n ≡ shape_length s
+    → sectors_from image at n ≡ bytes → HoldsHome p number bytes image
+home_held p number at n s bytes image fits is place shape length held a is_a same =
+    let length_is : place_length p a ≡ n = one_length p a number fits is_a is same ∙ ap shape_length (sym shape) ∙ sym length in
+    ap (λ (k : ℕ). shape_bytes (shape_of p a) (sectors_from image k (place_length p a))) (same ∙ sym place)
+    ∙ ap (λ (k : ℕ). shape_bytes (shape_of p a) (sectors_from image at k)) length_is ∙ ap (shape_bytes (shape_of p a)) held
+
+pub written_home : {T E : Type 0} (result : Result T E) (p : Plan) (number at n : ℕ) (s : Shape) (bytes : List ℕ) (image : Image) → IsPlan p → IsObject p.geometry number → at ≡ home_place p number → s ≡ shape_of p number
+    → n ≡ shape_length s → OnOk result (sectors_from image at n ≡ bytes) → OnOk result (HoldsHome p number bytes image)
+written_home (Ok value) p number at n s bytes image fits is place shape length held = home_held p number at n s bytes image fits is place shape length held
+written_home (Err error) p number at n s bytes image fits is place shape length held = tt
+
+-- ---- the range that was found
 
 -- the sector of a range lies on a device
 sector_fits : (p : Plan) (i : ℕ) → IsPlan p → i < length p.ranges → (range_at p.ranges i).sector ≤ 131072
 sector_fits p i fits lt = let within = range_within p i fits lt in omega (arith, within.1, fits.total)
 
+same_range : (q r : HomeRange) → Some q ≡ Some r → q ≡ r
+same_range q r e = cc
+
+-- the range that has a number, and so the place of the number
+pub record IsRangeOf (p : Plan) (number : ℕ) (r : HomeRange) : Type 0 where
+  pub sector : r.sector ≤ 131072
+  pub place : home_place p number ≡ place_in p.version p.geometry r number
+
+range_of : (p : Plan) (number : ℕ) (r : HomeRange) → IsPlan p → IsObject p.geometry number → Some r ≡ range_with p.ranges number → IsRangeOf p number r
+range_of p number r fits is told =
+    let at = found p number fits is in
+    let same : r ≡ range_at p.ranges at.0 = same_range r (range_at p.ranges at.0) (told ∙ at.1.found) in
+    record {
+      sector = subst (λ (q : HomeRange). q.sector ≤ 131072) (sym same) (sector_fits p at.0 fits at.1.within);
+      place = ap (λ (q : Option HomeRange). place_by p.version p.geometry q number) (sym told);
+    }
+
+-- the plan is written in two ways, `p` and `q`
+pub range_told : (p q : Plan) (number : ℕ) (r : HomeRange) → p ≡ q → IsPlan p → IsObject q.geometry number → Some r ≡ range_with p.ranges number → IsRangeOf q number r
+range_told p q number r e fits is told =
+    subst (λ (x : Plan). IsObject x.geometry number → IsRangeOf x number r) e (λ is_p. range_of p number r fits is_p told) is
+
+pub no_range_told : (p q : Plan) (number : ℕ) → p ≡ q → IsPlan p → IsObject q.geometry number → None ≡ range_with p.ranges number → ⊥
+no_range_told p q number e fits is told =
+    subst (λ (x : Plan). IsObject x.geometry number → ⊥) e (λ is_p. let at = found p number fits is_p in let never : None ≡ Some (range_at p.ranges at.0) = told ∙ at.1.found in cc) is
+
 -- a place of a number, behind the headers and before the end
 pub record IsPlace (p : Plan) (number place : ℕ) : Type 0 where
   pub value : place ≡ home_place p number
   pub behind : 5 ≤ place
-  pub inside : place + frame_length p.geometry number ≤ p.total
+  pub inside : place + place_length p number ≤ p.total
 
-place_is : (p : Plan) (number place : ℕ) → IsPlan p → IsObject p.geometry number → place ≡ home_place p number → IsPlace p number place
-place_is p number place fits is same =
+place_lies : (p : Plan) (number place : ℕ) → IsPlan p → IsObject p.geometry number → place ≡ home_place p number → IsPlace p number place
+place_lies p number place fits is same =
     let within = places_within p number fits is in
     record { value = same; behind = omega (arith, within.0, same); inside = omega (arith, within.1, same) }
 
--- the plan is written in two ways, `p` and `q`, and its ranges and geometry in a third
-pub range_fits : (p : Plan) (rs : List HomeRange) (i : ℕ) → rs ≡ p.ranges → IsPlan p → i < length rs → (range_at rs i).sector ≤ 131072
-range_fits p rs i same fits lt = subst (λ (xs : List HomeRange). (range_at xs i).sector ≤ 131072) (sym same) (sector_fits p i fits (subst (λ (xs : List HomeRange). i < length xs) same lt))
+pub place_told : (p q : Plan) (v : Version) (g : Geometry) (number place : ℕ) (r : HomeRange) → v ≡ p.version → g ≡ p.geometry → p ≡ q → IsPlan p → IsObject q.geometry number → Some r ≡ range_with p.ranges number
+    → place ≡ place_in v g r number → IsPlace q number place
+place_told p q v g number place r version geometry e fits is told made =
+    subst (λ (x : Plan). IsObject x.geometry number → IsPlace x number place) e
+    (λ is_p. place_lies p number place fits is_p
+    (made ∙ ap (λ (w : Version). place_in w g r number) version ∙ ap (λ (h : Geometry). place_in p.version h r number) geometry ∙ sym (range_of p number r fits is_p told).place)) is
 
-found_here : (p q : Plan) (number i place : ℕ) → p ≡ q → IsPlan p → IsObject q.geometry number → i < length p.ranges → home_sector q.geometry (drop i q.ranges) number ≡ home_place q number
-    → (range_at p.ranges i).first ≤ number → number - (range_at p.ranges i).first < (range_at p.ranges i).count → place ≡ place_in p.geometry (range_at p.ranges i) number → IsPlace q number place
-found_here p q number i place e fits is lt same low high made =
-    subst (λ (x : Plan). IsObject x.geometry number → home_sector x.geometry (drop i x.ranges) number ≡ home_place x number → IsPlace x number place) e
-    (λ is_p same_p. place_is p number place fits is_p (made ∙ search_found p number i lt same_p low (omega arith))) is same
+-- ---- who has a home
 
-pub place_found : (p q : Plan) (rs : List HomeRange) (g : Geometry) (number i place : ℕ) → rs ≡ p.ranges → g ≡ p.geometry → p ≡ q → IsPlan p → IsObject q.geometry number → i < length rs → home_sector q.geometry (drop i q.ranges) number ≡ home_place q number
-    → (range_at rs i).first ≤ number → number - (range_at rs i).first < (range_at rs i).count → place ≡ place_in g (range_at rs i) number → IsPlace q number place
-place_found p q rs g number i place ranges geometry e fits is lt same low high made =
-    subst (λ (xs : List HomeRange). i < length xs → (range_at xs i).first ≤ number → number - (range_at xs i).first < (range_at xs i).count → place ≡ place_in g (range_at xs i) number → IsPlace q number place) (sym ranges)
-    (λ lt low high made. found_here p q number i place e fits is lt same low high (made ∙ ap (λ (h : Geometry). place_in h (range_at p.ranges i) number) geometry)) lt low high made
+-- a frame in sectors of its own
+abbrev pub IsOwn : Shape → Type 0
+IsOwn Node = ⊤
+IsOwn (Packed rank) = ⊥
+IsOwn Page = ⊤
 
-pub place_missed : (p q : Plan) (rs : List HomeRange) (number i : ℕ) → rs ≡ p.ranges → p ≡ q → IsPlan p → IsObject q.geometry number → length rs ≤ i → home_sector q.geometry (drop i q.ranges) number ≡ home_place q number → ⊥
-place_missed p q rs number i ranges e fits is done same =
-    subst (λ (x : Plan). IsObject x.geometry number → home_sector x.geometry (drop i x.ranges) number ≡ home_place x number → ⊥) e
-    (λ is_p same_p. search_ends p number i fits is_p (subst (λ (xs : List HomeRange). length xs ≤ i) ranges done) same_p) is same
+-- a number is of this rank in a cluster of its range
+pub record IsRanked (v : Version) (g : Geometry) (r : HomeRange) (number rank : ℕ) : Type 0 where
+  pub second : v ≡ Two
+  pub nodes : r.first + r.count ≤ g.nodes
+  pub value : rank ≡ (number - r.first) % 5
+
+abbrev rank_or_0 : Shape → ℕ
+rank_or_0 Node = 0
+rank_or_0 (Packed rank) = rank
+rank_or_0 Page = 0
+
+ranked_node : (v : Version) (rank i : ℕ) → node_shape v i ≡ Packed rank → (v ≡ Two) × (rank ≡ i)
+ranked_node One rank i e = let never : Node ≡ Packed rank = e in cc
+ranked_node Two rank i e = (refl, sym (ap rank_or_0 e))
+
+pub ranked_in : (v : Version) (g : Geometry) (r : HomeRange) (number rank : ℕ) → Has g r number → shape_in v g r number ≡ Packed rank → IsRanked v g r number rank
+ranked_in v g r number rank has e = elim has.kind [
+  | inl nodes ↦
+      let is = ranked_node v rank ((number - r.first) % 5) (rw (lt_true number g.nodes (omega (arith, nodes, has.high))) at e) in
+      record { second = is.0; nodes = nodes; value = is.1 }
+  | inr pages ↦ absurd (let never : Page ≡ Packed rank = rw (lt_false number g.nodes (omega (arith, pages, has.low))) at e in cc)
+]
+
+-- the place of a rank's cluster
+cluster_place : (v : Version) (g : Geometry) (r : HomeRange) (number rank : ℕ) → Has g r number → IsRanked v g r number rank → place_in v g r number ≡ r.sector + 8 * ((number - r.first) / 5)
+cluster_place v g r number rank has is =
+    let number_lt : nat_lt number g.nodes ≡ true = lt_true number g.nodes (omega (arith, is.nodes, has.high)) in
+    rw (is.second, number_lt) refl
+
+-- and of the others of its range
+same_ranked : (v : Version) (g : Geometry) (r : HomeRange) (a number rank : ℕ) → IsRanked v g r number rank → IsRanked v g r a ((a - r.first) % 5)
+same_ranked v g r a number rank is = record { second = is.second; nodes = is.nodes; value = refl }
+
+ranked_shape : (v : Version) (g : Geometry) (r : HomeRange) (number rank : ℕ) → Has g r number → IsRanked v g r number rank → shape_in v g r number ≡ Packed rank
+ranked_shape v g r number rank has is =
+    let number_lt : nat_lt number g.nodes ≡ true = lt_true number g.nodes (omega (arith, is.nodes, has.high)) in
+    rw (is.second, number_lt) (ap (λ (k : ℕ). Packed k) (sym is.value))
+
+-- in a range, what has the home of a number
+pub one_cluster : (v : Version) (g : Geometry) (r : HomeRange) (a number rank : ℕ) → Has g r a → Has g r number → IsRanked v g r number rank → place_in v g r a ≡ place_in v g r number → (a - r.first) / 5 ≡ (number - r.first) / 5
+one_cluster v g r a number rank has_a has is same =
+    let place_a = cluster_place v g r a ((a - r.first) % 5) has_a (same_ranked v g r a number rank is) in
+    let place = cluster_place v g r number rank has is in
+    omega (arith, place_a, place, same)
+
+alone_in : (v : Version) (g : Geometry) (r : HomeRange) (a number : ℕ) → Has g r a → Has g r number → IsOwn (shape_in v g r number) → place_in v g r a ≡ place_in v g r number → a ≡ number
+alone_in One g r a number has_a has = λ own same. same_number One g r a number refl has_a has same
+alone_in Two g r a number has_a has = elim has.kind [
+  | inl nodes ↦ rw (lt_true number g.nodes (omega (arith, nodes, has.high))) (λ own same. absurd own)
+  | inr pages ↦ rw (lt_false a g.nodes (omega (arith, pages, has_a.low)), lt_false number g.nodes (omega (arith, pages, has.low))) (λ own same. omega (arith, same, has_a.low, has.low))
+]
+
+-- no other number has the home of a frame in sectors of its own
+pub alone : (p : Plan) (a number : ℕ) → IsPlan p → IsObject p.geometry a → IsObject p.geometry number → IsOwn (shape_of p number) → home_place p a ≡ home_place p number → a ≡ number
+alone p a number fits is_a is own same =
+    let there = one_range p a number fits is_a is same in
+    let at = there.1 in
+    alone_in p.version p.geometry (range_at p.ranges there.0) a number at.one.has at.other.has (subst IsOwn (shape_is p number there.0 at.other) own) at.place
+
+-- what has the home of the first of a cluster lies there by its rank
+pub ranked : (p : Plan) (a number : ℕ) → IsPlan p → IsObject p.geometry a → IsObject p.geometry number → shape_of p number ≡ Packed 0 → home_place p a ≡ home_place p number → (number ≤ a) × (a < number + 5) × (shape_of p a ≡ Packed (a - number)) × (a < p.geometry.nodes)
+ranked p a number fits is_a is shape same =
+    let there = one_range p a number fits is_a is same in
+    let at = there.1 in
+    let r : HomeRange = range_at p.ranges there.0 in
+    let first = ranked_in p.version p.geometry r number 0 at.other.has (sym (shape_is p number there.0 at.other) ∙ shape) in
+    let one = one_cluster p.version p.geometry r a number 0 at.one.has at.other.has first at.place in
+    let low : number ≤ a = omega (arith, one, first.value, at.one.has.low, at.other.has.low) in
+    let rank : a - number ≡ (a - r.first) % 5 = omega (arith, one, first.value, at.one.has.low, at.other.has.low) in (
+      low,
+      omega (arith, one, first.value, at.one.has.low, at.other.has.low),
+      shape_is p a there.0 at.one ∙ ranked_shape p.version p.geometry r a (a - number) at.one.has (record { second = first.second; nodes = first.nodes; value = rank }),
+      omega (arith, first.nodes, at.one.has.high),
+    )
+
+-- ---- the numbers of a cluster
+
+module _ (p : Plan) (number rank i : ℕ) (fits : IsPlan p) (at : IsFound p.geometry p.ranges number i) (is : IsRanked p.version p.geometry (range_at p.ranges i) number rank) where
+  abbrev r : HomeRange
+  r = range_at p.ranges i
+
+  -- another of its range and its five has its home
+  pub beside : (a : ℕ) → r.first ≤ a → a < r.first + r.count → (a - r.first) / 5 ≡ (number - r.first) / 5 → home_place p a ≡ home_place p number
+  beside a low high one =
+      let has : Has p.geometry r a = record { low = low; high = high; kind = at.has.kind } in
+      let there = found_too p.geometry 0 i a p.ranges fits.cover at.within has in
+      place_is p a i there ∙ cluster_place p.version p.geometry r a ((a - r.first) % 5) has (same_ranked p.version p.geometry r a number rank is)
+      ∙ ap (λ (k : ℕ). r.sector + 8 * k) one ∙ sym (cluster_place p.version p.geometry r number rank at.has is) ∙ sym (place_is p number i at)
+
+-- a number of a cluster but the first of it has the home of the number before
+pub one_before : (p : Plan) (number rank : ℕ) → IsPlan p → IsObject p.geometry number → shape_of p number ≡ Packed rank → 1 ≤ rank → (1 ≤ number) × (home_place p (number - 1) ≡ home_place p number)
+one_before p number rank fits is shape some =
+    let there = found p number fits is in
+    let at = there.1 in
+    let r : HomeRange = range_at p.ranges there.0 in
+    let here = ranked_in p.version p.geometry r number rank at.has (sym (shape_is p number there.0 at) ∙ shape) in (
+      omega (arith, here.value, some, at.has.low),
+      beside p number rank there.0 fits at here (number - 1) (omega (arith, here.value, some, at.has.low)) (omega (arith, at.has.high, here.value, some)) (omega (arith, here.value, some, at.has.low)),
+    )
+
+module _ (p : Plan) (number : ℕ) (fits : IsPlan p) (is : IsObject p.geometry number) where
+  -- a frame in sectors of its own shares them with none
+  itself_alone : IsOwn (shape_of p number) → HaveHome p number 1
+  itself_alone own = record {
+    object = λ k lt. omega (arith, lt, is);
+    same = λ k lt. let here : number + k ≡ number = omega (arith, lt) in ap (home_place p) here;
+    all = λ a is_a low same. let one : a ≡ number = alone p a number fits is_a is own same in omega (arith, one);
+  }
+
+  -- a node of a cluster shares it with those behind it, up to the fifth or to the end of the range
+  cluster_shared : (r : HomeRange) (rank n : ℕ) → Some r ≡ range_with p.ranges number → shape_of p number ≡ Packed rank → n ≡ min (r.count - (number - r.first)) (5 - rank) → HaveHome p number n
+  cluster_shared r rank n told shape count =
+      let there = found p number fits is in
+      let at = there.1 in
+      let q : HomeRange = range_at p.ranges there.0 in
+      let one : r ≡ q = same_range r q (told ∙ at.found) in
+      let few : n ≡ min (q.count - (number - q.first)) (5 - rank) = subst (λ (x : HomeRange). n ≡ min (x.count - (number - x.first)) (5 - rank)) one count in
+      let here = ranked_in p.version p.geometry q number rank at.has (sym (shape_is p number there.0 at) ∙ shape) in record {
+        object = λ k lt. omega (arith, lt, few, here.nodes, at.has.low, at.has.high);
+        same = λ k lt. beside p number rank there.0 fits at here (number + k) (omega (arith, at.has.low)) (omega (arith, lt, few, at.has.low, at.has.high)) (omega (arith, lt, few, here.value, at.has.low));
+        all = λ a is_a low same.
+            let both = one_range p a number fits is_a is same in
+            let other : range_at p.ranges both.0 ≡ q = same_range (range_at p.ranges both.0) q (sym both.1.other.found ∙ at.found) in
+            let a_has : Has p.geometry q a = subst (λ (x : HomeRange). Has p.geometry x a) other both.1.one.has in
+            let place : place_in p.version p.geometry q a ≡ place_in p.version p.geometry q number = subst (λ (x : HomeRange). place_in p.version p.geometry x a ≡ place_in p.version p.geometry x number) other both.1.place in
+            let five = one_cluster p.version p.geometry q a number rank a_has at.has here place in
+            omega (arith, few, five, here.value, low, a_has.low, a_has.high, at.has.low);
+      }
+
+-- the plan is written in two ways
+pub own_told : (p q : Plan) (number : ℕ) (s : Shape) → p ≡ q → IsPlan p → IsObject q.geometry number → IsOwn s → s ≡ shape_of q number → HaveHome q number 1
+own_told p q number s e fits is own told = itself_alone q number (subst IsPlan e fits) is (subst IsOwn told own)
+
+pub cluster_told : (p q : Plan) (number rank n : ℕ) (r : HomeRange) → p ≡ q → IsPlan p → IsObject q.geometry number → Some r ≡ range_with p.ranges number → Packed rank ≡ shape_of q number → n ≡ min (r.count - (number - r.first)) (5 - rank)
+    → HaveHome q number n
+cluster_told p q number rank n r e fits is told shape count = cluster_shared q number (subst IsPlan e fits) is r rank n (told ∙ ap (λ (x : Plan). range_with x.ranges number) e) (sym shape) count

@@ -1,12 +1,11 @@
--- Writes apart from a home frame, and frames that no slot of the log has.
+-- Writes apart from a home, and frames that no slot of the log has.
 use Rattle.std.proofs.Common.{◌+◌, arith, ⊎_elim}
-use Rattle.layout.proofs.Sectors.{same_sectors}
-use Rattle.layout.specs.Frame.{frame_length}
-use Rattle.home_ranges.specs.Home.{home_place}
+use Rattle.layout.proofs.Shapes.{same_shaped}
+use Rattle.layout.specs.Homes.{home_place, shape_of}
 use Rattle.home_ranges.specs.Laws.{FramesStay, FramesAreHome}
 
 pub frames_stay : FramesStay
-frames_stay old new p a at n apart elsewhere = same_sectors (home_place p a) (frame_length p.geometry a) old new (λ i lt.
+frames_stay old new p a at n apart elsewhere = same_shaped (home_place p a) (shape_of p a) old new (λ i lt.
     ⊎_elim (λ before. elsewhere.before (home_place p a + i) (omega (arith, before))) (λ after. elsewhere.after (home_place p a + i) (omega (arith, after))) apart)
 
 pub frames_are_home : FramesAreHome

@@ -1,14 +1,18 @@
--- Where the frame of a number lies at home.
-use Rattle.std.specs.Prelude.{ℕ, ◌+◌, ◌-◌, ◌*◌, nat_lt, if◌then◌else◌}
-use Rattle.model.specs.declared.geometry.Geometry.{Geometry}
-use Rattle.layout.specs.declared.extent.HomeRange.{HomeRange}
+-- What the sectors of a home hold, and who has it.
+use Rattle.std.specs.Prelude.{◌≡◌, ℕ, ◌+◌, ◌<◌, ◌≤◌, List}
+use Rattle.device.specs.Disk.{Image}
+use Rattle.layout.specs.Homes.{home_place, shape_of}
+use Rattle.layout.specs.Image.{bytes_at}
+use Rattle.layout.specs.Shape.{shape_bytes}
 use Rattle.layout.specs.Superblock.{Plan}
-use Rattle.layout.specs.Image.{home_sector}
+use Rattle.frame_io.specs.Frames.{IsObject}
 
--- the place of a number in a range that has it
-abbrev pub place_in : Geometry → HomeRange → ℕ → ℕ
-place_in g r number = r.sector + (if nat_lt number g.nodes then 2 else 9) * (number - r.first)
+-- the bytes of a home are the frames of all that have it
+abbrev pub HoldsHome : Plan → ℕ → List ℕ → Image → Type 0
+HoldsHome p number bytes image = (n : ℕ) → IsObject p.geometry n → home_place p n ≡ home_place p number → bytes_at image (home_place p n) p n ≡ shape_bytes (shape_of p n) bytes
 
--- the first of them at home
-abbrev pub home_place : Plan → ℕ → ℕ
-home_place p number = home_sector p.geometry p.ranges number
+-- of the numbers from one on so many have its home, and none behind them has it
+pub record HaveHome (p : Plan) (number n : ℕ) : Type 0 where
+  pub object : (k : ℕ) → k < n → IsObject p.geometry (number + k)
+  pub same : (k : ℕ) → k < n → home_place p (number + k) ≡ home_place p number
+  pub all : (a : ℕ) → IsObject p.geometry a → number ≤ a → home_place p a ≡ home_place p number → a < number + n

@@ -4,32 +4,36 @@ use Rattle.device.specs.Disk.{Image}
 use Rattle.device.specs.Calls.{Elsewhere}
 use Rattle.layout.specs.declared.directory.Entry.{Entry}
 use Rattle.layout.specs.declared.extent.Extent.{Extent}
-use Rattle.layout.specs.Frame.{frame_length}
+use Rattle.layout.specs.declared.version.Version.TheVariants.{One}
+use Rattle.layout.specs.Homes.{home_place, place_length}
 use Rattle.layout.specs.Superblock.{Plan, IsPlan, IsWithin, IsApart, half_extent}
-use Rattle.layout.specs.Image.{slot_in, frame_in, half_sector}
-use Rattle.frame_io.specs.Frames.{IsObject, bytes_at}
-use Rattle.home_ranges.specs.Home.{home_place}
+use Rattle.layout.specs.Image.{seat_in, bytes_at, frame_in, half_sector}
+use Rattle.frame_io.specs.Frames.{IsObject}
 
--- the sectors of the home frame of a number
+-- the sectors of the home of a number
 abbrev pub home_extent : Plan → ℕ → Extent
-home_extent p number = record { sector = home_place p number; length = frame_length p.geometry number }
+home_extent p number = record { sector = home_place p number; length = place_length p number }
 
 -- they lie behind the headers and before the end
 abbrev pub PlacesAreWithin : Type 0
 PlacesAreWithin = (p : Plan) (a : ℕ) → IsPlan p → IsObject p.geometry a → IsWithin p.total (home_extent p a)
 
--- no sector is one of two numbers
+-- no sector is one of two homes
 abbrev pub PlacesAreApart : Type 0
-PlacesAreApart = (p : Plan) (a b : ℕ) → IsPlan p → IsObject p.geometry a → IsObject p.geometry b → (a ≡ b → ⊥) → IsApart (home_extent p a) (home_extent p b)
+PlacesAreApart = (p : Plan) (a b : ℕ) → IsPlan p → IsObject p.geometry a → IsObject p.geometry b → (home_place p a ≡ home_place p b → ⊥) → IsApart (home_extent p a) (home_extent p b)
 
--- no sector of a home frame is one of the log, in the half of any generation
+-- by version 1 no two numbers have one home
+abbrev pub NumbersAreApart : Type 0
+NumbersAreApart = (p : Plan) (a b : ℕ) → IsPlan p → p.version ≡ One → IsObject p.geometry a → IsObject p.geometry b → (a ≡ b → ⊥) → IsApart (home_extent p a) (home_extent p b)
+
+-- no sector of a home is one of the log, in the half of any generation
 abbrev pub PlacesSpareLog : Type 0
 PlacesSpareLog = (p : Plan) (a generation : ℕ) → IsPlan p → IsObject p.geometry a → IsApart (home_extent p a) (half_extent p.geometry (half_sector p generation))
 
--- what is changed apart from the home frame of a number leaves it
+-- what is changed apart from the home of a number leaves its frame
 abbrev pub FramesStay : Type 0
-FramesStay = (old new : Image) (p : Plan) (a at n : ℕ) → IsApart (home_extent p a) (record { sector = at; length = n }) → Elsewhere at n old new → bytes_at new (home_place p a) p.geometry a ≡ bytes_at old (home_place p a) p.geometry a
+FramesStay = (old new : Image) (p : Plan) (a at n : ℕ) → IsApart (home_extent p a) (record { sector = at; length = n }) → Elsewhere at n old new → bytes_at new (home_place p a) p a ≡ bytes_at old (home_place p a) p a
 
--- the frame of a number that no slot of the log has is the one at home
+-- the frame of a number that has no slot of the log, nor has any that shares its home, is the one at home
 abbrev pub FramesAreHome : Type 0
-FramesAreHome = (image : Image) (p : Plan) (generation : ℕ) (es : List Entry) (a : ℕ) → slot_in es a ≡ None → frame_in image p generation es a ≡ bytes_at image (home_place p a) p.geometry a
+FramesAreHome = (image : Image) (p : Plan) (generation : ℕ) (es : List Entry) (a : ℕ) → seat_in p es a ≡ None → frame_in image p generation es a ≡ bytes_at image (home_place p a) p a

@@ -1,17 +1,19 @@
 // Home frames over a device.
-ghost use Rattle.std.specs.Prelude.{◌≡◌, ◌≤◌, IfOk, IfErr, OnOk};
+ghost use Rattle.std.specs.Prelude.{◌≡◌, ◌*◌, ◌≤◌, length, IfOk, IfErr, OnOk};
 ghost use Rattle.device.specs.Calls.{Counts};
-ghost use Rattle.layout.specs.Frame.{IsFrameOf, frame_bytes, frame_length, frame_of};
+ghost use Rattle.layout.specs.Frame.{IsFrameOf, frame_of};
+ghost use Rattle.layout.specs.Homes.{home_place, place_length};
+ghost use Rattle.layout.specs.Image.{bytes_at};
 ghost use Rattle.frame_io.specs.Calls.{ReadsOnly, WritesAt};
 ghost use Rattle.frame_io.specs.Fault.{CountsFailed};
-ghost use Rattle.frame_io.specs.Frames.{IsObject, IsRefused, bytes_at};
-ghost use Rattle.home_ranges.specs.Home.{home_place};
+ghost use Rattle.frame_io.specs.Frames.{IsObject, IsRefused};
+ghost use Rattle.home_ranges.specs.Home.{HoldsHome};
 
 use crate::home::Home;
 use device::{Device, Failed};
-use frame_io::{ReadFault, read_frame, write_frame};
+use frame_io::{ReadFault, read_frame, write_sectors};
 use layout::{Body, Room};
-use model::{Cap, Content, ObjectHeader};
+use model::ObjectHeader;
 
 impl Home {
     /// Reads the home frame of an object. The slots of a node or an annex and the words of a page
@@ -30,39 +32,40 @@ impl Home {
         requires object { IsObject self.now.geometry number }
         requires inside { self.now.total ≤ (D.disk device.old).sectors }
         ensures found { IfOk result (λ read. IsFrameOf self.now.geometry age number
-            (bytes_at (D.disk device.new).seen (home_place self.now number)
-            self.now.geometry number) (frame_of read room.new)) }
+            (bytes_at (D.disk device.new).seen (home_place self.now number) self.now number)
+            (frame_of read room.new)) }
         ensures refused { IfErr result (λ e. IsRefused self.now.geometry age number
-            (bytes_at (D.disk device.new).seen (home_place self.now number)
-            self.now.geometry number) e) }
+            (bytes_at (D.disk device.new).seen (home_place self.now number) self.now number)
+            e) }
         ensures reads { ReadsOnly (D.disk device.old) (D.disk device.new) }
         ensures cause { CountsFailed (D.disk device.old) (D.disk device.new) result }
     {
         let at = self.place(number);
-        read_frame(device, at, self.geometry(), number, age, room)
+        let shape = self.shape(number);
+        read_frame(device, at, shape, self.geometry(), number, age, room)
     }
 
-    /// Writes the home frame of an object, and touches its place alone: a crash at any moment
-    /// leaves all other sectors as they could have been left before. It is refused exactly where
-    /// the device fails, and the sectors of the place may then hold any bytes.
+    /// Writes the home of an object, and with it those of the other nodes of its cluster: `bytes`
+    /// are all of its sectors. Touches these alone: a crash at any moment leaves all other sectors
+    /// as they could have been left before. It is refused exactly where the device fails, and the
+    /// sectors of the home may then hold any bytes.
     pub fn write_frame<D: Device>(
         &self,
         device: &mut D,
         number: u64,
-        header: ObjectHeader,
-        content: &Content<Cap>,
+        bytes: &[u8],
     ) -> Result<(), Failed>
         requires object { IsObject self.now.geometry number }
+        requires size { length bytes.now ≡ 512 * place_length self.now number }
         requires inside { self.now.total ≤ (D.disk device.old).sectors }
-        ensures written { OnOk result (bytes_at (D.disk device.new).seen
-            (home_place self.now number) self.now.geometry number
-            ≡ frame_bytes self.now.geometry number
-            (record { header = header; content = content.now })) }
+        ensures written { OnOk result
+            (HoldsHome self.now number bytes.now (D.disk device.new).seen) }
         ensures writes { WritesAt (home_place self.now number)
-            (frame_length self.now.geometry number) (D.disk device.old) (D.disk device.new) }
+            (place_length self.now number) (D.disk device.old) (D.disk device.new) }
         ensures cause { Counts (D.disk device.old) (D.disk device.new) result }
     {
         let at = self.place(number);
-        write_frame(device, at, self.geometry(), number, header, content)
+        let shape = self.shape(number);
+        write_sectors(device, at, shape.length() as usize, bytes)
     }
 }

@@ -1,11 +1,12 @@
 // Where frames lie at home.
 ghost use Rattle.std.specs.Prelude.{◌≡◌, ◌+◌, ◌≤◌};
-ghost use Rattle.layout.specs.Frame.{frame_length};
+ghost use Rattle.layout.specs.Homes.{home_place, node_offset, place_in, place_length, shape_of};
+ghost use Rattle.layout.specs.Shape.{IsShapeFor};
 ghost use Rattle.layout.specs.Superblock.{IsPlan};
 ghost use Rattle.frame_io.specs.Frames.{IsObject};
-ghost use Rattle.home_ranges.specs.Home.{home_place, place_in};
+ghost use Rattle.home_ranges.specs.Home.{HaveHome};
 
-use layout::{HomeRange, Superblock};
+use layout::{HomeRange, Shape, Superblock, Version};
 use model::Geometry;
 use std::marker::Model;
 
@@ -23,15 +24,31 @@ impl Model for Home {
     ghost view = { λ home. home.superblock };
 }
 
-// The first sector of the frame of a number in a range that has it.
-fn place_in(geometry: Geometry, range: HomeRange, number: u64) -> u64
+// How many sectors into its range the i-th node begins, or the cluster of five that has it.
+fn node_offset(version: Version, i: u64) -> u64
+    requires few { i ≤ 8192 }
+    ensures { result ≡ node_offset version i }
+{
+    match version {
+        Version::One => 2 * i,
+        Version::Two => 8 * (i / 5),
+    }
+}
+
+// The place of a number in a range that has it.
+fn place_in(version: Version, geometry: Geometry, range: HomeRange, number: u64) -> u64
     requires low { range.first ≤ number }
     requires few { number ≤ 8192 }
     requires sector { range.sector ≤ 131072 }
-    ensures { result ≡ place_in geometry range number }
+    ensures { result ≡ place_in version geometry range number }
 {
-    let length = if number < geometry.nodes { 2 } else { 9 };
-    range.sector + length * (number - range.first)
+    let i = number - range.first;
+    let offset = if number < geometry.nodes {
+        node_offset(version, i)
+    } else {
+        9 * i
+    };
+    range.sector + offset
 }
 
 impl Home {
@@ -44,20 +61,46 @@ impl Home {
         }
     }
 
-    /// The first sector of the home frame of an object, which takes 2 sectors for a node and 9 for
-    /// a page.
+    /// The first sector of the home of an object: of its own frame, or of the cluster that has it.
     pub fn place(&self, number: u64) -> u64
         requires object { IsObject self.now.geometry number }
+        ensures plan { IsPlan self.now }
         ensures value { result ≡ home_place self.now number }
         ensures behind { 5 ≤ result }
-        ensures inside { result + frame_length self.now.geometry number ≤ self.now.total }
+        ensures inside { result + place_length self.now number ≤ self.now.total }
     {
-        for range in self.superblock.ranges() {
-            if range.first <= number && number - range.first < range.count {
-                return place_in(self.superblock.geometry(), *range, number);
-            }
+        let version = self.superblock.version();
+        match self.superblock.range_with(number) {
+            Some(range) => place_in(version, self.superblock.geometry(), range, number),
+            None => 0,
         }
-        0
+    }
+
+    /// How the frame of an object lies in the sectors from there on.
+    pub fn shape(&self, number: u64) -> Shape
+        ensures value { result ≡ shape_of self.now number }
+        ensures fits { IsShapeFor self.now.geometry number result }
+        ensures plan { IsPlan self.now }
+    {
+        self.superblock.shape(number)
+    }
+
+    /// How many numbers from this one on have its home: up to five nodes of one cluster, else the
+    /// number alone.
+    pub fn sharers(&self, number: u64) -> u64
+        requires object { IsObject self.now.geometry number }
+        ensures all { HaveHome self.now number result }
+        ensures few { result ≤ 5 }
+        ensures plan { IsPlan self.now }
+    {
+        match self.superblock.range_with(number) {
+            Some(range) => match self.shape(number) {
+                Shape::Packed(rank) => (range.count - (number - range.first)).min(5 - rank),
+                Shape::Node => 1,
+                Shape::Page => 1,
+            },
+            None => 1,
+        }
     }
 
     /// How many objects there are, and how many slots in a half of the log.

@@ -1,12 +1,13 @@
 // The laws of home places.
-ghost use Rattle.home_ranges.specs.Laws.{PlacesAreWithin, PlacesAreApart, PlacesSpareLog, FramesStay, FramesAreHome};
+ghost use Rattle.home_ranges.specs.Laws.{PlacesAreWithin, PlacesAreApart, NumbersAreApart, PlacesSpareLog, FramesStay, FramesAreHome};
 
-/// Home frames lie behind the headers and before the end, apart from one another and from the log,
-/// and a change apart from one leaves it. They are the frames of the objects that no slot of the
+/// Homes lie behind the headers and before the end, apart from one another and from the log, and a
+/// change apart from one leaves its frame. They are the frames of the objects that no slot of the
 /// log has. It does nothing: its contract is the law.
 pub fn keep_places_apart()
     ensures within { PlacesAreWithin }
     ensures apart { PlacesAreApart }
+    ensures numbers { NumbersAreApart }
     ensures log { PlacesSpareLog }
     ensures frames { FramesStay }
     ensures home { FramesAreHome }

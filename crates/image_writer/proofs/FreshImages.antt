@@ -10,16 +10,14 @@ use Rattle.device.proofs.Moments.{leaves_on, leaves_weaker}
 use Rattle.device.specs.Calls.{Agrees, Elsewhere}
 use Rattle.device.proofs.Images.{agrees_is}
 use Rattle.layout.specs.Directory.{directory_bytes}
-use Rattle.layout.specs.Frame.{frame_length}
 use Rattle.layout.specs.Gate.{is_open}
 use Rattle.layout.specs.Header.{IsHeader, header_bytes}
-use Rattle.layout.specs.Image.{Encodes, HasDirectory, HasNoHeader, committed_of, committed_bytes, does_count, option_at, sequence_in}
+use Rattle.layout.specs.Homes.{home_place, shape_of}
+use Rattle.layout.specs.Image.{bytes_at, Encodes, HasDirectory, HasNoHeader, committed_of, committed_bytes, does_count, option_at, sequence_in}
 use Rattle.layout.specs.Superblock.{Plan, IsPlan}
 use Rattle.layout.proofs.Halves.{half_within}
-use Rattle.layout.proofs.Sectors.{same_sectors}
-use Rattle.home_ranges.specs.Home.{home_place}
+use Rattle.layout.proofs.Shapes.{same_shaped}
 use Rattle.home_ranges.proofs.Places.{places_within}
-use Rattle.frame_io.specs.Frames.{bytes_at}
 use Rattle.ckpt_log.specs.Closing.{AreClosed}
 use Rattle.ckpt_log.proofs.Closings.{none_committed}
 use Rattle.checkpoint.specs.Saved.{Holds, SavedFrames}
@@ -68,10 +66,10 @@ module _ (p : Plan) (age : ℕ) (frames : List Frame) (old new : Image) (is : Is
       ap (option_at new) (first_alone (does_count (new 1) (new 2) 0) (does_count (new 3) (new 4) 1) (sequence_in (new 1)) (sequence_in (new 3)) header_counts other_does_not)
       ∙ ap (λ (b : List ℕ). Some b) header_is
 
-  frame_stays : (a : ℕ) → a < object_count p.geometry → bytes_at new (home_place p a) p.geometry a ≡ bytes_at old (home_place p a) p.geometry a
+  frame_stays : (a : ℕ) → a < object_count p.geometry → bytes_at new (home_place p a) p a ≡ bytes_at old (home_place p a) p a
   frame_stays a lt =
       let within = places_within p a is.plan lt in
-      same_sectors (home_place p a) (frame_length p.geometry a) old new (λ i few. change.after (home_place p a + i) (omega (arith, within.0)))
+      same_shaped (home_place p a) (shape_of p a) old new (λ i few. change.after (home_place p a + i) (omega (arith, within.0)))
 
   pub denotes : (size : ℕ) → age ≤ 2 ^ 62 → p.total ≤ size → AreKeepable p.geometry age frames → Encodes new size (first_state p age frames)
   denotes size most whole keepable = record {

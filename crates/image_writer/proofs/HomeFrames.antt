@@ -1,8 +1,10 @@
--- Home frames are written one after the other.
-use Rattle.std.proofs.Common.{◌≡◌, ℕ, ◌+◌, ◌-◌, ◌<◌, List, length, slice_index_or, ⊎_elim, sym, subst, ap, ◌∙◌, arith}
-use Rattle.std.proofs.lemmas.Bool.{cases_lt}
+-- Homes are written one after the other.
+use Rattle.std.proofs.Common.{◌≡◌, ℕ, zero, suc, Result, Ok, Err, ◌+◌, ◌-◌, ◌<◌, ◌≤◌, List, length, slice_index_or, inl, inr, ⊎_elim, refl, sym, subst, ap, ◌∙◌, arith}
+use Rattle.std.specs.Prelude.{OnOk}
+use Rattle.std.proofs.lemmas.Bool.{cases_eq, cases_lt}
 use Rattle.std.proofs.lemmas.List.{get_or_read}
 use Rattle.model.specs.declared.capability.Cap.{Cap}
+use Rattle.model.specs.declared.frame.Frame.{Frame}
 use Rattle.model.specs.declared.frame.ObjectHeader.{ObjectHeader}
 use Rattle.model.specs.declared.object.Content.{Content}
 use Rattle.model.specs.declared.object.Content.TheVariants as content
@@ -10,17 +12,29 @@ use Rattle.model.specs.Frame.{frame_at, frames_in, header_at}
 use Rattle.model.specs.Sound.{object_count}
 use Rattle.device.specs.Disk.{Image}
 use Rattle.device.specs.Calls.{Elsewhere}
-use Rattle.layout.specs.Frame.{frame_bytes, frame_length}
+use Rattle.layout.specs.declared.shape.Shape.{Shape}
+use Rattle.layout.specs.declared.shape.Shape.TheVariants.{Node, Packed, Page}
+use Rattle.layout.specs.Frame.{frame_bytes}
+use Rattle.layout.specs.Homes.{home_place, place_length, shape_of}
+use Rattle.layout.specs.Image.{bytes_at}
 use Rattle.layout.specs.Superblock.{Plan, IsPlan}
-use Rattle.layout.proofs.Sectors.{same_sectors}
-use Rattle.frame_io.specs.Frames.{bytes_at}
-use Rattle.home_ranges.specs.Home.{home_place}
-use Rattle.home_ranges.proofs.Places.{places_within, places_apart}
+use Rattle.layout.proofs.Shapes.{same_shaped}
+use Rattle.frame_io.specs.Frames.{IsObject}
+use Rattle.home_ranges.proofs.Places.{IsOwn, alone, one_before, places_within, places_apart}
 use Rattle.capability.proofs.Frames.{frame_in}
+use Rattle.image_writer.specs.Homes.{IsHome, frames_before}
 use Rattle.image_writer.specs.Written.{AreHome}
 
-module _ (old mid new : Image) (p : Plan) (n : ℕ) (fits : IsPlan p) (lt : n < object_count p.geometry) (change : Elsewhere (home_place p n) (frame_length p.geometry n) mid new) where
-  -- a write of a home frame stays between the headers and the end
+-- what has the home of a number below n is home
+abbrev pub AreHomeTo : Plan → List Frame → ℕ → Image → Type 0
+AreHomeTo p frames n image = (a b : ℕ) → IsObject p.geometry a → b < n → home_place p a ≡ home_place p b → bytes_at image (home_place p a) p a ≡ frame_bytes p.geometry a (frame_at frames a)
+
+-- in the end all are
+pub all_home : (p : Plan) (frames : List Frame) (n : ℕ) (image : Image) → n ≡ object_count p.geometry → AreHomeTo p frames n image → AreHome p frames n image
+all_home p frames n image all so_far a lt = so_far a a (omega (arith, lt, all)) lt refl
+
+module _ (old mid new : Image) (p : Plan) (n : ℕ) (fits : IsPlan p) (lt : n < object_count p.geometry) (change : Elsewhere (home_place p n) (place_length p n) mid new) where
+  -- a write of a home stays between the headers and the end
   pub stays_between : Elsewhere 5 (p.total - 5) old mid → Elsewhere 5 (p.total - 5) old new
   stays_between so_far =
       let within = places_within p n fits lt in record {
@@ -29,18 +43,61 @@ module _ (old mid new : Image) (p : Plan) (n : ℕ) (fits : IsPlan p) (lt : n < 
       }
 
   -- and leaves the others
-  other_stays : (a : ℕ) → a < n → bytes_at new (home_place p a) p.geometry a ≡ bytes_at mid (home_place p a) p.geometry a
-  other_stays a below = same_sectors (home_place p a) (frame_length p.geometry a) mid new (λ i inside.
-      ⊎_elim (λ before. change.before (home_place p a + i) (omega (arith, before))) (λ after. change.after (home_place p a + i) (omega (arith, after)))
-      (places_apart p a n fits (omega (arith, below, lt)) lt (λ e. omega (arith, e, below))))
+  other_stays : (a : ℕ) → IsObject p.geometry a → (home_place p a ≡ home_place p n → ⊥) → bytes_at new (home_place p a) p a ≡ bytes_at mid (home_place p a) p a
+  other_stays a is differ = same_shaped (home_place p a) (shape_of p a) mid new (λ i inside.
+      ⊎_elim (λ before. change.before (home_place p a + i) (omega (arith, before, inside))) (λ after. change.after (home_place p a + i) (omega (arith, after)))
+      (places_apart p a n fits is lt differ))
 
   -- so one more is home
-  pub one_more : (hs : List ObjectHeader) (cs : List (Content Cap)) (c : Content Cap) → length hs ≡ object_count p.geometry → length cs ≡ object_count p.geometry → c ≡ slice_index_or cs n c → AreHome p (frames_in hs cs) n mid
-      → bytes_at new (home_place p n) p.geometry n ≡ frame_bytes p.geometry n (record { header = header_at hs n; content = c }) → AreHome p (frames_in hs cs) (n + 1) new
-  one_more hs cs c size same_size is so_far written a below = ⊎_elim
-      (λ low. other_stays a low ∙ so_far a low)
-      (λ le. let same : n ≡ a = omega (arith, below, le) in
-      subst (λ (b : ℕ). bytes_at new (home_place p b) p.geometry b ≡ frame_bytes p.geometry b (frame_at (frames_in hs cs) b)) same
-      (written ∙ ap (λ (x : Content Cap). frame_bytes p.geometry n (record { header = header_at hs n; content = x })) (get_or_read cs n c (omega (arith, lt, size, same_size)) is content.Free)
-      ∙ ap (frame_bytes p.geometry n) (sym (frame_in hs cs n (omega (arith, lt, size))))))
-      (cases_lt a n)
+  pub one_more : (frames : List Frame) → AreHomeTo p frames n mid → IsHome p frames n new → AreHomeTo p frames (n + 1) new
+  one_more frames so_far here a b is below same = elim (cases_eq (home_place p a) (home_place p n)) [
+    | inl e ↦ here a is e
+    | inr differ ↦
+        let less : b < n = elim (cases_lt b n) [
+          | inl lt ↦ lt
+          | inr le ↦ let last : b ≡ n = omega (arith, below, le) in absurd (differ (same ∙ ap (home_place p) last))
+        ] in
+        other_stays a is differ ∙ so_far a b is less same
+  ]
+
+-- what has the home of the number before is home
+pub is_there : (p : Plan) (frames : List Frame) (n : ℕ) (image : Image) → 1 ≤ n → home_place p (n - 1) ≡ home_place p n → AreHomeTo p frames n image → AreHomeTo p frames (n + 1) image
+is_there p frames n image some before so_far a b is below same = elim (cases_lt b n) [
+  | inl lt ↦ so_far a b is lt same
+  | inr le ↦ let last : b ≡ n = omega (arith, below, le) in so_far a (n - 1) is (omega (arith, some)) (same ∙ ap (home_place p) last ∙ sym before)
+]
+
+-- the frame of a number is that of its header and content
+pub frame_there : (hs : List ObjectHeader) (cs : List (Content Cap)) (n : ℕ) (c : Content Cap) → n < length hs → length cs ≡ length hs → c ≡ slice_index_or cs n c
+    → record { header = header_at hs n; content = c } ≡ frame_at (frames_in hs cs) n
+frame_there hs cs n c lt size is =
+    ap (λ (x : Content Cap). record { header = header_at hs n; content = x }) (get_or_read cs n c (omega (arith, lt, size)) is content.Free) ∙ sym (frame_in hs cs n lt)
+
+-- ---- the home of one number
+
+-- a frame in sectors of its own is all of its home
+own_home : (p : Plan) (hs : List ObjectHeader) (cs : List (Content Cap)) (n : ℕ) (c : Content Cap) (image : Image) → IsPlan p → IsObject p.geometry n → length hs ≡ object_count p.geometry → length cs ≡ object_count p.geometry
+    → c ≡ slice_index_or cs n c → IsOwn (shape_of p n) → bytes_at image (home_place p n) p n ≡ frame_bytes p.geometry n (record { header = header_at hs n; content = c }) → IsHome p (frames_in hs cs) n image
+own_home p hs cs n c image fits is size same_size held own written a is_a same =
+    let one : n ≡ a = sym (alone p a n fits is_a is own same) in
+    subst (λ (b : ℕ). bytes_at image (home_place p b) p b ≡ frame_bytes p.geometry b (frame_at (frames_in hs cs) b)) one
+    (written ∙ ap (frame_bytes p.geometry n) (frame_there hs cs n c (omega (arith, is, size)) (same_size ∙ sym size) held))
+
+pub own_written : {T E : Type 0} (result : Result T E) (p : Plan) (hs : List ObjectHeader) (cs : List (Content Cap)) (n : ℕ) (c : Content Cap) (image : Image) → IsPlan p → IsObject p.geometry n → length hs ≡ object_count p.geometry
+    → length cs ≡ object_count p.geometry → c ≡ slice_index_or cs n c → IsOwn (shape_of p n) → OnOk result (bytes_at image (home_place p n) p n ≡ frame_bytes p.geometry n (record { header = header_at hs n; content = c }))
+    → OnOk result (IsHome p (frames_in hs cs) n image)
+own_written (Ok value) p hs cs n c image fits is size same_size held own written = own_home p hs cs n c image fits is size same_size held own written
+own_written (Err error) p hs cs n c image fits is size same_size held own written = tt
+
+some_by : (rank : ℕ) → (rank ≡ 0 → ⊥) → 1 ≤ rank
+some_by zero not_first = absurd (not_first refl)
+some_by (suc rank) not_first = omega arith
+
+-- what isn't the first of its home has that of the number before
+later_by : (p : Plan) (n : ℕ) (s : Shape) → IsPlan p → IsObject p.geometry n → shape_of p n ≡ s → (frames_before s ≡ 0 → ⊥) → (1 ≤ n) × (home_place p (n - 1) ≡ home_place p n)
+later_by p n Node fits is shape later = absurd (later refl)
+later_by p n (Packed rank) fits is shape later = one_before p n rank fits is shape (some_by rank later)
+later_by p n Page fits is shape later = absurd (later refl)
+
+pub later : (p : Plan) (n : ℕ) → IsPlan p → IsObject p.geometry n → (frames_before (shape_of p n) ≡ 0 → ⊥) → (1 ≤ n) × (home_place p (n - 1) ≡ home_place p n)
+later p n fits is not_first = later_by p n (shape_of p n) fits is refl not_first

@@ -6,6 +6,7 @@ use Rattle.std.specs.List.{All}
 use Rattle.model.specs.declared.geometry.Geometry.{Geometry}
 use Rattle.layout.specs.declared.extent.Extent.{Extent}
 use Rattle.layout.specs.declared.extent.HomeRange.{HomeRange}
+use Rattle.layout.specs.declared.version.Version.TheVariants.{One}
 use Rattle.layout.specs.Superblock.{Cover, IsPlan, IsWithin, AreApart, extent_at, extents, half_extent, range_extent}
 use Rattle.image_writer.specs.declared.number_range.NumberRange.{NumberRange}
 use Rattle.image_writer.specs.Laid.{MayBeLaid, behind, half_length, laid, plan_from, sectors_of}
@@ -45,12 +46,12 @@ follow_within total at (e ∷ es) low high follow (suc k) d lt = follow_within t
 
 -- ---- ranges that are laid, and what lies behind them
 
-laid_follow : (g : Geometry) (at : ℕ) (rs : List NumberRange) (es : List Extent) → Follow (behind g at rs) es → Follow at (map (range_extent g) (laid g at rs) ++ es)
+laid_follow : (g : Geometry) (at : ℕ) (rs : List NumberRange) (es : List Extent) → Follow (behind g at rs) es → Follow at (map (range_extent One g) (laid g at rs) ++ es)
 laid_follow g at [] es follow = rw (none_laid g at) (subst (λ (n : ℕ). Follow n es) (none_behind g at) follow)
 laid_follow g at (r ∷ rs) es follow =
     rw (cons_laid g at r rs) (refl, laid_follow g (at + sectors_of g r) rs es (subst (λ (n : ℕ). Follow n es) (cons_behind g at r rs) follow))
 
-laid_end : (g : Geometry) (at : ℕ) (rs : List NumberRange) (es : List Extent) → end_of at (map (range_extent g) (laid g at rs) ++ es) ≡ end_of (behind g at rs) es
+laid_end : (g : Geometry) (at : ℕ) (rs : List NumberRange) (es : List Extent) → end_of at (map (range_extent One g) (laid g at rs) ++ es) ≡ end_of (behind g at rs) es
 laid_end g at [] es = rw (none_laid g at, none_behind g at) refl
 laid_end g at (r ∷ rs) es = rw (cons_laid g at r rs, cons_behind g at r rs) (laid_end g (at + sectors_of g r) rs es)
 
@@ -92,6 +93,7 @@ module _ (g : Geometry) (rs : List NumberRange) (may : MayBeLaid g rs) where
 
   pub is_plan : IsPlan (plan_from g rs)
   is_plan = record {
+    first = refl;
     geometry = may.geometry;
     some = omega (arith, may.some, length_laid g 5 rs);
     few = omega (arith, may.few, length_laid g 5 rs);

@@ -4,4 +4,5 @@ mod HomeFrames
 mod LaidPlans
 mod Laying
 pub mod OldImages
+mod Ranks
 mod SingleSectors

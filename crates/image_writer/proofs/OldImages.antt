@@ -3,9 +3,11 @@ use Rattle.std.proofs.Common.{◌≡◌, ℕ, ◌+◌, ◌*◌, ◌<◌, ◌≤�
 use Rattle.model.specs.Frame.{frame_at}
 use Rattle.device.specs.Disk.{Image}
 use Rattle.layout.specs.declared.directory.Entry.{Entry}
-use Rattle.layout.specs.Frame.{IsFrameOf, frame_length}
+use Rattle.layout.specs.Frame.{IsFrameOf}
 use Rattle.layout.specs.Header.{header_bytes}
+use Rattle.layout.specs.Homes.{place_length, shape_of}
 use Rattle.layout.specs.Image.{Encodes, SavedState, committed_bytes, directory_in, directory_length, directory_sector, frame_in, frame_sector, option_at, sectors_from}
+use Rattle.layout.specs.Shape.{shape_bytes}
 use Rattle.layout.specs.Superblock.{Plan, IsPlan}
 use Rattle.layout.proofs.Sectors.{same_sectors}
 use Rattle.home_ranges.proofs.Places.{places_within}
@@ -27,7 +29,7 @@ module _ (old new : Image) (kept : KeepsImage old new) where
 
   same_frame : (p : Plan) (generation : ℕ) (es : List Entry) (object : ℕ) → IsPlan p → object < p.geometry.nodes + p.geometry.pages → frame_in new p generation es object ≡ frame_in old p generation es object
   same_frame p generation es object fits lt =
-      behind (frame_sector p generation es object) (frame_length p.geometry object) (frames_behind p generation es object fits (places_within p object fits lt).0)
+      ap (shape_bytes (shape_of p object)) (behind (frame_sector p generation es object) (place_length p object) (frames_behind p generation es object fits (places_within p object fits lt).0))
 
   encodes : (size : ℕ) (s : SavedState) → Encodes old size s → Encodes new size s
   encodes size s is = record {

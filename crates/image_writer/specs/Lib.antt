@@ -1,3 +1,4 @@
+pub mod Homes
 pub mod Laid
 pub mod Laws
 pub mod Written

@@ -8,10 +8,9 @@ use Rattle.device.specs.Disk.{Disk, Image}
 use Rattle.layout.specs.declared.header.CheckpointHeader.{CheckpointHeader}
 use Rattle.layout.specs.Frame.{frame_bytes}
 use Rattle.layout.specs.Header.{header_bytes}
-use Rattle.layout.specs.Image.{HasNoHeader, SavedState}
+use Rattle.layout.specs.Homes.{home_place}
+use Rattle.layout.specs.Image.{HasNoHeader, SavedState, bytes_at}
 use Rattle.layout.specs.Superblock.{Plan, IsPlan, superblock_bytes}
-use Rattle.frame_io.specs.Frames.{bytes_at}
-use Rattle.home_ranges.specs.Home.{home_place}
 use Rattle.ckpt_log.specs.Closing.{AreClosed, KeepsImage}
 use Rattle.checkpoint.specs.Saved.{Holds, SavedFrames}
 
@@ -34,7 +33,7 @@ pub record HasOpeningSectors (p : Plan) (age : ℕ) (image : Image) : Type 0 whe
 
 -- the frames of the first n numbers lie at home
 abbrev pub AreHome : Plan → List Frame → ℕ → Image → Type 0
-AreHome p frames n image = (a : ℕ) → a < n → bytes_at image (home_place p a) p.geometry a ≡ frame_bytes p.geometry a (frame_at frames a)
+AreHome p frames n image = (a : ℕ) → a < n → bytes_at image (home_place p a) p a ≡ frame_bytes p.geometry a (frame_at frames a)
 
 -- all of a fresh image, under closed gates
 pub record IsWritten (p : Plan) (age : ℕ) (frames : List Frame) (image : Image) : Type 0 where

@@ -1,6 +1,7 @@
 //! A fresh image: where its parts lie on a device, and writing it there.
 #![tactic(auto)]
 
+mod clusters;
 mod homes;
 mod image;
 pub mod laws;

@@ -5,7 +5,7 @@ ghost use Rattle.layout.specs.Superblock.{IsPlan};
 ghost use Rattle.image_writer.specs.Laid.{MayBeLaid, behind, laid, plan_from};
 
 use crate::number_range::NumberRange;
-use layout::{HomeRange, MAX_LOG, MAX_RANGES, Superblock, half_extent, range_extent};
+use layout::{HomeRange, MAX_LOG, MAX_RANGES, Superblock, Version, half_extent, range_extent};
 use model::Geometry;
 use thiserror::Error;
 
@@ -42,7 +42,7 @@ fn lay_ranges(geometry: Geometry, ranges: &[NumberRange], into: &mut [HomeRange]
             count: range.count,
             sector: next,
         };
-        let extent = range_extent(geometry, home);
+        let extent = range_extent(Version::One, geometry, home);
         into[i] = home;
         next += extent.length;
     }
@@ -56,7 +56,7 @@ fn are_few(ranges: &[NumberRange]) -> bool
     ranges.iter().all(|range| range.count <= MAX_OBJECTS)
 }
 
-/// Lays out an image of so many objects: from sector 5 on the home ranges in their order, behind
+/// Lays out an image of version 1 and of so many objects: from sector 5 on the home ranges in their order, behind
 /// them the two halves of the log. The total is the sector behind the second.
 ///
 /// It is refused exactly where the format wants other numbers: 16 to 4096 nodes, 1 to 4096 pages,
@@ -77,7 +77,8 @@ pub fn lay_out(geometry: Geometry, ranges: &[NumberRange]) -> Result<Superblock,
     let first = lay_ranges(geometry, ranges, used);
     let half = half_extent(geometry, first);
     let second = first + half.length;
-    match Superblock::new(geometry, used, first, second, second + half.length) {
+    let total = second + half.length;
+    match Superblock::new(Version::One, geometry, used, first, second, total) {
         Some(superblock) => Ok(superblock),
         None => Err(LayOutFault),
     }

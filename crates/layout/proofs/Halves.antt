@@ -24,13 +24,13 @@ within_inside total d outer inside within = (omega (arith, inside.starts, within
 
 -- the extents are those of the ranges and of the two halves
 pub many : (p : Plan) → length (extents p) ≡ length p.ranges + 2
-many p = omega (arith, length-append (map (range_extent p.geometry) p.ranges) (half_extent p.geometry p.half_0 ∷ half_extent p.geometry p.half_1 ∷ []), length-map p.ranges (range_extent p.geometry))
+many p = omega (arith, length-append (map (range_extent p.version p.geometry) p.ranges) (half_extent p.geometry p.half_0 ∷ half_extent p.geometry p.half_1 ∷ []), length-map p.ranges (range_extent p.version p.geometry))
 
 pub half_at : (p : Plan) (k : ℕ) → extent_at (extents p) (length p.ranges + k) ≡ extent_at (half_extent p.geometry p.half_0 ∷ half_extent p.geometry p.half_1 ∷ []) k
 half_at p k =
-    let size : length (map (range_extent p.geometry) p.ranges) ≡ length p.ranges = length-map p.ranges (range_extent p.geometry) in
+    let size : length (map (range_extent p.version p.geometry) p.ranges) ≡ length p.ranges = length-map p.ranges (range_extent p.version p.geometry) in
     let place : length p.ranges + k - length p.ranges ≡ k = omega arith in
-    get_or-append_right (map (range_extent p.geometry) p.ranges) (half_extent p.geometry p.half_0 ∷ half_extent p.geometry p.half_1 ∷ []) (length p.ranges) (length p.ranges + k) (record { sector = 0; length = 0 }) size (omega arith)
+    get_or-append_right (map (range_extent p.version p.geometry) p.ranges) (half_extent p.geometry p.half_0 ∷ half_extent p.geometry p.half_1 ∷ []) (length p.ranges) (length p.ranges + k) (record { sector = 0; length = 0 }) size (omega arith)
     ∙ ap (extent_at (half_extent p.geometry p.half_0 ∷ half_extent p.geometry p.half_1 ∷ [])) place
 
 within_at : (p : Plan) (k : ℕ) → IsPlan p → k < 2 → IsWithin p.total (extent_at (half_extent p.geometry p.half_0 ∷ half_extent p.geometry p.half_1 ∷ []) k)

@@ -16,3 +16,6 @@ pub mod Spelling
 pub mod SlotsOf
 pub mod Totals
 pub mod Denoted
+pub mod Shapes
+mod Searching
+pub mod Clusters

@@ -12,6 +12,8 @@ use Rattle.std.proofs.lemmas.List.Elements.{All-same, All-push, All-nil, All-tai
 use Rattle.model.specs.declared.geometry.Geometry.{Geometry}
 use Rattle.layout.specs.declared.extent.Extent.{Extent}
 use Rattle.layout.specs.declared.extent.HomeRange.{HomeRange}
+use Rattle.layout.specs.declared.version.Version.{Version}
+use Rattle.layout.specs.declared.version.Version.TheVariants.{One}
 use Rattle.layout.specs.Bytes.{number, half_number, zeros}
 use Rattle.layout.specs.Superblock.{Plan, plan_of, extents, range_extent, half_extent, IsWithin, range_bytes, ranges_bytes, unused, superblock_bytes, HasMark, IsPlan, RangeFits}
 use Rattle.layout.proofs.Numbers.{length-number, number_splits, stream, AllFit, stream_splits, IsWritten}
@@ -195,16 +197,16 @@ eight_long rs few = length-append rs (replicate (8 - length rs) unused) ∙ omeg
 
 extent_of_range : (p : Plan) (k : ℕ) (d : HomeRange) → k < length p.ranges → IsPlan p → (get_or p.ranges k d).sector ≤ p.total
 extent_of_range p k d lt is =
-    let e = is.within k (range_extent p.geometry d) (omega (arith, length-append (map (range_extent p.geometry) p.ranges) (half_extent p.geometry p.half_0 ∷ half_extent p.geometry p.half_1 ∷ []), length-map p.ranges (range_extent p.geometry))) in
-    let same : get_or (extents p) k (range_extent p.geometry d) ≡ range_extent p.geometry (get_or p.ranges k d) =
-    get_or_append_left (map (range_extent p.geometry) p.ranges) (half_extent p.geometry p.half_0 ∷ half_extent p.geometry p.half_1 ∷ []) (range_extent p.geometry d) k (omega (arith, length-map p.ranges (range_extent p.geometry)))
-    ∙ get_or-map (range_extent p.geometry) p.ranges k d (range_extent p.geometry d) lt in
+    let e = is.within k (range_extent p.version p.geometry d) (omega (arith, length-append (map (range_extent p.version p.geometry) p.ranges) (half_extent p.geometry p.half_0 ∷ half_extent p.geometry p.half_1 ∷ []), length-map p.ranges (range_extent p.version p.geometry))) in
+    let same : get_or (extents p) k (range_extent p.version p.geometry d) ≡ range_extent p.version p.geometry (get_or p.ranges k d) =
+    get_or_append_left (map (range_extent p.version p.geometry) p.ranges) (half_extent p.geometry p.half_0 ∷ half_extent p.geometry p.half_1 ∷ []) (range_extent p.version p.geometry d) k (omega (arith, length-map p.ranges (range_extent p.version p.geometry)))
+    ∙ get_or-map (range_extent p.version p.geometry) p.ranges k d (range_extent p.version p.geometry d) lt in
     let bound = subst (IsWithin p.total) same e in
     omega (arith, bound.1)
 
 half_within : (p : Plan) (k : ℕ) → k < 2 → IsPlan p → (get_or (half_extent p.geometry p.half_0 ∷ half_extent p.geometry p.half_1 ∷ []) k (half_extent p.geometry 0)).sector ≤ p.total
 half_within p k lt is =
-    let front : List Extent = map (range_extent p.geometry) p.ranges in
+    let front : List Extent = map (range_extent p.version p.geometry) p.ranges in
     let back : List Extent = half_extent p.geometry p.half_0 ∷ half_extent p.geometry p.half_1 ∷ [] in
     let e = is.within (length front + k) (half_extent p.geometry 0) (omega (arith, length-append front back)) in
     let bound = subst (IsWithin p.total) (get_or-append-add front back k (half_extent p.geometry 0)) e in
@@ -245,14 +247,14 @@ pub record IsPlanRead (p : Plan) (second : ℕ) (g : Geometry) (all : List HomeR
   pub used_is : second / 4294967296 ≡ length p.ranges
   pub few : length p.ranges ≤ 8
   pub all_are : all ≡ eight_ranges p.ranges
-  pub plan_is : plan_of g p.ranges half_0 half_1 total ≡ p
+  pub plan_is : plan_of One g p.ranges half_0 half_1 total ≡ p
 
 abbrev geometry_of : ℕ → ℕ → ℕ → Geometry
 geometry_of n p r = record { nodes = n; pages = p; log = r }
 
-same_plan : (rs : List HomeRange) (a b c d e f a' b' c' d' e' f' : ℕ) → a ∷ b ∷ c ∷ d ∷ e ∷ f ∷ [] ≡ a' ∷ b' ∷ c' ∷ d' ∷ e' ∷ f' ∷ []
-    → plan_of (geometry_of a b c) rs d e f ≡ plan_of (geometry_of a' b' c') rs d' e' f'
-same_plan rs a b c d e f a' b' c' d' e' f' same =
+same_plan : (v : Version) (rs : List HomeRange) (a b c d e f a' b' c' d' e' f' : ℕ) → a ∷ b ∷ c ∷ d ∷ e ∷ f ∷ [] ≡ a' ∷ b' ∷ c' ∷ d' ∷ e' ∷ f' ∷ []
+    → plan_of v (geometry_of a b c) rs d e f ≡ plan_of v (geometry_of a' b' c') rs d' e' f'
+same_plan v rs a b c d e f a' b' c' d' e' f' same =
     let ea : a ≡ a' = cc in
     let eb : b ≡ b' = cc in
     let ec : c ≡ c' = cc in
@@ -265,21 +267,22 @@ list_tail : (a b : ℕ) (xs ys : List ℕ) → a ∷ xs ≡ b ∷ ys → (a ≡ 
 list_tail a b xs ys e = (cc, cc)
 
 pub plan_told : (p : Plan) (bytes : List ℕ) (m second : ℕ) (g : Geometry) (all : List HomeRange) (half_0 half_1 total : ℕ)
-    → AllFit (m ∷ second ∷ numbers_of (plan_of g all half_0 half_1 total)) → All RangeFits all → length all ≡ 8
-    → bytes ≡ stream (m ∷ second ∷ numbers_of (plan_of g all half_0 half_1 total)) (ranges_bytes all ++ drop 256 bytes)
+    → AllFit (m ∷ second ∷ numbers_of (plan_of One g all half_0 half_1 total)) → All RangeFits all → length all ≡ 8
+    → bytes ≡ stream (m ∷ second ∷ numbers_of (plan_of One g all half_0 half_1 total)) (ranges_bytes all ++ drop 256 bytes)
     → IsPlan p → bytes ≡ superblock_bytes p → IsPlanRead p second g all half_0 half_1 total
 plan_told p bytes m second g all half_0 half_1 total fits ranges_fit eight read is e =
     let pf = plan_fits p is in
-    let s = stream_splits (m ∷ second ∷ numbers_of (plan_of g all half_0 half_1 total)) (magic ∷ (1 + 4294967296 * length p.ranges) ∷ numbers_of p)
+    let s = stream_splits (m ∷ second ∷ numbers_of (plan_of One g all half_0 half_1 total)) (magic ∷ (1 + 4294967296 * length p.ranges) ∷ numbers_of p)
     (ranges_bytes all ++ drop 256 bytes) (ranges_bytes (eight_ranges p.ranges) ++ zeros 256) fits pf.numbers refl (sym read ∙ e ∙ plan_stream p is.few) in
     let rest = ranges_split all (eight_ranges p.ranges) (drop 256 bytes) (zeros 256) ranges_fit pf.ranges (eight ∙ sym (eight_long p.ranges is.few)) s.1 in
-    let one = list_tail m magic (second ∷ numbers_of (plan_of g all half_0 half_1 total)) ((1 + 4294967296 * length p.ranges) ∷ numbers_of p) s.0 in
-    let two = list_tail second (1 + 4294967296 * length p.ranges) (numbers_of (plan_of g all half_0 half_1 total)) (numbers_of p) one.1 in
+    let one = list_tail m magic (second ∷ numbers_of (plan_of One g all half_0 half_1 total)) ((1 + 4294967296 * length p.ranges) ∷ numbers_of p) s.0 in
+    let two = list_tail second (1 + 4294967296 * length p.ranges) (numbers_of (plan_of One g all half_0 half_1 total)) (numbers_of p) one.1 in
     record {
       used_is = omega (arith, two.0);
       few = is.few;
       all_are = rest.0;
-      plan_is = same_plan p.ranges g.nodes g.pages g.log half_0 half_1 total p.geometry.nodes p.geometry.pages p.geometry.log p.half_0 p.half_1 p.total two.1;
+      plan_is = same_plan One p.ranges g.nodes g.pages g.log half_0 half_1 total p.geometry.nodes p.geometry.pages p.geometry.log p.half_0 p.half_1 p.total two.1
+          ∙ ap (λ (v : Version). plan_of v p.geometry p.ranges p.half_0 p.half_1 p.total) (sym is.first);
     }
 
 -- the ranges in use are those of the superblock, and the others unused
@@ -302,13 +305,13 @@ all_from all used eight few blank =
     sym (take-append-drop used all) ∙ ap (λ (r : List HomeRange). take used all ++ r) (behind ∙ ap (λ (n : ℕ). replicate (8 - n) unused) (sym size))
 
 pub plan_found : (bytes : List ℕ) (m second : ℕ) (g : Geometry) (all : List HomeRange) (half_0 half_1 total used : ℕ)
-    → bytes ≡ stream (m ∷ second ∷ numbers_of (plan_of g all half_0 half_1 total)) (ranges_bytes all ++ drop 256 bytes)
+    → bytes ≡ stream (m ∷ second ∷ numbers_of (plan_of One g all half_0 half_1 total)) (ranges_bytes all ++ drop 256 bytes)
     → m ≡ magic → second % 4294967296 ≡ 1 → used ≡ second / 4294967296 → used ≤ 8 → length all ≡ 8 → All (λ r. r ≡ unused) (drop used all) → drop 256 bytes ≡ zeros 256
-    → bytes ≡ superblock_bytes (plan_of g (take used all) half_0 half_1 total)
+    → bytes ≡ superblock_bytes (plan_of One g (take used all) half_0 half_1 total)
 plan_found bytes m second g all half_0 half_1 total used read is v u few eight others blank =
     let size : length (take used all) ≡ used = length-take-le used all (omega arith) in
     let count : second ≡ 1 + 4294967296 * length (take used all) = omega (arith, v, u, size) in
-    let p : Plan = plan_of g (take used all) half_0 half_1 total in
+    let p : Plan = plan_of One g (take used all) half_0 half_1 total in
     read ∙ ap (λ (x : ℕ). stream (x ∷ second ∷ numbers_of p) (ranges_bytes all ++ drop 256 bytes)) is
     ∙ ap (λ (x : ℕ). stream (magic ∷ x ∷ numbers_of p) (ranges_bytes all ++ drop 256 bytes)) count
     ∙ ap (λ (x : List HomeRange). stream (magic ∷ (1 + 4294967296 * length p.ranges) ∷ numbers_of p) (ranges_bytes x ++ drop 256 bytes)) (all_from all used eight few others)
@@ -337,8 +340,9 @@ one_plan p q ip iq e =
     let count : length p.ranges ≡ length q.ranges = omega (arith, two.0) in
     let ranges : p.ranges ≡ q.ranges = sym (take_at p.ranges (replicate (8 - length p.ranges) unused) (length p.ranges) refl) ∙ ap (take (length p.ranges)) rest.0
     ∙ ap (λ (n : ℕ). take n (eight_ranges q.ranges)) count ∙ take_at q.ranges (replicate (8 - length q.ranges) unused) (length q.ranges) refl in
-    ap (λ (rs : List HomeRange). plan_of p.geometry rs p.half_0 p.half_1 p.total) ranges
-    ∙ same_plan q.ranges p.geometry.nodes p.geometry.pages p.geometry.log p.half_0 p.half_1 p.total q.geometry.nodes q.geometry.pages q.geometry.log q.half_0 q.half_1 q.total two.1
+    ap (λ (rs : List HomeRange). plan_of p.version p.geometry rs p.half_0 p.half_1 p.total) ranges
+    ∙ same_plan p.version q.ranges p.geometry.nodes p.geometry.pages p.geometry.log p.half_0 p.half_1 p.total q.geometry.nodes q.geometry.pages q.geometry.log q.half_0 q.half_1 q.total two.1
+    ∙ ap (λ (v : Version). plan_of v q.geometry q.ranges q.half_0 q.half_1 q.total) (ip.first ∙ sym iq.first)
 
 -- ---- what a decoder tells
 
@@ -346,9 +350,9 @@ pub last_ranges : (all : List HomeRange) (used : ℕ) → length all ≡ 8 → t
 last_ranges all used eight = take_all (8 - used) (drop used all) (omega (arith, length-drop used all))
 
 pub plan_same : (p : Plan) (second : ℕ) (g : Geometry) (all : List HomeRange) (half_0 half_1 total : ℕ) → IsPlanRead p second g all half_0 half_1 total
-    → plan_of g (take (second / 4294967296) all) half_0 half_1 total ≡ p
+    → plan_of One g (take (second / 4294967296) all) half_0 half_1 total ≡ p
 plan_same p second g all half_0 half_1 total read =
-    ap (λ (rs : List HomeRange). plan_of g rs half_0 half_1 total) (used_are p second g all half_0 half_1 total read) ∙ read.plan_is
+    ap (λ (rs : List HomeRange). plan_of One g rs half_0 half_1 total) (used_are p second g all half_0 half_1 total read) ∙ read.plan_is
 
 -- ---- writing
 

@@ -1,5 +1,5 @@
 -- What the sectors of a device denote, as far as frames go.
-use Rattle.std.specs.Prelude.{◌≡◌, ◌⊎◌, ℕ, zero, suc, ◌+◌, ◌-◌, ◌*◌, ◌/◌, ◌%◌, ◌<◌, ◌≤◌, ◌==◌, nat_lt, nat_le, ◌&&◌, if◌then◌else◌, Bool, Option, Some, None, List, [], ◌∷◌, ◌++◌, length, take, drop}
+use Rattle.std.specs.Prelude.{◌≡◌, ◌⊎◌, ℕ, zero, suc, ◌+◌, ◌*◌, ◌/◌, ◌%◌, ◌<◌, ◌≤◌, ◌==◌, nat_lt, ◌&&◌, if◌then◌else◌, Bool, Option, Some, None, List, [], ◌∷◌, ◌++◌, length, take, drop}
 use Rattle.model.specs.declared.frame.Frame.{Frame}
 use Rattle.model.specs.declared.geometry.Geometry.{Geometry}
 use Rattle.model.specs.Frame.{frame_at}
@@ -7,14 +7,16 @@ use Rattle.device.specs.Disk.{Image}
 use Rattle.layout.specs.declared.bad_image.BadImage.{BadImage}
 use Rattle.layout.specs.declared.bad_image.BadImage.TheVariants as bad
 use Rattle.layout.specs.declared.directory.Entry.{Entry}
-use Rattle.layout.specs.declared.extent.HomeRange.{HomeRange}
 use Rattle.layout.specs.declared.header.CheckpointHeader.{CheckpointHeader}
+use Rattle.layout.specs.declared.shape.Shape.{Shape}
 use Rattle.layout.specs.Bytes.{number_from}
 use Rattle.layout.specs.Gate.{is_open}
 use Rattle.layout.specs.Header.{header_bytes, IsHeader}
 use Rattle.layout.specs.Directory.{directory_bytes, IsDirectory}
-use Rattle.layout.specs.Frame.{frame_length, IsFrameOf}
+use Rattle.layout.specs.Frame.{IsFrameOf}
 use Rattle.layout.specs.Half.{half_of}
+use Rattle.layout.specs.Homes.{home_place, shape_of}
+use Rattle.layout.specs.Shape.{shape_length, shape_bytes}
 use Rattle.layout.specs.Superblock.{Plan, superblock_bytes, HasMark, IsPlan, half_start}
 
 -- the bytes of n sectors from one on
@@ -79,25 +81,38 @@ abbrev pub slot_in : List Entry → ℕ → Option ℕ
 slot_in [] object = None
 slot_in (e ∷ es) object = if e.object == object then Some e.slot else slot_in es object
 
--- the home of an object: in the range that has its number, 2 sectors for each node and 9 for each page
-abbrev pub home_sector : Geometry → List HomeRange → ℕ → ℕ
-home_sector g [] object = 0
-home_sector g (r ∷ rs) object =
-    if nat_le r.first object && nat_lt object (r.first + r.count)
-    then r.sector + (if nat_lt object g.nodes then 2 else 9) * (object - r.first)
-    else home_sector g rs object
+-- the slot of the first entry whose home is that of an object: of its cluster's least entry, or its own
+abbrev pub slot_beside : Plan → List Entry → ℕ → Option ℕ
+slot_beside p [] object = None
+slot_beside p (e ∷ es) object = if home_place p e.object == home_place p object then Some e.slot else slot_beside p es object
+
+abbrev pub or_beside : Option ℕ → Option ℕ → Option ℕ
+or_beside (Some slot) beside = Some slot
+or_beside None beside = beside
+
+-- the slot whose sectors have the frame of an object: its own, else that one
+abbrev pub seat_in : Plan → List Entry → ℕ → Option ℕ
+seat_in p es object = or_beside (slot_in es object) (slot_beside p es object)
 
 abbrev pub sector_or : Option ℕ → (ℕ → ℕ) → ℕ → ℕ
 sector_or None in_log home = home
 sector_or (Some slot) in_log home = in_log slot
 
--- the frame of an object is the one in its directory's slot, else the home frame
+-- the frame of an object is the one in that slot, else the home frame
 abbrev pub frame_sector : Plan → ℕ → List Entry → ℕ → ℕ
-frame_sector p generation es object = sector_or (slot_in es object) (slot_sector p generation) (home_sector p.geometry p.ranges object)
+frame_sector p generation es object = sector_or (seat_in p es object) (slot_sector p generation) (home_place p object)
 
--- the bytes of the frame of an object
+-- the bytes of a frame of a shape that lies at a sector
+abbrev pub shaped_at : Image → ℕ → Shape → List ℕ
+shaped_at image at shape = shape_bytes shape (sectors_from image at (shape_length shape))
+
+-- the bytes of the frame of an object that lies at a sector
+abbrev pub bytes_at : Image → ℕ → Plan → ℕ → List ℕ
+bytes_at image at p object = shaped_at image at (shape_of p object)
+
+-- those of the frame that it has
 abbrev pub frame_in : Image → Plan → ℕ → List Entry → ℕ → List ℕ
-frame_in image p generation es object = sectors_from image (frame_sector p generation es object) (frame_length p.geometry object)
+frame_in image p generation es object = bytes_at image (frame_sector p generation es object) p object
 
 -- ---- reasons to refuse an image
 

@@ -6,6 +6,8 @@ pub mod Frame
 pub mod Directory
 pub mod Half
 pub mod Superblock
+pub mod Shape
+pub mod Homes
 pub mod Image
 pub mod Laws
 pub mod FrameReader

@@ -8,10 +8,13 @@ use Rattle.layout.specs.declared.extent.Extent.{Extent}
 use Rattle.layout.specs.declared.extent.HomeRange.{HomeRange}
 use Rattle.layout.specs.declared.half.Half.{Half}
 use Rattle.layout.specs.declared.half.Half.TheVariants.{First, Second}
+use Rattle.layout.specs.declared.version.Version.{Version}
+use Rattle.layout.specs.declared.version.Version.TheVariants.{One, Two}
 use Rattle.layout.specs.Bytes.{number, half_number, zeros}
 
 -- what a superblock tells
 pub record Plan : Type 0 where
+  pub version : Version
   pub geometry : Geometry
   pub ranges : List HomeRange
   pub half_0 : ℕ
@@ -64,15 +67,20 @@ abbrev pub Cover : Geometry → ℕ → List HomeRange → Type 0
 Cover g n [] = n ≡ g.nodes + g.pages
 Cover g n (r ∷ rs) = IsNext g r n × Cover g (n + r.count) rs
 
--- the sectors of a range, 2 for a node and 9 for a page, and those of a log half
-abbrev pub range_extent : Geometry → HomeRange → Extent
-range_extent g r = record { sector = r.sector; length = if nat_lt r.first g.nodes then 2 * r.count else 9 * r.count }
+-- how many sectors the frames of so many nodes take: 2 each, or 8 for each five and for the rest
+abbrev pub nodes_length : Version → ℕ → ℕ
+nodes_length One count = 2 * count
+nodes_length Two count = 8 * ((count + 4) / 5)
+
+-- the sectors of a range, 9 for a page, and those of a log half
+abbrev pub range_extent : Version → Geometry → HomeRange → Extent
+range_extent v g r = record { sector = r.sector; length = if nat_lt r.first g.nodes then nodes_length v r.count else 9 * r.count }
 
 abbrev pub half_extent : Geometry → ℕ → Extent
 half_extent g sector = record { sector = sector; length = 9 * g.log + (g.log + 31) / 32 }
 
 abbrev pub extents : Plan → List Extent
-extents p = map (range_extent p.geometry) p.ranges ++ half_extent p.geometry p.half_0 ∷ half_extent p.geometry p.half_1 ∷ []
+extents p = map (range_extent p.version p.geometry) p.ranges ++ half_extent p.geometry p.half_0 ∷ half_extent p.geometry p.half_1 ∷ []
 
 -- sectors behind the headers and before the end
 abbrev pub IsWithin : ℕ → Extent → Type 0
@@ -93,8 +101,9 @@ extent_at es i = slice_index_or es i (record { sector = 0; length = 0 })
 abbrev pub AreApart : List Extent → Type 0
 AreApart es = (i j : ℕ) → i < j → j < length es → IsApart (extent_at es i) (extent_at es j)
 
--- what a superblock needs
+-- what a superblock needs: no image of version 2 is written or taken yet
 pub record IsPlan (p : Plan) : Type 0 where
+  pub first : p.version ≡ One
   pub geometry : IsGeometry p.geometry
   pub some : 1 ≤ length p.ranges
   pub few : length p.ranges ≤ 8
@@ -113,8 +122,8 @@ IsRefused bytes _ = ⊥
 abbrev pub RangeFits : HomeRange → Type 0
 RangeFits r = (r.first < 2 ^ 64) × (r.count < 2 ^ 64) × (r.sector < 2 ^ 64)
 
-abbrev pub plan_of : Geometry → List HomeRange → ℕ → ℕ → ℕ → Plan
-plan_of g rs half_0 half_1 total = record { geometry = g; ranges = rs; half_0 = half_0; half_1 = half_1; total = total }
+abbrev pub plan_of : Version → Geometry → List HomeRange → ℕ → ℕ → ℕ → Plan
+plan_of v g rs half_0 half_1 total = record { version = v; geometry = g; ranges = rs; half_0 = half_0; half_1 = half_1; total = total }
 
 -- the first sector of a half of the log
 abbrev pub half_start : Plan → Half → ℕ

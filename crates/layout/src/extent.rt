@@ -1,8 +1,9 @@
 // Ranges of objects and of sectors.
 ghost use Rattle.std.specs.Prelude.{◌≡◌, ◌+◌, ◌<◌, ◌≤◌, ◌++◌, ◌∷◌, ◌↔◌, [], length, map, IsTrue};
 ghost use Rattle.std.specs.List.{All};
-ghost use Rattle.layout.specs.Superblock.{range_extent, half_extent, IsWithin, IsApart, AreApart};
+ghost use Rattle.layout.specs.Superblock.{nodes_length, range_extent, half_extent, IsWithin, IsApart, AreApart};
 
+use crate::version::Version;
 use model::Geometry;
 
 /// Consecutive numbers of objects whose frames lie one after the other.
@@ -24,22 +25,30 @@ pub struct Extent {
     pub length: u64,
 }
 
-/// The sectors of a range.
-pub fn range_extent(geometry: Geometry, range: HomeRange) -> Extent
-    requires { range.count ≤ 8192 }
-    ensures { result ≡ range_extent geometry range }
+// How many sectors the frames of so many nodes take.
+fn nodes_length(version: Version, count: u64) -> u64
+    requires { count ≤ 8192 }
+    ensures { result ≡ nodes_length version count }
 {
-    let sector = range.sector;
-    if range.first < geometry.nodes {
-        Extent {
-            sector,
-            length: 2 * range.count,
-        }
+    match version {
+        Version::One => 2 * count,
+        Version::Two => 8 * ((count + 4) / 5),
+    }
+}
+
+/// The sectors of a range.
+pub fn range_extent(version: Version, geometry: Geometry, range: HomeRange) -> Extent
+    requires { range.count ≤ 8192 }
+    ensures { result ≡ range_extent version geometry range }
+{
+    let length = if range.first < geometry.nodes {
+        nodes_length(version, range.count)
     } else {
-        Extent {
-            sector,
-            length: 9 * range.count,
-        }
+        9 * range.count
+    };
+    Extent {
+        sector: range.sector,
+        length,
     }
 }
 
@@ -56,6 +65,7 @@ pub fn half_extent(geometry: Geometry, sector: u64) -> Extent
 
 /// Writes the sectors of ranges and of two log halves.
 pub fn fill_extents(
+    version: Version,
     geometry: Geometry,
     ranges: &[HomeRange],
     half_0: u64,
@@ -65,10 +75,10 @@ pub fn fill_extents(
     requires size { length into.old ≡ length ranges.now + 2 }
     requires log { geometry.log ≤ 4096 }
     requires counts { All (λ r. r.count ≤ 8192) ranges.now }
-    ensures { into.new ≡ map (range_extent geometry) ranges.now ++ half_extent geometry half_0 ∷ half_extent geometry half_1 ∷ [] }
+    ensures { into.new ≡ map (range_extent version geometry) ranges.now ++ half_extent geometry half_0 ∷ half_extent geometry half_1 ∷ [] }
 {
     for (i, range) in ranges.iter().enumerate() {
-        into[i] = range_extent(geometry, *range);
+        into[i] = range_extent(version, geometry, *range);
     }
     into[ranges.len()] = half_extent(geometry, half_0);
     into[ranges.len() + 1] = half_extent(geometry, half_1);

@@ -1,12 +1,17 @@
 // The superblock: how much a device holds, and where.
 ghost use Rattle.std.specs.Prelude.{◌≡◌, ◌+◌, ◌*◌, ◌-◌, ◌<◌, ◌≤◌, ◌↔◌, length, take, IsTrue, IfOk, IfErr, IfSome, IfNone};
 ghost use Rattle.std.specs.List.{All};
+ghost use Rattle.layout.specs.Homes.{range_with, shape_of};
+ghost use Rattle.layout.specs.Shape.{IsShapeFor};
 ghost use Rattle.layout.specs.Superblock.{Plan, superblock_bytes, ranges_bytes, unused, IsGeometry, IsNext, Cover, extents, IsPlan, IsRefused, RangeFits, plan_of, half_start};
 
 use crate::bad_image::BadImage;
 use crate::bytes::{blank, is_blank_from, number_at, put_number};
 use crate::extent::{Extent, HomeRange, are_apart, are_within, fill_extents};
 use crate::half::Half;
+use crate::homes::range_with;
+use crate::shape::Shape;
+use crate::version::Version;
 use device::MAX_SECTORS;
 use model::Geometry;
 use std::marker::Model;
@@ -17,6 +22,7 @@ pub const MAX_RANGES: usize = 8;
 // The bytes of EROSCKPT as a number.
 const SUPERBLOCK_MAGIC: u64 = 0x5450_4b43_534f_5245;
 
+// Version 1, the one that images have.
 const VERSION: u64 = 1;
 
 const RANGE_BYTES: usize = 24;
@@ -65,9 +71,19 @@ fn do_cover(geometry: Geometry, ranges: &[HomeRange]) -> bool
     next == end
 }
 
-fn is_plan(geometry: Geometry, ranges: &[HomeRange], half_0: u64, half_1: u64, total: u64) -> bool
-    ensures { IsTrue result ↔ IsPlan (plan_of geometry ranges.now half_0 half_1 total) }
+fn is_plan(
+    version: Version,
+    geometry: Geometry,
+    ranges: &[HomeRange],
+    half_0: u64,
+    half_1: u64,
+    total: u64,
+) -> bool
+    ensures { IsTrue result ↔ IsPlan (plan_of version geometry ranges.now half_0 half_1 total) }
 {
+    if version != Version::One {
+        return false;
+    }
     if !is_geometry(geometry) || ranges.is_empty() || ranges.len() > MAX_RANGES {
         return false;
     }
@@ -79,7 +95,7 @@ fn is_plan(geometry: Geometry, ranges: &[HomeRange], half_0: u64, half_1: u64, t
         length: 0,
     }; 10];
     let used = &mut extents[..ranges.len() + 2];
-    fill_extents(geometry, ranges, half_0, half_1, used);
+    fill_extents(version, geometry, ranges, half_0, half_1, used);
     are_within(total, used) && are_apart(used)
 }
 
@@ -87,6 +103,7 @@ fn is_plan(geometry: Geometry, ranges: &[HomeRange], half_0: u64, half_1: u64, t
 /// all objects, and no sector is in two ranges or halves of the log.
 #[derive(Drop)]
 pub struct Superblock {
+    version: Version,
     geometry: Geometry,
     ranges: [HomeRange; MAX_RANGES],
     used: usize,
@@ -101,34 +118,36 @@ impl Model for Superblock {
 
     ghost Value = { Plan };
 
-    ghost view = { λ s. plan_of s.geometry (take s.used s.ranges) s.half_0 s.half_1 s.total };
+    ghost view = { λ s. plan_of s.version s.geometry (take s.used s.ranges) s.half_0 s.half_1 s.total };
 
     ghost invariant = { λ s. (s.used ≤ 8)
-        × IsPlan (plan_of s.geometry (take s.used s.ranges) s.half_0 s.half_1 s.total) };
+        × IsPlan (plan_of s.version s.geometry (take s.used s.ranges) s.half_0 s.half_1 s.total) };
 }
 
 impl Superblock {
-    /// The superblock with these parts: home ranges, the first sectors of both log halves, and how
+    /// The superblock with these parts: the version of the layout, home ranges, the first sectors of both log halves, and how
     /// many sectors the image takes. `None` where they are outside the limits.
     pub fn new(
+        version: Version,
         geometry: Geometry,
         ranges: &[HomeRange],
         half_0: u64,
         half_1: u64,
         total: u64,
     ) -> Option<Self>
-        ensures some { IfSome result (λ s. s ≡ plan_of geometry ranges.now half_0 half_1 total) }
+        ensures some { IfSome result (λ s. s ≡ plan_of version geometry ranges.now half_0 half_1 total) }
         ensures fits { IfSome result (λ s. IsPlan s) }
-        ensures none { IfNone result (IsPlan (plan_of geometry ranges.now half_0 half_1 total)
-            → ⊥) }
+        ensures none { IfNone result
+            (IsPlan (plan_of version geometry ranges.now half_0 half_1 total) → ⊥) }
     {
-        if !is_plan(geometry, ranges, half_0, half_1, total) {
+        if !is_plan(version, geometry, ranges, half_0, half_1, total) {
             return None;
         }
         let mut held = [UNUSED; MAX_RANGES];
         let used = ranges.len();
         held[..used].copy_from_slice(ranges);
         Some(Superblock {
+            version,
             geometry,
             ranges: held,
             used,
@@ -143,6 +162,7 @@ impl Superblock {
         ensures { result ≡ self.now }
     {
         Superblock {
+            version: self.version,
             geometry: self.geometry,
             ranges: self.ranges,
             used: self.used,
@@ -150,6 +170,14 @@ impl Superblock {
             half_1: self.half_1,
             total: self.total,
         }
+    }
+
+    /// The version of the layout.
+    pub fn version(&self) -> Version
+        ensures value { result ≡ self.now.version }
+        ensures fits { IsPlan self.now }
+    {
+        self.version
     }
 
     /// How many objects the device holds.
@@ -166,6 +194,31 @@ impl Superblock {
         ensures fits { IsPlan self.now }
     {
         &self.ranges[..self.used]
+    }
+
+    /// The range that has a number.
+    pub fn range_with(&self, number: u64) -> Option<HomeRange>
+        ensures value { result ≡ range_with self.now.ranges number }
+        ensures has { IfSome result (λ r. (r.first ≤ number) × (number < r.first + r.count)) }
+        ensures fits { IsPlan self.now }
+    {
+        range_with(self.ranges(), number)
+    }
+
+    /// How the frame of an object lies in the sectors from where it begins, at home as in the log.
+    pub fn shape(&self, number: u64) -> Shape
+        ensures value { result ≡ shape_of self.now number }
+        ensures fits { IsShapeFor self.now.geometry number result }
+        ensures plan { IsPlan self.now }
+    {
+        if number >= self.geometry.nodes {
+            return Shape::Page;
+        }
+        match (self.version, self.range_with(number)) {
+            (Version::One, _) => Shape::Node,
+            (Version::Two, Some(range)) => Shape::Packed((number - range.first) % 5),
+            (Version::Two, None) => Shape::Packed(0),
+        }
     }
 
     /// The first sector of a half of the log.
@@ -270,7 +323,14 @@ pub fn decode_superblock(bytes: &[u8]) -> Result<Superblock, BadImage>
     if used > MAX_RANGES || !are_unused(&ranges[used..]) {
         return Err(BadImage::BadGeometry);
     }
-    match Superblock::new(geometry, &ranges[..used], half_0, half_1, total) {
+    match Superblock::new(
+        Version::One,
+        geometry,
+        &ranges[..used],
+        half_0,
+        half_1,
+        total,
+    ) {
         Some(superblock) => Ok(superblock),
         None => Err(BadImage::BadGeometry),
     }

@@ -2,8 +2,8 @@
 ghost use Rattle.std.specs.Prelude.{◌≡◌, ◌<◌, length};
 
 use layout::{
-    BadImage, Body, CheckpointHeader, Entry, Gate, Half, HomeRange, Room, Superblock,
-    decode_capability, decode_directory, decode_frame, decode_gate, decode_header,
+    BadImage, Body, CheckpointHeader, Entry, Gate, Half, HomeRange, Room, Shape, Superblock,
+    Version, decode_capability, decode_directory, decode_frame, decode_gate, decode_header,
     decode_superblock, encode_capability, encode_frame, encode_gate, encode_header,
     encode_superblock, total_in,
 };
@@ -488,7 +488,13 @@ const RANGES: [HomeRange; 2] = [
 fn superblocks(rt: HostRuntime) -> Result<(), Fail> {
     let mut spelt = [0; 512];
     put_superblock(&mut spelt);
-    let made = Superblock::new(GEOMETRY, &RANGES, 109, 254, 399).ok_or("within the limits")?;
+    let made = Superblock::new(Version::One, GEOMETRY, &RANGES, 109, 254, 399).ok_or(
+        "within the limits",
+    )?;
+    let second = Superblock::new(Version::Two, GEOMETRY, &RANGES, 109, 254, 399);
+    assert!(rt; second.is_none());
+    assert!(rt; made.shape(15) == Shape::Node);
+    assert!(rt; made.shape(16) == Shape::Page);
     let mut bytes = [255; 512];
     encode_superblock(&made, &mut bytes);
     assert!(rt; bytes[..] == spelt[..]);

@@ -16,7 +16,7 @@ use Rattle.layout.specs.Directory.{IsDirectory, entry_at}
 use Rattle.layout.specs.Frame.{IsFrameOf}
 use Rattle.layout.specs.FrameReader.{frame_from}
 use Rattle.layout.specs.Header.{IsHeader}
-use Rattle.layout.specs.Image.{Encodes, frame_in, slot_in, half_sector}
+use Rattle.layout.specs.Image.{Encodes, frame_in, seat_in, half_sector}
 use Rattle.layout.specs.Spelt.{count_of, frame_read, frames_read, IsSpelt, AreSpelt, state_in}
 use Rattle.layout.specs.Superblock.{Plan, IsApart, IsInside, half_extent}
 use Rattle.layout.proofs.Halves.{itself, apart_inside, half_within}
@@ -39,7 +39,8 @@ use Rattle.migrator.proofs.Tables.{all_whole, whole_taken, entries_directory, le
 use Rattle.migrator.proofs.Spared.{state_stays}
 use Rattle.checkpoint.proofs.Lists.{maps_same}
 use Rattle.migrator.proofs.Kept.{SparesKept, stored_stays, kept_on}
-use Rattle.migrator.proofs.PlacesApart.{in_slot, at_home, frame_apart, home_apart, slot_fits, spares_other, homes_behind, no_slots}
+use Rattle.migrator.proofs.PlacesApart.{in_slot, at_home, frame_apart, home_apart, spares_other, homes_behind}
+use Rattle.migrator.proofs.Seats.{no_seat, no_entries, seat_fits}
 use Rattle.migrator.proofs.Putting.{put_is, other_parity, half_spares, none_spares, homes_spare}
 
 -- ---- what is kept through a directory and a header that are written
@@ -113,18 +114,21 @@ module _ (size : ℕ) (image : Image) (b : Books) (k : ℕ) (kept : IsKept size 
   fs : List Entry
   fs = entries_of b.frozen
 
-  none_saved : (n : ℕ) → slot_in b.directory n ≡ None
-  none_saved n = by (slot_in b.directory n) refl where
-    by : (o : Option ℕ) → slot_in b.directory n ≡ o → slot_in b.directory n ≡ None
-    by None is = is
-    by (Some s) is = absurd (no_slots b.directory n s (kept.count ∙ was.0) is)
+  none_saved : (n : ℕ) → seat_in b.plan b.directory n ≡ None
+  none_saved n = no_entries b.plan b.directory n (kept.count ∙ was.0)
+
+  pub fs_fit : IsDirectory b.plan.geometry (entries_of b.frozen)
+  fs_fit =
+      entries_directory b.plan.geometry b.frozen kept.frozen.table kept.frozen.count kept.frozen.few (omega (arith, kept.plan.geometry.most_nodes, kept.plan.geometry.most_pages)) kept.plan.geometry.most_log
 
   whole_at : (n s : ℕ) → n < count_of b.plan → slot_of (place_at b.frozen n) ≡ Some s → place_at b.frozen n ≡ Whole s
   whole_at n s lt is = let less = whole_taken b.frozen in all_whole b.frozen n s (omega (arith, was.1, stable)) (omega (arith, lt, kept.frozen.count)) is
 
   -- where an object has no place it lies at home, as before
-  home_frame : (n : ℕ) → slot_of (place_at b.frozen n) ≡ None → frame_in image b.plan (b.header.generation + 1) (entries_of b.frozen) n ≡ frame_in image b.plan b.header.generation b.directory n
-  home_frame n none = at_home image b.plan (b.header.generation + 1) (entries_of b.frozen) n (slot_entries b.frozen n ∙ none) ∙ sym (at_home image b.plan b.header.generation b.directory n (none_saved n))
+  home_frame : (n : ℕ) → n < count_of b.plan → slot_of (place_at b.frozen n) ≡ None → frame_in image b.plan (b.header.generation + 1) (entries_of b.frozen) n ≡ frame_in image b.plan b.header.generation b.directory n
+  home_frame n lt none =
+      at_home image b.plan (b.header.generation + 1) (entries_of b.frozen) n (no_seat b.plan (entries_of b.frozen) n kept.plan kept.plan.first fs_fit lt (slot_entries b.frozen n ∙ none))
+      ∙ sym (at_home image b.plan b.header.generation b.directory n (none_saved n))
 
   slot_frame_in : (n s : ℕ) → slot_of (place_at b.frozen n) ≡ Some s → frame_in image b.plan (b.header.generation + 1) (entries_of b.frozen) n ≡ slot_bytes image b.plan (b.header.generation + 1) s n
   slot_frame_in n s is = in_slot image b.plan (b.header.generation + 1) (entries_of b.frozen) n s (slot_entries b.frozen n ∙ is)
@@ -139,7 +143,7 @@ module _ (size : ℕ) (image : Image) (b : Books) (k : ℕ) (kept : IsKept size 
   frame_next n lt = by (slot_of (place_at b.frozen n)) refl where
     by : (o : Option ℕ) → slot_of (place_at b.frozen n) ≡ o → frame_read image b.plan (b.header.generation + 1) (entries_of b.frozen) n ≡ put_or (put_at frozen_puts n) (frame_at saved_frames n)
     by None is =
-        ap (frame_from b.plan.geometry n) (home_frame n is) ∙ sym (read_at image b.plan b.header.generation b.directory n lt)
+        ap (frame_from b.plan.geometry n) (home_frame n lt is) ∙ sym (read_at image b.plan b.header.generation b.directory n lt)
         ∙ sym (ap (λ (x : Put). put_or x (frame_at saved_frames n)) (put_is image b.plan (frozen_generation b) b.frozen n lt ∙ none_put (place_at b.frozen n) is)) where
           none_put : (q : Place) → slot_of q ≡ None → put_of image b.plan (frozen_generation b) n q ≡ Absent
           none_put Nowhere e = refl
@@ -166,7 +170,7 @@ module _ (size : ℕ) (image : Image) (b : Books) (k : ℕ) (kept : IsKept size 
       by : (o : Option ℕ) → slot_of (place_at b.frozen n) ≡ o → IsSpelt image b.plan age (b.header.generation + 1) (entries_of b.frozen) n
       by None is =
           spelt_at image b.plan b.header.age age (b.header.generation + 1) (entries_of b.frozen) n
-          (spelt_same image image b.plan b.header.age (b.header.generation + 1) b.header.generation (entries_of b.frozen) b.directory n (home_frame n is) (kept.saved n lt)) (keepable_at n lt)
+          (spelt_same image image b.plan b.header.age (b.header.generation + 1) b.header.generation (entries_of b.frozen) b.directory n (home_frame n lt is) (kept.saved n lt)) (keepable_at n lt)
       by (Some s) is =
           spelt_at image b.plan most age (b.header.generation + 1) (entries_of b.frozen) n
           (subst (λ (bytes : List ℕ). IsFrameOf b.plan.geometry most n bytes (frame_from b.plan.geometry n bytes)) (sym (slot_frame_in n s is)) (kept.frozen.spelt n s lt (whole_at n s lt is))) (keepable_at n lt)
@@ -191,8 +195,7 @@ module _ (disk : Disk) (b : Books) (k : ℕ) (kept : IsKept disk.sectors disk.se
   fits_next = next_fits b.plan.geometry.log age b kept.header later most_age kept.frozen.few kept.plan.geometry.most_log
 
   directory_next : IsDirectory b.plan.geometry (entries_of b.frozen)
-  directory_next =
-      entries_directory b.plan.geometry b.frozen kept.frozen.table kept.frozen.count kept.frozen.few (omega (arith, kept.plan.geometry.most_nodes, kept.plan.geometry.most_pages)) kept.plan.geometry.most_log
+  directory_next = fs_fit disk.sectors disk.seen b k kept running stable
 
   inside_half : IsInside (directory_extent b.plan (frozen_generation b) (taken_count b.frozen)) (half_extent b.plan.geometry (half_sector b.plan (frozen_generation b)))
   inside_half = directory_inside b.plan (frozen_generation b) (taken_count b.frozen) kept.frozen.few
@@ -204,7 +207,7 @@ module _ (disk : Disk) (b : Books) (k : ℕ) (kept : IsKept disk.sectors disk.se
   spares_then : SparesFrames b.plan (frozen_generation b) (entries_of b.frozen) (directory_extent b.plan (frozen_generation b) (taken_count b.frozen))
   spares_then n lt =
       frame_apart b.plan (frozen_generation b) (entries_of b.frozen) n (directory_extent b.plan (frozen_generation b) (taken_count b.frozen))
-      (λ s is. slots_apart_directory b.plan (frozen_generation b) s (taken_count b.frozen) n (slot_fits b.plan (entries_of b.frozen) n s directory_next is) kept.frozen.few)
+      (λ s is. slots_apart_directory b.plan (frozen_generation b) s (taken_count b.frozen) n (seat_fits b.plan (entries_of b.frozen) n s directory_next is) kept.frozen.few)
       (λ _. home_apart b.plan (frozen_generation b) n (directory_extent b.plan (frozen_generation b) (taken_count b.frozen)) kept.plan lt inside_half)
 
   pub may_commit : LeavesState disk (saved_state disk.seen b) → MaySave disk b.plan b.header b.directory (next_header age b) (entries_of b.frozen)

@@ -12,13 +12,15 @@ use Rattle.migrator.proofs.Putting.{put_is}
 use Rattle.model.specs.declared.frame.Frame.{Frame}
 use Rattle.model.specs.declared.geometry.Geometry.{Geometry}
 use Rattle.device.specs.Disk.{Image, Disk}
-use Rattle.device.specs.Calls.{Agrees}
+use Rattle.device.specs.declared.device.Failed.{Failed}
+use Rattle.device.specs.Calls.{Agrees, Counts}
 use Rattle.device.proofs.Images.{agrees_is}
 use Rattle.device.proofs.Moments.{leaves_weaker}
 use Rattle.layout.specs.Frame.{IsFrameOf}
 use Rattle.layout.specs.Image.{Encodes}
 use Rattle.layout.proofs.Images.{one_frame}
 use Rattle.frame_io.specs.Calls.{ReadsOnly}
+use Rattle.frame_io.specs.Fault.{CountsFailed}
 use Rattle.frame_io.specs.Frames.{IsRefused}
 use Rattle.frame_io.specs.declared.fault.ReadFault.{ReadFault}
 use Rattle.frame_io.specs.declared.fault.ReadFault.TheVariants as fault
@@ -34,6 +36,13 @@ read_is g age n bytes old mid f read same is found =
 pub only_failed : (g : Geometry) (age n : ℕ) (bytes : Image → List ℕ) (old mid : Image) (f : Frame) → Agrees mid old → IsFrameOf g age n (bytes old) f → (e : ReadFault) → IsRefused g age n (bytes mid) e → e ≡ fault.Failed
 only_failed g age n bytes old mid f same is fault.Failed refused = refl
 only_failed g age n bytes old mid f same is (fault.Bad reason) refused = absurd (refused.1 f (subst (λ (i : Image). IsFrameOf g age n (bytes i) f) (sym (agrees_is mid old same)) is))
+
+-- and where such a failure is handed on, it is told exactly where the device failed
+pub failure_counts : {T U : Type 0} (old new : Disk) (e : ReadFault) (failed : Failed) → e ≡ fault.Failed → CountsFailed {T = T} old new (Err e) → Counts {T = U} {E = Failed} old new (Err failed)
+failure_counts {T} {U} old new e failed is counts = record {
+  never_falls = counts.never_falls;
+  cause = ((λ _. counts.cause.0 (ap (λ (x : ReadFault). Err x) is)), (λ rose. refl));
+}
 
 module _ (old new : Disk) (b : Books) (reads : ReadsOnly old new) where
   seen : new.seen ≡ old.seen

@@ -10,14 +10,11 @@ use Rattle.layout.specs.declared.extent.Extent.{Extent}
 use Rattle.layout.specs.declared.header.CheckpointHeader.{CheckpointHeader}
 use Rattle.layout.specs.Directory.{IsDirectory}
 use Rattle.layout.specs.Header.{IsHeader}
-use Rattle.layout.specs.Image.{Encodes, frame_in, slot_in, half_sector}
+use Rattle.layout.specs.Image.{Encodes, frame_in, seat_in, half_sector}
 use Rattle.layout.specs.Spelt.{count_of, AreSpelt, frames_read, state_in}
 use Rattle.layout.specs.Superblock.{Plan, IsApart, IsInside, half_extent}
 use Rattle.layout.proofs.Halves.{half_within, within_inside}
-use Rattle.layout.proofs.SlotsOf.{found_slot}
 use Rattle.layout.proofs.Spelling.{read_same, spelt_same}
-use Rattle.frame_io.specs.Frames.{bytes_at}
-use Rattle.home_ranges.specs.Home.{home_place}
 use Rattle.home_ranges.specs.Laws.{home_extent}
 use Rattle.ckpt_log.specs.Places.{directory_extent}
 use Rattle.migrator.specs.declared.table.Place.TheVariants.{Nowhere}
@@ -28,7 +25,8 @@ use Rattle.migrator.specs.Saving.{MaySave, SavesOnly}
 use Rattle.migrator.specs.Spared.{SparesFrames, Spares}
 use Rattle.migrator.proofs.Kept.{SparesPuts, SparesKept}
 use Rattle.migrator.proofs.GoingOn.{holds}
-use Rattle.migrator.proofs.PlacesApart.{at_home, frame_apart, home_apart, slot_fits}
+use Rattle.migrator.proofs.PlacesApart.{at_home, frame_apart, home_apart}
+use Rattle.migrator.proofs.Seats.{seat_entry, seat_fits}
 use Rattle.migrator.proofs.Putting.{none_spares, half_spares, homes_spare, other_parity}
 use Rattle.migrator.proofs.Committing.{slots_apart_directory, directory_inside, kept_saves, stored_saves, state_saves}
 use Rattle.migrator.proofs.Moving.{no_checkpoint}
@@ -59,20 +57,19 @@ module _ (disk : Disk) (b : Books) (kept : IsKept disk.sectors disk.seen b) (som
   inside_half = directory_inside b.plan b.header.generation 0 (omega arith)
 
   -- an object's home frame is its saved frame
-  same_frame : (n : ℕ) → frame_in disk.seen b.plan b.header.generation [] n ≡ frame_in disk.seen b.plan b.header.generation b.directory n
-  same_frame n = by (slot_in b.directory n) refl where
-    by : (o : Option ℕ) → slot_in b.directory n ≡ o → frame_in disk.seen b.plan b.header.generation [] n ≡ frame_in disk.seen b.plan b.header.generation b.directory n
+  same_frame : (n : ℕ) → n < count_of b.plan → frame_in disk.seen b.plan b.header.generation [] n ≡ frame_in disk.seen b.plan b.header.generation b.directory n
+  same_frame n lt = by (seat_in b.plan b.directory n) refl where
+    by : (o : Option ℕ) → seat_in b.plan b.directory n ≡ o → frame_in disk.seen b.plan b.header.generation [] n ≡ frame_in disk.seen b.plan b.header.generation b.directory n
     by None is = at_home disk.seen b.plan b.header.generation [] n refl ∙ sym (at_home disk.seen b.plan b.header.generation b.directory n is)
     by (Some s) is =
-        let entry = found_slot b.directory n s is in
-        at_home disk.seen b.plan b.header.generation [] n refl
-        ∙ subst (λ (m : ℕ). bytes_at disk.seen (home_place b.plan m) b.plan.geometry m ≡ frame_in disk.seen b.plan b.header.generation b.directory m) entry.object_is (kept.moved entry.index (omega (arith, entry.within, kept.count, all)))
+        let entry = seat_entry b.plan b.directory n s is in
+        at_home disk.seen b.plan b.header.generation [] n refl ∙ kept.moved entry.index (omega (arith, entry.within, kept.count, all)) n lt (sym entry.home_is)
 
   frames_home : frames_read disk.seen b.plan b.header.generation [] ≡ frames_read disk.seen b.plan b.header.generation b.directory
-  frames_home = read_same disk.seen disk.seen b.plan b.header.generation b.header.generation [] b.directory (λ n lt. same_frame n)
+  frames_home = read_same disk.seen disk.seen b.plan b.header.generation b.header.generation [] b.directory (λ n lt. same_frame n lt)
 
   spelt_home : AreSpelt disk.seen b.plan b.header.age b.header.generation []
-  spelt_home n lt = spelt_same disk.seen disk.seen b.plan b.header.age b.header.generation b.header.generation [] b.directory n (same_frame n) (kept.saved n lt)
+  spelt_home n lt = spelt_same disk.seen disk.seen b.plan b.header.age b.header.generation b.header.generation [] b.directory n (same_frame n lt) (kept.saved n lt)
 
   spares_homes : (n : ℕ) → n < count_of b.plan → IsApart (home_extent b.plan n) extent
   spares_homes n lt = home_apart b.plan b.header.generation n extent kept.plan lt inside_half
@@ -82,7 +79,7 @@ module _ (disk : Disk) (b : Books) (kept : IsKept disk.sectors disk.seen b) (som
     headers = (within_inside b.plan.total extent (half_extent b.plan.geometry (half_sector b.plan b.header.generation)) inside_half (half_within b.plan b.header.generation kept.plan)).0;
     directory = inr (inr (omega arith));
     frames = λ n lt. frame_apart b.plan b.header.generation b.directory n extent
-        (λ s is. slots_apart_directory b.plan b.header.generation s 0 n (slot_fits b.plan b.directory n s kept.directory is) (omega arith)) (λ _. spares_homes n lt);
+        (λ s is. slots_apart_directory b.plan b.header.generation s 0 n (seat_fits b.plan b.directory n s kept.directory is) (omega arith)) (λ _. spares_homes n lt);
   }
 
   spares_then : SparesFrames b.plan b.header.generation [] extent

@@ -5,11 +5,12 @@ use Rattle.model.specs.declared.frame.Frame.{Frame}
 use Rattle.model.specs.Keepable.{IsKeepable}
 use Rattle.device.specs.Disk.{Image, Disk}
 use Rattle.device.specs.declared.device.Failed.{Failed}
-use Rattle.layout.specs.Frame.{IsFrameOf, frame_bytes, frame_length}
+use Rattle.layout.specs.Frame.{IsFrameOf, frame_bytes}
 use Rattle.layout.specs.Image.{half_sector, slot_sector}
 use Rattle.layout.specs.Spelt.{count_of}
 use Rattle.layout.specs.Superblock.{IsInside, half_extent}
 use Rattle.layout.proofs.Spelling.{bytes_spelt}
+use Rattle.layout.specs.Homes.{place_length}
 use Rattle.frame_io.specs.Calls.{WritesAt}
 use Rattle.ckpt_log.specs.Places.{place_extent}
 use Rattle.migrator.specs.declared.table.Place.{Place}
@@ -67,7 +68,7 @@ put_twice s n x y = ap (λ (f : Option FrozenPuts). record s { frozen = f }) (tw
 
 -- a frame is written into its slot
 module _ (old new : Disk) (b : Books) (n : ℕ) (f : Frame) (kept : IsKept old.sectors old.seen b) (lt : n < count_of b.plan) (k : ℕ) (size_is : b.size ≡ Some k) (low : slot_for b.frozen n < k)
-    (writes : WritesAt (slot_sector b.plan (frozen_generation b) (slot_for b.frozen n)) (frame_length b.plan.geometry n) old new) where
+    (writes : WritesAt (slot_sector b.plan (frozen_generation b) (slot_for b.frozen n)) (place_length b.plan n) old new) where
   was : IsRunning b (Some k)
   was = subst (IsRunning b) size_is kept.running
 
@@ -131,7 +132,7 @@ module _ (old new : Disk) (b : Books) (n : ℕ) (f : Frame) (kept : IsKept old.s
 
   pub put_goes_on : (ps : List Place) → GoesOnDisk old new b (with_places b ps)
   put_goes_on ps = goes_spared old new b (with_places b ps) (place_extent b.plan (frozen_generation b) (slot_for b.frozen n) n) refl refl refl spares
-      (touches (slot_sector b.plan (frozen_generation b) (slot_for b.frozen n)) (frame_length b.plan.geometry n) old new writes)
+      (touches (slot_sector b.plan (frozen_generation b) (slot_for b.frozen n)) (place_length b.plan n) old new writes)
 
   -- what it comes to, whether or not the device failed
   pub put_either : {T : Type 0} (r : Result T Failed) (ps : List Place) → IsKeepable b.plan.geometry most n f

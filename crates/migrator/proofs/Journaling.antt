@@ -29,14 +29,15 @@ use Rattle.layout.specs.Frame.{IsFrameOf, page_frame_bytes, node_frame_bytes}
 use Rattle.layout.specs.FrameReader.{frame_from}
 use Rattle.layout.specs.Half.{half_of}
 use Rattle.layout.specs.Header.{IsHeader}
-use Rattle.layout.specs.Image.{Encodes, frame_in, slot_in, slot_sector, half_sector, sectors_from}
+use Rattle.layout.specs.Image.{Encodes, frame_in, seat_in, slot_sector, half_sector, sectors_from, bytes_at}
 use Rattle.layout.specs.Spelt.{count_of, frame_read, frames_read, IsSpelt, AreSpelt, state_in}
 use Rattle.layout.specs.Superblock.{Plan, IsPlan, IsInside, half_extent, half_start}
 use Rattle.layout.proofs.SlotsOf.{slot_here, slot_behind}
 use Rattle.layout.proofs.Spelling.{length_read, read_at, spelt_same, spelt_at, bytes_spelt}
+use Rattle.layout.specs.Homes.{home_place}
+use Rattle.layout.proofs.Shapes.{page_bytes, bytes_first}
 use Rattle.frame_io.specs.Calls.{WritesAt}
-use Rattle.frame_io.specs.Frames.{IsHeaderAt, bytes_at}
-use Rattle.home_ranges.specs.Home.{home_place}
+use Rattle.frame_io.specs.Frames.{IsHeaderAt}
 use Rattle.ckpt_log.specs.Places.{slot_extent, directory_extent}
 use Rattle.ckpt_log.proofs.Places.{slots_inside}
 use Rattle.migrator.specs.declared.table.Place.{Place}
@@ -52,7 +53,8 @@ use Rattle.checkpoint.proofs.Lists.{maps_same}
 use Rattle.migrator.proofs.Kept.{map_set, SparesKept, stored_stays, kept_on}
 use Rattle.migrator.proofs.GoingOn.{holds, goes_spared}
 use Rattle.migrator.proofs.Later.{keepable_later}
-use Rattle.migrator.proofs.PlacesApart.{in_slot, at_home, frame_apart, home_apart, slot_fits, spares_log, no_slots}
+use Rattle.migrator.proofs.PlacesApart.{in_slot, at_home, frame_apart, home_apart, spares_log}
+use Rattle.migrator.proofs.Seats.{no_seat, no_entries, seat_fits}
 use Rattle.migrator.proofs.Putting.{other_parity, half_spares, none_spares, homes_spare}
 use Rattle.migrator.proofs.Committing.{one_more, slots_apart_directory, directory_inside, kept_saves, stored_saves, state_saves}
 
@@ -63,7 +65,7 @@ half_same g h same = ap (λ (r : ℕ). if r == 0 then First else Second) same
 
 module _ (image : Image) (p : Plan) (g h : ℕ) (same : half_of g ≡ half_of h) where
   slot_same : (s n : ℕ) → slot_bytes image p g s n ≡ slot_bytes image p h s n
-  slot_same s n = ap (λ (half : Half). bytes_at image (half_start p half + 9 * s) p.geometry n) same
+  slot_same s n = ap (λ (half : Half). bytes_at image (half_start p half + 9 * s) p n) same
 
   put_same : (n : ℕ) (q : Place) → put_of image p g n q ≡ put_of image p h n q
   put_same n Nowhere = refl
@@ -110,25 +112,22 @@ pub words_fit : (words : List ℕ) → length words ≡ 512 → ((i : ℕ) → g
 words_fit words count fits = record { count_is = count; each = λ i d lt. subst (λ (word : ℕ). word < 2 ^ 64) (sym (get_or_default words i d 0 lt)) (fits i) }
 
 -- its bytes
-page_spelt : (g : Geometry) (age n : ℕ) (image : Image) (at : ℕ) (f : Frame) → g.nodes ≤ n → IsKeepable g age n f → sectors_from image at 9 ≡ page_frame_bytes f → IsFrameOf g age n (bytes_at image at g n) f
-page_spelt g age n image at f le is written =
-    let test = le-ltb n g.nodes le in
-    (is, ap (λ (node : Bool). sectors_from image at (if node then 2 else 9)) test ∙ written ∙ sym (ap (λ (node : Bool). if node then node_frame_bytes f else page_frame_bytes f) test))
+page_spelt : (p : Plan) (age n : ℕ) (image : Image) (at : ℕ) (f : Frame) → p.geometry.nodes ≤ n → IsKeepable p.geometry age n f → sectors_from image at 9 ≡ page_frame_bytes f → IsFrameOf p.geometry age n (bytes_at image at p n) f
+page_spelt p age n image at f le is written =
+    let test = le-ltb n p.geometry.nodes le in
+    (is, page_bytes image at p n le ∙ written ∙ sym (ap (λ (node : Bool). if node then node_frame_bytes f else page_frame_bytes f) test))
 
 -- ---- where all that is saved is home
 
 module _ (size : ℕ) (image : Image) (b : Books) (kept : IsKept size image b) (home : b.header.entries ≡ 0) where
-  none_saved : (n : ℕ) → slot_in b.directory n ≡ None
-  none_saved n = by (slot_in b.directory n) refl where
-    by : (o : Option ℕ) → slot_in b.directory n ≡ o → slot_in b.directory n ≡ None
-    by None is = is
-    by (Some s) is = absurd (no_slots b.directory n s (kept.count ∙ home) is)
+  none_saved : (n : ℕ) → seat_in b.plan b.directory n ≡ None
+  none_saved n = no_entries b.plan b.directory n (kept.count ∙ home)
 
   -- the saved frame of an object lies at home
-  pub lies_home : (n : ℕ) → frame_in image b.plan b.header.generation b.directory n ≡ bytes_at image (home_place b.plan n) b.plan.geometry n
+  pub lies_home : (n : ℕ) → frame_in image b.plan b.header.generation b.directory n ≡ bytes_at image (home_place b.plan n) b.plan n
   lies_home n = at_home image b.plan b.header.generation b.directory n (none_saved n)
 
-  pub saved_read : (n : ℕ) → n < count_of b.plan → frame_at (frames_read image b.plan b.header.generation b.directory) n ≡ frame_from b.plan.geometry n (bytes_at image (home_place b.plan n) b.plan.geometry n)
+  pub saved_read : (n : ℕ) → n < count_of b.plan → frame_at (frames_read image b.plan b.header.generation b.directory) n ≡ frame_from b.plan.geometry n (bytes_at image (home_place b.plan n) b.plan n)
   saved_read n lt = read_at image b.plan b.header.generation b.directory n lt ∙ ap (frame_from b.plan.geometry n) (lies_home n)
 
   -- only an object is a page
@@ -147,8 +146,9 @@ module _ (size : ℕ) (image : Image) (b : Books) (kept : IsKept size image b) (
 pub header_read : (old new : Disk) (b : Books) → IsKept old.sectors old.seen b → b.header.entries ≡ 0 → (n at : ℕ) → n < count_of b.plan → at ≡ home_place b.plan n → Agrees new.seen old.seen → (header : ObjectHeader) → IsHeaderAt new.seen at header
     → header ≡ (frame_at (stored_in old.seen b).saved.frames n).header
 header_read old new b kept home n at lt place same header is =
-    is b.plan.geometry n ∙ ap (λ (image : Image). (frame_from b.plan.geometry n (bytes_at image at b.plan.geometry n)).header) (agrees_is new.seen old.seen same)
-    ∙ ap (λ (sector : ℕ). (frame_from b.plan.geometry n (bytes_at old.seen sector b.plan.geometry n)).header) place
+    is b.plan.geometry n ∙ ap (λ (bytes : List ℕ). (frame_from b.plan.geometry n bytes).header) (sym (bytes_first new.seen at b.plan n kept.plan.first))
+    ∙ ap (λ (image : Image). (frame_from b.plan.geometry n (bytes_at image at b.plan n)).header) (agrees_is new.seen old.seen same)
+    ∙ ap (λ (sector : ℕ). (frame_from b.plan.geometry n (bytes_at old.seen sector b.plan n)).header) place
     ∙ sym (ap (λ (f : Frame). f.header) (saved_read old.sectors old.seen b kept home n lt))
 
 -- ---- and no checkpoint is on its way
@@ -198,7 +198,7 @@ module _ (old new : Disk) (b : Books) (kept : IsKept old.sectors old.seen b) (fr
       let saved : Frame = frame_at (stored_in old.seen b).saved.frames n in
       let lt = page_known old.sectors old.seen b kept home n page in
       let keepable = words_keepable b.plan.geometry age n saved words page fits (keepable_later b.plan.geometry b.header.age age le n saved (saved_keepable old.sectors old.seen b kept home n lt)) in
-      page_spelt b.plan.geometry age n new.seen (slot_sector b.plan b.header.generation 0) (with_words words saved) keepable.kind.0 keepable
+      page_spelt b.plan age n new.seen (slot_sector b.plan b.header.generation 0) (with_words words saved) keepable.kind.0 keepable
       (written ∙ ap (λ (h : ObjectHeader). page_frame_bytes (record { header = h; content = content.Page words })) is)
 
 -- ---- the object of that slot is saved anew
@@ -286,22 +286,24 @@ module _ (disk : Disk) (b : Books) (kept : IsKept disk.sectors disk.seen b) (fre
   frame_here : frame_in disk.seen b.plan again (one_entry n) n ≡ first_bytes disk.seen b n
   frame_here = in_slot disk.seen b.plan again (one_entry n) n 0 (slot_here entry [] n refl) ∙ slot_same disk.seen b.plan again b.header.generation (half_same again b.header.generation parity) 0 n
 
-  frame_there : (m : ℕ) → (n ≡ m → ⊥) → frame_in disk.seen b.plan again (one_entry n) m ≡ frame_in disk.seen b.plan b.header.generation b.directory m
-  frame_there m other = at_home disk.seen b.plan again (one_entry n) m (slot_behind entry [] m other) ∙ sym (lies_home disk.sectors disk.seen b kept home m)
+  frame_there : (m : ℕ) → m < count_of b.plan → (n ≡ m → ⊥) → frame_in disk.seen b.plan again (one_entry n) m ≡ frame_in disk.seen b.plan b.header.generation b.directory m
+  frame_there m within other =
+      at_home disk.seen b.plan again (one_entry n) m (no_seat b.plan (one_entry n) m kept.plan kept.plan.first directory_next within (slot_behind entry [] m other))
+      ∙ sym (lies_home disk.sectors disk.seen b kept home m)
 
   frames_next : frames_read disk.seen b.plan again (one_entry n) ≡ set (frames_read disk.seen b.plan b.header.generation b.directory) n (first_frame disk.seen b n)
   unfolding frames_read
   frames_next =
       map_set (frame_read disk.seen b.plan b.header.generation b.directory) (frame_read disk.seen b.plan again (one_entry n)) (count_of b.plan) n (first_frame disk.seen b n) lt
       (ap (frame_from b.plan.geometry n) frame_here)
-      (λ m within other. ap (frame_from b.plan.geometry m) (frame_there m (λ same. other (sym same))))
+      (λ m within other. ap (frame_from b.plan.geometry m) (frame_there m within (λ same. other (sym same))))
 
   spelt_here : IsSpelt disk.seen b.plan age again (one_entry n) n
   spelt_here = subst (λ (bytes : List ℕ). IsFrameOf b.plan.geometry age n bytes (frame_from b.plan.geometry n bytes)) (sym frame_here) spelt
 
   spelt_there : (m : ℕ) → m < count_of b.plan → (n ≡ m → ⊥) → IsSpelt disk.seen b.plan age again (one_entry n) m
   spelt_there m within other =
-      let was = spelt_same disk.seen disk.seen b.plan b.header.age again b.header.generation (one_entry n) b.directory m (frame_there m other) (kept.saved m within) in
+      let was = spelt_same disk.seen disk.seen b.plan b.header.age again b.header.generation (one_entry n) b.directory m (frame_there m within other) (kept.saved m within) in
       spelt_at disk.seen b.plan b.header.age age again (one_entry n) m was (keepable_later b.plan.geometry b.header.age age (omega (arith, later)) m (frame_read disk.seen b.plan again (one_entry n) m) was.0)
 
   spelt_next : AreSpelt disk.seen b.plan age again (one_entry n)
@@ -312,7 +314,7 @@ module _ (disk : Disk) (b : Books) (kept : IsKept disk.sectors disk.seen b) (fre
 
   spares_then : SparesFrames b.plan again (one_entry n) extent
   spares_then m within =
-      frame_apart b.plan again (one_entry n) m extent (λ s is. slots_apart_directory b.plan again s 1 m (slot_fits b.plan (one_entry n) m s directory_next is) some)
+      frame_apart b.plan again (one_entry n) m extent (λ s is. slots_apart_directory b.plan again s 1 m (seat_fits b.plan (one_entry n) m s directory_next is) some)
       (λ _. home_apart b.plan again m extent kept.plan within inside_half)
 
   pub may_replace : LeavesState disk (saved_state disk.seen b) → MaySave disk b.plan b.header b.directory (replaced_header age b) (one_entry n)

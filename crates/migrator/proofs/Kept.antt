@@ -11,11 +11,13 @@ use Rattle.layout.specs.declared.extent.Extent.{Extent}
 use Rattle.layout.specs.Directory.{entry_at}
 use Rattle.layout.specs.Frame.{IsFrameOf}
 use Rattle.layout.specs.FrameReader.{frame_from}
-use Rattle.layout.specs.Image.{SavedState}
+use Rattle.layout.specs.Image.{SavedState, slot_sector}
 use Rattle.layout.specs.Spelt.{count_of}
-use Rattle.layout.specs.Superblock.{Plan, IsApart}
+use Rattle.layout.specs.Superblock.{Plan, IsPlan, IsApart}
 use Rattle.layout.proofs.Spelling.{spelt_same}
+use Rattle.layout.specs.Homes.{home_place, place_length}
 use Rattle.home_ranges.specs.Laws.{home_extent}
+use Rattle.home_ranges.proofs.Places.{one_length}
 use Rattle.ckpt_log.specs.Places.{place_extent}
 use Rattle.migrator.specs.declared.table.Place.{Place}
 use Rattle.migrator.specs.declared.table.Place.TheVariants.{Nowhere, Torn, Whole}
@@ -55,7 +57,7 @@ put_same new old p generation n (Whole s) same = ap (λ (bytes : List ℕ). Kept
 
 module _ (p : Plan) (generation : ℕ) (ps : List Place) (e : Extent) (old new : Image) (spares : SparesPuts p generation ps e) (change : Elsewhere e.sector e.length old new) where
   slot_stays : (n s : ℕ) → n < count_of p → place_at ps n ≡ Whole s → slot_bytes new p generation s n ≡ slot_bytes old p generation s n
-  slot_stays n s lt is = bytes_stay (place_extent p generation s n) e old new (spares n s lt is) change
+  slot_stays n s lt is = bytes_stay (slot_sector p generation s) p n e old new (spares n s lt is) change
 
   pub puts_stay : puts_in new p generation ps ≡ puts_in old p generation ps
   unfolding puts_in
@@ -105,11 +107,14 @@ module _ (size : ℕ) (b : Books) (e : Extent) (old new : Image) (spares : Spare
   object_fits : IsKept size old b → (i : ℕ) → i < b.moved → (entry_at b.directory i).object < count_of b.plan
   object_fits kept i lt = (kept.directory.each i (record { object = 0; slot = 0 }) (omega (arith, lt, kept.few, kept.count))).object
 
-  pub home_stays : (i : ℕ) → (entry_at b.directory i).object < count_of b.plan → IsApart (home_extent b.plan (entry_at b.directory i).object) e
+  pub home_stays : (i : ℕ) → IsPlan b.plan → (entry_at b.directory i).object < count_of b.plan → IsApart (home_extent b.plan (entry_at b.directory i).object) e
       → IsHome old b.plan b.header.generation b.directory i → IsHome new b.plan b.header.generation b.directory i
-  home_stays i fits apart is =
-      bytes_stay (home_extent b.plan (entry_at b.directory i).object) e old new apart change ∙ is
-      ∙ sym (frame_stays b.plan b.header.generation b.directory e old new spares.frames change (entry_at b.directory i).object fits)
+  home_stays i plan fits apart is n lt same =
+      let object : ℕ = (entry_at b.directory i).object in
+      let there : IsApart (home_extent b.plan n) e =
+      subst (λ (length : ℕ). IsApart (record { sector = home_place b.plan n; length = length }) e) (sym (one_length b.plan n object plan lt fits same))
+      (subst (λ (sector : ℕ). IsApart (record { sector = sector; length = place_length b.plan object }) e) (sym same) apart) in
+      bytes_stay (home_place b.plan n) b.plan n e old new there change ∙ is n lt same ∙ sym (frame_stays b.plan b.header.generation b.directory e old new spares.frames change n lt)
 
   pub kept_on : IsKept size old b → IsKept size new b
   kept_on kept = record {
@@ -121,7 +126,7 @@ module _ (size : ℕ) (b : Books) (e : Extent) (old new : Image) (spares : Spare
     saved = λ n lt. spelt_same new old b.plan b.header.age b.header.generation b.header.generation b.directory b.directory n
         (frame_stays b.plan b.header.generation b.directory e old new spares.frames change n lt) (kept.saved n lt);
     few = kept.few;
-    moved = λ i lt. home_stays i (object_fits kept i lt) (spares.homes i lt) (kept.moved i lt);
+    moved = λ i lt. home_stays i kept.plan (object_fits kept i lt) (spares.homes i lt) (kept.moved i lt);
     frozen = are_put_on b.plan (frozen_generation b) b.frozen e old new spares.frozen change kept.frozen;
     running = kept.running;
     working = are_put_on b.plan (working_generation b) b.working e old new spares.working change kept.working;

@@ -1,7 +1,9 @@
 pub mod Tables
 mod Spared
 pub mod Kept
+mod Seats
 mod PlacesApart
+mod Gathering
 pub mod Putting
 mod GoingOn
 mod Working

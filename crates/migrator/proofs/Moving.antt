@@ -7,28 +7,26 @@ use Rattle.device.specs.Moments.{LeavesOnly}
 use Rattle.device.proofs.Moments.{leaves_on, started}
 use Rattle.layout.specs.declared.directory.Entry.{Entry}
 use Rattle.layout.specs.Directory.{entry_at}
-use Rattle.layout.specs.Frame.{frame_length}
 use Rattle.layout.specs.Image.{slot_in}
 use Rattle.layout.specs.Spelt.{count_of}
 use Rattle.layout.specs.Superblock.{Plan, IsPlan}
 use Rattle.layout.proofs.Halves.{apart_turned}
 use Rattle.layout.proofs.SlotsOf.{own_slot, two_objects}
-use Rattle.frame_io.specs.Frames.{bytes_at}
-use Rattle.home_ranges.specs.Home.{home_place}
+use Rattle.layout.specs.Homes.{home_place, place_length}
+use Rattle.home_ranges.proofs.Places.{numbers_apart}
 use Rattle.home_ranges.specs.Laws.{home_extent}
-use Rattle.home_ranges.proofs.Places.{places_apart}
 use Rattle.ckpt_log.specs.Places.{place_extent}
 use Rattle.migrator.specs.declared.table.Place.{Place}
 use Rattle.migrator.specs.declared.table.Place.TheVariants.{Nowhere}
 use Rattle.migrator.specs.Table.{place_at, slot_of, IsTable, taken_count}
-use Rattle.migrator.specs.Put.{slot_bytes}
+use Rattle.migrator.specs.Gathered.{IsCopied}
 use Rattle.checkpoint.specs.Saved.{SavedFrames, Holds}
 use Rattle.migrator.specs.Durable.{Books, frozen_generation, working_generation, Stored, GoesOnDisk, saved_state, stored_in, IsHome, IsRunning, IsKept}
 use Rattle.migrator.specs.Spared.{Spares, Touches}
 use Rattle.migrator.proofs.Spared.{frame_stays}
 use Rattle.migrator.proofs.Kept.{SparesPuts, SparesKept, stored_stays, kept_on}
 use Rattle.migrator.proofs.GoingOn.{holds, goes_spared}
-use Rattle.migrator.proofs.PlacesApart.{in_slot, place_inside, home_apart, spares_home}
+use Rattle.migrator.proofs.PlacesApart.{place_inside, home_apart, spares_home}
 use Rattle.migrator.proofs.Putting.{none_spares}
 
 -- ---- where some of what is saved lies in the log no checkpoint is on its way
@@ -52,7 +50,7 @@ moved_books b k = record b { moved = b.moved + k }
 -- ---- the next frame is copied
 
 module _ (old new : Disk) (b : Books) (kept : IsKept old.sectors old.seen b) (some : b.moved < b.header.entries)
-    (touches : Touches (home_place b.plan (entry_at b.directory b.moved).object) (frame_length b.plan.geometry (entry_at b.directory b.moved).object) old new) where
+    (touches : Touches (home_place b.plan (entry_at b.directory b.moved).object) (place_length b.plan (entry_at b.directory b.moved).object) old new) where
   abbrev object : ℕ
   object = (entry_at b.directory b.moved).object
 
@@ -81,7 +79,7 @@ module _ (old new : Disk) (b : Books) (kept : IsKept old.sectors old.seen b) (so
   spares_all = record {
     frames = spares.frames;
     homes = λ i lt.
-        places_apart b.plan (entry_at b.directory i).object object kept.plan (kept.directory.each i (record { object = 0; slot = 0 }) (omega (arith, lt, in_list))).object object_fits
+        numbers_apart b.plan (entry_at b.directory i).object object kept.plan kept.plan.first (kept.directory.each i (record { object = 0; slot = 0 }) (omega (arith, lt, in_list))).object object_fits
         (λ same. two_objects b.directory i b.moved kept.directory.rising lt in_list same);
     frozen = none_spares b.plan (frozen_generation b) b.frozen (home_extent b.plan object) blank;
     working = puts_home b.plan (working_generation b) object b.working kept.plan kept.working.table kept.working.few object_fits;
@@ -93,12 +91,10 @@ module _ (old new : Disk) (b : Books) (kept : IsKept old.sectors old.seen b) (so
   stored_new : stored_in new.seen b ≡ stored_in old.seen b
   stored_new = stored_stays old.sectors b (home_extent b.plan object) old.seen new.seen spares_all touches.elsewhere
 
-  is_home : bytes_at new.seen (home_place b.plan object) b.plan.geometry object ≡ slot_bytes old.seen b.plan b.header.generation (entry_at b.directory b.moved).slot object → IsHome new.seen b.plan b.header.generation b.directory b.moved
-  is_home copied =
-      copied ∙ sym (in_slot old.seen b.plan b.header.generation b.directory object (entry_at b.directory b.moved).slot has_slot)
-      ∙ sym (frame_stays b.plan b.header.generation b.directory (home_extent b.plan object) old.seen new.seen spares.frames touches.elsewhere object object_fits)
+  is_home : IsCopied old.seen new.seen b.plan b.header.generation b.directory object → IsHome new.seen b.plan b.header.generation b.directory b.moved
+  is_home copied n lt same = copied n lt same ∙ sym (frame_stays b.plan b.header.generation b.directory (home_extent b.plan object) old.seen new.seen spares.frames touches.elsewhere n lt)
 
-  pub copied_kept : bytes_at new.seen (home_place b.plan object) b.plan.geometry object ≡ slot_bytes old.seen b.plan b.header.generation (entry_at b.directory b.moved).slot object → IsKept new.sectors new.seen (moved_books b 1)
+  pub copied_kept : IsCopied old.seen new.seen b.plan b.header.generation b.directory object → IsKept new.sectors new.seen (moved_books b 1)
   copied_kept copied = record {
     plan = kept_new.plan;
     inside = kept_new.inside;

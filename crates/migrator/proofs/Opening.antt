@@ -56,9 +56,21 @@ pub found_at : (es : List Entry) (n i : ℕ) (e : Entry) → AreRising es → i 
 found_at es n i e rising lt is same =
     ap (slot_in es) (sym same ∙ ap (λ (x : Entry). x.object) is) ∙ own_slot es i rising lt ∙ ap (λ (x : Entry). Some x.slot) (sym is)
 
-pub none_at : (es : List Entry) (n low high : ℕ) → high ≤ low → ((i : ℕ) → i < low → (entry_at es i).object < n) → ((i : ℕ) → high ≤ i → i < length es → n < (entry_at es i).object) → slot_in es n ≡ None
-none_at es n low high done below above =
-    no_slot es n (λ i lt same. ⊎_elim (λ less. let one = below i less in omega (arith, one, same)) (λ more. let one = above i (omega (arith, more, done)) lt in omega (arith, one, same)) (cases_lt i low))
+pub none_at : (es : List Entry) (n at : ℕ) → ((i : ℕ) → i < at → (entry_at es i).object < n) → ((i : ℕ) → at ≤ i → i < length es → n ≤ (entry_at es i).object) → AreRising es
+    → (at < length es → (entry_at es at).object ≡ n → ⊥) → slot_in es n ≡ None
+none_at es n at below above rising other =
+    no_slot es n (λ i lt same. elim (cases_lt i at) [
+      | inl less ↦ let one = below i less in omega (arith, one, same)
+      | inr le ↦ elim (cases_lt at i) [
+        | inl before ↦
+            let first = above at (omega arith) (omega (arith, before, lt)) in
+            let less = rising_to es at i rising before lt in
+            omega (arith, first, less, same)
+        | inr ge ↦
+            let one : at ≡ i = omega (arith, le, ge) in
+            other (omega (arith, one, lt)) (subst (λ (k : ℕ). (entry_at es k).object ≡ n) (sym one) same)
+      ]
+    ])
 
 pub below_more : (es : List Entry) (n middle : ℕ) → AreRising es → middle < length es → (entry_at es middle).object < n → (i : ℕ) → i < middle + 1 → (entry_at es i).object < n
 below_more es n middle rising within less i lt = elim (cases_lt i middle) [
@@ -66,8 +78,8 @@ below_more es n middle rising within less i lt = elim (cases_lt i middle) [
   | inr le ↦ let same : middle ≡ i = omega (arith, lt, le) in subst (λ (k : ℕ). (entry_at es k).object < n) same less
 ]
 
-pub above_more : (es : List Entry) (n middle : ℕ) → AreRising es → middle < length es → n < (entry_at es middle).object → (i : ℕ) → middle ≤ i → i < length es → n < (entry_at es i).object
+pub above_more : (es : List Entry) (n middle : ℕ) → AreRising es → middle < length es → n ≤ (entry_at es middle).object → (i : ℕ) → middle ≤ i → i < length es → n ≤ (entry_at es i).object
 above_more es n middle rising within less i le lt = elim (cases_lt middle i) [
   | inl before ↦ let one = rising_to es middle i rising before lt in omega (arith, one, less)
-  | inr ge ↦ let same : middle ≡ i = omega (arith, le, ge) in subst (λ (k : ℕ). n < (entry_at es k).object) same less
+  | inr ge ↦ let same : middle ≡ i = omega (arith, le, ge) in subst (λ (k : ℕ). n ≤ (entry_at es k).object) same less
 ]

@@ -5,14 +5,11 @@ use Rattle.layout.specs.declared.directory.Entry.{Entry}
 use Rattle.layout.specs.declared.extent.Extent.{Extent}
 use Rattle.layout.specs.declared.header.CheckpointHeader.{CheckpointHeader}
 use Rattle.layout.specs.Directory.{IsDirectory}
-use Rattle.layout.specs.Frame.{frame_length}
-use Rattle.layout.specs.Image.{frame_in, slot_in, slot_sector, half_sector, home_sector, sector_or, sectors_from}
+use Rattle.layout.specs.Homes.{home_place, place_length}
+use Rattle.layout.specs.Image.{bytes_at, frame_in, seat_in, slot_in, slot_sector, half_sector, sector_or}
 use Rattle.layout.specs.Spelt.{count_of}
 use Rattle.layout.specs.Superblock.{Plan, IsPlan, IsApart, IsInside, half_extent}
 use Rattle.layout.proofs.Halves.{itself, apart_inside, apart_turned, within_inside}
-use Rattle.layout.proofs.SlotsOf.{found_slot}
-use Rattle.frame_io.specs.Frames.{bytes_at}
-use Rattle.home_ranges.specs.Home.{home_place}
 use Rattle.home_ranges.specs.Laws.{home_extent}
 use Rattle.home_ranges.proofs.Places.{places_within, places_apart, places_spare_log}
 use Rattle.ckpt_log.specs.Places.{place_extent, directory_extent}
@@ -20,31 +17,32 @@ use Rattle.ckpt_log.proofs.Places.{slots_inside, frames_in_slots, directories_in
 use Rattle.ckpt_log.specs.CommitLaws.{HomesAreBehind}
 use Rattle.migrator.specs.Put.{slot_bytes}
 use Rattle.migrator.specs.Spared.{frame_extent, Spares}
+use Rattle.migrator.proofs.Seats.{own_seat, no_entries, seats_differ, seat_fits}
 
 -- ---- where the frame of an object is read
 
 pub in_slot : (image : Image) (p : Plan) (generation : ℕ) (es : List Entry) (n s : ℕ) → slot_in es n ≡ Some s → frame_in image p generation es n ≡ slot_bytes image p generation s n
 in_slot image p generation es n s is =
-    ap (λ (o : Option ℕ). sectors_from image (sector_or o (slot_sector p generation) (home_sector p.geometry p.ranges n)) (frame_length p.geometry n)) is
+    ap (λ (o : Option ℕ). bytes_at image (sector_or o (slot_sector p generation) (home_place p n)) p n) (own_seat p es n s is)
 
-pub at_home : (image : Image) (p : Plan) (generation : ℕ) (es : List Entry) (n : ℕ) → slot_in es n ≡ None → frame_in image p generation es n ≡ bytes_at image (home_place p n) p.geometry n
+pub at_home : (image : Image) (p : Plan) (generation : ℕ) (es : List Entry) (n : ℕ) → seat_in p es n ≡ None → frame_in image p generation es n ≡ bytes_at image (home_place p n) p n
 at_home image p generation es n is =
-    ap (λ (o : Option ℕ). sectors_from image (sector_or o (slot_sector p generation) (home_sector p.geometry p.ranges n)) (frame_length p.geometry n)) is
+    ap (λ (o : Option ℕ). bytes_at image (sector_or o (slot_sector p generation) (home_place p n)) p n) is
 
 abbrev extent_of : ℕ → ℕ → Extent
 extent_of sector length = record { sector = sector; length = length }
 
-apart_by : (o : Option ℕ) (p : Plan) (generation : ℕ) (es : List Entry) (n : ℕ) (e : Extent) → slot_in es n ≡ o → ((s : ℕ) → slot_in es n ≡ Some s → IsApart (place_extent p generation s n) e)
-    → (slot_in es n ≡ None → IsApart (home_extent p n) e) → IsApart (frame_extent p generation es n) e
+apart_by : (o : Option ℕ) (p : Plan) (generation : ℕ) (es : List Entry) (n : ℕ) (e : Extent) → seat_in p es n ≡ o → ((s : ℕ) → seat_in p es n ≡ Some s → IsApart (place_extent p generation s n) e)
+    → (seat_in p es n ≡ None → IsApart (home_extent p n) e) → IsApart (frame_extent p generation es n) e
 apart_by None p generation es n e is slot home =
-    subst (λ (o : Option ℕ). IsApart (extent_of (sector_or o (slot_sector p generation) (home_sector p.geometry p.ranges n)) (frame_length p.geometry n)) e) (sym is) (home is)
+    subst (λ (o : Option ℕ). IsApart (extent_of (sector_or o (slot_sector p generation) (home_place p n)) (place_length p n)) e) (sym is) (home is)
 apart_by (Some s) p generation es n e is slot home =
-    subst (λ (o : Option ℕ). IsApart (extent_of (sector_or o (slot_sector p generation) (home_sector p.geometry p.ranges n)) (frame_length p.geometry n)) e) (sym is) (slot s is)
+    subst (λ (o : Option ℕ). IsApart (extent_of (sector_or o (slot_sector p generation) (home_place p n)) (place_length p n)) e) (sym is) (slot s is)
 
 -- the frame of an object lies apart where both of its places do
-pub frame_apart : (p : Plan) (generation : ℕ) (es : List Entry) (n : ℕ) (e : Extent) → ((s : ℕ) → slot_in es n ≡ Some s → IsApart (place_extent p generation s n) e)
-    → (slot_in es n ≡ None → IsApart (home_extent p n) e) → IsApart (frame_extent p generation es n) e
-frame_apart p generation es n e slot home = apart_by (slot_in es n) p generation es n e refl slot home
+pub frame_apart : (p : Plan) (generation : ℕ) (es : List Entry) (n : ℕ) (e : Extent) → ((s : ℕ) → seat_in p es n ≡ Some s → IsApart (place_extent p generation s n) e)
+    → (seat_in p es n ≡ None → IsApart (home_extent p n) e) → IsApart (frame_extent p generation es n) e
+frame_apart p generation es n e slot home = apart_by (seat_in p es n) p generation es n e refl slot home
 
 -- ---- halves and homes
 
@@ -63,12 +61,6 @@ pub home_apart : (p : Plan) (generation n : ℕ) (e : Extent) → IsPlan p → n
 home_apart p generation n e fits lt inside =
     apart_inside (home_extent p n) e (home_extent p n) (half_extent p.geometry (half_sector p generation)) (itself (home_extent p n)) inside (places_spare_log p n generation fits lt)
 
-pub slot_fits : (p : Plan) (es : List Entry) (n s : ℕ) → IsDirectory p.geometry es → slot_in es n ≡ Some s → s < p.geometry.log
-slot_fits p es n s is slot =
-    let entry = found_slot es n s slot in
-    let one = is.each entry.index (record { object = 0; slot = 0 }) entry.within in
-    omega (arith, one.slot, entry.slot_is)
-
 -- what is saved lies apart from the other half
 pub spares_other : (p : Plan) (h : CheckpointHeader) (es : List Entry) (generation : ℕ) (e : Extent) → IsPlan p → IsDirectory p.geometry es → h.entries ≤ p.geometry.log → (h.generation % 2 ≡ generation % 2 → ⊥)
     → IsInside e (half_extent p.geometry (half_sector p generation)) → Spares p h es e
@@ -76,11 +68,8 @@ spares_other p h es generation e fits is few differ inside = record {
   headers = (within_inside p.total e (half_extent p.geometry (half_sector p generation)) inside (halves_within p generation fits)).0;
   directory = inr (apart_inside (directory_extent p h.generation h.entries) e (half_extent p.geometry (half_sector p h.generation)) (half_extent p.geometry (half_sector p generation))
       (directories_inside p h.generation h.entries few) inside (halves_apart p h.generation generation fits differ));
-  frames = λ n lt. frame_apart p h.generation es n e (λ s slot. other_half p h.generation generation s n e fits differ (slot_fits p es n s is slot) inside) (λ _. home_apart p generation n e fits lt inside);
+  frames = λ n lt. frame_apart p h.generation es n e (λ s slot. other_half p h.generation generation s n e fits differ (seat_fits p es n s is slot) inside) (λ _. home_apart p generation n e fits lt inside);
 }
-
-pub no_slots : (es : List Entry) (n s : ℕ) → length es ≡ 0 → slot_in es n ≡ Some s → ⊥
-no_slots es n s none slot = let entry = found_slot es n s slot in omega (arith, entry.within, none)
 
 -- and from both halves where all of it is home
 pub spares_log : (p : Plan) (h : CheckpointHeader) (es : List Entry) (generation : ℕ) (e : Extent) → IsPlan p → length es ≡ h.entries → h.entries ≡ 0
@@ -88,7 +77,7 @@ pub spares_log : (p : Plan) (h : CheckpointHeader) (es : List Entry) (generation
 spares_log p h es generation e fits count none inside = record {
   headers = (within_inside p.total e (half_extent p.geometry (half_sector p generation)) inside (halves_within p generation fits)).0;
   directory = inl none;
-  frames = λ n lt. frame_apart p h.generation es n e (λ s slot. absurd (no_slots es n s (count ∙ none) slot)) (λ _. home_apart p generation n e fits lt inside);
+  frames = λ n lt. frame_apart p h.generation es n e (λ s slot. let never : None ≡ Some s = sym (no_entries p es n (count ∙ none)) ∙ slot in absurd cc) (λ _. home_apart p generation n e fits lt inside);
 }
 
 -- and from the home of an object that lies in the log
@@ -99,8 +88,8 @@ spares_home p h es m t fits is few within has = record {
       (directories_inside p h.generation h.entries few) (itself (home_extent p m))
       (apart_turned (home_extent p m) (half_extent p.geometry (half_sector p h.generation)) (places_spare_log p m h.generation fits within)));
   frames = λ n lt. frame_apart p h.generation es n (home_extent p m)
-      (λ s slot. place_home p h.generation s n m fits (slot_fits p es n s is slot) within)
-      (λ none. places_apart p n m fits lt within (λ same. let never : None ≡ Some t = sym none ∙ ap (slot_in es) same ∙ has in absurd cc));
+      (λ s slot. place_home p h.generation s n m fits (seat_fits p es n s is slot) within)
+      (λ none. places_apart p n m fits lt within (λ same. seats_differ p es n m t has none same));
 } where
   place_home : (p : Plan) (generation s n m : ℕ) → IsPlan p → s < p.geometry.log → m < count_of p → IsApart (place_extent p generation s n) (home_extent p m)
   place_home p generation s n m fits lt within = apart_turned (home_extent p m) (place_extent p generation s n) (home_apart p generation m (place_extent p generation s n) fits within (place_inside p generation s n lt))

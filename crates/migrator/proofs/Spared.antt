@@ -9,10 +9,11 @@ use Rattle.device.proofs.Moments.{leaves_weaker, leaves_on}
 use Rattle.layout.specs.declared.directory.Entry.{Entry}
 use Rattle.layout.specs.declared.extent.Extent.{Extent}
 use Rattle.layout.specs.declared.header.CheckpointHeader.{CheckpointHeader}
-use Rattle.layout.specs.Image.{frame_in, Encodes, directory_length, sectors_from}
+use Rattle.layout.specs.Homes.{place_length, shape_of}
+use Rattle.layout.specs.Image.{bytes_at, frame_in, frame_sector, Encodes, directory_length}
 use Rattle.layout.specs.Spelt.{count_of, frames_read, state_in}
 use Rattle.layout.specs.Superblock.{Plan, IsApart}
-use Rattle.layout.proofs.Sectors.{same_sectors}
+use Rattle.layout.proofs.Shapes.{same_shaped}
 use Rattle.layout.proofs.Spelling.{read_same}
 use Rattle.frame_io.specs.Calls.{ReadsOnly, WritesAt}
 use Rattle.ckpt_log.specs.Places.{directory_extent}
@@ -25,12 +26,13 @@ use Rattle.migrator.specs.Spared.{frame_extent, SparesFrames, Spares, Touches}
 pub stays : (d e : Extent) (old new : Image) → IsApart d e → Elsewhere e.sector e.length old new → SameFrom d.sector d.length old new
 stays d e old new apart change i lt = ⊎_elim (λ le. change.before (d.sector + i) (omega (arith, le, lt))) (λ le. change.after (d.sector + i) (omega (arith, le))) apart
 
-pub bytes_stay : (d e : Extent) (old new : Image) → IsApart d e → Elsewhere e.sector e.length old new → sectors_from new d.sector d.length ≡ sectors_from old d.sector d.length
-bytes_stay d e old new apart change = same_sectors d.sector d.length old new (stays d e old new apart change)
+-- and the frame that lies in them
+pub bytes_stay : (at : ℕ) (p : Plan) (n : ℕ) (e : Extent) (old new : Image) → IsApart (record { sector = at; length = place_length p n }) e → Elsewhere e.sector e.length old new → bytes_at new at p n ≡ bytes_at old at p n
+bytes_stay at p n e old new apart change = same_shaped at (shape_of p n) old new (stays (record { sector = at; length = place_length p n }) e old new apart change)
 
 pub frame_stays : (p : Plan) (generation : ℕ) (es : List Entry) (e : Extent) (old new : Image) → SparesFrames p generation es e → Elsewhere e.sector e.length old new → (n : ℕ) → n < count_of p
     → frame_in new p generation es n ≡ frame_in old p generation es n
-frame_stays p generation es e old new spares change n lt = bytes_stay (frame_extent p generation es n) e old new (spares n lt) change
+frame_stays p generation es e old new spares change n lt = bytes_stay (frame_sector p generation es n) p n e old new (spares n lt) change
 
 pub state_stays : (p : Plan) (h : CheckpointHeader) (es : List Entry) (e : Extent) (old new : Image) → SparesFrames p h.generation es e → Elsewhere e.sector e.length old new → state_in new p h es ≡ state_in old p h es
 state_stays p h es e old new spares change =

@@ -11,11 +11,10 @@ use Rattle.layout.specs.declared.directory.Entry.{Entry}
 use Rattle.layout.specs.declared.header.CheckpointHeader.{CheckpointHeader}
 use Rattle.layout.specs.Directory.{IsDirectory, entry_at}
 use Rattle.layout.specs.Header.{IsHeader}
-use Rattle.layout.specs.Image.{frame_in, SavedState, Encodes}
+use Rattle.layout.specs.Image.{SavedState, Encodes}
 use Rattle.layout.specs.Spelt.{AreSpelt, state_in}
 use Rattle.layout.specs.Superblock.{Plan, IsPlan}
-use Rattle.frame_io.specs.Frames.{bytes_at}
-use Rattle.home_ranges.specs.Home.{home_place}
+use Rattle.migrator.specs.Gathered.{IsCopied}
 use Rattle.migrator.specs.declared.table.Place.{Place}
 use Rattle.migrator.specs.declared.table.Place.TheVariants.{Nowhere}
 use Rattle.migrator.specs.Table.{place_at, taken_count}
@@ -106,9 +105,9 @@ newest s n = put_or (put_at s.working n) (below_at s n)
 
 -- ---- what always holds
 
--- the home frame of an entry's object is the one in its slot
+-- the frames in the home of an entry's object are the saved ones
 abbrev pub IsHome : Image → Plan → ℕ → List Entry → ℕ → Type 0
-IsHome image p generation es i = bytes_at image (home_place p (entry_at es i).object) p.geometry (entry_at es i).object ≡ frame_in image p generation es (entry_at es i).object
+IsHome image p generation es i = IsCopied image image p generation es (entry_at es i).object
 
 -- a checkpoint is on its way only where all that is saved is home, and has slots enough
 abbrev pub IsRunning : Books → Option ℕ → Type 0

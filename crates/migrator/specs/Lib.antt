@@ -5,3 +5,4 @@ pub mod Spared
 pub mod Saving
 pub mod Opened
 pub mod Reserve
+pub mod Gathered

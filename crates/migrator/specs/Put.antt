@@ -6,10 +6,9 @@ use Rattle.model.specs.Frame.{frame_at}
 use Rattle.device.specs.Disk.{Image}
 use Rattle.layout.specs.Frame.{IsFrameOf}
 use Rattle.layout.specs.FrameReader.{frame_from}
-use Rattle.layout.specs.Image.{slot_sector}
+use Rattle.layout.specs.Image.{bytes_at, slot_sector}
 use Rattle.layout.specs.Spelt.{count_of}
 use Rattle.layout.specs.Superblock.{Plan}
-use Rattle.frame_io.specs.Frames.{bytes_at}
 use Rattle.checkpoint.specs.Saved.{most}
 use Rattle.migrator.specs.declared.table.Place.{Place}
 use Rattle.migrator.specs.declared.table.Place.TheVariants.{Nowhere, Torn, Whole}
@@ -59,7 +58,7 @@ overlaid puts fs = map (λ n. put_or (put_at puts n) (frame_at fs n)) (range_wit
 
 -- the bytes of the frame of an object in a slot, and the frame that they would be
 abbrev pub slot_bytes : Image → Plan → ℕ → ℕ → ℕ → List ℕ
-slot_bytes image p generation slot n = bytes_at image (slot_sector p generation slot) p.geometry n
+slot_bytes image p generation slot n = bytes_at image (slot_sector p generation slot) p n
 
 abbrev pub slot_frame : Image → Plan → ℕ → ℕ → ℕ → Frame
 slot_frame image p generation slot n = frame_from p.geometry n (slot_bytes image p generation slot n)

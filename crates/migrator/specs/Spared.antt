@@ -6,7 +6,7 @@ use Rattle.device.specs.Moments.{LeavesOnly}
 use Rattle.layout.specs.declared.directory.Entry.{Entry}
 use Rattle.layout.specs.declared.extent.Extent.{Extent}
 use Rattle.layout.specs.declared.header.CheckpointHeader.{CheckpointHeader}
-use Rattle.layout.specs.Frame.{frame_length}
+use Rattle.layout.specs.Homes.{place_length}
 use Rattle.layout.specs.Image.{frame_sector}
 use Rattle.layout.specs.Spelt.{count_of}
 use Rattle.layout.specs.Superblock.{Plan, IsApart}
@@ -14,7 +14,7 @@ use Rattle.ckpt_log.specs.Places.{directory_extent}
 
 -- the sectors of the frame of an object
 abbrev pub frame_extent : Plan → ℕ → List Entry → ℕ → Extent
-frame_extent p generation es n = record { sector = frame_sector p generation es n; length = frame_length p.geometry n }
+frame_extent p generation es n = record { sector = frame_sector p generation es n; length = place_length p n }
 
 -- the frames lie in other sectors
 abbrev pub SparesFrames : Plan → ℕ → List Entry → Extent → Type 0

@@ -1,18 +1,20 @@
 // Copying frames home.
-ghost use Rattle.std.specs.Prelude.{◌≡◌, ◌+◌, ◌<◌, ◌≤◌, OnOk};
+ghost use Rattle.std.specs.Prelude.{◌≡◌, ◌+◌, ◌<◌, ◌≤◌, Some, OnOk};
 ghost use Rattle.device.specs.Calls.{Counts};
-ghost use Rattle.layout.specs.Frame.{frame_length};
-ghost use Rattle.layout.specs.Image.{sectors_from};
-ghost use Rattle.frame_io.specs.Frames.{IsObject, bytes_at};
-ghost use Rattle.home_ranges.specs.Home.{home_place};
-ghost use Rattle.migrator.specs.Put.{slot_bytes};
+ghost use Rattle.layout.specs.declared.shape.Shape.TheVariants as shape;
+ghost use Rattle.layout.specs.Directory.{IsDirectory};
+ghost use Rattle.layout.specs.Homes.{home_place, place_length, shape_of};
+ghost use Rattle.layout.specs.Image.{sectors_from, slot_in};
+ghost use Rattle.frame_io.specs.Frames.{IsObject};
+ghost use Rattle.migrator.specs.Gathered.{IsCopied};
 ghost use Rattle.migrator.specs.Spared.{Touches};
 
+use crate::gather::gather;
 use ckpt_log::Log;
 use device::{Device, Failed};
 use frame_io::{read_sectors, write_sectors};
 use home_ranges::Home;
-use layout::{Entry, NODE_FRAME_BYTES, PAGE_FRAME_BYTES};
+use layout::{CLUSTER_BYTES, Entry, NODE_FRAME_BYTES, PAGE_FRAME_BYTES, Shape};
 
 // Copies 2 sectors.
 fn copy_node<D: Device>(device: &mut D, from: u64, to: u64) -> Result<(), Failed>
@@ -42,32 +44,75 @@ fn copy_page<D: Device>(device: &mut D, from: u64, to: u64) -> Result<(), Failed
     write_sectors(device, to, 9, &page)
 }
 
-/// Copies the frame of an entry from its slot in the half of a generation to its home. At `Failed`
-/// the home frame may hold any bytes.
+// Writes the home of a cluster, of which this is the first node: the saved frames of all that have it.
+fn copy_cluster<D: Device>(
+    device: &mut D,
+    log: &Log,
+    home: &Home,
+    generation: u64,
+    directory: &[Entry],
+    first: u64,
+) -> Result<(), Failed>
+    requires same { home.now ≡ log.now }
+    requires directory { IsDirectory log.now.geometry directory.now }
+    requires object { IsObject log.now.geometry first }
+    requires shape { shape_of log.now first ≡ shape.Packed 0 }
+    requires inside { log.now.total ≤ (D.disk device.old).sectors }
+    ensures copied { OnOk result (IsCopied (D.disk device.old).seen (D.disk device.new).seen
+        log.now generation directory.now first) }
+    ensures touches { Touches (home_place log.now first) 8
+        (D.disk device.old) (D.disk device.new) }
+    ensures cause { Counts (D.disk device.old) (D.disk device.new) result }
+{
+    let mut cluster = [0; CLUSTER_BYTES];
+    gather(
+        device,
+        log,
+        home,
+        generation,
+        directory,
+        first,
+        &mut cluster,
+    )?;
+    home.write_frame(device, first, &cluster)
+}
+
+/// Writes the home of an entry's object: the saved frames of all that have it. At `Failed` its
+/// sectors may hold any bytes.
 pub(crate) fn copy_home<D: Device>(
     device: &mut D,
     log: &Log,
     home: &Home,
     generation: u64,
+    directory: &[Entry],
     entry: Entry,
 ) -> Result<(), Failed>
+    requires same { home.now ≡ log.now }
+    requires directory { IsDirectory log.now.geometry directory.now }
     requires object { IsObject log.now.geometry entry.object }
     requires slot { entry.slot < log.now.geometry.log }
-    requires same { home.now ≡ log.now }
+    requires entry { slot_in directory.now entry.object ≡ Some entry.slot }
     requires inside { log.now.total ≤ (D.disk device.old).sectors }
-    ensures copied { OnOk result
-        (bytes_at (D.disk device.new).seen (home_place log.now entry.object)
-        log.now.geometry entry.object
-        ≡ slot_bytes (D.disk device.old).seen log.now generation entry.slot entry.object) }
+    ensures copied { OnOk result (IsCopied (D.disk device.old).seen (D.disk device.new).seen
+        log.now generation directory.now entry.object) }
     ensures touches { Touches (home_place log.now entry.object)
-        (frame_length log.now.geometry entry.object) (D.disk device.old) (D.disk device.new) }
+        (place_length log.now entry.object) (D.disk device.old) (D.disk device.new) }
     ensures cause { Counts (D.disk device.old) (D.disk device.new) result }
 {
     let from = log.slot_sector(generation, entry.slot);
     let to = home.place(entry.object);
-    if entry.object < home.geometry().nodes {
-        copy_node(device, from, to)
-    } else {
-        copy_page(device, from, to)
+    match home.shape(entry.object) {
+        Shape::Node => copy_node(device, from, to),
+        Shape::Packed(rank) => {
+            copy_cluster(
+                device,
+                log,
+                home,
+                generation,
+                directory,
+                entry.object - rank,
+            )
+        }
+        Shape::Page => copy_page(device, from, to),
     }
 }

@@ -2,8 +2,9 @@
 ghost use Rattle.std.specs.Prelude.{◌≡◌, ◌⊎◌, ◌≤◌, ◌<◌, ◌+◌, ◌^◌, Some, length, slice_set, OnOk, OnErr, IsErrOf, option_map};
 ghost use Rattle.model.specs.Keepable.{IsKeepable, AreKeepable};
 ghost use Rattle.device.specs.Calls.{Counts};
-ghost use Rattle.layout.specs.Frame.{frame_bytes, frame_length};
+ghost use Rattle.layout.specs.Frame.{frame_bytes};
 ghost use Rattle.layout.specs.Image.{slot_sector};
+ghost use Rattle.layout.specs.Homes.{place_length};
 ghost use Rattle.frame_io.specs.Calls.{WritesAt};
 ghost use Rattle.frame_io.specs.Frames.{IsObject};
 ghost use Rattle.migrator.specs.Table.{slot_for, whole_count};
@@ -90,7 +91,7 @@ fn put_frame<D: Device>(
         (slot_bytes (D.disk device.new).seen log.now generation (slot_for table.old number) number
         ≡ frame_bytes log.now.geometry number (record { header = header; content = content.now })) }
     ensures writes { WritesAt (slot_sector log.now generation (slot_for table.old number))
-        (frame_length log.now.geometry number) (D.disk device.old) (D.disk device.new) }
+        (place_length log.now number) (D.disk device.old) (D.disk device.new) }
     ensures cause { Counts (D.disk device.old) (D.disk device.new) result }
 {
     let slot = table.slot_for(number);

@@ -1,28 +1,74 @@
 // Finding the slot of an object in a directory.
-ghost use Rattle.std.specs.Prelude.{◌≡◌, ◌<◌};
-ghost use Rattle.layout.specs.Directory.{AreRising};
-ghost use Rattle.layout.specs.Image.{slot_in};
+ghost use Rattle.std.specs.Prelude.{◌≡◌, ◌<◌, ◌≤◌, ℕ, None, length};
+ghost use Rattle.layout.specs.Directory.{AreRising, IsDirectory, entry_at};
+ghost use Rattle.layout.specs.Image.{seat_in, slot_beside, slot_in};
+ghost use Rattle.frame_io.specs.Frames.{IsObject};
 
-use layout::Entry;
+use home_ranges::Home;
+use layout::{Entry, Shape};
 
-/// The slot that a directory gives an object. It halves the entries that are left with each look.
-pub(crate) fn find(entries: &[Entry], number: u64) -> Option<u64>
+// The index of the first entry whose number isn't less than this one: that of an entry, or how many
+// there are. It halves the entries that are left with each look.
+fn first_from(entries: &[Entry], number: u64) -> usize
     requires { AreRising entries.now }
-    ensures { result ≡ slot_in entries.now number }
+    ensures within { result ≤ length entries.now }
+    ensures below { (i : ℕ) → i < result → (entry_at entries.now i).object < number }
+    ensures from { (i : ℕ) → result ≤ i → i < length entries.now
+        → number ≤ (entry_at entries.now i).object }
 {
     let mut low = 0;
     let mut high = entries.len();
     while low < high {
         let middle = low + (high - low) / 2;
-        let entry = entries[middle];
-        if entry.object == number {
-            return Some(entry.slot);
-        }
-        if entry.object < number {
+        if entries[middle].object < number {
             low = middle + 1;
         } else {
             high = middle;
         }
     }
-    None
+    low
+}
+
+// The slot that a directory gives an object.
+fn find(entries: &[Entry], number: u64) -> Option<u64>
+    requires { AreRising entries.now }
+    ensures { result ≡ slot_in entries.now number }
+{
+    let at = first_from(entries, number);
+    if at < entries.len() && entries[at].object == number {
+        Some(entries[at].slot)
+    } else {
+        None
+    }
+}
+
+// The slot that it gives the first of those that share the home of an object, which has none itself.
+fn find_beside(home: &Home, entries: &[Entry], number: u64) -> Option<u64>
+    requires directory { IsDirectory home.now.geometry entries.now }
+    requires object { IsObject home.now.geometry number }
+    requires none { slot_in entries.now number ≡ None }
+    ensures { result ≡ slot_beside home.now entries.now number }
+{
+    let Shape::Packed(rank) = home.shape(number) else {
+        return None;
+    };
+    let at = first_from(entries, number - rank);
+    if at < entries.len() && home.place(entries[at].object) == home.place(number) {
+        Some(entries[at].slot)
+    } else {
+        None
+    }
+}
+
+/// The slot whose sectors have the frame of an object: its own, or else that of the least that has
+/// one of the nodes in its cluster.
+pub(crate) fn find_seat(home: &Home, entries: &[Entry], number: u64) -> Option<u64>
+    requires directory { IsDirectory home.now.geometry entries.now }
+    requires object { IsObject home.now.geometry number }
+    ensures { result ≡ seat_in home.now entries.now number }
+{
+    match find(entries, number) {
+        Some(slot) => Some(slot),
+        None => find_beside(home, entries, number),
+    }
 }

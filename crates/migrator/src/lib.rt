@@ -4,6 +4,7 @@
 mod copy;
 mod durable;
 mod find;
+mod gather;
 mod image;
 mod read;
 mod save;

@@ -12,7 +12,7 @@ ghost use Rattle.migrator.specs.Opened.{IsNoPlan};
 ghost use Rattle.migrator.specs.Put.{slot_bytes, slot_frame};
 ghost use Rattle.checkpoint.specs.Saved.{most};
 
-use crate::find::find;
+use crate::find::find_seat;
 use ckpt_log::Log;
 use device::{Device, Failed, SECTOR_SIZE};
 use frame_io::{ReadFault, read_sectors};
@@ -47,8 +47,8 @@ pub(crate) fn read_superblock<D: Device>(device: &mut D) -> Result<Superblock, R
     }
 }
 
-/// Reads the saved frame of an object, which lies in the log where the directory says so, and else
-/// at home. The slots of a node or an annex and the words of a page are left in `room`.
+/// Reads the saved frame of an object, which lies in the log where the directory gives it a slot or
+/// one to a node of its cluster, and else at home. The slots of a node or an annex and the words of a page are left in `room`.
 pub(crate) fn read_saved<D: Device>(
     device: &mut D,
     log: &Log,
@@ -70,7 +70,7 @@ pub(crate) fn read_saved<D: Device>(
     ensures reads { ReadsOnly (D.disk device.old) (D.disk device.new) }
     ensures cause { CountsFailed (D.disk device.old) (D.disk device.new) result }
 {
-    match find(directory, number) {
+    match find_seat(home, directory, number) {
         Some(slot) => log.read_slot(device, header.generation, slot, number, header.age, room),
         None => home.read_frame(device, number, header.age, room),
     }

@@ -3,9 +3,11 @@ use crate::frames::frame;
 use crate::rig::Rig;
 use crate::steps::{Step, Values, take_from};
 use device::{Device, Failed, SECTOR_SIZE};
+use frame_io::write_frame;
 use home_ranges::Home;
 use layout::{
-    CheckpointHeader, Gate, HomeRange, Superblock, encode_gate, encode_header, encode_superblock,
+    CheckpointHeader, Gate, HomeRange, Superblock, Version, encode_gate, encode_header,
+    encode_superblock,
 };
 use memory_device::{Memory, Outcome};
 use model::Geometry;
@@ -36,7 +38,8 @@ fn superblock(geometry: Geometry) -> Option<Superblock> {
         },
     ];
     let total = behind_pages + 2 * half;
-    Superblock::new(geometry, &homes, behind_pages, behind_pages + half, total)
+    let second = behind_pages + half;
+    Superblock::new(Version::One, geometry, &homes, behind_pages, second, total)
 }
 
 /// Writes a header of generation 0 with a sequence number, and behind it an open gate.
@@ -79,7 +82,9 @@ fn put_home<D: Device>(
     if device.sectors() < superblock.total() {
         return Err(Failed);
     }
-    Home::new(superblock).write_frame(device, number, header, &content)
+    let (home, geometry) = (Home::new(superblock), superblock.geometry());
+    let (place, shape) = (home.place(number), home.shape(number));
+    write_frame(device, place, shape, geometry, number, header, &content)
 }
 
 /// Writes an image of so many objects, of generation 0 and with nothing in the log. The values are

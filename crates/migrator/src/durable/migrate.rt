@@ -20,7 +20,9 @@ impl<D: Device> Durable<D> {
     {
         let entry = self.directory[self.moved as usize];
         let generation = self.header.generation;
-        copy_home(&mut self.device, &self.log, &self.home, generation, entry)?;
+        let directory = &self.directory[..self.header.entries as usize];
+        let (log, home) = (&self.log, &self.home);
+        copy_home(&mut self.device, log, home, generation, directory, entry)?;
         self.moved += 1;
         Ok(())
     }

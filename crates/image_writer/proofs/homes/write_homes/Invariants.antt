@@ -3,12 +3,13 @@ use Rattle.device.specs.Calls.{Elsewhere}
 use Rattle.model.specs.Frame.{frames_in}
 use Rattle.device.specs.Moments.{LeavesOnly}
 use Rattle.ckpt_log.specs.Closing.{AreClosed}
-use Rattle.image_writer.specs.Written.{AreHome, LeavesClosed}
+use Rattle.image_writer.specs.Written.{LeavesClosed}
+use Rattle.image_writer.proofs.HomeFrames.{AreHomeTo}
 use Rattle.image_writer.proofs.homes.write_homes.Given as goal
 
 abbrev pub invariant-loop-number : goal.invariant-loop-number
 invariant-loop-number g l =
-    AreHome l.home (frames_in l.headers l.contents) l.number (g.D.Device.disk l.device).seen
+    AreHomeTo l.home (frames_in l.headers l.contents) l.number (g.D.Device.disk l.device).seen
     × Elsewhere 5 (l.home.total - 5) (g.D.Device.disk l.fn.device).seen (g.D.Device.disk l.device).seen
     × ((g.D.Device.disk l.device).sectors ≡ (g.D.Device.disk l.fn.device).sectors)
     × ((g.D.Device.disk l.device).failures ≡ (g.D.Device.disk l.fn.device).failures)

@@ -1,36 +1,17 @@
-use Rattle.std.proofs.Common.{◌≡◌, ◌<◌, ◌≤◌, ◌+◌, ◌-◌, ◌/◌, ℕ, sym, refl, rules, arith, length}
+use Rattle.std.proofs.Common.{◌≡◌, refl, sym, arith}
 use Rattle.layout.specs.Directory.{entry_at}
-use Rattle.migrator.proofs.Opening.{found_at, none_at, below_more, above_more}
+use Rattle.migrator.proofs.Opening.{found_at, none_at}
 use Rattle.migrator.proofs.find.find.Goals as goal
+use Rattle.migrator.proofs.find.find.Goals.{else-at-entries-via-then-at-entries+else-entries-at, else-at-entries-via-else-at-entries}
 
-pub returns-then-entry-number : goal.returns-then-entry-number
-returns-then-entry-number c =
-    let middle : ℕ = c.loop-low.low + (c.loop-low.high - c.loop-low.low) / 2 in
-    let less : c.loop-low.low < c.loop-low.high = search rules in
-    let lt : middle < length c.args.entries.now = omega (arith, less, c.loop-low.invariant.1) in
-    let same : (entry_at c.args.entries.now (c.loop-low.low + (c.loop-low.high - c.loop-low.low) / 2)).object ≡ c.args.number = search rules in
-    sym (found_at c.args.entries.now c.args.number middle (entry_at c.args.entries.now middle) c.requires lt refl same)
+pub returns-then-entries-at : goal.returns-then-entries-at
+returns-then-entries-at c =
+    sym (found_at c.args.entries.now c.args.number c.first_from-at.result (entry_at c.args.entries.now c.first_from-at.result) c.requires c.if-at-entries.true refl c.if-entries-at.true)
 
-pub loop-low-preserved-then-entry-number-2 : goal.loop-low-preserved-then-entry-number-2
-loop-low-preserved-then-entry-number-2 c =
-    let middle : ℕ = c.loop-low.low + (c.loop-low.high - c.loop-low.low) / 2 in
-    let less : c.loop-low.low < c.loop-low.high = search rules in
-    let lt : middle < length c.args.entries.now = omega (arith, less, c.loop-low.invariant.1) in
-    let below : (entry_at c.args.entries.now (c.loop-low.low + (c.loop-low.high - c.loop-low.low) / 2)).object < c.args.number = search rules in
-    (omega (arith, less), c.loop-low.invariant.1, below_more c.args.entries.now c.args.number middle c.requires lt below, c.loop-low.invariant.3)
-
-pub loop-low-preserved : goal.loop-low-preserved
-loop-low-preserved c =
-    let middle : ℕ = c.loop-low.low + (c.loop-low.high - c.loop-low.low) / 2 in
-    let less : c.loop-low.low < c.loop-low.high = search rules in
-    let lt : middle < length c.args.entries.now = omega (arith, less, c.loop-low.invariant.1) in
-    let other : (entry_at c.args.entries.now (c.loop-low.low + (c.loop-low.high - c.loop-low.low) / 2)).object ≡ c.args.number → ⊥ = search rules in
-    let least : c.args.number ≤ (entry_at c.args.entries.now (c.loop-low.low + (c.loop-low.high - c.loop-low.low) / 2)).object = search rules in
-    (omega (arith, less), omega (arith, lt), c.loop-low.invariant.2, above_more c.args.entries.now c.args.number middle c.requires lt (strictly c.args.number (entry_at c.args.entries.now middle).object other least)) where
-      strictly : (n m : ℕ) → (m ≡ n → ⊥) → n ≤ m → n < m
-      strictly n m other le = omega (arith, other, le)
-
-pub returns : goal.returns
-returns c =
-    let done : c.loop-low.high ≤ c.loop-low.low = search rules in
-    sym (none_at c.args.entries.now c.args.number c.loop-low.low c.loop-low.high done c.loop-low.invariant.2 c.loop-low.invariant.3)
+pub returns-else-at-entries : goal.returns-else-at-entries
+returns-else-at-entries c =
+    sym (none_at c.args.entries.now c.args.number c.first_from-at.result c.first_from-at.ensures.below c.first_from-at.ensures.from c.requires
+    (λ lt same. elim c.else-at-entries.branch [
+      | else-at-entries-via-then-at-entries+else-entries-at w ↦ w.if-entries-at.false same
+      | else-at-entries-via-else-at-entries w ↦ omega (arith, lt, w.if-at-entries.false)
+    ]))

@@ -1,7 +1,7 @@
 use Rattle.layout.specs.Frame.{frame_of}
 use Rattle.migrator.specs.Put.{slot_bytes, slot_frame}
 use Rattle.checkpoint.specs.Saved.{most}
-use Rattle.migrator.proofs.Fetching.{read_is, only_failed}
+use Rattle.migrator.proofs.Fetching.{read_is, only_failed, failure_counts}
 use Rattle.migrator.proofs.read.read_put.Goals as goal
 
 pub returns-in-Ok-clause-found : goal.returns-in-Ok-clause-found
@@ -13,3 +13,10 @@ pub failure-requires : goal.failure-requires
 failure-requires g c =
     only_failed c.args.log.now.geometry most c.args.number (λ i. slot_bytes i c.args.log.now c.args.generation c.args.slot c.args.number) (g.D.Device.disk c.args.device.now).seen (g.D.Device.disk c.read_slot.new.device).seen (slot_frame (g.D.Device.disk c.args.device.now).seen c.args.log.now c.args.generation c.args.slot c.args.number)
     c.read_slot.ensures.reads.seen c.requires.spelt c.in-Err.fault c.in-Err.ensures.refused
+
+pub returns-in-Err-clause-cause : goal.returns-in-Err-clause-cause
+returns-in-Err-clause-cause g c =
+    failure_counts (g.D.Device.disk c.args.device.now) (g.D.Device.disk c.read_slot.new.device) c.in-Err.fault c.failure.result
+    (only_failed c.args.log.now.geometry most c.args.number (λ i. slot_bytes i c.args.log.now c.args.generation c.args.slot c.args.number) (g.D.Device.disk c.args.device.now).seen (g.D.Device.disk c.read_slot.new.device).seen (slot_frame (g.D.Device.disk c.args.device.now).seen c.args.log.now c.args.generation c.args.slot c.args.number)
+    c.read_slot.ensures.reads.seen c.requires.spelt c.in-Err.fault c.in-Err.ensures.refused)
+    c.in-Err.ensures.cause

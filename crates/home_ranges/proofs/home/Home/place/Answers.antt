@@ -1,18 +1,24 @@
-use Rattle.home_ranges.proofs.Places.{range_fits, place_found, place_missed}
+use Rattle.home_ranges.proofs.Places.{range_told, no_range_told, place_told}
 use Rattle.home_ranges.proofs.home.Home.place.Goals as goal
 
 pub place_in-requires-clause-sector : goal.place_in-requires-clause-sector
 place_in-requires-clause-sector c =
-    range_fits c.self.inside.superblock c.ranges-range-items.result.now c.loop-range.range-index c.ranges-range-items.ensures.value c.ranges-range-items.ensures.fits c.loop-range-test.true
+    (range_told c.self.inside.superblock c.args.self.now c.args.number c.in-Some.range c.self.view_is c.version-version.ensures.fits c.requires.object c.in-Some.ensures.value).sector
 
-pub returns-then-number-range : goal.returns-then-number-range
-returns-then-number-range c =
-    let is = place_found c.self.inside.superblock c.args.self.now c.ranges-range-items.result.now c.geometry.result c.args.number c.loop-range.range-index c.place_in.result
-    c.ranges-range-items.ensures.value c.geometry.ensures.value c.self.view_is c.ranges-range-items.ensures.fits c.requires.object c.loop-range-test.true
-    c.loop-range.invariant c.if-range-number.true c.if-number-range.true c.place_in.ensures in
-    record { value = is.value; behind = is.behind; inside = is.inside }
+pub returns-in-Some-clause-behind : goal.returns-in-Some-clause-behind
+returns-in-Some-clause-behind c =
+    (place_told c.self.inside.superblock c.args.self.now c.version-version.result c.geometry.result c.args.number c.place_in.result c.in-Some.range
+    c.version-version.ensures.value c.geometry.ensures.value c.self.view_is c.version-version.ensures.fits c.requires.object c.in-Some.ensures.value c.place_in.ensures).behind
 
-pub returns : goal.returns
-returns c =
-    absurd (place_missed c.self.inside.superblock c.args.self.now c.ranges-range-items.result.now c.args.number c.loop-range.range-index
-    c.ranges-range-items.ensures.value c.self.view_is c.ranges-range-items.ensures.fits c.requires.object c.loop-range-test.false c.loop-range.invariant)
+pub returns-in-Some-clause-inside : goal.returns-in-Some-clause-inside
+returns-in-Some-clause-inside c =
+    (place_told c.self.inside.superblock c.args.self.now c.version-version.result c.geometry.result c.args.number c.place_in.result c.in-Some.range
+    c.version-version.ensures.value c.geometry.ensures.value c.self.view_is c.version-version.ensures.fits c.requires.object c.in-Some.ensures.value c.place_in.ensures).inside
+
+pub returns-in-None-clause-behind : goal.returns-in-None-clause-behind
+returns-in-None-clause-behind c =
+    absurd (no_range_told c.self.inside.superblock c.args.self.now c.args.number c.self.view_is c.version-version.ensures.fits c.requires.object c.in-None.ensures.value)
+
+pub returns-in-None-clause-inside : goal.returns-in-None-clause-inside
+returns-in-None-clause-inside c =
+    absurd (no_range_told c.self.inside.superblock c.args.self.now c.args.number c.self.view_is c.version-version.ensures.fits c.requires.object c.in-None.ensures.value)

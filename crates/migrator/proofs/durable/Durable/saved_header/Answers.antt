@@ -3,7 +3,7 @@ use Rattle.std.specs.Prelude.{IfOk}
 use Rattle.model.specs.Frame.{frame_at}
 use Rattle.frame_io.specs.Frames.{IsObject}
 use Rattle.layout.specs.Superblock.{Plan}
-use Rattle.home_ranges.specs.Home.{home_place}
+use Rattle.layout.specs.Homes.{home_place}
 use Rattle.migrator.specs.Durable.{Books, books_of, stored_of, ReadsStore}
 use Rattle.migrator.proofs.Fetching.{fetched_kept, reads_store, ok_weaker}
 use Rattle.migrator.proofs.Journaling.{header_read}

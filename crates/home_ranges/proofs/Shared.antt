@@ -1,0 +1,97 @@
+-- Homes that several numbers share.
+use Rattle.std.proofs.Common.{◌≡◌, ℕ, ◌+◌, ◌-◌, ◌*◌, ◌/◌, ◌%◌, ◌<◌, ◌≤◌, Bool, true, false, nat_lt, refl, sym, ap, ◌∙◌, inl, inr, arith}
+use Rattle.std.specs.Prelude.{if◌then◌else◌}
+use Rattle.model.specs.declared.geometry.Geometry.{Geometry}
+use Rattle.layout.specs.declared.extent.HomeRange.{HomeRange}
+use Rattle.layout.specs.declared.shape.Shape.{Shape}
+use Rattle.layout.specs.declared.shape.Shape.TheVariants.{Node, Packed, Page}
+use Rattle.layout.specs.declared.version.Version.{Version}
+use Rattle.layout.specs.declared.version.Version.TheVariants.{One, Two}
+use Rattle.layout.specs.Homes.{range_with, node_offset, place_in, home_place, rank_in, shape_of}
+use Rattle.layout.specs.Shape.{node_shape}
+use Rattle.layout.specs.Superblock.{Plan, IsPlan}
+use Rattle.frame_io.specs.Frames.{IsObject}
+use Rattle.home_ranges.proofs.Places.{range_at, Has, found, found_too, place_is, shape_is, lt_true, lt_false, one_range, IsOwn, ranked_in, one_cluster, beside}
+
+-- ---- what lies between two numbers that share a home has it too
+
+offset_between : (v : Version) (i j k : ℕ) → i ≤ j → j ≤ k → node_offset v k ≡ node_offset v i → node_offset v j ≡ node_offset v i
+offset_between One i j k low high same = omega (arith, low, high, same)
+offset_between Two i j k low high same = omega (arith, low, high, same)
+
+place_between : (v : Version) (g : Geometry) (r : HomeRange) (a b n : ℕ) → Has g r a → Has g r n → n ≤ b → b ≤ a → place_in v g r a ≡ place_in v g r n → place_in v g r b ≡ place_in v g r n
+place_between v g r a b n has_a has_n low high = elim has_a.kind [
+  | inl nodes ↦
+      let a_lt : nat_lt a g.nodes ≡ true = lt_true a g.nodes (omega (arith, nodes, has_a.high)) in
+      let b_lt : nat_lt b g.nodes ≡ true = lt_true b g.nodes (omega (arith, nodes, has_a.high, high)) in
+      let n_lt : nat_lt n g.nodes ≡ true = lt_true n g.nodes (omega (arith, nodes, has_n.high)) in
+      rw (a_lt, b_lt, n_lt) (λ same. ap (λ (offset : ℕ). r.sector + offset) (offset_between v (n - r.first) (b - r.first) (a - r.first) (omega (arith, low)) (omega (arith, high)) (omega (arith, same))))
+  | inr pages ↦
+      let a_ge : nat_lt a g.nodes ≡ false = lt_false a g.nodes (omega (arith, pages, has_a.low)) in
+      let b_ge : nat_lt b g.nodes ≡ false = lt_false b g.nodes (omega (arith, pages, has_n.low, low)) in
+      let n_ge : nat_lt n g.nodes ≡ false = lt_false n g.nodes (omega (arith, pages, has_n.low)) in
+      rw (a_ge, b_ge, n_ge) (λ same. omega (arith, same, low, high, has_a.low, has_n.low))
+]
+
+pub home_between : (p : Plan) (a b n : ℕ) → IsPlan p → IsObject p.geometry a → IsObject p.geometry n → n ≤ b → b ≤ a → home_place p a ≡ home_place p n → home_place p b ≡ home_place p n
+home_between p a b n fits is_a is_n low high same =
+    let there = one_range p a n fits is_a is_n same in
+    let both = there.1 in
+    let r : HomeRange = range_at p.ranges there.0 in
+    let has_b : Has p.geometry r b = record { low = omega (arith, both.other.has.low, low); high = omega (arith, both.one.has.high, high); kind = both.one.has.kind } in
+    place_is p b there.0 (found_too p.geometry 0 there.0 b p.ranges fits.cover both.one.within has_b)
+    ∙ place_between p.version p.geometry r a b n both.one.has both.other.has low high both.place
+    ∙ sym (place_is p n there.0 both.other)
+
+-- ---- where a cluster begins
+
+-- the first number of a cluster has its home, as its first, and none below it has
+pub record Begins (p : Plan) (n rank : ℕ) : Type 0 where
+  pub below : rank ≤ n
+  pub home : home_place p (n - rank) ≡ home_place p n
+  pub first : shape_of p (n - rank) ≡ Packed 0
+  pub least : (a : ℕ) → IsObject p.geometry a → home_place p a ≡ home_place p n → n - rank ≤ a
+
+first_shape : (p : Plan) (first : ℕ) (r : HomeRange) → p.version ≡ Two → shape_of p first ≡ (if nat_lt first p.geometry.nodes then node_shape p.version ((first - r.first) % 5) else Page) → first < p.geometry.nodes → (first - r.first) % 5 ≡ 0
+    → shape_of p first ≡ Packed 0
+first_shape p first r two is node rank =
+    is ∙ ap (λ (test : Bool). if test then node_shape p.version ((first - r.first) % 5) else Page) (lt_true first p.geometry.nodes node)
+    ∙ ap (λ (v : Version). node_shape v ((first - r.first) % 5)) two ∙ ap (λ (k : ℕ). Packed k) rank
+
+pub begins : (p : Plan) (n rank : ℕ) → IsPlan p → IsObject p.geometry n → shape_of p n ≡ Packed rank → Begins p n rank
+begins p n rank fits is shape =
+    let there = found p n fits is in
+    let at = there.1 in
+    let r : HomeRange = range_at p.ranges there.0 in
+    let here = ranked_in p.version p.geometry r n rank at.has (sym (shape_is p n there.0 at) ∙ shape) in
+    let has_first : Has p.geometry r (n - rank) = record { low = omega (arith, here.value, at.has.low); high = omega (arith, at.has.high); kind = at.has.kind } in
+    let found_first = found_too p.geometry 0 there.0 (n - rank) p.ranges fits.cover at.within has_first in
+    record {
+      below = omega (arith, here.value);
+      home = beside p n rank there.0 fits at here (n - rank) has_first.low has_first.high (omega (arith, here.value, at.has.low));
+      first = first_shape p (n - rank) r here.second (shape_is p (n - rank) there.0 found_first) (omega (arith, here.nodes, at.has.high)) (omega (arith, here.value, at.has.low));
+      least = λ a is_a same.
+          let shared = one_range p a n fits is_a is same in
+          let both = shared.1 in
+          let q : HomeRange = range_at p.ranges shared.0 in
+          let rank_there = ranked_in p.version p.geometry q n rank both.other.has (sym (shape_is p n shared.0 both.other) ∙ shape) in
+          let one = one_cluster p.version p.geometry q a n rank both.one.has both.other.has rank_there both.place in
+          omega (arith, one, rank_there.value, both.one.has.low, both.other.has.low);
+    }
+
+-- ---- frames in sectors of their own
+
+-- what isn't packed has such
+pub own_of : (s : Shape) → ((rank : ℕ) → s ≡ Packed rank → ⊥) → IsOwn s
+own_of Node other = tt
+own_of (Packed rank) other = other rank refl
+own_of Page other = tt
+
+own_by : (v : Version) (test : Bool) (rank : ℕ) → v ≡ One → IsOwn (if test then node_shape v rank else Page)
+own_by One true rank first = tt
+own_by Two true rank first = let never : Two ≡ One = first in absurd cc
+own_by v false rank first = tt
+
+-- as all have by version 1
+pub own_first : (p : Plan) (n : ℕ) → p.version ≡ One → IsOwn (shape_of p n)
+own_first p n first = own_by p.version (nat_lt n p.geometry.nodes) (rank_in (range_with p.ranges n) n) first

@@ -1,0 +1,39 @@
+-- Clusters are filled node by node.
+use Rattle.std.proofs.Common.{◌≡◌, ℕ, ◌+◌, ◌-◌, ◌<◌, List, inl, inr, subst, ap, ◌∙◌, arith}
+use Rattle.std.proofs.lemmas.Bool.{cases_lt}
+use Rattle.model.specs.declared.frame.Frame.{Frame}
+use Rattle.model.specs.declared.geometry.Geometry.{Geometry}
+use Rattle.model.specs.Frame.{frame_at}
+use Rattle.layout.specs.declared.shape.Shape.TheVariants.{Packed}
+use Rattle.layout.specs.Frame.{frame_bytes}
+use Rattle.layout.specs.Homes.{shape_of}
+use Rattle.layout.specs.Shape.{shape_bytes}
+use Rattle.layout.specs.Superblock.{Plan, IsPlan}
+use Rattle.frame_io.specs.Frames.{IsObject}
+use Rattle.home_ranges.specs.Home.{HaveHome}
+use Rattle.home_ranges.proofs.Places.{ranked}
+use Rattle.image_writer.specs.Homes.{AreFramesOf}
+
+-- the frames of the first n from a number on are in a cluster
+abbrev pub AreIn : Geometry → List Frame → ℕ → ℕ → List ℕ → Type 0
+AreIn g frames number n cluster = (k : ℕ) → k < n → shape_bytes (Packed k) cluster ≡ frame_bytes g (number + k) (frame_at frames (number + k))
+
+pub one_more : (g : Geometry) (frames : List Frame) (number n : ℕ) (old new : List ℕ) → n < 5 → AreIn g frames number n old → shape_bytes (Packed n) new ≡ frame_bytes g (number + n) (frame_at frames (number + n))
+    → ((other : ℕ) → other < 5 → (other ≡ n → ⊥) → shape_bytes (Packed other) new ≡ shape_bytes (Packed other) old) → AreIn g frames number (n + 1) new
+one_more g frames number n old new few so_far here others k below = elim (cases_lt k n) [
+  | inl lt ↦ others k (omega (arith, lt, few)) (λ e. omega (arith, lt, e)) ∙ so_far k lt
+  | inr le ↦ let last : n ≡ k = omega (arith, below, le) in subst (λ (m : ℕ). shape_bytes (Packed m) new ≡ frame_bytes g (number + m) (frame_at frames (number + m))) last here
+]
+
+-- once all that have the home of the first are in it, its bytes are their frames
+pub all_in : (p : Plan) (frames : List Frame) (number n : ℕ) (cluster : List ℕ) → IsPlan p → IsObject p.geometry number → shape_of p number ≡ Packed 0 → HaveHome p number n → AreIn p.geometry frames number n cluster
+    → AreFramesOf p frames number cluster
+all_in p frames number n cluster fits is first have so_far a is_a same =
+    let at = ranked p a number fits is_a is first same in
+    let few = have.all a is_a at.0 same in
+    let one : number + (a - number) ≡ a = omega (arith, at.0) in
+    ap (λ s. shape_bytes s cluster) at.2 ∙ so_far (a - number) (omega (arith, few, at.0)) ∙ ap (λ (m : ℕ). frame_bytes p.geometry m (frame_at frames m)) one
+
+-- a number that has the home of the first is of a node
+pub shares_node : (p : Plan) (number n k : ℕ) → IsPlan p → IsObject p.geometry number → shape_of p number ≡ Packed 0 → HaveHome p number n → k < n → number + k < p.geometry.nodes
+shares_node p number n k fits is first have lt = (ranked p (number + k) number fits (have.object k lt) is first (have.same k lt)).3

@@ -1,0 +1,7 @@
+use Rattle.std.proofs.Common.{arith}
+use Rattle.layout.proofs.Clusters.{node_end}
+use Rattle.image_writer.proofs.clusters.put_node.Goals as goal
+
+pub pack_node-requires-clause-end : goal.pack_node-requires-clause-end
+pack_node-requires-clause-end c =
+    node_end c.args.geometry c.args.number (record { header = c.args.header; content = c.args.content.now }) c.encode_frame.new.into c.requires.node c.encode_frame.ensures (omega arith)

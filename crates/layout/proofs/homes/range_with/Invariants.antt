@@ -1,0 +1,6 @@
+use Rattle.std.proofs.Common.{◌≡◌, drop}
+use Rattle.layout.specs.Homes.{range_with}
+use Rattle.layout.proofs.homes.range_with.Given as goal
+
+abbrev pub invariant-loop-range : goal.invariant-loop-range
+invariant-loop-range l = range_with (drop l.range-index l.ranges) l.number ≡ range_with l.ranges l.number

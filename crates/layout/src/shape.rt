@@ -1,0 +1,28 @@
+// How frames lie in their sectors.
+ghost use Rattle.std.specs.Prelude.{◌≡◌};
+ghost use Rattle.layout.specs.Shape.{shape_length};
+
+/// How the frame of an object lies in the sectors from where it begins.
+#[derive(Clone, Copy, PartialEq, Eq, Debug)]
+pub enum Shape {
+    /// A node's frame in 2 sectors of its own.
+    Node,
+    /// A node's frame in a cluster of 8 sectors, without the zeros at its end: the 800 bytes from
+    /// 800 times this rank on, which is below 5.
+    Packed(u64),
+    /// A page's frame in 9 sectors of its own.
+    Page,
+}
+
+impl Shape {
+    /// How many sectors these are.
+    pub fn length(self) -> u64
+        ensures { result ≡ shape_length self }
+    {
+        match self {
+            Shape::Node => 2,
+            Shape::Packed(_) => 8,
+            Shape::Page => 9,
+        }
+    }
+}

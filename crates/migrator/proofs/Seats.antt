@@ -1,0 +1,149 @@
+-- The slots whose sectors have the frames of objects.
+use Rattle.std.proofs.Common.{◌≡◌, ℕ, zero, suc, ◌+◌, ◌-◌, ◌<◌, ◌≤◌, Bool, Option, Some, None, List, [], ◌∷◌, length, refl, sym, ap, subst, ◌∙◌, inl, inr, arith}
+use Rattle.std.specs.Prelude.{if◌then◌else◌}
+use Rattle.std.proofs.lemmas.Bool.{cases_eq, cases_lt, eq-eqb, ne_eqb}
+use Rattle.layout.specs.declared.directory.Entry.{Entry}
+use Rattle.layout.specs.declared.shape.Shape.TheVariants.{Packed}
+use Rattle.layout.specs.declared.version.Version.TheVariants.{One}
+use Rattle.layout.specs.Directory.{IsDirectory, AreRising, entry_at}
+use Rattle.layout.specs.Homes.{home_place, shape_of}
+use Rattle.layout.specs.Image.{slot_in, slot_beside, or_beside, seat_in}
+use Rattle.layout.specs.Spelt.{count_of}
+use Rattle.layout.specs.Superblock.{Plan, IsPlan}
+use Rattle.layout.proofs.SlotsOf.{found_slot, own_slot, rising_to}
+use Rattle.home_ranges.proofs.Places.{IsOwn, alone}
+use Rattle.home_ranges.proofs.Shared.{begins, home_between, own_first}
+
+-- ---- the first entry whose home is that of an object
+
+beside_here : (p : Plan) (e : Entry) (es : List Entry) (n : ℕ) → home_place p e.object ≡ home_place p n → slot_beside p (e ∷ es) n ≡ Some e.slot
+beside_here p e es n is = ap (λ (b : Bool). if b then Some e.slot else slot_beside p es n) (eq-eqb (home_place p e.object) (home_place p n) is)
+
+beside_behind : (p : Plan) (e : Entry) (es : List Entry) (n : ℕ) → (home_place p e.object ≡ home_place p n → ⊥) → slot_beside p (e ∷ es) n ≡ slot_beside p es n
+beside_behind p e es n other = ap (λ (b : Bool). if b then Some e.slot else slot_beside p es n) (ne_eqb (home_place p e.object) (home_place p n) other)
+
+pub none_beside : (p : Plan) (es : List Entry) (n : ℕ) → ((i : ℕ) → i < length es → home_place p (entry_at es i).object ≡ home_place p n → ⊥) → slot_beside p es n ≡ None
+none_beside p [] n none = refl
+none_beside p (e ∷ es) n none = beside_behind p e es n (none 0 (omega arith)) ∙ none_beside p es n (λ i lt. none (suc i) (omega (arith, lt)))
+
+pub beside_at : (p : Plan) (es : List Entry) (n i : ℕ) → i < length es → ((j : ℕ) → j < i → home_place p (entry_at es j).object ≡ home_place p n → ⊥) → home_place p (entry_at es i).object ≡ home_place p n
+    → slot_beside p es n ≡ Some (entry_at es i).slot
+beside_at p [] n i lt before is = absurd (omega (arith, lt))
+beside_at p (e ∷ es) n zero lt before is = beside_here p e es n is
+beside_at p (e ∷ es) n (suc i) lt before is = beside_behind p e es n (before 0 (omega arith)) ∙ beside_at p es n i (omega (arith, lt)) (λ j less. before (suc j) (omega (arith, less))) is
+
+-- the entry of such a slot
+pub record HasBeside (p : Plan) (es : List Entry) (n slot : ℕ) : Type 0 where
+  pub index : ℕ
+  pub within : index < length es
+  pub home_is : home_place p (entry_at es index).object ≡ home_place p n
+  pub slot_is : (entry_at es index).slot ≡ slot
+
+same_some : (a b : ℕ) → Some a ≡ Some b → a ≡ b
+same_some a b e = cc
+
+pub found_beside : (p : Plan) (es : List Entry) (n s : ℕ) → slot_beside p es n ≡ Some s → HasBeside p es n s
+found_beside p [] n s is = absurd cc
+found_beside p (e ∷ es) n s is = elim (cases_eq (home_place p e.object) (home_place p n)) [
+  | inl same ↦ record { index = 0; within = omega arith; home_is = same; slot_is = same_some e.slot s (sym (beside_here p e es n same) ∙ is) }
+  | inr other ↦
+      let rest = found_beside p es n s (sym (beside_behind p e es n other) ∙ is) in
+      record { index = suc rest.index; within = omega (arith, rest.within); home_is = rest.home_is; slot_is = rest.slot_is }
+]
+
+-- where an entry has the home there is such a slot
+some_beside : (p : Plan) (es : List Entry) (n i : ℕ) → i < length es → home_place p (entry_at es i).object ≡ home_place p n → slot_beside p es n ≡ None → ⊥
+some_beside p [] n i lt is none = omega (arith, lt)
+some_beside p (e ∷ es) n zero lt is none = let never : None ≡ Some e.slot = sym none ∙ beside_here p e es n is in cc
+some_beside p (e ∷ es) n (suc i) lt is none = elim (cases_eq (home_place p e.object) (home_place p n)) [
+  | inl same ↦ let never : None ≡ Some e.slot = sym none ∙ beside_here p e es n same in cc
+  | inr other ↦ some_beside p es n i (omega (arith, lt)) is (sym (beside_behind p e es n other) ∙ none)
+]
+
+-- ---- the slot of an object, or else that one
+
+seat_by : (p : Plan) (es : List Entry) (n : ℕ) (own : Option ℕ) → slot_in es n ≡ own → seat_in p es n ≡ or_beside own (slot_beside p es n)
+seat_by p es n own is = ap (λ (o : Option ℕ). or_beside o (slot_beside p es n)) is
+
+pub own_seat : (p : Plan) (es : List Entry) (n s : ℕ) → slot_in es n ≡ Some s → seat_in p es n ≡ Some s
+own_seat p es n s is = seat_by p es n (Some s) is
+
+pub beside_seat : (p : Plan) (es : List Entry) (n : ℕ) → slot_in es n ≡ None → seat_in p es n ≡ slot_beside p es n
+beside_seat p es n is = seat_by p es n None is
+
+-- an object whose frame isn't packed has no slot but its own
+pub alone_beside : (p : Plan) (es : List Entry) (n : ℕ) → IsPlan p → IsDirectory p.geometry es → n < count_of p → IsOwn (shape_of p n) → slot_in es n ≡ None → slot_beside p es n ≡ None
+alone_beside p es n fits is lt own none = none_beside p es n (λ i within same.
+    let object = (is.each i (record { object = 0; slot = 0 }) within).object in
+    let one : (entry_at es i).object ≡ n = alone p (entry_at es i).object n fits object lt own same in
+    let never : None ≡ Some (entry_at es i).slot = sym none ∙ ap (slot_in es) (sym one) ∙ own_slot es i is.rising within in
+    cc)
+
+-- nor has any by version 1
+pub no_seat : (p : Plan) (es : List Entry) (n : ℕ) → IsPlan p → p.version ≡ One → IsDirectory p.geometry es → n < count_of p → slot_in es n ≡ None → seat_in p es n ≡ None
+no_seat p es n fits first is lt none = beside_seat p es n none ∙ alone_beside p es n fits is lt (own_first p n first) none
+
+-- where there are no entries there is none
+pub no_entries : (p : Plan) (es : List Entry) (n : ℕ) → length es ≡ 0 → seat_in p es n ≡ None
+no_entries p [] n size = refl
+no_entries p (e ∷ es) n size = absurd (omega (arith, size))
+
+-- an object without one doesn't share its home with an object that has a slot
+pub seats_differ : (p : Plan) (es : List Entry) (n m t : ℕ) → slot_in es m ≡ Some t → seat_in p es n ≡ None → home_place p n ≡ home_place p m → ⊥
+seats_differ p es n m t has none same =
+    let entry = found_slot es m t has in
+    some_beside p es n entry.index entry.within (ap (home_place p) entry.object_is ∙ sym same) (beside_none (slot_in es n) refl) where
+      beside_none : (o : Option ℕ) → slot_in es n ≡ o → slot_beside p es n ≡ None
+      beside_none None is = sym (beside_seat p es n is) ∙ none
+      beside_none (Some s) is = let never : None ≡ Some s = sym none ∙ own_seat p es n s is in absurd cc
+
+-- the entry of a seat
+pub seat_entry : (p : Plan) (es : List Entry) (n s : ℕ) → seat_in p es n ≡ Some s → HasBeside p es n s
+seat_entry p es n s seat = by (slot_in es n) refl where
+  by : (o : Option ℕ) → slot_in es n ≡ o → HasBeside p es n s
+  by None none = found_beside p es n s (sym (beside_seat p es n none) ∙ seat)
+  by (Some t) own =
+      let entry = found_slot es n t own in
+      let same : t ≡ s = same_some t s (sym (own_seat p es n t own) ∙ seat) in
+      record { index = entry.index; within = entry.within; home_is = ap (home_place p) entry.object_is; slot_is = entry.slot_is ∙ same }
+
+-- a seat is a slot of some entry
+pub seat_fits : (p : Plan) (es : List Entry) (n s : ℕ) → IsDirectory p.geometry es → seat_in p es n ≡ Some s → s < p.geometry.log
+seat_fits p es n s is seat =
+    let entry = seat_entry p es n s seat in
+    let one = is.each entry.index (record { object = 0; slot = 0 }) entry.within in
+    omega (arith, one.slot, entry.slot_is)
+
+-- ---- the search from the first number of a cluster on
+
+module _ (p : Plan) (es : List Entry) (n rank at : ℕ) (fits : IsPlan p) (is : IsDirectory p.geometry es) (lt : n < count_of p) (shape : shape_of p n ≡ Packed rank)
+    (below : (i : ℕ) → i < at → (entry_at es i).object < n - rank) (from : (i : ℕ) → at ≤ i → i < length es → n - rank ≤ (entry_at es i).object) where
+  object : (i : ℕ) → i < length es → (entry_at es i).object < count_of p
+  object i within = (is.each i (record { object = 0; slot = 0 }) within).object
+
+  none_below : (i : ℕ) → i < length es → i < at → home_place p (entry_at es i).object ≡ home_place p n → ⊥
+  none_below i within less same =
+      let least = (begins p n rank fits lt shape).least (entry_at es i).object (object i within) same in
+      let under = below i less in
+      omega (arith, least, under)
+
+  -- the entry there has the home, or none has
+  pub found_there : at < length es → home_place p (entry_at es at).object ≡ home_place p n → slot_beside p es n ≡ Some (entry_at es at).slot
+  found_there within same = beside_at p es n at within (λ j less. none_below j (omega (arith, less, within)) less) same
+
+  pub none_there : (at < length es → home_place p (entry_at es at).object ≡ home_place p n → ⊥) → slot_beside p es n ≡ None
+  none_there other = none_beside p es n (λ i within same. elim (cases_lt i at) [
+    | inl less ↦ none_below i within less same
+    | inr le ↦
+        let first = from at (omega arith) (omega (arith, le, within)) in
+        let start = begins p n rank fits lt shape in
+        let same_start : home_place p (entry_at es i).object ≡ home_place p (n - rank) = same ∙ sym start.home in
+        let up : (entry_at es at).object ≤ (entry_at es i).object = not_above at i le within in
+        let shared = home_between p (entry_at es i).object (entry_at es at).object (n - rank) fits (object i within) (omega (arith, lt)) first up same_start in
+        other (omega (arith, le, within)) (shared ∙ start.home)
+  ]) where
+    not_above : (a b : ℕ) → a ≤ b → b < length es → (entry_at es a).object ≤ (entry_at es b).object
+    not_above a b le within = elim (cases_lt a b) [
+      | inl less ↦ let one = rising_to es a b is.rising less within in omega (arith, one)
+      | inr ge ↦ let one : a ≡ b = omega (arith, le, ge) in subst (λ (k : ℕ). (entry_at es a).object ≤ (entry_at es k).object) one (omega arith)
+    ]

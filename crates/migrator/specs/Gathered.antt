@@ -1,0 +1,17 @@
+-- What goes home with a saved frame.
+use Rattle.std.specs.Prelude.{◌≡◌, ℕ, List}
+use Rattle.device.specs.Disk.{Image}
+use Rattle.layout.specs.declared.directory.Entry.{Entry}
+use Rattle.layout.specs.Homes.{home_place, shape_of}
+use Rattle.layout.specs.Image.{bytes_at, frame_in}
+use Rattle.layout.specs.Shape.{shape_bytes}
+use Rattle.layout.specs.Superblock.{Plan}
+use Rattle.frame_io.specs.Frames.{IsObject}
+
+-- the bytes of a home are the saved frames of all that have it
+abbrev pub IsGathered : Image → Plan → ℕ → List Entry → ℕ → List ℕ → Type 0
+IsGathered image p generation es number bytes = (n : ℕ) → IsObject p.geometry n → home_place p n ≡ home_place p number → shape_bytes (shape_of p n) bytes ≡ frame_in image p generation es n
+
+-- they lie at home
+abbrev pub IsCopied : Image → Image → Plan → ℕ → List Entry → ℕ → Type 0
+IsCopied old new p generation es number = (n : ℕ) → IsObject p.geometry n → home_place p n ≡ home_place p number → bytes_at new (home_place p n) p n ≡ frame_in old p generation es n
