@@ -1,7 +1,7 @@
 """Changes images by chance, for `checks/images`: bytes, sectors and frames, and each kind of field near its limits."""
 import random
 
-from reader import ANNEX, BANK, RESUME, ROOT, SECTOR, SPACE, START, usages
+from reader import ANNEX, BANK, RESUME, ROOT, SECTOR, SPACE, START, length_of, usages
 
 
 class Changed:
@@ -10,7 +10,6 @@ class Changed:
     def __init__(self, data, saved, chance):
         self.data, self.saved, self.chance = bytearray(data), saved, chance
         self.frames, self.shape, self.age = saved.frames, saved.shape, saved.header.age
-        self.home_of = lambda number: SECTOR * self.shape.homes[number]
 
     def number_at(self, place):
         return int.from_bytes(self.data[place : place + 8], "little")
@@ -55,7 +54,7 @@ def copied_frame(it):
     """The frame of an object is put in the place of another, mostly of one that is free."""
     target = it.some(0) if it.chance.random() < 0.7 else it.any_number()
     source = it.any_number()
-    size = 1024 if target < it.shape.nodes else 4608
+    size = 4608 if target >= it.shape.nodes else 1024 if it.shape.version == 1 else 800
     one, two = it.frames[target].place, it.frames[source].place
     it.data[one : one + size] = it.data[two : two + size]
     if it.frames[source].role == ROOT and it.chance.random() < 0.7:
@@ -197,7 +196,7 @@ def superblock(it):
         cut = it.chance.randrange(count + 1)
         it.data[112:256] = it.data[88:232]
         it.put(72, cut)
-        for at, number in enumerate((first + cut, count - cut, sector + 2 * cut)):
+        for at, number in enumerate((first + cut, count - cut, sector + length_of(it.shape.version, True, cut))):
             it.put(88 + 8 * at, number)
         it.data[12] += it.chance.choice((1, 1, 1, 0))
     else:

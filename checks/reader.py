@@ -6,7 +6,9 @@ SECTOR, VOID, ROOT, ANNEX, BANK = 512, bytes(24), 3, 4, 5
 PAGE_CAP, NODE_CAP, SPACE, PROCESS, START, RESUME, BANK_CAP, DISCRIM = range(2, 10)
 ROLES = {PAGE_CAP: 1, NODE_CAP: 2, SPACE: 2, PROCESS: ROOT, START: ROOT, RESUME: ROOT, BANK_CAP: BANK}
 
-Shape = namedtuple("Shape", "nodes pages slots halves homes")
+Shape = namedtuple("Shape", "version nodes pages slots halves homes")
+# Where an object's home begins, by version 2 that of a node's cluster, and at which byte of it the frame does.
+Home = namedtuple("Home", "sector offset")
 Header = namedtuple("Header", "slot sequence generation entries age")
 Cap = namedtuple("Cap", "tag access key height zeros number count")
 # A frame at a place: what stands before its body, and the capabilities in its slots, or the words of a page.
@@ -27,30 +29,42 @@ def is_zero(data, begin, end):
     return data.count(0, begin, end) == end - begin
 
 
+def home_in(version, is_node, sector, number):
+    """The home of the object with this place in a range that begins at a sector."""
+    if not is_node:
+        return Home(sector + 9 * number, 0)
+    return Home(sector + 2 * number, 0) if version == 1 else Home(sector + 8 * (number // 5), 800 * (number % 5))
+
+
+def length_of(version, is_node, count):
+    """How many sectors a range takes."""
+    return 9 * count if not is_node else 2 * count if version == 1 else 8 * ((count + 4) // 5)
+
+
 def shape_of(data):
     sectors = len(data) // SECTOR
     need(sectors >= 5 and sectors >= unpack_from("<Q", data, 56)[0], 1)
     magic, version, ranges, nodes, pages, slots, half0, half1, total = unpack_from("<8sII6Q", data)
-    need(magic == b"EROSCKPT" and version == 1 and is_zero(data, 256, 512), 2)
+    need(magic == b"EROSCKPT" and version in (1, 2) and is_zero(data, 256, 512), 2)
     need(1 <= ranges <= 8 and 16 <= nodes <= 4096 and 1 <= pages <= 4096 and 16 <= slots <= 4096 and total <= 131072, 3)
     need(is_zero(data, 64 + 24 * ranges, 256), 3)
     length = 9 * slots + (slots + 31) // 32
     parts, homes, following = [(half0, length), (half1, length)], [], 0
     for place in range(64, 64 + 24 * ranges, 24):
         first, count, sector = unpack_from("<3Q", data, place)
-        size = 2 if first < nodes else 9
+        is_node = first < nodes
         need(first == following and count > 0 and (first >= nodes or first + count <= nodes), 3)
         following = first + count
         need(following <= nodes + pages, 3)
-        homes += [sector + size * it for it in range(count)]
-        parts.append((sector, size * count))
+        homes += [home_in(version, is_node, sector, it) for it in range(count)]
+        parts.append((sector, length_of(version, is_node, count)))
     need(following == nodes + pages, 3)
     end = 5
     for sector, count in sorted(parts):
         need(sector >= end, 3)
         end = sector + count
     need(end <= total, 3)
-    return Shape(nodes, pages, slots, (half0, half1), homes)
+    return Shape(version, nodes, pages, slots, (half0, half1), homes)
 
 
 def header_of(data, shape):
@@ -69,13 +83,20 @@ def header_of(data, shape):
 
 
 def logged_in(data, shape, header):
-    """The sector of the frame of each object that is in the log."""
+    """The sector of the slot of each object that is in the log, in the order of their numbers."""
     half = shape.halves[header.generation % 2]
     entries = [unpack_from("<2Q", data, SECTOR * (half + 9 * shape.slots) + 16 * it) for it in range(header.entries)]
     need(all(one[0] < two[0] for one, two in zip(entries, entries[1:])), 6)
     need(all(number < shape.nodes + shape.pages and slot < shape.slots for number, slot in entries), 6)
     need(len({slot for _, slot in entries}) == len(entries), 6)
     return {number: half + 9 * slot for number, slot in entries}
+
+
+def places_of(shape, logged):
+    """The byte where the frame of each object begins: in its slot, else in that of the least object with its home, else at home."""
+    beside = {shape.homes[number].sector: sector for number, sector in reversed(logged.items())}
+    sector_of = lambda number, home: logged.get(number, beside.get(home.sector, home.sector))
+    return [SECTOR * sector_of(number, home) + home.offset for number, home in enumerate(shape.homes)]
 
 
 def cap_at(data, place, shape, age):
@@ -102,7 +123,7 @@ def frame_at(data, place, number, shape, age):
         words = unpack_from("<512Q", data, place + 512)
         need(role or not any(words), 7)
     else:
-        need(is_zero(data, place + 800, place + 1024), 7)
+        need(shape.version == 2 or is_zero(data, place + 800, place + 1024), 7)
         for slot in range(32):
             at = place + 32 + 24 * slot
             if data[at : at + 24] != VOID:
@@ -165,8 +186,7 @@ def read(data):
     shape = shape_of(data)
     header = header_of(data, shape)
     logged = logged_in(data, shape, header)
-    places = [SECTOR * logged.get(number, home) for number, home in enumerate(shape.homes)]
-    frames = [frame_at(data, place, number, shape, header.age) for number, place in enumerate(places)]
+    frames = [frame_at(data, place, number, shape, header.age) for number, place in enumerate(places_of(shape, logged))]
     check_caps(frames)
     check_processes(frames)
     for bank, used in usages(frames).items():

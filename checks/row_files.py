@@ -8,8 +8,11 @@ from common import EXAMPLES, ROOT
 
 ROWS, SECTOR = ROOT / "checks" / "rows", 512
 ROW, IMAGE, BYTES = b"# Row: ", b"# Image: ", b"# Bytes: "
-# What ends a run, and how the image is changed or looked at then.
-ENDS = (b"# Poke: ", b"# Length: ", BYTES, b"# Check", b"# Again", b"# Fresh")
+# What names bytes of the image; and what ends a run, and how the image is changed or looked at then.
+PLACED = (b"# Poke: ", b"# Length: ", BYTES)
+ENDS = (*PLACED, b"# Check", b"# Again", b"# Fresh")
+# A key of a description, which stands before its tables.
+LAYOUT = b"layout = "
 
 
 def rows_of(file):
@@ -25,6 +28,11 @@ def rows_of(file):
         else:
             lines.append(line)
     return begin, rows or {"": []}
+
+
+def names_places(lines):
+    """Whether lines name bytes of an image, which lie elsewhere by another version of the layout."""
+    return any(it.startswith((*PLACED, LAYOUT)) for it in lines)
 
 
 def description_of(file, begin):

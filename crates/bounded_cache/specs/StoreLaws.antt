@@ -1,7 +1,7 @@
 -- What a bounded cache promises of its store while its present objects change.
 use Rattle.std.proofs.Common.{refl}
 use Rattle.device.specs.Disk.{Image, Disk}
-use Rattle.migrator.specs.Durable.{saved_state, stored_of, is_sound}
+use Rattle.migrator.specs.Durable.{saved_state, seen_of, stored_of, is_sound}
 use Rattle.checkpoint.specs.Saved.{Holds}
 use Rattle.object_store.specs.Store.{Leads}
 use Rattle.bounded_cache.specs.Cache.{CacheState, GoesOnIn, view_of}
@@ -17,4 +17,4 @@ module _ {D : Type 0} (disk : D → Disk) where
   }
 
   pub holds_by : (s : CacheState D) (c : Image) → is_sound disk s.durable → (disk s.durable.beneath).may_leave c → Holds (disk s.durable.beneath).sectors c (stored_of disk s.durable).saved
-  holds_by s c sound left = (saved_state (disk s.durable.beneath).seen s.durable.books, sound c left, refl)
+  holds_by s c sound left = (saved_state (seen_of disk s.durable) s.durable.books, sound c left, refl)

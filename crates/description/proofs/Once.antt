@@ -1,8 +1,7 @@
 -- A value says one thing, and so a table says one description.
-use Rattle.std.proofs.Common.{◌≡◌, ℕ, pos, Bool, Option, Some, None, if◌then◌else◌, List, [], ◌∷◌, codes, IsSomeAnd, MatchOption, refl, sym, ap, subst, ◌∙◌}
+use Rattle.std.proofs.Common.{◌≡◌, ℕ, pos, Option, Some, None, if◌then◌else◌, List, [], ◌∷◌, codes, IsSomeAnd, MatchOption, refl, sym, ap, subst, ◌∙◌}
 use Rattle.std.specs.Str.{bytes_eq}
 use Rattle.std.proofs.lemmas.Option.{same_Some}
-use Rattle.image_writer.specs.declared.number_range.NumberRange.{NumberRange}
 use Rattle.model.specs.Text.{capability_text, state_text}
 use Rattle.model.specs.declared.capability.Capability.{Capability}
 use Rattle.model.specs.declared.capability.Capability.TheVariants.{Void}
@@ -13,13 +12,7 @@ use Rattle.toml.specs.Data.{Data, integer, string, array, table, Items, no_items
 use Rattle.script.proofs.CapabilityTexts.{text_once}
 use Rattle.description.specs.Laws.{Each, IsSame, IsSameNode, IsSamePage, IsSameProcess}
 use Rattle.description.specs.Reading.{AreFour, AreItems, At, AtOr, IsBank, IsCapability, IsDescription, IsGeometry, IsList, IsNode, IsNumber, IsPage, IsPair, IsProcess, IsRange, IsSlot, IsState, IsTable, IsWord, whole_ranges}
-use Rattle.description.specs.declared.entry.BankEntry.{BankEntry}
 use Rattle.description.specs.declared.entry.Description.{Description}
-use Rattle.description.specs.declared.entry.NodeEntry.{NodeEntry}
-use Rattle.description.specs.declared.entry.PageEntry.{PageEntry}
-use Rattle.description.specs.declared.entry.ProcessEntry.{ProcessEntry}
-use Rattle.description.specs.declared.entry.SlotEntry.{SlotEntry}
-use Rattle.description.specs.declared.entry.WordEntry.{WordEntry}
 
 -- ---- values
 
@@ -199,6 +192,7 @@ description_once ms d e one other =
     let same = geometry_once ms d.geometry e.geometry one.geometry other.geometry in
     record {
       geometry = same;
+      layout = or_once IsNumber ◌≡◌ number_once ms 1 refl (codes "layout") d.layout e.layout one.layout other.layout;
       age = or_once IsNumber ◌≡◌ number_once ms 0 refl (codes "age") d.age e.age one.age other.age;
       ranges = or_once (IsList IsRange) ◌≡◌ (list_same IsRange range_once) ms (whole_ranges e.geometry) refl (codes "ranges") d.ranges.items e.ranges.items
           (subst (λ (g : Geometry). AtOr (whole_ranges g) (codes "ranges") (IsList IsRange) ms d.ranges.items) same one.ranges) other.ranges;

@@ -1,5 +1,5 @@
 -- A text is that of one capability, and a table that of one description.
-use Rattle.std.specs.Prelude.{◌≡◌, ℕ, ◌^◌, ◌<◌, List, [], ◌∷◌, IfSome}
+use Rattle.std.specs.Prelude.{◌≡◌, ◌^◌, ◌<◌, List, [], ◌∷◌, IfSome}
 use Rattle.model.specs.Capability.{IsWellFormed, named}
 use Rattle.model.specs.Text.{capability_text}
 use Rattle.model.specs.declared.capability.Capability.{Capability}
@@ -40,6 +40,7 @@ pub record IsSamePage (p q : PageEntry) : Type 0 where
 
 pub record IsSame (d e : Description) : Type 0 where
   pub geometry : d.geometry ≡ e.geometry
+  pub layout : d.layout ≡ e.layout
   pub age : d.age ≡ e.age
   pub ranges : d.ranges.items ≡ e.ranges.items
   pub banks : d.banks.items ≡ e.banks.items

@@ -119,8 +119,9 @@ whole_ranges g = record { first = 0; count = g.nodes } ∷ record { first = g.no
 
 -- a table is that of a description
 pub record IsDescription (ms : Members) (d : Description) : Type 0 where
-  pub known : IsTrue (has_only (codes "nodes" ∷ codes "pages" ∷ codes "log" ∷ codes "age" ∷ codes "ranges" ∷ codes "bank" ∷ codes "process" ∷ codes "node" ∷ codes "page" ∷ []) ms)
+  pub known : IsTrue (has_only (codes "nodes" ∷ codes "pages" ∷ codes "log" ∷ codes "layout" ∷ codes "age" ∷ codes "ranges" ∷ codes "bank" ∷ codes "process" ∷ codes "node" ∷ codes "page" ∷ []) ms)
   pub geometry : IsGeometry ms d.geometry
+  pub layout : AtOr 1 (codes "layout") IsNumber ms d.layout
   pub age : AtOr 0 (codes "age") IsNumber ms d.age
   pub ranges : AtOr (whole_ranges d.geometry) (codes "ranges") (IsList IsRange) ms d.ranges.items
   pub banks : AtOr [] (codes "bank") (IsList (IsTable IsBank)) ms d.banks.items

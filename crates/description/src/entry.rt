@@ -65,6 +65,8 @@ pub struct PageEntry {
 #[derive(Drop)]
 pub struct Description {
     pub geometry: Geometry,
+    /// The number of the layout's version that the image is to have.
+    pub layout: u64,
     pub age: u64,
     /// The home ranges, in the order in which they are to lie.
     pub ranges: Vec<NumberRange>,

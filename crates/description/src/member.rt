@@ -60,13 +60,13 @@ pub(crate) fn number(table: &Table, key: &str) -> Result<u64, DescriptionFault>
     }
 }
 
-// The number at a key, or else 0.
-pub(crate) fn number_or_zero(table: &Table, key: &str) -> Result<u64, DescriptionFault>
-    ensures { Reads (AtOr 0 key.now IsNumber (table_view table.now)) result }
+// The number at a key, or else this one.
+pub(crate) fn number_or(table: &Table, key: &str, default: u64) -> Result<u64, DescriptionFault>
+    ensures { Reads (AtOr default key.now IsNumber (table_view table.now)) result }
 {
     match member(table, key) {
         Some(value) => number_of(value),
-        None => Ok(0),
+        None => Ok(default),
     }
 }
 

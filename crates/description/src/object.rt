@@ -6,7 +6,7 @@ ghost use Rattle.description.specs.Reading.{IsBank, IsNode, IsPage, IsProcess, I
 use crate::entry::{BankEntry, NodeEntry, PageEntry, ProcessEntry};
 use crate::fault::DescriptionFault;
 use crate::list::{FromValue, four_or_zeros, list_or_empty};
-use crate::member::{capability_or_void, check_keys, number, number_or_zero, state};
+use crate::member::{capability_or_void, check_keys, number, number_or, state};
 use crate::value::table_of;
 use std::alloc::Global;
 use toml::{Table, Value};
@@ -42,7 +42,7 @@ fn read_process(alloc: Global, table: &Table) -> Result<ProcessEntry, Descriptio
     let annex = number(table, "annex")?;
     let owner = number(table, "owner")?;
     let state = state(table, "state")?;
-    let key = number_or_zero(table, "key")?;
+    let key = number_or(table, "key", 0)?;
     let words = four_or_zeros(alloc, table, "words")?;
     let space = capability_or_void(table, "space")?;
     let registers = list_or_empty(alloc, table, "registers")?;

@@ -9,7 +9,7 @@ ghost use Rattle.description.specs.declared.fault.DescriptionFault.TheVariants.{
 use crate::entry::Description;
 use crate::fault::DescriptionFault;
 use crate::list::{list_of, list_or_empty};
-use crate::member::{check_keys, member, number, number_or_zero};
+use crate::member::{check_keys, member, number, number_or};
 use image_writer::NumberRange;
 use model::Geometry;
 use std::alloc::Global;
@@ -66,11 +66,12 @@ fn read_description(alloc: Global, table: &Table) -> Result<Description, Descrip
     check_keys(
         table,
         &[
-            "nodes", "pages", "log", "age", "ranges", "bank", "process", "node", "page",
+            "nodes", "pages", "log", "layout", "age", "ranges", "bank", "process", "node", "page",
         ],
     )?;
     let geometry = read_geometry(table)?;
-    let age = number_or_zero(table, "age")?;
+    let layout = number_or(table, "layout", 1)?;
+    let age = number_or(table, "age", 0)?;
     let ranges = read_ranges(alloc, table, geometry)?;
     let banks = list_or_empty(alloc, table, "bank")?;
     let processes = list_or_empty(alloc, table, "process")?;
@@ -78,6 +79,7 @@ fn read_description(alloc: Global, table: &Table) -> Result<Description, Descrip
     let pages = list_or_empty(alloc, table, "page")?;
     Ok(Description {
         geometry,
+        layout,
         age,
         ranges,
         banks,

@@ -1,12 +1,14 @@
 -- What `build` answers, and what the device then holds.
-use Rattle.std.specs.Prelude.{◌≡◌, ◌⊎◌, ℕ, ◌^◌, ◌<◌, ◌≤◌, List}
+use Rattle.std.specs.Prelude.{◌≡◌, ◌⊎◌, ℕ, ◌^◌, ◌<◌, ◌≤◌, ◌==◌, if◌then◌else◌, List}
 use Rattle.toml.specs.Data.{Members}
 use Rattle.model.specs.declared.frame.Frame.{Frame}
 use Rattle.model.specs.Keepable.{IsSoundFrames}
 use Rattle.device.specs.Disk.{Disk, Image}
 use Rattle.device.specs.Calls.{Elsewhere}
 use Rattle.layout.specs.Image.{Encodes}
-use Rattle.layout.specs.Superblock.{Plan}
+use Rattle.layout.specs.Superblock.{Plan, version_number}
+use Rattle.layout.specs.declared.version.Version.{Version}
+use Rattle.layout.specs.declared.version.Version.TheVariants.{One, Two}
 use Rattle.checkpoint.specs.Saved.{Holds, SavedFrames}
 use Rattle.image_writer.specs.Laid.{MayBeLaid, plan_from}
 use Rattle.image_writer.specs.Written.{first_saved, first_state}
@@ -29,12 +31,17 @@ fault_number Small = 7
 fault_number Failed = 8
 fault_number NoMemory = 9
 
+-- the version of the layout that has a number, where there is one
+abbrev pub version_of : ℕ → Version
+version_of n = if n == 2 then Two else One
+
 -- where the parts of the image lie
 abbrev pub plan_for : Description → Plan
-plan_for d = plan_from d.geometry d.ranges.items
+plan_for d = plan_from (version_of d.layout) d.geometry d.ranges.items
 
--- objects, ranges and an age that an image may have
+-- a version, objects, ranges and an age that an image may have
 pub record IsWithinLimits (d : Description) : Type 0 where
+  pub layout : (v : Version) × (d.layout ≡ version_number v)
   pub laid : MayBeLaid d.geometry d.ranges.items
   pub age : d.age ≤ 2 ^ 62
 

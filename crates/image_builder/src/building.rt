@@ -35,7 +35,7 @@ pub fn sectors_needed(alloc: Global, table: &Table) -> Result<u64, BuildFault>
 ///
 /// Of the faults that hold the least is answered:
 /// `Shape` where the table isn't that of a description; `Limits` where no image has so many objects
-/// or slots, such ranges or such an age; `Number` where a number isn't one of its kind or is named
+/// or slots, such ranges, such an age or such a version of the layout; `Number` where a number isn't one of its kind or is named
 /// twice; `Field` where a field is bad; `Target` where a capability names an object of another kind,
 /// or resumes a process that doesn't wait; `Owner` where the banks aren't a tree that owns all
 /// objects within their limits; `Small` where the device has fewer sectors than `sectors_needed`

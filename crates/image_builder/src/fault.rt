@@ -9,7 +9,7 @@ use thiserror::Error;
 pub enum BuildFault {
     #[error("the table hasn't the shape of a description")]
     Shape = 1,
-    #[error("no image has so many objects or slots, ranges like these, or such an age")]
+    #[error("no image has so many objects or slots, ranges like these, or such an age or layout")]
     Limits = 2,
     #[error("a number isn't one of its kind, or is named twice")]
     Number = 3,

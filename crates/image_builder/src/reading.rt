@@ -7,7 +7,7 @@ ghost use Rattle.image_builder.specs.Built.{IsWithinLimits, TellsNoSize, plan_fo
 use crate::fault::BuildFault;
 use description::{Description, DescriptionFault};
 use image_writer::lay_out;
-use layout::Superblock;
+use layout::{Superblock, Version};
 use model::MAX_AGE;
 use std::alloc::Global;
 use toml::Table;
@@ -35,8 +35,11 @@ pub(crate) fn plan(description: &Description) -> Result<Superblock, BuildFault>
     if description.age > MAX_AGE {
         return Err(BuildFault::Limits);
     }
-    match lay_out(description.geometry, &description.ranges) {
-        Ok(superblock) => Ok(superblock),
-        Err(_) => Err(BuildFault::Limits),
+    match Version::with_number(description.layout) {
+        Some(version) => match lay_out(version, description.geometry, &description.ranges) {
+            Ok(superblock) => Ok(superblock),
+            Err(_) => Err(BuildFault::Limits),
+        },
+        None => Err(BuildFault::Limits),
     }
 }

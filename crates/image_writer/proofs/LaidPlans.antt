@@ -1,15 +1,16 @@
 -- What is laid out one behind the other is a plan.
-use Rattle.std.proofs.Common.{◌≡◌, ◌⊎◌, ℕ, zero, suc, ◌+◌, ◌-◌, ◌*◌, ◌<◌, ◌≤◌, Bool, List, [], ◌∷◌, ◌++◌, length, map, refl, ap, subst, ◌∙◌, inl, ⊎_elim, arith}
+use Rattle.std.proofs.Common.{◌≡◌, ◌⊎◌, ℕ, zero, suc, ◌+◌, ◌-◌, ◌*◌, ◌<◌, ◌≤◌, Bool, true, false, nat_lt, List, [], ◌∷◌, ◌++◌, length, map, refl, sym, ap, subst, inl, ⊎_elim, arith}
 use Rattle.std.specs.Prelude.{if◌then◌else◌}
 use Rattle.std.proofs.lemmas.Bool.{lt-ltb, le-ltb}
 use Rattle.std.specs.List.{All}
 use Rattle.model.specs.declared.geometry.Geometry.{Geometry}
 use Rattle.layout.specs.declared.extent.Extent.{Extent}
 use Rattle.layout.specs.declared.extent.HomeRange.{HomeRange}
-use Rattle.layout.specs.declared.version.Version.TheVariants.{One}
-use Rattle.layout.specs.Superblock.{Cover, IsPlan, IsWithin, AreApart, extent_at, extents, half_extent, range_extent}
+use Rattle.layout.specs.declared.version.Version.{Version}
+use Rattle.layout.specs.declared.version.Version.TheVariants.{One, Two}
+use Rattle.layout.specs.Superblock.{Cover, IsPlan, IsWithin, AreApart, extent_at, extents, half_extent, nodes_length, range_extent}
 use Rattle.image_writer.specs.declared.number_range.NumberRange.{NumberRange}
-use Rattle.image_writer.specs.Laid.{MayBeLaid, behind, half_length, laid, plan_from, sectors_of}
+use Rattle.image_writer.specs.Laid.{MayBeLaid, behind, half_length, laid, placed, plan_from, sectors_of}
 use Rattle.image_writer.proofs.Laying.{cons_behind, cons_laid, length_laid, none_behind, none_laid}
 
 -- ---- extents that follow one another
@@ -46,73 +47,118 @@ follow_within total at (e ∷ es) low high follow (suc k) d lt = follow_within t
 
 -- ---- ranges that are laid, and what lies behind them
 
-laid_follow : (g : Geometry) (at : ℕ) (rs : List NumberRange) (es : List Extent) → Follow (behind g at rs) es → Follow at (map (range_extent One g) (laid g at rs) ++ es)
-laid_follow g at [] es follow = rw (none_laid g at) (subst (λ (n : ℕ). Follow n es) (none_behind g at) follow)
-laid_follow g at (r ∷ rs) es follow =
-    rw (cons_laid g at r rs) (refl, laid_follow g (at + sectors_of g r) rs es (subst (λ (n : ℕ). Follow n es) (cons_behind g at r rs) follow))
+laid_follow : (v : Version) (g : Geometry) (at : ℕ) (rs : List NumberRange) (es : List Extent) → Follow (behind v g at rs) es → Follow at (map (range_extent v g) (laid v g at rs) ++ es)
+laid_follow v g at [] es follow = rw (none_laid v g at) (subst (λ (n : ℕ). Follow n es) (none_behind v g at) follow)
+laid_follow v g at (r ∷ rs) es follow =
+    rw (cons_laid v g at r rs) (refl, laid_follow v g (at + sectors_of v g r) rs es (subst (λ (n : ℕ). Follow n es) (cons_behind v g at r rs) follow))
 
-laid_end : (g : Geometry) (at : ℕ) (rs : List NumberRange) (es : List Extent) → end_of at (map (range_extent One g) (laid g at rs) ++ es) ≡ end_of (behind g at rs) es
-laid_end g at [] es = rw (none_laid g at, none_behind g at) refl
-laid_end g at (r ∷ rs) es = rw (cons_laid g at r rs, cons_behind g at r rs) (laid_end g (at + sectors_of g r) rs es)
+laid_end : (v : Version) (g : Geometry) (at : ℕ) (rs : List NumberRange) (es : List Extent) → end_of at (map (range_extent v g) (laid v g at rs) ++ es) ≡ end_of (behind v g at rs) es
+laid_end v g at [] es = rw (none_laid v g at, none_behind v g at) refl
+laid_end v g at (r ∷ rs) es = rw (cons_laid v g at r rs, cons_behind v g at r rs) (laid_end v g (at + sectors_of v g r) rs es)
+
+-- ranges cover the same numbers wherever they lie
+cover_laid : (v : Version) (g : Geometry) (n at : ℕ) (rs : List NumberRange) → Cover g n (map (placed 0) rs) → Cover g n (laid v g at rs)
+cover_laid v g n at [] c = subst (Cover g n) (sym (none_laid v g at)) c
+cover_laid v g n at (r ∷ rs) c = subst (Cover g n) (sym (cons_laid v g at r rs)) (c.0, cover_laid v g (n + r.count) (at + sectors_of v g r) rs c.1)
+
+laid_covers : (v : Version) (g : Geometry) (n at : ℕ) (rs : List NumberRange) → Cover g n (laid v g at rs) → Cover g n (map (placed 0) rs)
+laid_covers v g n at [] c = subst (Cover g n) (none_laid v g at) c
+laid_covers v g n at (r ∷ rs) c =
+    let here = subst (Cover g n) (cons_laid v g at r rs) c in
+    (here.0, laid_covers v g (n + r.count) (at + sectors_of v g r) rs here.1)
 
 -- ---- how many sectors the ranges take
 
--- those of all numbers from n on
+-- those of all numbers from n on, by version 1
 abbrev sectors_from : Geometry → ℕ → ℕ
 sectors_from g n = 2 * (g.nodes - n) + 9 * (g.nodes + g.pages - n - (g.nodes - n))
 
-range_takes : (g : Geometry) (r : NumberRange) (n : ℕ) → r.first ≡ n → 0 < r.count → (r.first + r.count ≤ g.nodes) ⊎ (g.nodes ≤ r.first) → n + r.count ≤ g.nodes + g.pages
-    → sectors_of g r + sectors_from g (n + r.count) ≡ sectors_from g n
-range_takes g r n first some kind few = ⊎_elim
-    (λ nodes. let is : sectors_of g r ≡ 2 * r.count = ap (λ (b : Bool). if b then 2 * r.count else 9 * r.count) (lt-ltb r.first g.nodes (omega (arith, nodes, some))) in omega (arith, is, first, nodes, few))
-    (λ pages. let is : sectors_of g r ≡ 9 * r.count = ap (λ (b : Bool). if b then 2 * r.count else 9 * r.count) (le-ltb r.first g.nodes pages) in omega (arith, is, first, pages, few))
+-- a range of nodes takes by each version no more than 8 sectors above what it takes by version 1
+few_more : (v : Version) (count : ℕ) → nodes_length v count ≤ 2 * count + 8
+few_more One count = omega arith
+few_more Two count = omega arith
+
+range_takes : (v : Version) (g : Geometry) (r : NumberRange) (n : ℕ) → r.first ≡ n → 0 < r.count → (r.first + r.count ≤ g.nodes) ⊎ (g.nodes ≤ r.first) → n + r.count ≤ g.nodes + g.pages
+    → sectors_of v g r + sectors_from g (n + r.count) ≤ sectors_from g n + 8
+range_takes v g r n first some kind few = ⊎_elim
+    (λ nodes.
+    let is : sectors_of v g r ≡ nodes_length v r.count = ap (λ (b : Bool). if b then nodes_length v r.count else 9 * r.count) (lt-ltb r.first g.nodes (omega (arith, nodes, some))) in
+    let more = few_more v r.count in
+    omega (arith, is, more, first, nodes, few))
+    (λ pages.
+    let is : sectors_of v g r ≡ 9 * r.count = ap (λ (b : Bool). if b then nodes_length v r.count else 9 * r.count) (le-ltb r.first g.nodes pages) in
+    omega (arith, is, first, pages, few))
     kind
 
 covered_within : (g : Geometry) (n : ℕ) (rs : List HomeRange) → Cover g n rs → n ≤ g.nodes + g.pages
 covered_within g n [] c = omega (arith, c)
 covered_within g n (r ∷ rs) c = let rest = covered_within g (n + r.count) rs c.1 in omega (arith, rest)
 
-behind_is : (g : Geometry) (n at : ℕ) (rs : List NumberRange) → Cover g n (laid g at rs) → behind g at rs ≡ at + sectors_from g n
-behind_is g n at [] c = let none = none_behind g at in let all : n ≡ g.nodes + g.pages = subst (Cover g n) (none_laid g at) c in omega (arith, none, all)
-behind_is g n at (r ∷ rs) c =
-    let here = subst (Cover g n) (cons_laid g at r rs) c in
-    let few = covered_within g (n + r.count) (laid g (at + sectors_of g r) rs) here.1 in
-    let takes = range_takes g r n here.0.0 here.0.1 here.0.2 few in
-    cons_behind g at r rs ∙ behind_is g (n + r.count) (at + sectors_of g r) rs here.1 ∙ omega (arith, takes)
+behind_few : (v : Version) (g : Geometry) (n at : ℕ) (rs : List NumberRange) → Cover g n (map (placed 0) rs) → behind v g at rs ≤ at + sectors_from g n + 8 * length rs
+behind_few v g n at [] c = let none = none_behind v g at in omega (arith, none)
+behind_few v g n at (r ∷ rs) c =
+    let few = covered_within g (n + r.count) (map (placed 0) rs) c.1 in
+    let takes = range_takes v g r n c.0.0 c.0.1 c.0.2 few in
+    let is = cons_behind v g at r rs in
+    let rest = behind_few v g (n + r.count) (at + sectors_of v g r) rs c.1 in
+    omega (arith, is, rest, takes)
 
-module _ (g : Geometry) (rs : List NumberRange) (may : MayBeLaid g rs) where
+module _ (v : Version) (g : Geometry) (rs : List NumberRange) (may : MayBeLaid g rs) where
   abbrev halves : List Extent
-  halves = half_extent g (behind g 5 rs) ∷ half_extent g (behind g 5 rs + half_length g) ∷ []
+  halves = half_extent g (behind v g 5 rs) ∷ half_extent g (behind v g 5 rs + half_length g) ∷ []
 
-  follow : Follow 5 (extents (plan_from g rs))
-  follow = laid_follow g 5 rs halves (refl, (refl, tt))
+  follow : Follow 5 (extents (plan_from v g rs))
+  follow = laid_follow v g 5 rs halves (refl, (refl, tt))
 
   -- no numbers within the limits take more sectors than a device may have
-  total_few : (plan_from g rs).total ≤ 131072
-  total_few = let end = behind_is g 0 5 rs may.cover in omega (arith, end, may.geometry.most_nodes, may.geometry.most_pages, may.geometry.most_log)
+  total_few : (plan_from v g rs).total ≤ 131072
+  total_few = let end = behind_few v g 0 5 rs may.cover in omega (arith, end, may.few, may.geometry.most_nodes, may.geometry.most_pages, may.geometry.most_log)
 
-  pub is_plan : IsPlan (plan_from g rs)
+  pub is_plan : IsPlan (plan_from v g rs)
   is_plan = record {
-    first = refl;
     geometry = may.geometry;
-    some = omega (arith, may.some, length_laid g 5 rs);
-    few = omega (arith, may.few, length_laid g 5 rs);
+    some = omega (arith, may.some, length_laid v g 5 rs);
+    few = omega (arith, may.few, length_laid v g 5 rs);
     total = total_few;
-    cover = may.cover;
-    within = follow_within (plan_from g rs).total 5 (extents (plan_from g rs)) (omega arith) (omega (arith, laid_end g 5 rs halves)) follow;
-    apart = follow_apart 5 (extents (plan_from g rs)) follow;
+    cover = cover_laid v g 0 5 rs may.cover;
+    within = follow_within (plan_from v g rs).total 5 (extents (plan_from v g rs)) (omega arith) (omega (arith, laid_end v g 5 rs halves)) follow;
+    apart = follow_apart 5 (extents (plan_from v g rs)) follow;
   }
+
+-- what is laid out as a plan may be
+pub may_be : (v : Version) (g : Geometry) (rs : List NumberRange) → IsPlan (plan_from v g rs) → MayBeLaid g rs
+may_be v g rs is = record {
+  geometry = is.geometry;
+  some = omega (arith, is.some, length_laid v g 5 rs);
+  few = omega (arith, is.few, length_laid v g 5 rs);
+  cover = laid_covers v g 0 5 rs is.cover;
+}
+
+-- ---- version 2 beside version 1
+
+-- a range takes by version 2 no more than 8 sectors above what it takes by version 1
+second_takes : (is_node : Bool) (count : ℕ) → (if is_node then nodes_length Two count else 9 * count) ≤ (if is_node then nodes_length One count else 9 * count) + 8
+second_takes true count = omega arith
+second_takes false count = omega arith
+
+second_behind : (g : Geometry) (one two : ℕ) (rs : List NumberRange) → behind Two g two rs + one ≤ behind One g one rs + two + 8 * length rs
+second_behind g one two [] = let first = none_behind One g one in let second = none_behind Two g two in omega (arith, first, second)
+second_behind g one two (r ∷ rs) =
+    let takes : sectors_of Two g r ≤ sectors_of One g r + 8 = second_takes (nat_lt r.first g.nodes) r.count in
+    let first = cons_behind One g one r rs in
+    let second = cons_behind Two g two r rs in
+    let rest = second_behind g (one + sectors_of One g r) (two + sectors_of Two g r) rs in
+    omega (arith, takes, first, second, rest)
+
+pub second_total : (g : Geometry) (rs : List NumberRange) → (plan_from Two g rs).total ≤ (plan_from One g rs).total + 8 * length rs
+second_total g rs = let end = second_behind g 5 5 rs in omega (arith, end)
 
 -- ---- the count of each range is at most that of all numbers
 
-counts_few : (g : Geometry) (n at : ℕ) (rs : List NumberRange) → Cover g n (laid g at rs) → All (λ r. r.count ≤ g.nodes + g.pages) rs
-counts_few g n at [] c k d lt = absurd (omega (arith, lt))
-counts_few g n at (r ∷ rs) c zero d lt =
-    let here = subst (Cover g n) (cons_laid g at r rs) c in
-    let rest = covered_within g (n + r.count) (laid g (at + sectors_of g r) rs) here.1 in omega (arith, rest)
-counts_few g n at (r ∷ rs) c (suc k) d lt =
-    let here = subst (Cover g n) (cons_laid g at r rs) c in
-    counts_few g (n + r.count) (at + sectors_of g r) rs here.1 k d (omega (arith, lt))
+counts_few : (g : Geometry) (n : ℕ) (rs : List NumberRange) → Cover g n (map (placed 0) rs) → All (λ r. r.count ≤ g.nodes + g.pages) rs
+counts_few g n [] c k d lt = absurd (omega (arith, lt))
+counts_few g n (r ∷ rs) c zero d lt = let rest = covered_within g (n + r.count) (map (placed 0) rs) c.1 in omega (arith, rest)
+counts_few g n (r ∷ rs) c (suc k) d lt = counts_few g (n + r.count) rs c.1 k d (omega (arith, lt))
 
 pub few_counts : (g : Geometry) (rs : List NumberRange) → MayBeLaid g rs → All (λ r. r.count ≤ 8192) rs
-few_counts g rs may k d lt = let few = counts_few g 0 5 rs may.cover k d lt in omega (arith, few, may.geometry.most_nodes, may.geometry.most_pages)
+few_counts g rs may k d lt = let few = counts_few g 0 rs may.cover k d lt in omega (arith, few, may.geometry.most_nodes, may.geometry.most_pages)

@@ -4,69 +4,74 @@ use Rattle.std.specs.Prelude.{if◌then◌else◌}
 use Rattle.std.proofs.lemmas.List.{append-nil, drop_all, drop_more, length-set, take_all, take_more_set}
 use Rattle.model.specs.declared.geometry.Geometry.{Geometry}
 use Rattle.layout.specs.declared.extent.HomeRange.{HomeRange}
+use Rattle.layout.specs.declared.version.Version.{Version}
+use Rattle.layout.specs.declared.version.Version.TheVariants.{One, Two}
+use Rattle.layout.specs.Superblock.{nodes_length}
 use Rattle.image_writer.specs.declared.number_range.NumberRange.{NumberRange}
 use Rattle.image_writer.specs.Laid.{behind, laid, placed, sectors_of}
 
-pub cons_laid : (g : Geometry) (at : ℕ) (r : NumberRange) (rs : List NumberRange) → laid g at (r ∷ rs) ≡ placed at r ∷ laid g (at + sectors_of g r) rs
+pub cons_laid : (v : Version) (g : Geometry) (at : ℕ) (r : NumberRange) (rs : List NumberRange) → laid v g at (r ∷ rs) ≡ placed at r ∷ laid v g (at + sectors_of v g r) rs
 unfolding laid
-cons_laid g at r rs = refl
+cons_laid v g at r rs = refl
 
-pub none_laid : (g : Geometry) (at : ℕ) → laid g at [] ≡ []
+pub none_laid : (v : Version) (g : Geometry) (at : ℕ) → laid v g at [] ≡ []
 unfolding laid
-none_laid g at = refl
+none_laid v g at = refl
 
-pub cons_behind : (g : Geometry) (at : ℕ) (r : NumberRange) (rs : List NumberRange) → behind g at (r ∷ rs) ≡ behind g (at + sectors_of g r) rs
+pub cons_behind : (v : Version) (g : Geometry) (at : ℕ) (r : NumberRange) (rs : List NumberRange) → behind v g at (r ∷ rs) ≡ behind v g (at + sectors_of v g r) rs
 unfolding behind
-cons_behind g at r rs = refl
+cons_behind v g at r rs = refl
 
-pub none_behind : (g : Geometry) (at : ℕ) → behind g at [] ≡ at
+pub none_behind : (v : Version) (g : Geometry) (at : ℕ) → behind v g at [] ≡ at
 unfolding behind
-none_behind g at = refl
+none_behind v g at = refl
 
-pub length_laid : (g : Geometry) (at : ℕ) (rs : List NumberRange) → length (laid g at rs) ≡ length rs
+pub length_laid : (v : Version) (g : Geometry) (at : ℕ) (rs : List NumberRange) → length (laid v g at rs) ≡ length rs
 unfolding laid
-length_laid g at [] = refl
-length_laid g at (r ∷ rs) = ap suc (length_laid g (at + sectors_of g r) rs)
+length_laid v g at [] = refl
+length_laid v g at (r ∷ rs) = ap suc (length_laid v g (at + sectors_of v g r) rs)
 
-few_by : (b : Bool) (n : ℕ) → n ≤ 8192 → (if b then 2 * n else 9 * n) ≤ 73728
-few_by true n few = omega (arith, few)
-few_by false n few = omega (arith, few)
+few_by : (v : Version) (b : Bool) (n : ℕ) → n ≤ 8192 → (if b then nodes_length v n else 9 * n) ≤ 73728
+few_by One true n few = omega (arith, few)
+few_by One false n few = omega (arith, few)
+few_by Two true n few = omega (arith, few)
+few_by Two false n few = omega (arith, few)
 
-few_sectors : (g : Geometry) (r : NumberRange) → r.count ≤ 8192 → sectors_of g r ≤ 73728
-few_sectors g r few = few_by (nat_lt r.first g.nodes) r.count few
+few_sectors : (v : Version) (g : Geometry) (r : NumberRange) → r.count ≤ 8192 → sectors_of v g r ≤ 73728
+few_sectors v g r few = few_by v (nat_lt r.first g.nodes) r.count few
 
 -- the first i ranges are laid, up to a sector, and the others lie from there on
-pub record LaidTo (g : Geometry) (rs : List NumberRange) (into : List HomeRange) (i next : ℕ) : Type 0 where
+pub record LaidTo (v : Version) (g : Geometry) (rs : List NumberRange) (into : List HomeRange) (i next : ℕ) : Type 0 where
   pub size : length into ≡ length rs
-  pub rest : laid g 5 rs ≡ take i into ++ laid g next (drop i rs)
-  pub end : behind g 5 rs ≡ behind g next (drop i rs)
+  pub rest : laid v g 5 rs ≡ take i into ++ laid v g next (drop i rs)
+  pub end : behind v g 5 rs ≡ behind v g next (drop i rs)
   pub most : next ≤ 5 + 73728 * i
 
-pub laid_none : (g : Geometry) (rs : List NumberRange) (into : List HomeRange) → length into ≡ length rs → LaidTo g rs into 0 5
-laid_none g rs into size = record { size = size; rest = refl; end = refl; most = omega arith }
+pub laid_none : (v : Version) (g : Geometry) (rs : List NumberRange) (into : List HomeRange) → length into ≡ length rs → LaidTo v g rs into 0 5
+laid_none v g rs into size = record { size = size; rest = refl; end = refl; most = omega arith }
 
 abbrev pub range_at : List NumberRange → ℕ → NumberRange
 range_at rs i = get_or rs i (record { first = 0; count = 0 })
 
-pub laid_more : (g : Geometry) (rs : List NumberRange) (into : List HomeRange) (i next : ℕ) → i < length rs → (range_at rs i).count ≤ 8192 → LaidTo g rs into i next
-    → LaidTo g rs (set into i (placed next (range_at rs i))) (i + 1) (next + sectors_of g (range_at rs i))
-laid_more g rs into i next lt few was =
+pub laid_more : (v : Version) (g : Geometry) (rs : List NumberRange) (into : List HomeRange) (i next : ℕ) → i < length rs → (range_at rs i).count ≤ 8192 → LaidTo v g rs into i next
+    → LaidTo v g rs (set into i (placed next (range_at rs i))) (i + 1) (next + sectors_of v g (range_at rs i))
+laid_more v g rs into i next lt few was =
     let r : NumberRange = range_at rs i in
     let split : drop i rs ≡ r ∷ drop (i + 1) rs = drop_more rs i (record { first = 0; count = 0 }) lt in
     let front : take (i + 1) (set into i (placed next r)) ≡ take i into ++ placed next r ∷ [] = take_more_set into i (placed next r) (omega (arith, lt, was.size)) in
-    let back : List HomeRange = laid g (next + sectors_of g r) (drop (i + 1) rs) in
+    let back : List HomeRange = laid v g (next + sectors_of v g r) (drop (i + 1) rs) in
     record {
       size = length-set into i (placed next r) ∙ was.size;
-      rest = was.rest ∙ ap (λ (xs : List NumberRange). take i into ++ laid g next xs) split ∙ ap (λ (xs : List HomeRange). take i into ++ xs) (cons_laid g next r (drop (i + 1) rs))
+      rest = was.rest ∙ ap (λ (xs : List NumberRange). take i into ++ laid v g next xs) split ∙ ap (λ (xs : List HomeRange). take i into ++ xs) (cons_laid v g next r (drop (i + 1) rs))
           ∙ sym (append_assoc (take i into) (placed next r ∷ []) back) ∙ ap (λ (xs : List HomeRange). xs ++ back) (sym front);
-      end = was.end ∙ ap (behind g next) split ∙ cons_behind g next r (drop (i + 1) rs);
-      most = omega (arith, was.most, few_sectors g r few);
+      end = was.end ∙ ap (behind v g next) split ∙ cons_behind v g next r (drop (i + 1) rs);
+      most = omega (arith, was.most, few_sectors v g r few);
     }
 
-pub all_laid : (g : Geometry) (rs : List NumberRange) (into : List HomeRange) (i next : ℕ) → length rs ≤ i → LaidTo g rs into i next → into ≡ laid g 5 rs
-all_laid g rs into i next done was =
-    sym (was.rest ∙ ap (λ (xs : List NumberRange). take i into ++ laid g next xs) (drop_all i rs done) ∙ ap (λ (xs : List HomeRange). take i into ++ xs) (none_laid g next)
+pub all_laid : (v : Version) (g : Geometry) (rs : List NumberRange) (into : List HomeRange) (i next : ℕ) → length rs ≤ i → LaidTo v g rs into i next → into ≡ laid v g 5 rs
+all_laid v g rs into i next done was =
+    sym (was.rest ∙ ap (λ (xs : List NumberRange). take i into ++ laid v g next xs) (drop_all i rs done) ∙ ap (λ (xs : List HomeRange). take i into ++ xs) (none_laid v g next)
     ∙ append-nil (take i into) ∙ take_all i into (omega (arith, done, was.size)))
 
-pub end_laid : (g : Geometry) (rs : List NumberRange) (into : List HomeRange) (i next : ℕ) → length rs ≤ i → LaidTo g rs into i next → next ≡ behind g 5 rs
-end_laid g rs into i next done was = sym (was.end ∙ ap (behind g next) (drop_all i rs done) ∙ none_behind g next)
+pub end_laid : (v : Version) (g : Geometry) (rs : List NumberRange) (into : List HomeRange) (i next : ℕ) → length rs ≤ i → LaidTo v g rs into i next → next ≡ behind v g 5 rs
+end_laid v g rs into i next done was = sym (was.end ∙ ap (behind v g next) (drop_all i rs done) ∙ none_behind v g next)

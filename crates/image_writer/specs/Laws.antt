@@ -1,9 +1,18 @@
--- What is left of an image whose gates are closed: it is as before until the last one is, and then it holds nothing.
-use Rattle.std.specs.Prelude.{◌↔◌, ℕ}
+-- How many sectors an image takes by version 2; and what is left of one whose gates are closed: it is as before until the
+-- last one is, and then it holds nothing.
+use Rattle.std.specs.Prelude.{◌↔◌, ℕ, ◌+◌, ◌*◌, ◌≤◌, List, length}
+use Rattle.model.specs.declared.geometry.Geometry.{Geometry}
 use Rattle.device.specs.Disk.{Image}
 use Rattle.layout.specs.Image.{HasNoHeader}
+use Rattle.layout.specs.declared.version.Version.TheVariants.{One, Two}
 use Rattle.ckpt_log.specs.Closing.{KeepsImage}
 use Rattle.checkpoint.specs.Saved.{Holds, SavedFrames}
+use Rattle.image_writer.specs.declared.number_range.NumberRange.{NumberRange}
+use Rattle.image_writer.specs.Laid.{plan_from}
+
+-- by version 2 an image takes at most 8 sectors a range more than by version 1
+abbrev pub SecondTakesFewMore : Type 0
+SecondTakesFewMore = (g : Geometry) (rs : List NumberRange) → (plan_from Two g rs).total ≤ (plan_from One g rs).total + 8 * length rs
 
 -- an image of which the gates alone were touched, with the same committed header, holds the same saved frames, or as
 -- before none

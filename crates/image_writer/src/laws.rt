@@ -1,7 +1,12 @@
-//! Laws of what a crash leaves while an image is written, each the contract of a function that does
-//! nothing.
+//! Laws of how many sectors an image takes, and of what a crash leaves while one is written, each the
+//! contract of a function that does nothing.
 
-ghost use Rattle.image_writer.specs.Laws.{KeptHoldsTheSame, NoneIsHeld};
+ghost use Rattle.image_writer.specs.Laws.{KeptHoldsTheSame, NoneIsHeld, SecondTakesFewMore};
+
+/// An image takes by version 2 at most 8 sectors for each of its ranges more than by version 1.
+pub fn second_takes_few_more()
+    ensures { SecondTakesFewMore }
+{}
 
 /// An image of which the gates alone were touched, with the same committed header, holds the saved
 /// frames that it held, or as before none.

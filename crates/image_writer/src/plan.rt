@@ -27,12 +27,17 @@ const UNUSED: HomeRange = HomeRange {
 };
 
 // Lays ranges one behind the other, and answers the sector behind them.
-fn lay_ranges(geometry: Geometry, ranges: &[NumberRange], into: &mut [HomeRange]) -> u64
+fn lay_ranges(
+    version: Version,
+    geometry: Geometry,
+    ranges: &[NumberRange],
+    into: &mut [HomeRange],
+) -> u64
     requires size { length into.old ≡ length ranges.now }
     requires few { length ranges.now ≤ 8 }
     requires counts { All (λ r. r.count ≤ 8192) ranges.now }
-    ensures laid { into.new ≡ laid geometry 5 ranges.now }
-    ensures end { result ≡ behind geometry 5 ranges.now }
+    ensures laid { into.new ≡ laid version geometry 5 ranges.now }
+    ensures end { result ≡ behind version geometry 5 ranges.now }
     ensures most { result ≤ 600000 }
 {
     let mut next = FIRST_SECTOR;
@@ -42,7 +47,7 @@ fn lay_ranges(geometry: Geometry, ranges: &[NumberRange], into: &mut [HomeRange]
             count: range.count,
             sector: next,
         };
-        let extent = range_extent(Version::One, geometry, home);
+        let extent = range_extent(version, geometry, home);
         into[i] = home;
         next += extent.length;
     }
@@ -56,15 +61,19 @@ fn are_few(ranges: &[NumberRange]) -> bool
     ranges.iter().all(|range| range.count <= MAX_OBJECTS)
 }
 
-/// Lays out an image of version 1 and of so many objects: from sector 5 on the home ranges in their order, behind
-/// them the two halves of the log. The total is the sector behind the second.
+/// Lays out an image of a version and of so many objects: from sector 5 on the home ranges in their
+/// order, behind them the two halves of the log. The total is the sector behind the second.
 ///
 /// It is refused exactly where the format wants other numbers: 16 to 4096 nodes, 1 to 4096 pages,
 /// 16 to 4096 slots in a half of the log; and 1 to 8 ranges that have each number once, in their
 /// order, each with nodes alone or pages alone, and none without a number. No such image takes more
-/// sectors than a device may have.
-pub fn lay_out(geometry: Geometry, ranges: &[NumberRange]) -> Result<Superblock, LayOutFault>
-    ensures laid { IfOk result (λ s. s ≡ plan_from geometry ranges.now) }
+/// sectors than a device may have, in either version.
+pub fn lay_out(
+    version: Version,
+    geometry: Geometry,
+    ranges: &[NumberRange],
+) -> Result<Superblock, LayOutFault>
+    ensures laid { IfOk result (λ s. s ≡ plan_from version geometry ranges.now) }
     ensures fits { IfOk result (λ s. IsPlan s) }
     ensures allowed { IfOk result (λ _. MayBeLaid geometry ranges.now) }
     ensures refused { IfErr result (λ _. MayBeLaid geometry ranges.now → ⊥) }
@@ -74,11 +83,11 @@ pub fn lay_out(geometry: Geometry, ranges: &[NumberRange]) -> Result<Superblock,
     }
     let mut homes = [UNUSED; MAX_RANGES];
     let used = &mut homes[..ranges.len()];
-    let first = lay_ranges(geometry, ranges, used);
+    let first = lay_ranges(version, geometry, ranges, used);
     let half = half_extent(geometry, first);
     let second = first + half.length;
     let total = second + half.length;
-    match Superblock::new(Version::One, geometry, used, first, second, total) {
+    match Superblock::new(version, geometry, used, first, second, total) {
         Some(superblock) => Ok(superblock),
         None => Err(LayOutFault),
     }

@@ -11,6 +11,7 @@ use crate::worlds::{f0, i0};
 use capability::{Plain, PresentFrames};
 use device::Device;
 use image_writer::{NumberRange, lay_out, write_image};
+use layout::Version;
 use model::{Cap, Content, ObjectHeader};
 use std::alloc::{AllocError, Global};
 use std::test::Fail;
@@ -74,7 +75,7 @@ pub fn written<D: Device>(alloc: Global, device: D, plain: &Plain, age: u64) -> 
         first: geometry.nodes,
         count: geometry.pages,
     };
-    let superblock = lay_out(geometry, &[nodes, pages])
+    let superblock = lay_out(Version::One, geometry, &[nodes, pages])
         .ok()
         .ok_or("within the limits")?;
     if device.sectors() < superblock.total() {

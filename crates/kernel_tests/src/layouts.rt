@@ -1,5 +1,6 @@
 // Sizes that no description in a file has.
 use image_writer::{NumberRange, lay_out};
+use layout::Version;
 use model::Geometry;
 use std::test::Fail;
 
@@ -13,8 +14,10 @@ fn numbers_of_64_bits_are_not_laid_out(rt: HostRuntime) -> Result<(), Fail> {
     let (nodes, pages) = (16, 8);
     for (log, count) in [(u64::MAX, pages), (16, u64::MAX)] {
         let geometry = Geometry { nodes, pages, log };
-        let laid = lay_out(geometry, &[range(0, nodes), range(nodes, count)]);
-        assert!(rt; laid.is_err(), "at {log} {count}");
+        for version in [Version::One, Version::Two] {
+            let laid = lay_out(version, geometry, &[range(0, nodes), range(nodes, count)]);
+            assert!(rt; laid.is_err(), "at {log} {count}");
+        }
     }
     Ok(())
 }

@@ -1,5 +1,5 @@
 -- An image that denotes a saved state has none of the first seven reasons to be refused.
-use Rattle.std.proofs.Common.{◌≡◌, ℕ, ◌+◌, ◌*◌, None, Some, List, [], ◌∷◌, ◌++◌, length, drop, refl, sym, ap, subst, ◌∙◌, ⊎_elim, arith}
+use Rattle.std.proofs.Common.{◌≡◌, ℕ, None, Some, List, [], ◌∷◌, ◌++◌, drop, refl, sym, ap, subst, ◌∙◌, ⊎_elim, arith}
 use Rattle.std.proofs.lemmas.List.{drop_at, drop-drop}
 use Rattle.model.specs.declared.frame.Frame.{Frame}
 use Rattle.model.specs.Frame.{frame_at}
@@ -15,7 +15,7 @@ use Rattle.layout.specs.Superblock.{Plan, IsPlan, HasMark, superblock_bytes, ran
 use Rattle.layout.proofs.Numbers.{stream}
 use Rattle.layout.proofs.FrameReaders.{passed, passed_on}
 use Rattle.layout.proofs.Images.{same_plan, same_header, same_directory}
-use Rattle.layout.proofs.Superblocks.{magic, numbers_of, eight_long, eight_ranges, length-ranges, mark_from, plan_stream}
+use Rattle.layout.proofs.Superblocks.{magic, few_versions, second_of, numbers_of, eight_long, eight_ranges, length-ranges, mark_from, plan_stream}
 use Rattle.layout.proofs.Totals.{total_told}
 
 -- the bytes of a superblock have its mark
@@ -23,7 +23,8 @@ marked : (p : Plan) → IsPlan p → HasMark (superblock_bytes p)
 marked p is =
     let bytes : List ℕ = superblock_bytes p in
     let rest : List ℕ = ranges_bytes (eight_ranges p.ranges) ++ zeros 256 in
-    let n : ℕ = 1 + 4294967296 * length p.ranges in
+    let n : ℕ = second_of p in
+    let small = few_versions p.version in
     let g = p.geometry in
     let a = passed magic (stream (n ∷ numbers_of p) rest) bytes (plan_stream p is.few) in
     let b = passed_on 8 n (stream (numbers_of p) rest) bytes a in
@@ -33,10 +34,10 @@ marked p is =
     let f = passed_on 40 p.half_0 (stream (p.half_1 ∷ p.total ∷ []) rest) bytes e in
     let h = passed_on 48 p.half_1 (stream (p.total ∷ []) rest) bytes f in
     let last = passed_on 56 p.total rest bytes h in
-    mark_from bytes magic n
+    mark_from bytes magic n p.version
     (plan_stream p is.few ∙ ap (λ (r : List ℕ). number magic ++ r) (sym a))
     (a ∙ ap (λ (r : List ℕ). number n ++ r) (sym b))
-    (omega (arith, is.few)) refl (omega arith)
+    (omega (arith, is.few, small)) refl (omega (arith, small))
     (sym (drop-drop 192 64 bytes) ∙ ap (drop 192) last ∙ drop_at (ranges_bytes (eight_ranges p.ranges)) (zeros 256) 192 (length-ranges (eight_ranges p.ranges) ∙ omega (arith, eight_long p.ranges is.few)))
 
 abbrev state : Plan → CheckpointHeader → List Entry → List Frame → SavedState

@@ -2,7 +2,7 @@
 use Rattle.std.proofs.Common.{◌≡◌, ℕ, zero, suc, ◌+◌, ◌-◌, ◌*◌, ◌/◌, ◌%◌, ◌^◌, ◌<◌, ◌≤◌, List, [], ◌∷◌, ◌++◌, length, get_or, set, take, drop, refl, sym, ap, subst, ◌∙◌, append_assoc, arith}
 use Rattle.std.specs.List.{All, between}
 use borrow.Rule.Slice.PartMut.{put_mid}
-use Rattle.std.specs.Prelude.{replicate, codes, map}
+use Rattle.std.specs.Prelude.{replicate, codes, map, Option, Some, None, IfSome, IfNone}
 use Rattle.std.specs.Int.{w32, from_le_bytes}
 use Rattle.std.proofs.lemmas.Nat.{le_bytes_8, from_le_bytes-to_le_bytes_4}
 use Rattle.std.proofs.lemmas.List.{same_lists, take_more, take_more_set, take_all, take_at, drop_at, drop-drop, append-nil, length-append, length-replicate, get_or-replicate, length-take-le, length-drop, take-append-drop, length-map, get_or_append_left, get_or-append-add, get_or-map}
@@ -13,9 +13,9 @@ use Rattle.model.specs.declared.geometry.Geometry.{Geometry}
 use Rattle.layout.specs.declared.extent.Extent.{Extent}
 use Rattle.layout.specs.declared.extent.HomeRange.{HomeRange}
 use Rattle.layout.specs.declared.version.Version.{Version}
-use Rattle.layout.specs.declared.version.Version.TheVariants.{One}
+use Rattle.layout.specs.declared.version.Version.TheVariants.{One, Two}
 use Rattle.layout.specs.Bytes.{number, half_number, zeros}
-use Rattle.layout.specs.Superblock.{Plan, plan_of, extents, range_extent, half_extent, IsWithin, range_bytes, ranges_bytes, unused, superblock_bytes, HasMark, IsPlan, RangeFits}
+use Rattle.layout.specs.Superblock.{Plan, version_number, plan_of, extents, range_extent, half_extent, IsWithin, range_bytes, ranges_bytes, unused, superblock_bytes, HasMark, IsPlan, RangeFits}
 use Rattle.layout.proofs.Numbers.{length-number, number_splits, stream, AllFit, stream_splits, IsWritten}
 use Rattle.layout.proofs.Capabilities.{small_8}
 use Rattle.layout.proofs.Extents.{counts_within, firsts_within}
@@ -152,11 +152,26 @@ half_told : (m n : ℕ) → m < 2 ^ 32 → n < 2 ^ 32 → half_number m ≡ half
 unfolding half_number
 half_told m n fm fn e = sym (from_le_bytes-to_le_bytes_4 m fm) ∙ ap (from_le_bytes w32) e ∙ from_le_bytes-to_le_bytes_4 n fn
 
-pub mark_from : (bytes : List ℕ) (m second : ℕ) → bytes ≡ number m ++ drop 8 bytes → drop 8 bytes ≡ number second ++ drop 16 bytes → second < 2 ^ 64
-    → m ≡ magic → second % 4294967296 ≡ 1 → drop 256 bytes ≡ zeros 256 → HasMark bytes
-mark_from bytes m second first next fits is v blank = record {
+pub few_versions : (v : Version) → version_number v ≤ 2
+few_versions One = omega arith
+few_versions Two = omega arith
+
+one_version : (v w : Version) → version_number v ≡ version_number w → v ≡ w
+one_version One One e = refl
+one_version One Two e = absurd (omega (arith, e))
+one_version Two One e = absurd (omega (arith, e))
+one_version Two Two e = refl
+
+-- the version that a second number tells
+pub version_told : (bytes : List ℕ) (second : ℕ) (v : Version) → drop 8 bytes ≡ number second ++ drop 16 bytes → second < 2 ^ 64 → second % 4294967296 ≡ version_number v
+    → take 4 (drop 8 bytes) ≡ half_number (version_number v)
+version_told bytes second v next fits is = ap (take 4) next ∙ front_half second (drop 16 bytes) fits ∙ ap half_number is
+
+pub mark_from : (bytes : List ℕ) (m second : ℕ) (v : Version) → bytes ≡ number m ++ drop 8 bytes → drop 8 bytes ≡ number second ++ drop 16 bytes → second < 2 ^ 64
+    → m ≡ magic → second % 4294967296 ≡ version_number v → drop 256 bytes ≡ zeros 256 → HasMark bytes
+mark_from bytes m second v first next fits is told blank = record {
   magic = ap (take 8) first ∙ take_at (number m) (drop 8 bytes) 8 (length-number m) ∙ ap number is ∙ sym magic_is;
-  version = ap (take 4) next ∙ front_half second (drop 16 bytes) fits ∙ ap half_number v;
+  version = (v, version_told bytes second v next fits told);
   blank = blank;
 }
 
@@ -165,14 +180,38 @@ magic_from bytes m first fits mark =
     let same : number m ≡ number magic = sym (take_at (number m) (drop 8 bytes) 8 (length-number m)) ∙ sym (ap (take 8) first) ∙ mark.magic ∙ magic_is in
     (number_splits m magic [] [] fits (omega arith) (ap (λ (b : List ℕ). b ++ []) same)).0
 
-pub version_from : (bytes : List ℕ) (second : ℕ) → drop 8 bytes ≡ number second ++ drop 16 bytes → second < 2 ^ 64 → HasMark bytes → second % 4294967296 ≡ 1
-version_from bytes second next fits mark =
-    half_told (second % 4294967296) 1 (omega arith) (omega arith) (sym (front_half second (drop 16 bytes) fits) ∙ sym (ap (take 4) next) ∙ mark.version)
+pub version_from : (bytes : List ℕ) (second : ℕ) (v : Version) → drop 8 bytes ≡ number second ++ drop 16 bytes → second < 2 ^ 64 → take 4 (drop 8 bytes) ≡ half_number (version_number v)
+    → second % 4294967296 ≡ version_number v
+version_from bytes second v next fits is =
+    half_told (second % 4294967296) (version_number v) (omega arith) (omega (arith, few_versions v)) (sym (front_half second (drop 16 bytes) fits) ∙ sym (ap (take 4) next) ∙ is)
+
+-- ---- what an answer of a version tells of a sector
+
+module _ (bytes : List ℕ) (m second : ℕ) (first : bytes ≡ number m ++ drop 8 bytes) (next : drop 8 bytes ≡ number second ++ drop 16 bytes) (fits : second < 2 ^ 64) where
+  pub marked : (found : Option Version) → m ≡ magic → drop 256 bytes ≡ zeros 256 → IfSome found (λ v. second % 4294967296 ≡ version_number v) → IfSome found (λ _. HasMark bytes)
+  marked None is blank told = told
+  marked (Some v) is blank told = mark_from bytes m second v first next fits is told blank
+
+  pub versions_told : (found : Option Version) → IfSome found (λ v. second % 4294967296 ≡ version_number v) → IfSome found (λ v. take 4 (drop 8 bytes) ≡ half_number (version_number v))
+  versions_told None told = told
+  versions_told (Some v) told = version_told bytes second v next fits told
+
+  pub unmarked : (found : Option Version) → IfNone found ((v : Version) → second % 4294967296 ≡ version_number v → ⊥) → IfNone found (HasMark bytes → ⊥)
+  unmarked None told = λ mark. told mark.version.0 (version_from bytes second mark.version.0 next fits mark.version.1)
+  unmarked (Some v) told = told
+
+-- a sector with a magic begins with its number
+pub magic_read : (bytes : List ℕ) → HasMark bytes → bytes ≡ number magic ++ drop 8 bytes
+magic_read bytes mark = sym (take-append-drop 8 bytes) ∙ ap (λ (m : List ℕ). m ++ drop 8 bytes) (mark.magic ∙ magic_is)
 
 -- ---- whole superblocks
 
 abbrev pub numbers_of : Plan → List ℕ
 numbers_of p = p.geometry.nodes ∷ p.geometry.pages ∷ p.geometry.log ∷ p.half_0 ∷ p.half_1 ∷ p.total ∷ []
+
+-- version and count of ranges in one number
+abbrev pub second_of : Plan → ℕ
+second_of p = version_number p.version + 4294967296 * length p.ranges
 
 abbrev pub eight_ranges : List HomeRange → List HomeRange
 eight_ranges rs = rs ++ replicate (8 - length rs) unused
@@ -180,16 +219,17 @@ eight_ranges rs = rs ++ replicate (8 - length rs) unused
 deep : (m v n a b c d e f r z : List ℕ) → m ++ v ++ n ++ a ++ b ++ c ++ d ++ e ++ f ++ r ++ z ≡ m ++ ((v ++ n) ++ (a ++ (b ++ (c ++ (d ++ (e ++ (f ++ (r ++ z))))))))
 deep m v n a b c d e f r z = simp append_assoc
 
-pub plan_stream : (p : Plan) → length p.ranges ≤ 8 → superblock_bytes p ≡ stream (magic ∷ (1 + 4294967296 * length p.ranges) ∷ numbers_of p) (ranges_bytes (eight_ranges p.ranges) ++ zeros 256)
+pub plan_stream : (p : Plan) → length p.ranges ≤ 8 → superblock_bytes p ≡ stream (magic ∷ second_of p ∷ numbers_of p) (ranges_bytes (eight_ranges p.ranges) ++ zeros 256)
 unfolding superblock_bytes
 plan_stream p few =
-    deep (codes "EROSCKPT") (half_number 1) (half_number (length p.ranges)) (number p.geometry.nodes) (number p.geometry.pages) (number p.geometry.log) (number p.half_0) (number p.half_1) (number p.total) (ranges_bytes (eight_ranges p.ranges)) (zeros 256)
-    ∙ ap (λ (m : List ℕ). m ++ ((half_number 1 ++ half_number (length p.ranges)) ++ stream (numbers_of p) (ranges_bytes (eight_ranges p.ranges) ++ zeros 256))) magic_is
-    ∙ ap (λ (v : List ℕ). number magic ++ (v ++ stream (numbers_of p) (ranges_bytes (eight_ranges p.ranges) ++ zeros 256))) (halves_number 1 (length p.ranges) (omega arith) (omega arith))
+    let small : version_number p.version < 2 ^ 32 = omega (arith, few_versions p.version) in
+    deep (codes "EROSCKPT") (half_number (version_number p.version)) (half_number (length p.ranges)) (number p.geometry.nodes) (number p.geometry.pages) (number p.geometry.log) (number p.half_0) (number p.half_1) (number p.total) (ranges_bytes (eight_ranges p.ranges)) (zeros 256)
+    ∙ ap (λ (m : List ℕ). m ++ ((half_number (version_number p.version) ++ half_number (length p.ranges)) ++ stream (numbers_of p) (ranges_bytes (eight_ranges p.ranges) ++ zeros 256))) magic_is
+    ∙ ap (λ (v : List ℕ). number magic ++ (v ++ stream (numbers_of p) (ranges_bytes (eight_ranges p.ranges) ++ zeros 256))) (halves_number (version_number p.version) (length p.ranges) small (omega arith))
 
 -- what a superblock needs makes its numbers fit their bytes
 pub record PlanFits (p : Plan) : Type 0 where
-  pub numbers : AllFit (magic ∷ (1 + 4294967296 * length p.ranges) ∷ numbers_of p)
+  pub numbers : AllFit (magic ∷ second_of p ∷ numbers_of p)
   pub ranges : All RangeFits (eight_ranges p.ranges)
 
 pub eight_long : (rs : List HomeRange) → length rs ≤ 8 → length (eight_ranges rs) ≡ 8
@@ -220,7 +260,7 @@ plan_fits p is =
       numbers = (
         omega arith,
         (
-          omega (arith, is.few),
+          omega (arith, is.few, few_versions p.version),
           (
             omega (arith, is.geometry.most_nodes),
             (
@@ -243,11 +283,11 @@ plan_fits p is =
     }
 
 -- what was read of the bytes of a superblock
-pub record IsPlanRead (p : Plan) (second : ℕ) (g : Geometry) (all : List HomeRange) (half_0 half_1 total : ℕ) : Type 0 where
+pub record IsPlanRead (p : Plan) (v : Version) (second : ℕ) (g : Geometry) (all : List HomeRange) (half_0 half_1 total : ℕ) : Type 0 where
   pub used_is : second / 4294967296 ≡ length p.ranges
   pub few : length p.ranges ≤ 8
   pub all_are : all ≡ eight_ranges p.ranges
-  pub plan_is : plan_of One g p.ranges half_0 half_1 total ≡ p
+  pub plan_is : plan_of v g p.ranges half_0 half_1 total ≡ p
 
 abbrev geometry_of : ℕ → ℕ → ℕ → Geometry
 geometry_of n p r = record { nodes = n; pages = p; log = r }
@@ -266,32 +306,34 @@ same_plan v rs a b c d e f a' b' c' d' e' f' same =
 list_tail : (a b : ℕ) (xs ys : List ℕ) → a ∷ xs ≡ b ∷ ys → (a ≡ b) × (xs ≡ ys)
 list_tail a b xs ys e = (cc, cc)
 
-pub plan_told : (p : Plan) (bytes : List ℕ) (m second : ℕ) (g : Geometry) (all : List HomeRange) (half_0 half_1 total : ℕ)
-    → AllFit (m ∷ second ∷ numbers_of (plan_of One g all half_0 half_1 total)) → All RangeFits all → length all ≡ 8
-    → bytes ≡ stream (m ∷ second ∷ numbers_of (plan_of One g all half_0 half_1 total)) (ranges_bytes all ++ drop 256 bytes)
-    → IsPlan p → bytes ≡ superblock_bytes p → IsPlanRead p second g all half_0 half_1 total
-plan_told p bytes m second g all half_0 half_1 total fits ranges_fit eight read is e =
+pub plan_told : (p : Plan) (v : Version) (bytes : List ℕ) (m second : ℕ) (g : Geometry) (all : List HomeRange) (half_0 half_1 total : ℕ)
+    → AllFit (m ∷ second ∷ numbers_of (plan_of v g all half_0 half_1 total)) → All RangeFits all → length all ≡ 8
+    → bytes ≡ stream (m ∷ second ∷ numbers_of (plan_of v g all half_0 half_1 total)) (ranges_bytes all ++ drop 256 bytes)
+    → second % 4294967296 ≡ version_number v → IsPlan p → bytes ≡ superblock_bytes p → IsPlanRead p v second g all half_0 half_1 total
+plan_told p v bytes m second g all half_0 half_1 total fits ranges_fit eight read version is e =
     let pf = plan_fits p is in
-    let s = stream_splits (m ∷ second ∷ numbers_of (plan_of One g all half_0 half_1 total)) (magic ∷ (1 + 4294967296 * length p.ranges) ∷ numbers_of p)
+    let s = stream_splits (m ∷ second ∷ numbers_of (plan_of v g all half_0 half_1 total)) (magic ∷ second_of p ∷ numbers_of p)
     (ranges_bytes all ++ drop 256 bytes) (ranges_bytes (eight_ranges p.ranges) ++ zeros 256) fits pf.numbers refl (sym read ∙ e ∙ plan_stream p is.few) in
     let rest = ranges_split all (eight_ranges p.ranges) (drop 256 bytes) (zeros 256) ranges_fit pf.ranges (eight ∙ sym (eight_long p.ranges is.few)) s.1 in
-    let one = list_tail m magic (second ∷ numbers_of (plan_of One g all half_0 half_1 total)) ((1 + 4294967296 * length p.ranges) ∷ numbers_of p) s.0 in
-    let two = list_tail second (1 + 4294967296 * length p.ranges) (numbers_of (plan_of One g all half_0 half_1 total)) (numbers_of p) one.1 in
+    let one = list_tail m magic (second ∷ numbers_of (plan_of v g all half_0 half_1 total)) (second_of p ∷ numbers_of p) s.0 in
+    let two = list_tail second (second_of p) (numbers_of (plan_of v g all half_0 half_1 total)) (numbers_of p) one.1 in
+    let small = few_versions p.version in
+    let same : v ≡ p.version = one_version v p.version (omega (arith, version, two.0, small)) in
     record {
-      used_is = omega (arith, two.0);
+      used_is = omega (arith, two.0, small);
       few = is.few;
       all_are = rest.0;
-      plan_is = same_plan One p.ranges g.nodes g.pages g.log half_0 half_1 total p.geometry.nodes p.geometry.pages p.geometry.log p.half_0 p.half_1 p.total two.1
-          ∙ ap (λ (v : Version). plan_of v p.geometry p.ranges p.half_0 p.half_1 p.total) (sym is.first);
+      plan_is = same_plan v p.ranges g.nodes g.pages g.log half_0 half_1 total p.geometry.nodes p.geometry.pages p.geometry.log p.half_0 p.half_1 p.total two.1
+          ∙ ap (λ (w : Version). plan_of w p.geometry p.ranges p.half_0 p.half_1 p.total) same;
     }
 
 -- the ranges in use are those of the superblock, and the others unused
-pub used_are : (p : Plan) (second : ℕ) (g : Geometry) (all : List HomeRange) (half_0 half_1 total : ℕ) → IsPlanRead p second g all half_0 half_1 total → take (second / 4294967296) all ≡ p.ranges
-used_are p second g all half_0 half_1 total read = ap (λ (n : ℕ). take n all) read.used_is ∙ ap (take (length p.ranges)) read.all_are ∙ take_at p.ranges (replicate (8 - length p.ranges) unused) (length p.ranges) refl
+pub used_are : (p : Plan) (v : Version) (second : ℕ) (g : Geometry) (all : List HomeRange) (half_0 half_1 total : ℕ) → IsPlanRead p v second g all half_0 half_1 total → take (second / 4294967296) all ≡ p.ranges
+used_are p v second g all half_0 half_1 total read = ap (λ (n : ℕ). take n all) read.used_is ∙ ap (take (length p.ranges)) read.all_are ∙ take_at p.ranges (replicate (8 - length p.ranges) unused) (length p.ranges) refl
 
-pub others_are : (p : Plan) (second : ℕ) (g : Geometry) (all : List HomeRange) (half_0 half_1 total : ℕ) → IsPlanRead p second g all half_0 half_1 total
+pub others_are : (p : Plan) (v : Version) (second : ℕ) (g : Geometry) (all : List HomeRange) (half_0 half_1 total : ℕ) → IsPlanRead p v second g all half_0 half_1 total
     → All (λ r. r ≡ unused) (drop (second / 4294967296) all)
-others_are p second g all half_0 half_1 total read =
+others_are p v second g all half_0 half_1 total read =
     All-same (λ (r : HomeRange). r ≡ unused) (drop (second / 4294967296) all) (replicate (8 - length p.ranges) unused)
     (ap (λ (n : ℕ). drop n all) read.used_is ∙ ap (drop (length p.ranges)) read.all_are ∙ drop_at p.ranges (replicate (8 - length p.ranges) unused) (length p.ranges) refl)
     (All-replicate (λ (r : HomeRange). r ≡ unused) (8 - length p.ranges) unused refl)
@@ -304,18 +346,17 @@ all_from all used eight few blank =
     (λ k d lt. blank k d lt ∙ sym (get_or-replicate (8 - used) k unused d (omega (arith, length-drop used all)))) in
     sym (take-append-drop used all) ∙ ap (λ (r : List HomeRange). take used all ++ r) (behind ∙ ap (λ (n : ℕ). replicate (8 - n) unused) (sym size))
 
-pub plan_found : (bytes : List ℕ) (m second : ℕ) (g : Geometry) (all : List HomeRange) (half_0 half_1 total used : ℕ)
-    → bytes ≡ stream (m ∷ second ∷ numbers_of (plan_of One g all half_0 half_1 total)) (ranges_bytes all ++ drop 256 bytes)
-    → m ≡ magic → second % 4294967296 ≡ 1 → used ≡ second / 4294967296 → used ≤ 8 → length all ≡ 8 → All (λ r. r ≡ unused) (drop used all) → drop 256 bytes ≡ zeros 256
-    → bytes ≡ superblock_bytes (plan_of One g (take used all) half_0 half_1 total)
-plan_found bytes m second g all half_0 half_1 total used read is v u few eight others blank =
+pub plan_found : (v : Version) (bytes : List ℕ) (second : ℕ) (g : Geometry) (all : List HomeRange) (half_0 half_1 total used : ℕ)
+    → bytes ≡ stream (magic ∷ second ∷ numbers_of (plan_of v g all half_0 half_1 total)) (ranges_bytes all ++ drop 256 bytes)
+    → second % 4294967296 ≡ version_number v → used ≡ second / 4294967296 → used ≤ 8 → length all ≡ 8 → All (λ r. r ≡ unused) (drop used all) → drop 256 bytes ≡ zeros 256
+    → bytes ≡ superblock_bytes (plan_of v g (take used all) half_0 half_1 total)
+plan_found v bytes second g all half_0 half_1 total used read version u few eight others blank =
     let size : length (take used all) ≡ used = length-take-le used all (omega arith) in
-    let count : second ≡ 1 + 4294967296 * length (take used all) = omega (arith, v, u, size) in
-    let p : Plan = plan_of One g (take used all) half_0 half_1 total in
-    read ∙ ap (λ (x : ℕ). stream (x ∷ second ∷ numbers_of p) (ranges_bytes all ++ drop 256 bytes)) is
-    ∙ ap (λ (x : ℕ). stream (magic ∷ x ∷ numbers_of p) (ranges_bytes all ++ drop 256 bytes)) count
-    ∙ ap (λ (x : List HomeRange). stream (magic ∷ (1 + 4294967296 * length p.ranges) ∷ numbers_of p) (ranges_bytes x ++ drop 256 bytes)) (all_from all used eight few others)
-    ∙ ap (λ (x : List ℕ). stream (magic ∷ (1 + 4294967296 * length p.ranges) ∷ numbers_of p) (ranges_bytes (eight_ranges p.ranges) ++ x)) blank
+    let count : second ≡ version_number v + 4294967296 * length (take used all) = omega (arith, version, u, size) in
+    let p : Plan = plan_of v g (take used all) half_0 half_1 total in
+    read ∙ ap (λ (x : ℕ). stream (magic ∷ x ∷ numbers_of p) (ranges_bytes all ++ drop 256 bytes)) count
+    ∙ ap (λ (x : List HomeRange). stream (magic ∷ second_of p ∷ numbers_of p) (ranges_bytes x ++ drop 256 bytes)) (all_from all used eight few others)
+    ∙ ap (λ (x : List ℕ). stream (magic ∷ second_of p ∷ numbers_of p) (ranges_bytes (eight_ranges p.ranges) ++ x)) blank
     ∙ sym (plan_stream p (omega (arith, size)))
 
 -- eight numbers are read, and the ranges behind them
@@ -332,27 +373,39 @@ pub one_plan : (p q : Plan) → IsPlan p → IsPlan q → superblock_bytes p ≡
 one_plan p q ip iq e =
     let pf = plan_fits p ip in
     let qf = plan_fits q iq in
-    let s = stream_splits (magic ∷ (1 + 4294967296 * length p.ranges) ∷ numbers_of p) (magic ∷ (1 + 4294967296 * length q.ranges) ∷ numbers_of q)
+    let s = stream_splits (magic ∷ second_of p ∷ numbers_of p) (magic ∷ second_of q ∷ numbers_of q)
     (ranges_bytes (eight_ranges p.ranges) ++ zeros 256) (ranges_bytes (eight_ranges q.ranges) ++ zeros 256) pf.numbers qf.numbers refl (sym (plan_stream p ip.few) ∙ e ∙ plan_stream q iq.few) in
     let rest = ranges_split (eight_ranges p.ranges) (eight_ranges q.ranges) (zeros 256) (zeros 256) pf.ranges qf.ranges (eight_long p.ranges ip.few ∙ sym (eight_long q.ranges iq.few)) s.1 in
-    let one = list_tail magic magic ((1 + 4294967296 * length p.ranges) ∷ numbers_of p) ((1 + 4294967296 * length q.ranges) ∷ numbers_of q) s.0 in
-    let two = list_tail (1 + 4294967296 * length p.ranges) (1 + 4294967296 * length q.ranges) (numbers_of p) (numbers_of q) one.1 in
-    let count : length p.ranges ≡ length q.ranges = omega (arith, two.0) in
+    let one = list_tail magic magic (second_of p ∷ numbers_of p) (second_of q ∷ numbers_of q) s.0 in
+    let two = list_tail (second_of p) (second_of q) (numbers_of p) (numbers_of q) one.1 in
+    let small_p = few_versions p.version in
+    let small_q = few_versions q.version in
+    let version : p.version ≡ q.version = one_version p.version q.version (omega (arith, two.0, small_p, small_q)) in
+    let count : length p.ranges ≡ length q.ranges = omega (arith, two.0, small_p, small_q) in
     let ranges : p.ranges ≡ q.ranges = sym (take_at p.ranges (replicate (8 - length p.ranges) unused) (length p.ranges) refl) ∙ ap (take (length p.ranges)) rest.0
     ∙ ap (λ (n : ℕ). take n (eight_ranges q.ranges)) count ∙ take_at q.ranges (replicate (8 - length q.ranges) unused) (length q.ranges) refl in
     ap (λ (rs : List HomeRange). plan_of p.version p.geometry rs p.half_0 p.half_1 p.total) ranges
     ∙ same_plan p.version q.ranges p.geometry.nodes p.geometry.pages p.geometry.log p.half_0 p.half_1 p.total q.geometry.nodes q.geometry.pages q.geometry.log q.half_0 q.half_1 q.total two.1
-    ∙ ap (λ (v : Version). plan_of v q.geometry q.ranges q.half_0 q.half_1 q.total) (ip.first ∙ sym iq.first)
+    ∙ ap (λ (v : Version). plan_of v q.geometry q.ranges q.half_0 q.half_1 q.total) version
 
 -- ---- what a decoder tells
 
 pub last_ranges : (all : List HomeRange) (used : ℕ) → length all ≡ 8 → take (8 - used) (drop used all) ≡ drop used all
 last_ranges all used eight = take_all (8 - used) (drop used all) (omega (arith, length-drop used all))
 
-pub plan_same : (p : Plan) (second : ℕ) (g : Geometry) (all : List HomeRange) (half_0 half_1 total : ℕ) → IsPlanRead p second g all half_0 half_1 total
-    → plan_of One g (take (second / 4294967296) all) half_0 half_1 total ≡ p
-plan_same p second g all half_0 half_1 total read =
-    ap (λ (rs : List HomeRange). plan_of One g rs half_0 half_1 total) (used_are p second g all half_0 half_1 total read) ∙ read.plan_is
+pub plan_same : (p : Plan) (v : Version) (second : ℕ) (g : Geometry) (all : List HomeRange) (half_0 half_1 total : ℕ) → IsPlanRead p v second g all half_0 half_1 total
+    → plan_of v g (take (second / 4294967296) all) half_0 half_1 total ≡ p
+plan_same p v second g all half_0 half_1 total read =
+    ap (λ (rs : List HomeRange). plan_of v g rs half_0 half_1 total) (used_are p v second g all half_0 half_1 total read) ∙ read.plan_is
+
+pub plan_read : (bytes : List ℕ) (q : Plan) (made : Option Plan) → bytes ≡ superblock_bytes q → IfSome made (λ s. s ≡ q) → IfSome made (λ s. bytes ≡ superblock_bytes s)
+plan_read bytes q None read told = told
+plan_read bytes q (Some s) read told = read ∙ ap superblock_bytes (sym told)
+
+pub none_read_of : (bytes : List ℕ) (q : Plan) (made : Option Plan) → ((p : Plan) → IsPlan p → bytes ≡ superblock_bytes p → q ≡ p) → IfNone made (IsPlan q → ⊥)
+    → IfNone made ((p : Plan) → IsPlan p → bytes ≡ superblock_bytes p → ⊥)
+none_read_of bytes q None same told = λ p is e. told (subst IsPlan (sym (same p is e)) is)
+none_read_of bytes q (Some s) same told = told
 
 -- ---- writing
 
@@ -377,11 +430,11 @@ unused_bytes (suc k) =
     ∙ ap (λ (z : List ℕ). z ++ zeros (24 * k)) three_zeros ∙ zeros_add 24 (24 * k) ∙ ap zeros size
 
 pub plan_written : (p : Plan) (blanked eight new : List ℕ) (k : ℕ) → length p.ranges ≤ 8 → blanked ≡ zeros 512
-    → IsWritten blanked (number magic ++ number (1 + 4294967296 * length p.ranges) ++ number p.geometry.nodes ++ number p.geometry.pages ++ number p.geometry.log ++ number p.half_0 ++ number p.half_1 ++ number p.total) eight 64
+    → IsWritten blanked (number magic ++ number (second_of p) ++ number p.geometry.nodes ++ number p.geometry.pages ++ number p.geometry.log ++ number p.half_0 ++ number p.half_1 ++ number p.total) eight 64
     → k ≡ 24 * length p.ranges → new ≡ put_mid 64 k eight (ranges_bytes p.ranges) → new ≡ superblock_bytes p
 plan_written p blanked eight new k few blank was size is =
     let n : ℕ = length p.ranges in
-    let front : List ℕ = number magic ++ number (1 + 4294967296 * n) ++ number p.geometry.nodes ++ number p.geometry.pages ++ number p.geometry.log ++ number p.half_0 ++ number p.half_1 ++ number p.total in
+    let front : List ℕ = number magic ++ number (second_of p) ++ number p.geometry.nodes ++ number p.geometry.pages ++ number p.geometry.log ++ number p.half_0 ++ number p.half_1 ++ number p.total in
     let rest : drop (64 + k) eight ≡ ranges_bytes (replicate (8 - n) unused) ++ zeros 256 =
     sym (drop-drop k 64 eight) ∙ ap (drop k) (was.after ∙ ap (drop 64) blank ∙ drop_zeros 64 512) ∙ drop_zeros k 448 ∙ ap zeros (rest_size n k few size)
     ∙ sym (zeros_add (24 * (8 - n)) 256) ∙ ap (λ (z : List ℕ). z ++ zeros 256) (sym (unused_bytes (8 - n))) in
@@ -390,7 +443,7 @@ plan_written p blanked eight new k few blank was size is =
     ∙ ap (λ (r : List ℕ). front ++ ranges_bytes p.ranges ++ r) rest
     ∙ (shift front (ranges_bytes p.ranges) (ranges_bytes (replicate (8 - n) unused)) (zeros 256))
     ∙ ap (λ (r : List ℕ). front ++ (r ++ zeros 256)) (sym (append_ranges p.ranges (replicate (8 - n) unused)))
-    ∙ front_deep (number magic) (number (1 + 4294967296 * n)) (number p.geometry.nodes) (number p.geometry.pages) (number p.geometry.log) (number p.half_0) (number p.half_1) (number p.total) (ranges_bytes (eight_ranges p.ranges) ++ zeros 256)
+    ∙ front_deep (number magic) (number (second_of p)) (number p.geometry.nodes) (number p.geometry.pages) (number p.geometry.log) (number p.half_0) (number p.half_1) (number p.total) (ranges_bytes (eight_ranges p.ranges) ++ zeros 256)
     ∙ sym (plan_stream p few)
 
 pub front_same : (v n p r a b t v' n' p' r' a' b' t' : ℕ) → v ≡ v' → n ≡ n' → p ≡ p' → r ≡ r' → a ≡ a' → b ≡ b' → t ≡ t'

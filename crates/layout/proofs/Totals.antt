@@ -1,18 +1,18 @@
 -- The total of sectors in the bytes of a superblock.
-use Rattle.std.proofs.Common.{◌≡◌, ℕ, ◌+◌, ◌*◌, List, [], ◌∷◌, ◌++◌, length, drop, arith}
+use Rattle.std.proofs.Common.{◌≡◌, ℕ, List, [], ◌∷◌, ◌++◌, drop, arith}
 use Rattle.layout.specs.Bytes.{zeros}
 use Rattle.layout.specs.Superblock.{Plan, IsPlan, superblock_bytes, ranges_bytes}
 use Rattle.layout.specs.Image.{total_in}
 use Rattle.layout.proofs.Numbers.{stream}
 use Rattle.layout.proofs.FrameReaders.{told, passed, passed_on}
-use Rattle.layout.proofs.Superblocks.{magic, numbers_of, eight_ranges, plan_stream}
+use Rattle.layout.proofs.Superblocks.{magic, numbers_of, second_of, eight_ranges, plan_stream}
 
 -- the bytes of a superblock have its total
 pub total_told : (p : Plan) → IsPlan p → total_in (superblock_bytes p) ≡ p.total
 total_told p is =
     let bytes : List ℕ = superblock_bytes p in
     let rest : List ℕ = ranges_bytes (eight_ranges p.ranges) ++ zeros 256 in
-    let n : ℕ = 1 + 4294967296 * length p.ranges in
+    let n : ℕ = second_of p in
     let g = p.geometry in
     let a = passed magic (stream (n ∷ numbers_of p) rest) bytes (plan_stream p is.few) in
     let b = passed_on 8 n (stream (numbers_of p) rest) bytes a in

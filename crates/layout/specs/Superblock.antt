@@ -12,6 +12,11 @@ use Rattle.layout.specs.declared.version.Version.{Version}
 use Rattle.layout.specs.declared.version.Version.TheVariants.{One, Two}
 use Rattle.layout.specs.Bytes.{number, half_number, zeros}
 
+-- the number by which a superblock tells its version
+abbrev pub version_number : Version → ℕ
+version_number One = 1
+version_number Two = 2
+
 -- what a superblock tells
 pub record Plan : Type 0 where
   pub version : Version
@@ -34,7 +39,7 @@ unused = record { first = 0; count = 0; sector = 0 }
 -- the sector of a superblock: eight ranges, of which the last are unused
 unfoldable pub superblock_bytes : Plan → List ℕ
 superblock_bytes p =
-    codes "EROSCKPT" ++ half_number 1 ++ half_number (length p.ranges)
+    codes "EROSCKPT" ++ half_number (version_number p.version) ++ half_number (length p.ranges)
     ++ number p.geometry.nodes ++ number p.geometry.pages ++ number p.geometry.log
     ++ number p.half_0 ++ number p.half_1 ++ number p.total
     ++ ranges_bytes (p.ranges ++ replicate (8 - length p.ranges) unused) ++ zeros 256
@@ -42,7 +47,7 @@ superblock_bytes p =
 -- magic, version and the bytes from 256 on are those of a superblock
 pub record HasMark (bytes : List ℕ) : Type 0 where
   pub magic : take 8 bytes ≡ codes "EROSCKPT"
-  pub version : take 4 (drop 8 bytes) ≡ half_number 1
+  pub version : (v : Version) × (take 4 (drop 8 bytes) ≡ half_number (version_number v))
   pub blank : drop 256 bytes ≡ zeros 256
 
 -- how much a device may hold
@@ -101,9 +106,8 @@ extent_at es i = slice_index_or es i (record { sector = 0; length = 0 })
 abbrev pub AreApart : List Extent → Type 0
 AreApart es = (i j : ℕ) → i < j → j < length es → IsApart (extent_at es i) (extent_at es j)
 
--- what a superblock needs: no image of version 2 is written or taken yet
+-- what a superblock needs
 pub record IsPlan (p : Plan) : Type 0 where
-  pub first : p.version ≡ One
   pub geometry : IsGeometry p.geometry
   pub some : 1 ≤ length p.ranges
   pub few : length p.ranges ≤ 8

@@ -1,9 +1,10 @@
 // The superblock: how much a device holds, and where.
-ghost use Rattle.std.specs.Prelude.{◌≡◌, ◌+◌, ◌*◌, ◌-◌, ◌<◌, ◌≤◌, ◌↔◌, length, take, IsTrue, IfOk, IfErr, IfSome, IfNone};
+ghost use Rattle.std.specs.Prelude.{◌≡◌, ◌+◌, ◌*◌, ◌-◌, ◌<◌, ◌≤◌, ◌↔◌, length, take, drop, IsTrue, IfOk, IfErr, IfSome, IfNone};
 ghost use Rattle.std.specs.List.{All};
-ghost use Rattle.layout.specs.Homes.{range_with, shape_of};
+ghost use Rattle.layout.specs.Bytes.{half_number};
+ghost use Rattle.layout.specs.Homes.{range_with, rank_in, shape_of};
 ghost use Rattle.layout.specs.Shape.{IsShapeFor};
-ghost use Rattle.layout.specs.Superblock.{Plan, superblock_bytes, ranges_bytes, unused, IsGeometry, IsNext, Cover, extents, IsPlan, IsRefused, RangeFits, plan_of, half_start};
+ghost use Rattle.layout.specs.Superblock.{Plan, version_number, superblock_bytes, ranges_bytes, unused, HasMark, IsGeometry, IsNext, Cover, extents, IsPlan, IsRefused, RangeFits, plan_of, half_start};
 
 use crate::bad_image::BadImage;
 use crate::bytes::{blank, is_blank_from, number_at, put_number};
@@ -21,9 +22,6 @@ pub const MAX_RANGES: usize = 8;
 
 // The bytes of EROSCKPT as a number.
 const SUPERBLOCK_MAGIC: u64 = 0x5450_4b43_534f_5245;
-
-// Version 1, the one that images have.
-const VERSION: u64 = 1;
 
 const RANGE_BYTES: usize = 24;
 
@@ -81,9 +79,6 @@ fn is_plan(
 ) -> bool
     ensures { IsTrue result ↔ IsPlan (plan_of version geometry ranges.now half_0 half_1 total) }
 {
-    if version != Version::One {
-        return false;
-    }
     if !is_geometry(geometry) || ranges.is_empty() || ranges.len() > MAX_RANGES {
         return false;
     }
@@ -205,6 +200,17 @@ impl Superblock {
         range_with(self.ranges(), number)
     }
 
+    // Which of the five of a cluster a number is, counted in its range.
+    fn rank(&self, number: u64) -> u64
+        ensures value { result ≡ rank_in (range_with self.now.ranges number) number }
+        ensures below { result < 5 }
+    {
+        match self.range_with(number) {
+            Some(range) => (number - range.first) % 5,
+            None => 0,
+        }
+    }
+
     /// How the frame of an object lies in the sectors from where it begins, at home as in the log.
     pub fn shape(&self, number: u64) -> Shape
         ensures value { result ≡ shape_of self.now number }
@@ -214,10 +220,9 @@ impl Superblock {
         if number >= self.geometry.nodes {
             return Shape::Page;
         }
-        match (self.version, self.range_with(number)) {
-            (Version::One, _) => Shape::Node,
-            (Version::Two, Some(range)) => Shape::Packed((number - range.first) % 5),
-            (Version::Two, None) => Shape::Packed(0),
+        match self.version {
+            Version::One => Shape::Node,
+            Version::Two => Shape::Packed(self.rank(number)),
         }
     }
 
@@ -279,11 +284,12 @@ pub fn encode_superblock(superblock: &Superblock, into: &mut [u8])
     requires { length into.old ≡ 512 }
     ensures { into.new ≡ superblock_bytes superblock.now }
 {
+    let version = superblock.version().number();
     let geometry = superblock.geometry();
     let ranges = superblock.ranges();
     blank(into);
     put_number(into, 0, SUPERBLOCK_MAGIC);
-    put_number(into, 8, VERSION + 4294967296 * ranges.len() as u64);
+    put_number(into, 8, version + 4294967296 * ranges.len() as u64);
     put_number(into, 16, geometry.nodes);
     put_number(into, 24, geometry.pages);
     put_number(into, 32, geometry.log);
@@ -294,21 +300,33 @@ pub fn encode_superblock(superblock: &Superblock, into: &mut [u8])
     write_ranges(ranges, &mut into[RANGES_AT..end]);
 }
 
-/// Reads the 512 bytes of a superblock's sector. Another magic or version, or a byte behind the
-/// ranges that isn't 0, is `NotASuperblock`; all else that is no spelling of a superblock is a
-/// `BadGeometry`.
-pub fn decode_superblock(bytes: &[u8]) -> Result<Superblock, BadImage>
+// The version that a superblock's sector tells. `None` where the magic, the version or a byte behind
+// the ranges is another than a superblock's.
+fn version_in(bytes: &[u8]) -> Option<Version>
     requires { length bytes.now ≡ 512 }
-    ensures found { IfOk result (λ s. bytes.now ≡ superblock_bytes s) }
-    ensures fits { IfOk result (λ s. IsPlan s) }
-    ensures refused { IfErr result (λ e. IsRefused bytes.now e) }
+    ensures mark { IfSome result (λ _. HasMark bytes.now) }
+    ensures version { IfSome result (λ v. take 4 (drop 8 bytes.now) ≡ half_number (version_number v)) }
+    ensures none { IfNone result (HasMark bytes.now → ⊥) }
 {
     let magic = number_at(bytes, 0);
     let second = number_at(bytes, 8);
-    let is_version = second % 4294967296 == VERSION;
-    if magic != SUPERBLOCK_MAGIC || !is_version || !is_blank_from(bytes, RANGES_END) {
-        return Err(BadImage::NotASuperblock);
+    if magic != SUPERBLOCK_MAGIC || !is_blank_from(bytes, RANGES_END) {
+        return None;
     }
+    Version::with_number(second % 4294967296)
+}
+
+// Reads what a superblock's sector tells, in which magic and version are as they must be. `None`
+// where it is no spelling of a superblock.
+fn read_plan(version: Version, bytes: &[u8]) -> Option<Superblock>
+    requires size { length bytes.now ≡ 512 }
+    requires mark { HasMark bytes.now }
+    requires version { take 4 (drop 8 bytes.now) ≡ half_number (version_number version) }
+    ensures found { IfSome result (λ s. bytes.now ≡ superblock_bytes s) }
+    ensures fits { IfSome result (λ s. IsPlan s) }
+    ensures none { IfNone result ((p : Plan) → IsPlan p → bytes.now ≡ superblock_bytes p → ⊥) }
+{
+    let second = number_at(bytes, 8);
     let geometry = Geometry {
         nodes: number_at(bytes, 16),
         pages: number_at(bytes, 24),
@@ -321,17 +339,25 @@ pub fn decode_superblock(bytes: &[u8]) -> Result<Superblock, BadImage>
     read_ranges(&bytes[RANGES_AT..RANGES_END], &mut ranges);
     let used = (second / 4294967296) as usize;
     if used > MAX_RANGES || !are_unused(&ranges[used..]) {
-        return Err(BadImage::BadGeometry);
+        return None;
     }
-    match Superblock::new(
-        Version::One,
-        geometry,
-        &ranges[..used],
-        half_0,
-        half_1,
-        total,
-    ) {
-        Some(superblock) => Ok(superblock),
-        None => Err(BadImage::BadGeometry),
+    Superblock::new(version, geometry, &ranges[..used], half_0, half_1, total)
+}
+
+/// Reads the 512 bytes of a superblock's sector. Another magic, a version other than 1 and 2, or a
+/// byte behind the ranges that isn't 0, is `NotASuperblock`; all else that is no spelling of a
+/// superblock is a `BadGeometry`.
+pub fn decode_superblock(bytes: &[u8]) -> Result<Superblock, BadImage>
+    requires { length bytes.now ≡ 512 }
+    ensures found { IfOk result (λ s. bytes.now ≡ superblock_bytes s) }
+    ensures fits { IfOk result (λ s. IsPlan s) }
+    ensures refused { IfErr result (λ e. IsRefused bytes.now e) }
+{
+    match version_in(bytes) {
+        Some(version) => match read_plan(version, bytes) {
+            Some(superblock) => Ok(superblock),
+            None => Err(BadImage::BadGeometry),
+        },
+        None => Err(BadImage::NotASuperblock),
     }
 }

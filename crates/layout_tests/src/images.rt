@@ -5,7 +5,7 @@ use layout::{
     BadImage, Body, CheckpointHeader, Entry, Gate, Half, HomeRange, Room, Shape, Superblock,
     Version, decode_capability, decode_directory, decode_frame, decode_gate, decode_header,
     decode_superblock, encode_capability, encode_frame, encode_gate, encode_header,
-    encode_superblock, total_in,
+    encode_superblock, range_extent, total_in,
 };
 use model::{Cap, Capability, Content, Geometry, ObjectHeader, Role, Root, State, Words};
 use std::alloc::{AllocError, Global};
@@ -491,21 +491,38 @@ fn superblocks(rt: HostRuntime) -> Result<(), Fail> {
     let made = Superblock::new(Version::One, GEOMETRY, &RANGES, 109, 254, 399).ok_or(
         "within the limits",
     )?;
-    let second = Superblock::new(Version::Two, GEOMETRY, &RANGES, 109, 254, 399);
-    assert!(rt; second.is_none());
     assert!(rt; made.shape(15) == Shape::Node);
     assert!(rt; made.shape(16) == Shape::Page);
     let mut bytes = [255; 512];
     encode_superblock(&made, &mut bytes);
     assert!(rt; bytes[..] == spelt[..]);
-    read_superblock(&rt, &spelt)
+    read_superblock(&rt, Version::One, &spelt)
+}
+
+// By version 2 sixteen nodes take four clusters, and so as many sectors.
+#[test]
+fn superblocks_of_version_2(rt: HostRuntime) -> Result<(), Fail> {
+    let mut spelt = [0; 512];
+    put_superblock(&mut spelt);
+    spelt[8] = 2;
+    let made = Superblock::new(Version::Two, GEOMETRY, &RANGES, 109, 254, 399).ok_or(
+        "within the limits",
+    )?;
+    assert!(rt; made.shape(4) == Shape::Packed(4));
+    assert!(rt; made.shape(15) == Shape::Packed(0));
+    assert!(rt; made.shape(16) == Shape::Page);
+    let mut bytes = [255; 512];
+    encode_superblock(&made, &mut bytes);
+    assert!(rt; bytes[..] == spelt[..]);
+    read_superblock(&rt, Version::Two, &spelt)
 }
 
 // What such bytes are read as.
-fn read_superblock(rt: &impl Abort, spelt: &[u8]) -> Result<(), Fail>
+fn read_superblock(rt: &impl Abort, version: Version, spelt: &[u8]) -> Result<(), Fail>
     requires { length spelt.now ≡ 512 }
 {
     let read = decode_superblock(spelt).ok().ok_or("a superblock")?;
+    assert!(rt; read.version() == version);
     assert_eq!(rt; read.geometry(), GEOMETRY);
     assert!(rt; read.ranges() == RANGES.as_slice());
     assert_eq!(rt; read.half(Half::First), 109);
@@ -521,11 +538,13 @@ fn read_superblock(rt: &impl Abort, spelt: &[u8]) -> Result<(), Fail>
 fn refused_superblocks(rt: HostRuntime) {
     let mut bytes = [0; 512];
     put_superblock(&mut bytes);
-    bytes[8] = 2;
-    assert!(rt;
-        matches!(decode_superblock(&bytes), Err(BadImage::NotASuperblock)),
-        "version 2"
-    );
+    for version in [0, 3] {
+        bytes[8] = version;
+        assert!(rt;
+            matches!(decode_superblock(&bytes), Err(BadImage::NotASuperblock)),
+            "version {version}"
+        );
+    }
     bytes[8] = 1;
     bytes[256] = 1;
     assert!(rt;
@@ -550,6 +569,26 @@ fn refused_superblocks(rt: HostRuntime) {
         matches!(decode_superblock(&bytes), Err(BadImage::BadGeometry)),
         "an unused range"
     );
+}
+
+// How many sectors so many nodes take by each version.
+#[test]
+fn sectors_of_ranges(rt: HostRuntime) {
+    for (count, one, two) in [
+        (1, 2, 8),
+        (5, 10, 8),
+        (6, 12, 16),
+        (16, 32, 32),
+        (20, 40, 32),
+    ] {
+        let range = HomeRange {
+            first: 0,
+            count,
+            sector: 5,
+        };
+        assert_eq!(rt; range_extent(Version::One, GEOMETRY, range).length, one);
+        assert_eq!(rt; range_extent(Version::Two, GEOMETRY, range).length, two);
+    }
 }
 
 #[test]

@@ -16,7 +16,7 @@ use Rattle.layout.specs.Directory.{IsDirectory, entry_at}
 use Rattle.layout.specs.Frame.{IsFrameOf}
 use Rattle.layout.specs.FrameReader.{frame_from}
 use Rattle.layout.specs.Header.{IsHeader}
-use Rattle.layout.specs.Image.{Encodes, frame_in, seat_in, half_sector}
+use Rattle.layout.specs.Image.{Encodes, frame_in, seat_in, slot_in, slot_beside, half_sector}
 use Rattle.layout.specs.Spelt.{count_of, frame_read, frames_read, IsSpelt, AreSpelt, state_in}
 use Rattle.layout.specs.Superblock.{Plan, IsApart, IsInside, half_extent}
 use Rattle.layout.proofs.Halves.{itself, apart_inside, half_within}
@@ -33,14 +33,16 @@ use Rattle.migrator.specs.Put.{Put, Absent, put_at, put_or, overlaid, slot_bytes
 use Rattle.checkpoint.specs.Saved.{most, SavedFrames, kept_of, Holds, LeavesEither}
 use Rattle.migrator.proofs.GoingOn.{holds}
 use Rattle.migrator.specs.Durable.{Books, frozen_generation, working_generation, generation_after, Stored, saved_state, frozen_of, stored_in, IsRunning, IsKept, LeavesState, next_header, next_saved, stored_after_commit, books_of}
+use Rattle.migrator.specs.Completed.{AreComplete}
+use Rattle.migrator.specs.Mended.{Unwritten}
 use Rattle.migrator.specs.Saving.{MaySave, SavesOnly}
 use Rattle.migrator.specs.Spared.{SparesFrames, Spares}
 use Rattle.migrator.proofs.Tables.{all_whole, whole_taken, entries_directory, length_entries, slot_entries, blank_at, blank_table, tally-blank}
 use Rattle.migrator.proofs.Spared.{state_stays}
 use Rattle.checkpoint.proofs.Lists.{maps_same}
 use Rattle.migrator.proofs.Kept.{SparesKept, stored_stays, kept_on}
-use Rattle.migrator.proofs.PlacesApart.{in_slot, at_home, frame_apart, home_apart, spares_other, homes_behind}
-use Rattle.migrator.proofs.Seats.{no_seat, no_entries, seat_fits}
+use Rattle.migrator.proofs.PlacesApart.{in_slot, in_seat, at_home, frame_apart, home_apart, spares_other, homes_behind}
+use Rattle.migrator.proofs.Seats.{beside_seat, no_entries, seat_fits}
 use Rattle.migrator.proofs.Putting.{put_is, other_parity, half_spares, none_spares, homes_spare}
 
 -- ---- what is kept through a directory and a header that are written
@@ -103,6 +105,11 @@ next_fits room age b is later most few small = record {
 
 -- ---- the frames that are saved next
 
+-- the frozen frames' places are a directory
+pub frozen_fits : (size : ℕ) (image : Image) (b : Books) → IsKept size image b → IsDirectory b.plan.geometry (entries_of b.frozen)
+frozen_fits size image b kept =
+    entries_directory b.plan.geometry b.frozen kept.frozen.table kept.frozen.count kept.frozen.few (omega (arith, kept.plan.geometry.most_nodes, kept.plan.geometry.most_pages)) kept.plan.geometry.most_log
+
 -- all that was put is whole
 module _ (size : ℕ) (image : Image) (b : Books) (k : ℕ) (kept : IsKept size image b) (running : b.size ≡ Some k) (stable : k ≤ whole_count b.frozen) where
   pub was : IsRunning b (Some k)
@@ -118,17 +125,10 @@ module _ (size : ℕ) (image : Image) (b : Books) (k : ℕ) (kept : IsKept size 
   none_saved n = no_entries b.plan b.directory n (kept.count ∙ was.0)
 
   pub fs_fit : IsDirectory b.plan.geometry (entries_of b.frozen)
-  fs_fit =
-      entries_directory b.plan.geometry b.frozen kept.frozen.table kept.frozen.count kept.frozen.few (omega (arith, kept.plan.geometry.most_nodes, kept.plan.geometry.most_pages)) kept.plan.geometry.most_log
+  fs_fit = frozen_fits size image b kept
 
   whole_at : (n s : ℕ) → n < count_of b.plan → slot_of (place_at b.frozen n) ≡ Some s → place_at b.frozen n ≡ Whole s
   whole_at n s lt is = let less = whole_taken b.frozen in all_whole b.frozen n s (omega (arith, was.1, stable)) (omega (arith, lt, kept.frozen.count)) is
-
-  -- where an object has no place it lies at home, as before
-  home_frame : (n : ℕ) → n < count_of b.plan → slot_of (place_at b.frozen n) ≡ None → frame_in image b.plan (b.header.generation + 1) (entries_of b.frozen) n ≡ frame_in image b.plan b.header.generation b.directory n
-  home_frame n lt none =
-      at_home image b.plan (b.header.generation + 1) (entries_of b.frozen) n (no_seat b.plan (entries_of b.frozen) n kept.plan kept.plan.first fs_fit lt (slot_entries b.frozen n ∙ none))
-      ∙ sym (at_home image b.plan b.header.generation b.directory n (none_saved n))
 
   slot_frame_in : (n s : ℕ) → slot_of (place_at b.frozen n) ≡ Some s → frame_in image b.plan (b.header.generation + 1) (entries_of b.frozen) n ≡ slot_bytes image b.plan (b.header.generation + 1) s n
   slot_frame_in n s is = in_slot image b.plan (b.header.generation + 1) (entries_of b.frozen) n s (slot_entries b.frozen n ∙ is)
@@ -139,41 +139,57 @@ module _ (size : ℕ) (image : Image) (b : Books) (k : ℕ) (kept : IsKept size 
   abbrev frozen_puts : List Put
   frozen_puts = puts_in image b.plan (frozen_generation b) b.frozen
 
-  frame_next : (n : ℕ) → n < count_of b.plan → frame_read image b.plan (b.header.generation + 1) (entries_of b.frozen) n ≡ put_or (put_at frozen_puts n) (frame_at saved_frames n)
-  frame_next n lt = by (slot_of (place_at b.frozen n)) refl where
-    by : (o : Option ℕ) → slot_of (place_at b.frozen n) ≡ o → frame_read image b.plan (b.header.generation + 1) (entries_of b.frozen) n ≡ put_or (put_at frozen_puts n) (frame_at saved_frames n)
-    by None is =
-        ap (frame_from b.plan.geometry n) (home_frame n lt is) ∙ sym (read_at image b.plan b.header.generation b.directory n lt)
-        ∙ sym (ap (λ (x : Put). put_or x (frame_at saved_frames n)) (put_is image b.plan (frozen_generation b) b.frozen n lt ∙ none_put (place_at b.frozen n) is)) where
-          none_put : (q : Place) → slot_of q ≡ None → put_of image b.plan (frozen_generation b) n q ≡ Absent
-          none_put Nowhere e = refl
-          none_put (Torn s) e = absurd cc
-          none_put (Whole s) e = absurd cc
-    by (Some s) is =
-        ap (frame_from b.plan.geometry n) (slot_frame_in n s is)
-        ∙ sym (ap (λ (x : Put). put_or x (frame_at saved_frames n)) (put_is image b.plan (frozen_generation b) b.frozen n lt ∙ ap (put_of image b.plan (frozen_generation b) n) (whole_at n s lt is)))
+  -- and each without a place, whose cluster has one, lies beside it as at home
+  module _ (complete : AreComplete image b.plan (frozen_generation b) (entries_of b.frozen)) where
+    -- where an object has no place it has the frame that lies at home, as before
+    home_frame : (n : ℕ) → n < count_of b.plan → slot_of (place_at b.frozen n) ≡ None → frame_in image b.plan (b.header.generation + 1) (entries_of b.frozen) n ≡ frame_in image b.plan b.header.generation b.directory n
+    home_frame n lt none = by (slot_beside b.plan (entries_of b.frozen) n) refl where
+      no_slot : slot_in (entries_of b.frozen) n ≡ None
+      no_slot = slot_entries b.frozen n ∙ none
 
-  -- the frames that are saved next are the saved ones with the frozen ones in their place
-  pub frames_next : frames_read image b.plan (b.header.generation + 1) (entries_of b.frozen) ≡ overlaid frozen_puts saved_frames
-  unfolding frames_read overlaid
-  frames_next =
-      maps_same (frame_read image b.plan (b.header.generation + 1) (entries_of b.frozen)) (λ n. put_or (put_at frozen_puts n) (frame_at saved_frames n)) (count_of b.plan) frame_next
-      ∙ ap (λ (m : ℕ). map (λ n. put_or (put_at frozen_puts n) (frame_at saved_frames n)) (range_with_len 0 m)) (sym (length_read image b.plan b.header.generation b.directory))
-
-  module _ (age : ℕ) (keepable : AreKeepable b.plan.geometry age (overlaid frozen_puts saved_frames)) where
-    keepable_at : (n : ℕ) → n < count_of b.plan → IsKeepable b.plan.geometry age n (frame_read image b.plan (b.header.generation + 1) (entries_of b.frozen) n)
-    keepable_at n lt =
-        subst (IsKeepable b.plan.geometry age n) (ap (λ (xs : List Frame). frame_at xs n) (sym frames_next) ∙ read_at image b.plan (b.header.generation + 1) (entries_of b.frozen) n lt) (keepable.each n lt)
-
-    pub spelt_next : AreSpelt image b.plan age (b.header.generation + 1) (entries_of b.frozen)
-    spelt_next n lt = by (slot_of (place_at b.frozen n)) refl where
-      by : (o : Option ℕ) → slot_of (place_at b.frozen n) ≡ o → IsSpelt image b.plan age (b.header.generation + 1) (entries_of b.frozen) n
+      by : (o : Option ℕ) → slot_beside b.plan (entries_of b.frozen) n ≡ o → frame_in image b.plan (b.header.generation + 1) (entries_of b.frozen) n ≡ frame_in image b.plan b.header.generation b.directory n
       by None is =
-          spelt_at image b.plan b.header.age age (b.header.generation + 1) (entries_of b.frozen) n
-          (spelt_same image image b.plan b.header.age (b.header.generation + 1) b.header.generation (entries_of b.frozen) b.directory n (home_frame n lt is) (kept.saved n lt)) (keepable_at n lt)
+          at_home image b.plan (b.header.generation + 1) (entries_of b.frozen) n (beside_seat b.plan (entries_of b.frozen) n no_slot ∙ is)
+          ∙ sym (at_home image b.plan b.header.generation b.directory n (none_saved n))
       by (Some s) is =
-          spelt_at image b.plan most age (b.header.generation + 1) (entries_of b.frozen) n
-          (subst (λ (bytes : List ℕ). IsFrameOf b.plan.geometry most n bytes (frame_from b.plan.geometry n bytes)) (sym (slot_frame_in n s is)) (kept.frozen.spelt n s lt (whole_at n s lt is))) (keepable_at n lt)
+          in_seat image b.plan (b.header.generation + 1) (entries_of b.frozen) n s (beside_seat b.plan (entries_of b.frozen) n no_slot ∙ is) ∙ complete n s lt no_slot is
+          ∙ sym (at_home image b.plan b.header.generation b.directory n (none_saved n))
+
+    frame_next : (n : ℕ) → n < count_of b.plan → frame_read image b.plan (b.header.generation + 1) (entries_of b.frozen) n ≡ put_or (put_at frozen_puts n) (frame_at saved_frames n)
+    frame_next n lt = by (slot_of (place_at b.frozen n)) refl where
+      by : (o : Option ℕ) → slot_of (place_at b.frozen n) ≡ o → frame_read image b.plan (b.header.generation + 1) (entries_of b.frozen) n ≡ put_or (put_at frozen_puts n) (frame_at saved_frames n)
+      by None is =
+          ap (frame_from b.plan.geometry n) (home_frame n lt is) ∙ sym (read_at image b.plan b.header.generation b.directory n lt)
+          ∙ sym (ap (λ (x : Put). put_or x (frame_at saved_frames n)) (put_is image b.plan (frozen_generation b) b.frozen n lt ∙ none_put (place_at b.frozen n) is)) where
+            none_put : (q : Place) → slot_of q ≡ None → put_of image b.plan (frozen_generation b) n q ≡ Absent
+            none_put Nowhere e = refl
+            none_put (Torn s) e = absurd cc
+            none_put (Whole s) e = absurd cc
+      by (Some s) is =
+          ap (frame_from b.plan.geometry n) (slot_frame_in n s is)
+          ∙ sym (ap (λ (x : Put). put_or x (frame_at saved_frames n)) (put_is image b.plan (frozen_generation b) b.frozen n lt ∙ ap (put_of image b.plan (frozen_generation b) n) (whole_at n s lt is)))
+
+    -- the frames that are saved next are the saved ones with the frozen ones in their place
+    pub frames_next : frames_read image b.plan (b.header.generation + 1) (entries_of b.frozen) ≡ overlaid frozen_puts saved_frames
+    unfolding frames_read overlaid
+    frames_next =
+        maps_same (frame_read image b.plan (b.header.generation + 1) (entries_of b.frozen)) (λ n. put_or (put_at frozen_puts n) (frame_at saved_frames n)) (count_of b.plan) frame_next
+        ∙ ap (λ (m : ℕ). map (λ n. put_or (put_at frozen_puts n) (frame_at saved_frames n)) (range_with_len 0 m)) (sym (length_read image b.plan b.header.generation b.directory))
+
+    module _ (age : ℕ) (keepable : AreKeepable b.plan.geometry age (overlaid frozen_puts saved_frames)) where
+      keepable_at : (n : ℕ) → n < count_of b.plan → IsKeepable b.plan.geometry age n (frame_read image b.plan (b.header.generation + 1) (entries_of b.frozen) n)
+      keepable_at n lt =
+          subst (IsKeepable b.plan.geometry age n) (ap (λ (xs : List Frame). frame_at xs n) (sym frames_next) ∙ read_at image b.plan (b.header.generation + 1) (entries_of b.frozen) n lt) (keepable.each n lt)
+
+      pub spelt_next : AreSpelt image b.plan age (b.header.generation + 1) (entries_of b.frozen)
+      spelt_next n lt = by (slot_of (place_at b.frozen n)) refl where
+        by : (o : Option ℕ) → slot_of (place_at b.frozen n) ≡ o → IsSpelt image b.plan age (b.header.generation + 1) (entries_of b.frozen) n
+        by None is =
+            spelt_at image b.plan b.header.age age (b.header.generation + 1) (entries_of b.frozen) n
+            (spelt_same image image b.plan b.header.age (b.header.generation + 1) b.header.generation (entries_of b.frozen) b.directory n (home_frame n lt is) (kept.saved n lt)) (keepable_at n lt)
+        by (Some s) is =
+            spelt_at image b.plan most age (b.header.generation + 1) (entries_of b.frozen) n
+            (subst (λ (bytes : List ℕ). IsFrameOf b.plan.geometry most n bytes (frame_from b.plan.geometry n bytes)) (sym (slot_frame_in n s is)) (kept.frozen.spelt n s lt (whole_at n s lt is))) (keepable_at n lt)
 
 -- ---- a commit
 
@@ -187,9 +203,10 @@ committed_books age b ps = record {
   frozen = ps;
   size = None;
   working = b.working;
+  unwritten = None;
 }
 
-module _ (disk : Disk) (b : Books) (k : ℕ) (kept : IsKept disk.sectors disk.seen b) (running : b.size ≡ Some k) (stable : k ≤ whole_count b.frozen)
+module _ (disk : Disk) (b : Books) (k : ℕ) (kept : IsKept disk.sectors disk.seen b) (running : b.size ≡ Some k) (stable : k ≤ whole_count b.frozen) (complete : AreComplete disk.seen b.plan (frozen_generation b) (entries_of b.frozen))
     (age : ℕ) (later : b.header.age < age) (most_age : age ≤ 2 ^ 62) (keepable : AreKeepable b.plan.geometry age (overlaid (puts_in disk.seen b.plan (frozen_generation b) b.frozen) (frames_read disk.seen b.plan b.header.generation b.directory))) where
   pub fits_next : IsHeader b.plan.geometry.log (next_header age b)
   fits_next = next_fits b.plan.geometry.log age b kept.header later most_age kept.frozen.few kept.plan.geometry.most_log
@@ -220,7 +237,7 @@ module _ (disk : Disk) (b : Books) (k : ℕ) (kept : IsKept disk.sectors disk.se
     after = refl;
     directory = directory_next;
     count = length_entries b.frozen;
-    spelt = spelt_next disk.sectors disk.seen b k kept running stable age keepable;
+    spelt = spelt_next disk.sectors disk.seen b k kept running stable complete age keepable;
     spares = spares_now;
     spares_next = spares_then;
   }
@@ -262,7 +279,7 @@ module _ (disk : Disk) (b : Books) (k : ℕ) (kept : IsKept disk.sectors disk.se
       header = fits_next;
       count = length_entries b.frozen;
       directory = directory_next;
-      saved = spelt_next disk.sectors disk.seen b k kept running stable age keepable;
+      saved = spelt_next disk.sectors disk.seen b k kept running stable complete age keepable;
       few = omega arith;
       moved = λ i lt. absurd (omega (arith, lt));
       frozen = no_place;
@@ -290,7 +307,7 @@ module _ (disk : Disk) (b : Books) (k : ℕ) (kept : IsKept disk.sectors disk.se
     committed_stored : stored_in disk.seen (committed_books age b ps) ≡ stored_after_commit age (frozen_of disk.seen b k) (stored_in disk.seen b)
     committed_stored =
         ap (λ (g : ℕ). stored_as (taken_count b.frozen) (puts_in disk.seen b.plan g b.working) (frames_read disk.seen b.plan (frozen_generation b) (entries_of b.frozen))) (sym generation_is)
-        ∙ ap (λ (fs : List Frame). stored_as (taken_count b.frozen) (puts_in disk.seen b.plan (working_generation b) b.working) fs) (frames_next disk.sectors disk.seen b k kept running stable)
+        ∙ ap (λ (fs : List Frame). stored_as (taken_count b.frozen) (puts_in disk.seen b.plan (working_generation b) b.working) fs) (frames_next disk.sectors disk.seen b k kept running stable complete)
         ∙ ap (λ (n : ℕ). stored_as n (puts_in disk.seen b.plan (working_generation b) b.working) (overlaid (puts_in disk.seen b.plan (frozen_generation b) b.frozen) (frames_read disk.seen b.plan b.header.generation b.directory)))
         (taken_all disk.sectors disk.seen b k kept running stable)
         ∙ same_move k (overlaid (puts_in disk.seen b.plan (frozen_generation b) b.frozen) (frames_read disk.seen b.plan b.header.generation b.directory)) where
@@ -322,7 +339,7 @@ module _ (disk : Disk) (b : Books) (k : ℕ) (kept : IsKept disk.sectors disk.se
   -- what is saved next
   pub next_kept : kept_of (state_in disk.seen b.plan (next_header age b) (entries_of b.frozen)) ≡ next_saved age (frozen_of disk.seen b k) (stored_in disk.seen b).saved
   next_kept =
-      ap (λ (fs : List Frame). saved_as (taken_count b.frozen) fs) (frames_next disk.sectors disk.seen b k kept running stable)
+      ap (λ (fs : List Frame). saved_as (taken_count b.frozen) fs) (frames_next disk.sectors disk.seen b k kept running stable complete)
       ∙ ap (λ (n : ℕ). saved_as n (overlaid (puts_in disk.seen b.plan (frozen_generation b) b.frozen) (frames_read disk.seen b.plan b.header.generation b.directory))) (taken_all disk.sectors disk.seen b k kept running stable)
 
   pub commit_moments : (new : Disk) → LeavesOnly disk new (λ c. Encodes c disk.sectors (saved_state disk.seen b) ⊎ Encodes c disk.sectors (state_in disk.seen b.plan (next_header age b) (entries_of b.frozen)))
@@ -333,9 +350,10 @@ module _ (disk : Disk) (b : Books) (k : ℕ) (kept : IsKept disk.sectors disk.se
       (λ c. ⊎_elim (λ is. inl (holds disk.sectors c (saved_state disk.seen b) is))
       (λ is. inr (subst (Holds disk.sectors c) next_kept (holds disk.sectors c (state_in disk.seen b.plan (next_header age b) (entries_of b.frozen)) is)))) run
 
-abbrev books_with : Books → CheckpointHeader → List Entry → List Place → Books
-books_with b h es ps = record { plan = b.plan; header = h; directory = es; moved = 0; frozen = ps; size = None; working = b.working }
+abbrev books_with : Books → CheckpointHeader → List Entry → List Place → Option Unwritten → Books
+books_with b h es ps o = record { plan = b.plan; header = h; directory = es; moved = 0; frozen = ps; size = None; working = b.working; unwritten = o }
 
-pub books_same : (age : ℕ) (b : Books) (h : CheckpointHeader) (es : List Entry) (ps : List Place) → h ≡ next_header age b → take h.entries es ≡ entries_of b.frozen
-    → books_of b.plan h es 0 ps None b.working ≡ committed_books age b ps
-books_same age b h es ps header directory = ap (λ (ds : List Entry). books_with b h ds ps) directory ∙ ap (λ (x : CheckpointHeader). books_with b x (entries_of b.frozen) ps) header
+pub books_same : (age : ℕ) (b : Books) (h : CheckpointHeader) (es : List Entry) (ps : List Place) (o : Option Unwritten) → h ≡ next_header age b → take h.entries es ≡ entries_of b.frozen → o ≡ None
+    → books_of b.plan h es 0 ps None b.working o ≡ committed_books age b ps
+books_same age b h es ps o header directory none =
+    ap (λ (ds : List Entry). books_with b h ds ps o) directory ∙ ap (λ (x : CheckpointHeader). books_with b x (entries_of b.frozen) ps o) header ∙ ap (books_with b (next_header age b) (entries_of b.frozen) ps) none

@@ -25,8 +25,10 @@ use Rattle.frame_io.specs.Frames.{IsRefused}
 use Rattle.frame_io.specs.declared.fault.ReadFault.{ReadFault}
 use Rattle.frame_io.specs.declared.fault.ReadFault.TheVariants as fault
 use Rattle.checkpoint.specs.Saved.{Holds}
-use Rattle.migrator.specs.Durable.{Books, DurableState, frozen_generation, working_generation, below_at, frozen_put, frozen_of, newest, IsRunning, stored_in, saved_state, LeavesState, IsKept, GoesOnDisk, ReadsStore}
-use Rattle.migrator.proofs.GoingOn.{holds}
+use Rattle.migrator.specs.Durable.{Books, DurableState, frozen_generation, working_generation, below_at, frozen_put, frozen_of, newest, IsRunning, stored_in, saved_state, LeavesState, IsKept, ReadsStore}
+use Rattle.migrator.specs.Mended.{Unwritten}
+use Rattle.migrator.proofs.GoingOn.{GoesOnSeen, goes_seen, holds}
+use Rattle.migrator.proofs.Mended.{mended_disk, reads_mended}
 
 -- of bytes that are a function of an image
 pub read_is : (g : Geometry) (age n : ℕ) (bytes : Image → List ℕ) (old mid : Image) (f read : Frame) → Agrees mid old → IsFrameOf g age n (bytes old) f → IsFrameOf g age n (bytes mid) read → read ≡ f
@@ -54,7 +56,7 @@ module _ (old new : Disk) (b : Books) (reads : ReadsOnly old new) where
   pub fetched_stored : stored_in new.seen b ≡ stored_in old.seen b
   fetched_stored = ap (λ (i : Image). stored_in i b) seen
 
-  pub fetched_goes_on : GoesOnDisk old new b b
+  pub fetched_goes_on : GoesOnSeen old new b b
   fetched_goes_on = record {
     plan = refl;
     size = reads.size;
@@ -63,14 +65,17 @@ module _ (old new : Disk) (b : Books) (reads : ReadsOnly old new) where
   }
 
 pub reads_store : {D : Type 0} (disk : D → Disk) (old : DurableState D) (back : D) → ReadsOnly (disk old.beneath) (disk back) → ReadsStore disk old (record { beneath = back; books = old.books })
-reads_store disk old back reads = record {
-  books = refl;
-  stored = fetched_stored (disk old.beneath) (disk back) old.books reads;
-  goes_on = fetched_goes_on (disk old.beneath) (disk back) old.books reads;
-  seen = reads.seen;
-  crash = reads.crash;
-  any_moment = reads.any_moment;
-}
+reads_store disk old back reads =
+    let o : Option Unwritten = old.books.unwritten in
+    let seen = reads_mended (disk old.beneath) (disk back) o reads in
+    record {
+      books = refl;
+      stored = fetched_stored (mended_disk (disk old.beneath) o) (mended_disk (disk back) o) old.books seen;
+      goes_on = goes_seen (disk old.beneath) (disk back) old.books old.books (fetched_goes_on (mended_disk (disk old.beneath) o) (mended_disk (disk back) o) old.books seen);
+      seen = reads.seen;
+      crash = reads.crash;
+      any_moment = reads.any_moment;
+    }
 
 pub ok_weaker : {T E : Type 0} {P Q : T → Type 0} (r : Result T E) → ((x : T) → P x → Q x) → IfOk r P → IfOk r Q
 ok_weaker (Ok x) f p = f x p

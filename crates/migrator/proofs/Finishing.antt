@@ -41,7 +41,7 @@ home_fits room h is some =
     record { entries = omega arith; age = is.age; generation = is.generation; sequence = omega (arith, few); entries_fit = omega arith }
 
 abbrev pub home_books : Books → Books
-home_books b = record { plan = b.plan; header = home_header b.header; directory = []; moved = 0; frozen = b.frozen; size = b.size; working = b.working }
+home_books b = record { plan = b.plan; header = home_header b.header; directory = []; moved = 0; frozen = b.frozen; size = b.size; working = b.working; unwritten = b.unwritten }
 
 module _ (disk : Disk) (b : Books) (kept : IsKept disk.sectors disk.seen b) (some : 0 < b.header.entries) (all : b.moved ≡ b.header.entries) where
   abbrev extent : Extent

@@ -35,7 +35,7 @@ none_put image p generation ps blank = record {
 }
 
 abbrev pub first_books : Plan → CheckpointHeader → List Entry → List Place → List Place → Books
-first_books p h es fs ws = books_of p h es 0 fs None ws
+first_books p h es fs ws = books_of p h es 0 fs None ws None
 
 module _ (old new : Disk) (p : Plan) (h : CheckpointHeader) (es : List Entry) (hs : List ObjectHeader) (fs ws : List Place) (looks : Looks old new) (plan : HasPlan old.seen old.sectors p) (read : IsRead old.seen p h es hs)
     (frozen : fs ≡ replicate (count_of p) Nowhere) (working : ws ≡ replicate (count_of p) Nowhere) where

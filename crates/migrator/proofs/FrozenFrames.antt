@@ -18,11 +18,11 @@ use Rattle.migrator.specs.declared.table.Place.TheVariants.{Torn, Whole}
 use Rattle.migrator.specs.Table.{taken_count, slot_for}
 use Rattle.migrator.specs.Put.{Put, Broken, Kept, slot_bytes, slot_frame, puts_in, ArePut}
 use Rattle.checkpoint.specs.Saved.{most}
-use Rattle.migrator.specs.Durable.{Books, frozen_generation, working_generation, generation_after, FrozenPuts, Stored, GoesOnDisk, stored_in, frozen_of, with_put, IsRunning, IsKept, with_frozen, with_frozen}
+use Rattle.migrator.specs.Durable.{Books, frozen_generation, working_generation, generation_after, FrozenPuts, Stored, stored_in, frozen_of, with_put, IsRunning, IsKept, with_frozen, with_frozen}
 use Rattle.migrator.specs.Spared.{Spares}
 use Rattle.migrator.proofs.Kept.{SparesKept, stored_stays, kept_on}
 use Rattle.migrator.proofs.PlacesApart.{place_inside, spares_other}
-use Rattle.migrator.proofs.GoingOn.{goes_spared}
+use Rattle.migrator.proofs.GoingOn.{GoesOnSeen, goes_spared}
 use Rattle.migrator.proofs.Spared.{touches}
 use Rattle.migrator.proofs.Putting.{torn_put, puts_set, slots_spare, half_spares, other_parity, taken_set, homes_spare, set_twice, mended, puts_mended}
 
@@ -63,20 +63,35 @@ twice_by : (o : Option FrozenPuts) (n : ℕ) (x y : Put) → option_map (with_pu
 twice_by None n x y = refl
 twice_by (Some f) n x y = ap (λ (puts : List Put). Some (frozen_with puts f.size)) (set_twice f.put n x y)
 
-put_twice : (s : Stored) (n : ℕ) (x y : Put) → with_frozen n y (with_frozen n x s) ≡ with_frozen n y s
+pub put_twice : (s : Stored) (n : ℕ) (x y : Put) → with_frozen n y (with_frozen n x s) ≡ with_frozen n y s
 put_twice s n x y = ap (λ (f : Option FrozenPuts). record s { frozen = f }) (twice_by s.frozen n x y)
 
--- a frame is written into its slot
-module _ (old new : Disk) (b : Books) (n : ℕ) (f : Frame) (kept : IsKept old.sectors old.seen b) (lt : n < count_of b.plan) (k : ℕ) (size_is : b.size ≡ Some k) (low : slot_for b.frozen n < k)
-    (writes : WritesAt (slot_sector b.plan (frozen_generation b) (slot_for b.frozen n)) (place_length b.plan n) old new) where
+-- what was put of an object is given up
+module _ (size : ℕ) (image : Image) (b : Books) (n : ℕ) (kept : IsKept size image b) (lt : n < count_of b.plan) (k : ℕ) (size_is : b.size ≡ Some k) (low : slot_for b.frozen n < k) where
   was : IsRunning b (Some k)
   was = subst (IsRunning b) size_is kept.running
 
   room : slot_for b.frozen n < b.plan.geometry.log
   room = omega (arith, low, was.2)
 
+  pub tear_kept : IsKept size image (with_places b (set b.frozen n (Torn (slot_for b.frozen n))))
+  tear_kept = kept_frozen size image b (set b.frozen n (Torn (slot_for b.frozen n))) k size_is kept (torn_put image b.plan (frozen_generation b) b.frozen n kept.frozen lt room)
+      (taken_set b.frozen n k (Torn (slot_for b.frozen n)) (omega (arith, lt, kept.frozen.count)) refl was.1 low)
+
+  pub tear_stored : stored_in image (with_places b (set b.frozen n (Torn (slot_for b.frozen n)))) ≡ with_frozen n Broken (stored_in image b)
+  tear_stored = stored_put image b (set b.frozen n (Torn (slot_for b.frozen n))) n Broken (puts_set image b.plan (frozen_generation b) b.frozen n kept.frozen lt room (Torn (slot_for b.frozen n)))
+
+-- a frame is written into its slot
+module _ (old new : Disk) (b : Books) (n : ℕ) (f : Frame) (kept : IsKept old.sectors old.seen b) (lt : n < count_of b.plan) (k : ℕ) (size_is : b.size ≡ Some k) (low : slot_for b.frozen n < k)
+    (writes : WritesAt (slot_sector b.plan (frozen_generation b) (slot_for b.frozen n)) (place_length b.plan n) old new) where
+  running : IsRunning b (Some k)
+  running = subst (IsRunning b) size_is kept.running
+
+  slot_low : slot_for b.frozen n < b.plan.geometry.log
+  slot_low = omega (arith, low, running.2)
+
   inside : IsInside (place_extent b.plan (frozen_generation b) (slot_for b.frozen n) n) (half_extent b.plan.geometry (half_sector b.plan (frozen_generation b)))
-  inside = place_inside b.plan (frozen_generation b) (slot_for b.frozen n) n room
+  inside = place_inside b.plan (frozen_generation b) (slot_for b.frozen n) n slot_low
 
   in_list : n < length b.frozen
   in_list = omega (arith, lt, kept.frozen.count)
@@ -85,8 +100,7 @@ module _ (old new : Disk) (b : Books) (n : ℕ) (f : Frame) (kept : IsKept old.s
   spares = spares_other b.plan b.header b.directory (frozen_generation b) (place_extent b.plan (frozen_generation b) (slot_for b.frozen n) n) kept.plan kept.directory kept.header.entries (other_parity b.header.generation) inside
 
   torn_kept : IsKept old.sectors old.seen (with_places b (set b.frozen n (Torn (slot_for b.frozen n))))
-  torn_kept = kept_frozen old.sectors old.seen b (set b.frozen n (Torn (slot_for b.frozen n))) k size_is kept (torn_put old.seen b.plan (frozen_generation b) b.frozen n kept.frozen lt room)
-      (taken_set b.frozen n k (Torn (slot_for b.frozen n)) in_list refl was.1 low)
+  torn_kept = tear_kept old.sectors old.seen b n kept lt k size_is low
 
   later : working_generation b % 2 ≡ frozen_generation b % 2 → ⊥
   later same =
@@ -110,7 +124,7 @@ module _ (old new : Disk) (b : Books) (n : ℕ) (f : Frame) (kept : IsKept old.s
   stays_stored : stored_in new.seen (with_places b (set b.frozen n (Torn (slot_for b.frozen n)))) ≡ with_frozen n Broken (stored_in old.seen b)
   stays_stored =
       stored_stays old.sectors (with_places b (set b.frozen n (Torn (slot_for b.frozen n)))) (place_extent b.plan (frozen_generation b) (slot_for b.frozen n) n) old.seen new.seen torn_spares writes.elsewhere
-      ∙ stored_put old.seen b (set b.frozen n (Torn (slot_for b.frozen n))) n Broken (puts_set old.seen b.plan (frozen_generation b) b.frozen n kept.frozen lt room (Torn (slot_for b.frozen n)))
+      ∙ tear_stored old.sectors old.seen b n kept lt k size_is low
 
   -- the frame was written
   module _ (keepable : IsKeepable b.plan.geometry most n f) (written : slot_bytes new.seen b.plan (frozen_generation b) (slot_for b.frozen n) n ≡ frame_bytes b.plan.geometry n f) where
@@ -122,7 +136,7 @@ module _ (old new : Disk) (b : Books) (n : ℕ) (f : Frame) (kept : IsKept old.s
     put_kept =
         kept_frozen new.sectors new.seen (with_places b (set b.frozen n (Torn (slot_for b.frozen n)))) (set b.frozen n (Whole (slot_for b.frozen n))) k size_is stays_kept
         (mended new.seen b.plan (frozen_generation b) b.frozen n (slot_for b.frozen n) stays_kept.frozen lt spelt.0)
-        (taken_set b.frozen n k (Whole (slot_for b.frozen n)) in_list refl was.1 low)
+        (taken_set b.frozen n k (Whole (slot_for b.frozen n)) in_list refl running.1 low)
 
     put_stored : stored_in new.seen (with_places b (set b.frozen n (Whole (slot_for b.frozen n)))) ≡ with_frozen n (Kept f) (stored_in old.seen b)
     put_stored =
@@ -130,7 +144,7 @@ module _ (old new : Disk) (b : Books) (n : ℕ) (f : Frame) (kept : IsKept old.s
         (puts_mended new.seen b.plan (frozen_generation b) b.frozen n (slot_for b.frozen n) stays_kept.frozen lt f spelt.1)
         ∙ ap (with_frozen n (Kept f)) stays_stored ∙ put_twice (stored_in old.seen b) n Broken (Kept f)
 
-  pub put_goes_on : (ps : List Place) → GoesOnDisk old new b (with_places b ps)
+  pub put_goes_on : (ps : List Place) → GoesOnSeen old new b (with_places b ps)
   put_goes_on ps = goes_spared old new b (with_places b ps) (place_extent b.plan (frozen_generation b) (slot_for b.frozen n) n) refl refl refl spares
       (touches (slot_sector b.plan (frozen_generation b) (slot_for b.frozen n)) (place_length b.plan n) old new writes)
 

@@ -14,30 +14,29 @@ use Rattle.model.specs.Frame.{frame_at, blank_frame}
 use Rattle.model.specs.Keepable.{IsKeepable, AreKeptWords}
 use Rattle.model.specs.Object.{role_of}
 use Rattle.model.specs.Sound.{IsOfKind}
-use Rattle.device.specs.Calls.{Agrees}
 use Rattle.device.specs.Disk.{Image, Disk}
 use Rattle.device.specs.Moments.{LeavesOnly}
-use Rattle.device.proofs.Images.{agrees_is}
 use Rattle.device.proofs.Moments.{leaves_weaker, leaves_on}
 use Rattle.layout.specs.declared.directory.Entry.{Entry}
 use Rattle.layout.specs.declared.extent.Extent.{Extent}
 use Rattle.layout.specs.declared.half.Half.{Half}
 use Rattle.layout.specs.declared.half.Half.TheVariants.{First, Second}
 use Rattle.layout.specs.declared.header.CheckpointHeader.{CheckpointHeader}
-use Rattle.layout.specs.Directory.{IsDirectory, IsEntry}
+use Rattle.layout.specs.Directory.{IsDirectory, IsEntry, entry_at}
 use Rattle.layout.specs.Frame.{IsFrameOf, page_frame_bytes, node_frame_bytes}
 use Rattle.layout.specs.FrameReader.{frame_from}
 use Rattle.layout.specs.Half.{half_of}
 use Rattle.layout.specs.Header.{IsHeader}
-use Rattle.layout.specs.Image.{Encodes, frame_in, seat_in, slot_sector, half_sector, sectors_from, bytes_at}
+use Rattle.layout.specs.Image.{Encodes, frame_in, seat_in, slot_sector, half_sector, sectors_from, shaped_at, bytes_at}
 use Rattle.layout.specs.Spelt.{count_of, frame_read, frames_read, IsSpelt, AreSpelt, state_in}
 use Rattle.layout.specs.Superblock.{Plan, IsPlan, IsInside, half_extent, half_start}
 use Rattle.layout.proofs.SlotsOf.{slot_here, slot_behind}
 use Rattle.layout.proofs.Spelling.{length_read, read_at, spelt_same, spelt_at, bytes_spelt}
-use Rattle.layout.specs.Homes.{home_place}
-use Rattle.layout.proofs.Shapes.{page_bytes, bytes_first}
+use Rattle.layout.specs.declared.shape.Shape.{Shape}
+use Rattle.layout.specs.Homes.{home_place, shape_of}
+use Rattle.layout.specs.Shape.{IsShapeFor}
+use Rattle.layout.proofs.Shapes.{page_bytes}
 use Rattle.frame_io.specs.Calls.{WritesAt}
-use Rattle.frame_io.specs.Frames.{IsHeaderAt}
 use Rattle.ckpt_log.specs.Places.{slot_extent, directory_extent}
 use Rattle.ckpt_log.proofs.Places.{slots_inside}
 use Rattle.migrator.specs.declared.table.Place.{Place}
@@ -45,16 +44,18 @@ use Rattle.migrator.specs.declared.table.Place.TheVariants.{Nowhere, Torn, Whole
 use Rattle.migrator.specs.Table.{place_at}
 use Rattle.migrator.specs.Put.{Put, Kept, slot_bytes, put_of, puts_in, ArePut}
 use Rattle.checkpoint.specs.Saved.{most, SavedFrames, kept_of, Holds, LeavesSaved, LeavesEither, replaced_saved, with_words, journaled_saved}
-use Rattle.migrator.specs.Durable.{Books, books_of, DurableState, frozen_generation, working_generation, generation_after, FrozenPuts, Stored, saved_state, frozen_of, stored_in, stored_of, IsRunning, IsKept, LeavesState, GoesOnDisk, replaced, replaced_header, stored_after_journal, first_bytes, first_frame}
+use Rattle.migrator.specs.Durable.{Books, books_of, DurableState, frozen_generation, working_generation, generation_after, FrozenPuts, Stored, saved_state, frozen_of, stored_in, stored_of, IsRunning, IsKept, LeavesState, replaced, replaced_header, stored_after_journal, first_bytes, first_frame}
+use Rattle.home_ranges.proofs.Places.{alone}
+use Rattle.migrator.specs.Headers.{IsHeaderOf}
 use Rattle.migrator.specs.Saving.{MaySave, SavesOnly}
 use Rattle.migrator.specs.Spared.{SparesFrames}
 use Rattle.migrator.proofs.Spared.{touches}
 use Rattle.checkpoint.proofs.Lists.{maps_same}
 use Rattle.migrator.proofs.Kept.{map_set, SparesKept, stored_stays, kept_on}
-use Rattle.migrator.proofs.GoingOn.{holds, goes_spared}
+use Rattle.migrator.proofs.GoingOn.{GoesOnSeen, holds, goes_spared}
 use Rattle.migrator.proofs.Later.{keepable_later}
 use Rattle.migrator.proofs.PlacesApart.{in_slot, at_home, frame_apart, home_apart, spares_log}
-use Rattle.migrator.proofs.Seats.{no_seat, no_entries, seat_fits}
+use Rattle.migrator.proofs.Seats.{beside_seat, none_beside, page_own, no_entries, seat_fits}
 use Rattle.migrator.proofs.Putting.{other_parity, half_spares, none_spares, homes_spare}
 use Rattle.migrator.proofs.Committing.{one_more, slots_apart_directory, directory_inside, kept_saves, stored_saves, state_saves}
 
@@ -143,13 +144,13 @@ module _ (size : ℕ) (image : Image) (b : Books) (kept : IsKept size image b) (
   saved_keepable n lt = subst (IsKeepable b.plan.geometry b.header.age n) (sym (read_at image b.plan b.header.generation b.directory n lt)) (kept.saved n lt).0
 
 -- the header that was read of its home is the saved one
-pub header_read : (old new : Disk) (b : Books) → IsKept old.sectors old.seen b → b.header.entries ≡ 0 → (n at : ℕ) → n < count_of b.plan → at ≡ home_place b.plan n → Agrees new.seen old.seen → (header : ObjectHeader) → IsHeaderAt new.seen at header
-    → header ≡ (frame_at (stored_in old.seen b).saved.frames n).header
-header_read old new b kept home n at lt place same header is =
-    is b.plan.geometry n ∙ ap (λ (bytes : List ℕ). (frame_from b.plan.geometry n bytes).header) (sym (bytes_first new.seen at b.plan n kept.plan.first))
-    ∙ ap (λ (image : Image). (frame_from b.plan.geometry n (bytes_at image at b.plan n)).header) (agrees_is new.seen old.seen same)
-    ∙ ap (λ (sector : ℕ). (frame_from b.plan.geometry n (bytes_at old.seen sector b.plan n)).header) place
-    ∙ sym (ap (λ (f : Frame). f.header) (saved_read old.sectors old.seen b kept home n lt))
+pub header_read : (old : Image) (size : ℕ) (new : Image) (b : Books) → IsKept size old b → b.header.entries ≡ 0 → (n at : ℕ) (shape : Shape) → n < count_of b.plan → at ≡ home_place b.plan n → shape ≡ shape_of b.plan n → IsShapeFor b.plan.geometry n shape
+    → (bytes_at new (home_place b.plan n) b.plan n ≡ bytes_at old (home_place b.plan n) b.plan n) → (header : ObjectHeader) → IsHeaderOf new at shape header → header ≡ (frame_at (stored_in old b).saved.frames n).header
+header_read old size new b kept home n at shape lt place shape_is fits same header is =
+    is b.plan.geometry n fits ∙ ap (λ (s : Shape). (frame_from b.plan.geometry n (shaped_at new at s)).header) shape_is
+    ∙ ap (λ (sector : ℕ). (frame_from b.plan.geometry n (bytes_at new sector b.plan n)).header) place
+    ∙ ap (λ (bytes : List ℕ). (frame_from b.plan.geometry n bytes).header) same
+    ∙ sym (ap (λ (f : Frame). f.header) (saved_read size old b kept home n lt))
 
 -- ---- and no checkpoint is on its way
 
@@ -184,7 +185,7 @@ module _ (old new : Disk) (b : Books) (kept : IsKept old.sectors old.seen b) (fr
   pub put_stored : stored_in new.seen b ≡ stored_in old.seen b
   put_stored = stored_stays old.sectors b (slot_extent b.plan b.header.generation 0) old.seen new.seen spares writes.elsewhere
 
-  pub put_goes_on : GoesOnDisk old new b b
+  pub put_goes_on : GoesOnSeen old new b b
   put_goes_on =
       goes_spared old new b b (slot_extent b.plan b.header.generation 0) refl refl refl
       (spares_log b.plan b.header b.directory b.header.generation (slot_extent b.plan b.header.generation 0) kept.plan kept.count home inside)
@@ -235,12 +236,12 @@ header_fits room age b is later most some = record {
 
 -- what is kept then
 abbrev books_with : Books → CheckpointHeader → List Entry → Books
-books_with b h es = record { plan = b.plan; header = h; directory = es; moved = 0; frozen = b.frozen; size = b.size; working = b.working }
+books_with b h es = record { plan = b.plan; header = h; directory = es; moved = 0; frozen = b.frozen; size = b.size; working = b.working; unwritten = b.unwritten }
 
 abbrev pub replaced_books : ℕ → ℕ → Books → Books
-replaced_books age n b = record { plan = b.plan; header = replaced_header age b; directory = one_entry n; moved = 0; frozen = b.frozen; size = b.size; working = b.working }
+replaced_books age n b = record { plan = b.plan; header = replaced_header age b; directory = one_entry n; moved = 0; frozen = b.frozen; size = b.size; working = b.working; unwritten = b.unwritten }
 
-pub books_again : (age n : ℕ) (b : Books) (h : CheckpointHeader) (es : List Entry) → h ≡ replaced_header age b → take h.entries es ≡ one_entry n → books_of b.plan h es 0 b.frozen b.size b.working ≡ replaced_books age n b
+pub books_again : (age n : ℕ) (b : Books) (h : CheckpointHeader) (es : List Entry) → h ≡ replaced_header age b → take h.entries es ≡ one_entry n → books_of b.plan h es 0 b.frozen b.size b.working b.unwritten ≡ replaced_books age n b
 books_again age n b h es header directory =
     ap (λ (ds : List Entry). books_with b h ds) directory ∙ ap (λ (x : CheckpointHeader). books_with b x (one_entry n)) header
 
@@ -256,7 +257,7 @@ none_frozen : (f g : ℕ → FrozenPuts) (o : Option ℕ) → o ≡ None → opt
 none_frozen f g None is = refl
 none_frozen f g (Some k) is = absurd cc
 
-module _ (disk : Disk) (b : Books) (kept : IsKept disk.sectors disk.seen b) (free : b.size ≡ None) (home : b.header.entries ≡ 0) (n : ℕ) (lt : n < count_of b.plan)
+module _ (disk : Disk) (b : Books) (kept : IsKept disk.sectors disk.seen b) (free : b.size ≡ None) (home : b.header.entries ≡ 0) (n : ℕ) (lt : n < count_of b.plan) (page : b.plan.geometry.nodes ≤ n)
     (age : ℕ) (later : b.header.age < age) (most_age : age ≤ 2 ^ 62)
     (spelt : IsFrameOf b.plan.geometry age n (first_bytes disk.seen b n) (first_frame disk.seen b n)) where
   abbrev again : ℕ
@@ -286,9 +287,14 @@ module _ (disk : Disk) (b : Books) (kept : IsKept disk.sectors disk.seen b) (fre
   frame_here : frame_in disk.seen b.plan again (one_entry n) n ≡ first_bytes disk.seen b n
   frame_here = in_slot disk.seen b.plan again (one_entry n) n 0 (slot_here entry [] n refl) ∙ slot_same disk.seen b.plan again b.header.generation (half_same again b.header.generation parity) 0 n
 
+  -- a page shares its home with none
+  one_page : (i : ℕ) → i < 1 → (m : ℕ) → m < count_of b.plan → home_place b.plan (entry_at (one_entry n) i).object ≡ home_place b.plan m → n ≡ m
+  one_page zero few m within same = sym (alone b.plan m n kept.plan within lt (page_own b.plan n page) (sym same))
+  one_page (suc i) few m within same = absurd (omega (arith, few))
+
   frame_there : (m : ℕ) → m < count_of b.plan → (n ≡ m → ⊥) → frame_in disk.seen b.plan again (one_entry n) m ≡ frame_in disk.seen b.plan b.header.generation b.directory m
   frame_there m within other =
-      at_home disk.seen b.plan again (one_entry n) m (no_seat b.plan (one_entry n) m kept.plan kept.plan.first directory_next within (slot_behind entry [] m other))
+      at_home disk.seen b.plan again (one_entry n) m (beside_seat b.plan (one_entry n) m (slot_behind entry [] m other) ∙ none_beside b.plan (one_entry n) m (λ i few same. other (one_page i few m within same)))
       ∙ sym (lies_home disk.sectors disk.seen b kept home m)
 
   frames_next : frames_read disk.seen b.plan again (one_entry n) ≡ set (frames_read disk.seen b.plan b.header.generation b.directory) n (first_frame disk.seen b n)
@@ -412,7 +418,7 @@ pub either_first : (old new : Disk) (saved next : SavedFrames) → LeavesSaved o
 either_first old new saved next run =
     leaves_weaker {old = old} {new = new} {P = λ c. Holds old.sectors c saved} (λ c. Holds old.sectors c saved ⊎ Holds old.sectors c next) (λ c is. inl is) run
 
-both_runs : (old mid new : Disk) (saved next : SavedFrames) → mid.sectors ≡ old.sectors → LeavesSaved old mid saved → LeavesEither mid new saved next → LeavesEither old new saved next
+pub both_runs : (old mid new : Disk) (saved next : SavedFrames) → mid.sectors ≡ old.sectors → LeavesSaved old mid saved → LeavesEither mid new saved next → LeavesEither old new saved next
 both_runs old mid new saved next size first second =
     leaves_on {old = old} {mid = mid} {new = new} {P = λ c. Holds old.sectors c saved ⊎ Holds old.sectors c next} (either_first old mid saved next first)
     (subst (λ (k : ℕ). LeavesOnly mid new (λ c. Holds k c saved ⊎ Holds k c next)) size second)

@@ -55,23 +55,32 @@ put_same new old p generation n Nowhere same = refl
 put_same new old p generation n (Torn s) same = refl
 put_same new old p generation n (Whole s) same = ap (λ (bytes : List ℕ). Kept (frame_from p.geometry n bytes)) (same s refl)
 
+-- where their bytes are the same, so are they
+pub puts_same : (p : Plan) (generation : ℕ) (ps : List Place) (old new : Image) → ((n s : ℕ) → n < count_of p → place_at ps n ≡ Whole s → slot_bytes new p generation s n ≡ slot_bytes old p generation s n)
+    → puts_in new p generation ps ≡ puts_in old p generation ps
+unfolding puts_in
+puts_same p generation ps old new same =
+    maps_same (λ n. put_of new p generation n (place_at ps n)) (λ n. put_of old p generation n (place_at ps n)) (count_of p)
+    (λ n lt. put_same new old p generation n (place_at ps n) (λ s is. same n s lt is))
+
+pub are_put_same : (p : Plan) (generation : ℕ) (ps : List Place) (old new : Image) → ((n s : ℕ) → n < count_of p → place_at ps n ≡ Whole s → slot_bytes new p generation s n ≡ slot_bytes old p generation s n)
+    → ArePut old p generation ps → ArePut new p generation ps
+are_put_same p generation ps old new same are = record {
+  count = are.count;
+  few = are.few;
+  table = are.table;
+  spelt = λ n s lt is. subst (λ (bytes : List ℕ). IsFrameOf p.geometry most n bytes (frame_from p.geometry n bytes)) (sym (same n s lt is)) (are.spelt n s lt is);
+}
+
 module _ (p : Plan) (generation : ℕ) (ps : List Place) (e : Extent) (old new : Image) (spares : SparesPuts p generation ps e) (change : Elsewhere e.sector e.length old new) where
   slot_stays : (n s : ℕ) → n < count_of p → place_at ps n ≡ Whole s → slot_bytes new p generation s n ≡ slot_bytes old p generation s n
   slot_stays n s lt is = bytes_stay (slot_sector p generation s) p n e old new (spares n s lt is) change
 
   pub puts_stay : puts_in new p generation ps ≡ puts_in old p generation ps
-  unfolding puts_in
-  puts_stay =
-      maps_same (λ n. put_of new p generation n (place_at ps n)) (λ n. put_of old p generation n (place_at ps n)) (count_of p)
-      (λ n lt. put_same new old p generation n (place_at ps n) (λ s is. slot_stays n s lt is))
+  puts_stay = puts_same p generation ps old new slot_stays
 
   pub are_put_on : ArePut old p generation ps → ArePut new p generation ps
-  are_put_on are = record {
-    count = are.count;
-    few = are.few;
-    table = are.table;
-    spelt = λ n s lt is. subst (λ (bytes : List ℕ). IsFrameOf p.geometry most n bytes (frame_from p.geometry n bytes)) (sym (slot_stays n s lt is)) (are.spelt n s lt is);
-  }
+  are_put_on are = are_put_same p generation ps old new slot_stays are
 
 -- ---- all of it
 
@@ -97,6 +106,16 @@ stored_same new old b working frozen saved =
     ∙ ap (λ (x : Option FrozenPuts). stored_of (puts_in old b.plan (working_generation b) b.working) x (kept_of (saved_state new b)) (b.header.entries - b.moved)) (frozen_same new old b b.size frozen)
     ∙ ap (λ (x : SavedState). stored_of (puts_in old b.plan (working_generation b) b.working) (option_map (frozen_of old b) b.size) (kept_of x) (b.header.entries - b.moved)) saved
 
+-- the frames of a home stay
+pub home_stays : (b : Books) (e : Extent) (old new : Image) → SparesFrames b.plan b.header.generation b.directory e → Elsewhere e.sector e.length old new → (i : ℕ) → IsPlan b.plan → (entry_at b.directory i).object < count_of b.plan
+    → IsApart (home_extent b.plan (entry_at b.directory i).object) e → IsHome old b.plan b.header.generation b.directory i → IsHome new b.plan b.header.generation b.directory i
+home_stays b e old new spares change i plan fits apart is n lt same =
+    let object : ℕ = (entry_at b.directory i).object in
+    let there : IsApart (home_extent b.plan n) e =
+    subst (λ (length : ℕ). IsApart (record { sector = home_place b.plan n; length = length }) e) (sym (one_length b.plan n object plan lt fits same))
+    (subst (λ (sector : ℕ). IsApart (record { sector = sector; length = place_length b.plan object }) e) (sym same) apart) in
+    bytes_stay (home_place b.plan n) b.plan n e old new there change ∙ is n lt same ∙ sym (frame_stays b.plan b.header.generation b.directory e old new spares change n lt)
+
 module _ (size : ℕ) (b : Books) (e : Extent) (old new : Image) (spares : SparesKept b e) (change : Elsewhere e.sector e.length old new) where
   pub stored_stays : stored_in new b ≡ stored_in old b
   stored_stays =
@@ -106,15 +125,6 @@ module _ (size : ℕ) (b : Books) (e : Extent) (old new : Image) (spares : Spare
 
   object_fits : IsKept size old b → (i : ℕ) → i < b.moved → (entry_at b.directory i).object < count_of b.plan
   object_fits kept i lt = (kept.directory.each i (record { object = 0; slot = 0 }) (omega (arith, lt, kept.few, kept.count))).object
-
-  pub home_stays : (i : ℕ) → IsPlan b.plan → (entry_at b.directory i).object < count_of b.plan → IsApart (home_extent b.plan (entry_at b.directory i).object) e
-      → IsHome old b.plan b.header.generation b.directory i → IsHome new b.plan b.header.generation b.directory i
-  home_stays i plan fits apart is n lt same =
-      let object : ℕ = (entry_at b.directory i).object in
-      let there : IsApart (home_extent b.plan n) e =
-      subst (λ (length : ℕ). IsApart (record { sector = home_place b.plan n; length = length }) e) (sym (one_length b.plan n object plan lt fits same))
-      (subst (λ (sector : ℕ). IsApart (record { sector = sector; length = place_length b.plan object }) e) (sym same) apart) in
-      bytes_stay (home_place b.plan n) b.plan n e old new there change ∙ is n lt same ∙ sym (frame_stays b.plan b.header.generation b.directory e old new spares.frames change n lt)
 
   pub kept_on : IsKept size old b → IsKept size new b
   kept_on kept = record {
@@ -126,7 +136,7 @@ module _ (size : ℕ) (b : Books) (e : Extent) (old new : Image) (spares : Spare
     saved = λ n lt. spelt_same new old b.plan b.header.age b.header.generation b.header.generation b.directory b.directory n
         (frame_stays b.plan b.header.generation b.directory e old new spares.frames change n lt) (kept.saved n lt);
     few = kept.few;
-    moved = λ i lt. home_stays i kept.plan (object_fits kept i lt) (spares.homes i lt) (kept.moved i lt);
+    moved = λ i lt. home_stays b e old new spares.frames change i kept.plan (object_fits kept i lt) (spares.homes i lt) (kept.moved i lt);
     frozen = are_put_on b.plan (frozen_generation b) b.frozen e old new spares.frozen change kept.frozen;
     running = kept.running;
     working = are_put_on b.plan (working_generation b) b.working e old new spares.working change kept.working;

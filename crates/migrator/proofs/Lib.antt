@@ -4,6 +4,8 @@ pub mod Kept
 mod Seats
 mod PlacesApart
 mod Gathering
+mod Mended
+mod Completing
 pub mod Putting
 mod GoingOn
 mod Working
@@ -20,3 +22,6 @@ mod Opening
 mod Reading
 mod FirstBooks
 mod Fetching
+mod Buffered
+mod Completed
+mod Headers

@@ -1,5 +1,5 @@
 -- Saved frames go home one after the other.
-use Rattle.std.proofs.Common.{◌≡◌, ◌⊎◌, ℕ, ◌+◌, ◌-◌, ◌<◌, ◌≤◌, Bool, true, false, sym, ap, subst, ◌∙◌, inl, ⊎_elim, arith}
+use Rattle.std.proofs.Common.{◌≡◌, ◌⊎◌, ℕ, ◌+◌, ◌-◌, ◌<◌, ◌≤◌, Bool, true, false, refl, sym, ap, subst, ◌∙◌, inl, ⊎_elim, arith}
 use Rattle.std.specs.Prelude.{◌==◌, if◌then◌else◌}
 use Rattle.std.proofs.lemmas.Bool.{eq-eqb, ne_eqb}
 use Rattle.device.specs.Disk.{Image, Disk}
@@ -7,7 +7,7 @@ use Rattle.device.specs.Moments.{LeavesOnly}
 use Rattle.device.proofs.Moments.{leaves_weaker, leaves_on}
 use Rattle.checkpoint.specs.Saved.{SavedFrames, home_saved, Holds, LeavesEither}
 use Rattle.migrator.specs.Durable.{Books, DurableState, Stored, stored_of, is_sound, MovedBy, IsLesser, finished, moved_saved, moved}
-use Rattle.migrator.proofs.Moving.{goes_trans, goes_none}
+use Rattle.migrator.proofs.Moving.{moved_books, goes_trans, goes_none}
 
 pub moved_none : {D : Type 0} (disk : D → Disk) (s : DurableState D) → ((c : Image) → (disk s.beneath).left_since (disk s.beneath).moment c → (disk s.beneath).may_leave c) → s.books.moved ≤ s.books.header.entries → MovedBy disk s s 0
 moved_none disk s only_now few =
@@ -17,6 +17,15 @@ moved_none disk s only_now few =
       stored = ap (λ (n : ℕ). record (stored_of disk s) { to_move = s.books.header.entries - n }) none;
       goes_on = goes_none (disk s.beneath) s.books only_now;
     }
+
+-- the next one is home, and no call was made
+pub moved_on : {D : Type 0} (disk : D → Disk) (s : DurableState D) → ((c : Image) → (disk s.beneath).left_since (disk s.beneath).moment c → (disk s.beneath).may_leave c)
+    → MovedBy disk s (record { beneath = s.beneath; books = moved_books s.books 1 }) 1
+moved_on disk s only_now = record {
+  books = refl;
+  stored = refl;
+  goes_on = let none = goes_none (disk s.beneath) s.books only_now in record { plan = refl; size = refl; sound = none.sound; any_moment = none.any_moment };
+}
 
 pub moved_more : {D : Type 0} (disk : D → Disk) (old mid new : DurableState D) (i k : ℕ) → MovedBy disk old mid i → MovedBy disk mid new k → MovedBy disk old new (i + k)
 moved_more disk old mid new i k first second =

@@ -11,21 +11,21 @@ use Rattle.layout.specs.Image.{slot_in}
 use Rattle.layout.specs.Spelt.{count_of}
 use Rattle.layout.specs.Superblock.{Plan, IsPlan}
 use Rattle.layout.proofs.Halves.{apart_turned}
-use Rattle.layout.proofs.SlotsOf.{own_slot, two_objects}
+use Rattle.layout.proofs.SlotsOf.{own_slot}
 use Rattle.layout.specs.Homes.{home_place, place_length}
-use Rattle.home_ranges.proofs.Places.{numbers_apart}
+use Rattle.home_ranges.proofs.Places.{places_apart}
 use Rattle.home_ranges.specs.Laws.{home_extent}
 use Rattle.ckpt_log.specs.Places.{place_extent}
 use Rattle.migrator.specs.declared.table.Place.{Place}
 use Rattle.migrator.specs.declared.table.Place.TheVariants.{Nowhere}
 use Rattle.migrator.specs.Table.{place_at, slot_of, IsTable, taken_count}
-use Rattle.migrator.specs.Gathered.{IsCopied}
+use Rattle.migrator.specs.Gathered.{IsCopied, IsFirst}
 use Rattle.checkpoint.specs.Saved.{SavedFrames, Holds}
-use Rattle.migrator.specs.Durable.{Books, frozen_generation, working_generation, Stored, GoesOnDisk, saved_state, stored_in, IsHome, IsRunning, IsKept}
+use Rattle.migrator.specs.Durable.{Books, frozen_generation, working_generation, seen_by, Stored, GoesOnDisk, saved_state, stored_in, IsHome, IsRunning, IsKept}
 use Rattle.migrator.specs.Spared.{Spares, Touches}
 use Rattle.migrator.proofs.Spared.{frame_stays}
 use Rattle.migrator.proofs.Kept.{SparesPuts, SparesKept, stored_stays, kept_on}
-use Rattle.migrator.proofs.GoingOn.{holds, goes_spared}
+use Rattle.migrator.proofs.GoingOn.{GoesOnSeen, holds, goes_spared}
 use Rattle.migrator.proofs.PlacesApart.{place_inside, home_apart, spares_home}
 use Rattle.migrator.proofs.Putting.{none_spares}
 
@@ -49,7 +49,7 @@ moved_books b k = record b { moved = b.moved + k }
 
 -- ---- the next frame is copied
 
-module _ (old new : Disk) (b : Books) (kept : IsKept old.sectors old.seen b) (some : b.moved < b.header.entries)
+module _ (old new : Disk) (b : Books) (kept : IsKept old.sectors old.seen b) (some : b.moved < b.header.entries) (first : IsFirst b.plan b.directory b.moved)
     (touches : Touches (home_place b.plan (entry_at b.directory b.moved).object) (place_length b.plan (entry_at b.directory b.moved).object) old new) where
   abbrev object : ℕ
   object = (entry_at b.directory b.moved).object
@@ -79,8 +79,7 @@ module _ (old new : Disk) (b : Books) (kept : IsKept old.sectors old.seen b) (so
   spares_all = record {
     frames = spares.frames;
     homes = λ i lt.
-        numbers_apart b.plan (entry_at b.directory i).object object kept.plan kept.plan.first (kept.directory.each i (record { object = 0; slot = 0 }) (omega (arith, lt, in_list))).object object_fits
-        (λ same. two_objects b.directory i b.moved kept.directory.rising lt in_list same);
+        places_apart b.plan (entry_at b.directory i).object object kept.plan (kept.directory.each i (record { object = 0; slot = 0 }) (omega (arith, lt, in_list))).object object_fits (first i lt);
     frozen = none_spares b.plan (frozen_generation b) b.frozen (home_extent b.plan object) blank;
     working = puts_home b.plan (working_generation b) object b.working kept.plan kept.working.table kept.working.few object_fits;
   }
@@ -124,22 +123,50 @@ module _ (old new : Disk) (b : Books) (kept : IsKept old.sectors old.seen b) (so
   pub uncopied_stored : stored_in new.seen b ≡ record (stored_in old.seen b) { to_move = b.header.entries - (b.moved + 0) }
   uncopied_stored = let same : b.moved ≡ b.moved + 0 = omega arith in stored_new ∙ ap (λ (n : ℕ). record (stored_in old.seen b) { to_move = b.header.entries - n }) same
 
-  pub copied_goes_on : (k : ℕ) → GoesOnDisk old new b (moved_books b k)
+  pub copied_goes_on : (k : ℕ) → GoesOnSeen old new b (moved_books b k)
   copied_goes_on k = goes_spared old new b (moved_books b k) (home_extent b.plan object) refl refl refl spares touches
 
-  pub uncopied_goes_on : GoesOnDisk old new b b
+  pub uncopied_goes_on : GoesOnSeen old new b b
   uncopied_goes_on = goes_spared old new b b (home_extent b.plan object) refl refl refl spares touches
+
+-- ---- the next frame went home with the one before it
+
+module _ (size : ℕ) (image : Image) (b : Books) (kept : IsKept size image b) (some : b.moved < b.header.entries) (one : 0 < b.moved)
+    (same : home_place b.plan (entry_at b.directory (b.moved - 1)).object ≡ home_place b.plan (entry_at b.directory b.moved).object) where
+  there : IsHome image b.plan b.header.generation b.directory b.moved
+  there n lt has = kept.moved (b.moved - 1) (omega (arith, one)) n lt (has ∙ sym same)
+
+  pub passed_kept : IsKept size image (moved_books b 1)
+  passed_kept = record {
+    plan = kept.plan;
+    inside = kept.inside;
+    header = kept.header;
+    count = kept.count;
+    directory = kept.directory;
+    saved = kept.saved;
+    few = omega (arith, some);
+    moved = λ i lt. elim (cases_lt i b.moved) [
+      | inl less ↦ kept.moved i less
+      | inr le ↦ let last : b.moved ≡ i = omega (arith, lt, le) in subst (IsHome image b.plan b.header.generation b.directory) last there
+    ];
+    frozen = kept.frozen;
+    running = running_of b.size kept.running;
+    working = kept.working;
+  } where
+    running_of : (o : Option ℕ) → IsRunning b o → IsRunning (moved_books b 1) o
+    running_of None is = is
+    running_of (Some k) is = is
 
 -- ---- one after the other
 
-pub goes_trans : (old mid new : Disk) (a b c : Books) → (stored_in mid.seen b).saved ≡ (stored_in old.seen a).saved → GoesOnDisk old mid a b → GoesOnDisk mid new b c → GoesOnDisk old new a c
+pub goes_trans : (old mid new : Disk) (a b c : Books) → (stored_in (seen_by mid.seen b) b).saved ≡ (stored_in (seen_by old.seen a) a).saved → GoesOnDisk old mid a b → GoesOnDisk mid new b c → GoesOnDisk old new a c
 goes_trans old mid new a b c same first second = record {
   plan = second.plan ∙ first.plan;
   size = second.size ∙ first.size;
   sound = λ sound. second.sound (first.sound sound);
   any_moment = λ sound.
-      leaves_on {old = old} {mid = mid} {new = new} {P = λ x. Holds old.sectors x (stored_in old.seen a).saved} (first.any_moment sound)
-      (subst (λ (k : ℕ). LeavesOnly mid new (λ x. Holds k x (stored_in old.seen a).saved)) first.size
+      leaves_on {old = old} {mid = mid} {new = new} {P = λ x. Holds old.sectors x (stored_in (seen_by old.seen a) a).saved} (first.any_moment sound)
+      (subst (λ (k : ℕ). LeavesOnly mid new (λ x. Holds k x (stored_in (seen_by old.seen a) a).saved)) first.size
       (subst (λ (s : SavedFrames). LeavesOnly mid new (λ x. Holds mid.sectors x s)) same (second.any_moment (first.sound sound))));
 }
 
@@ -148,7 +175,7 @@ goes_none disk b only_now = record {
   plan = refl;
   size = refl;
   sound = λ sound. sound;
-  any_moment = λ sound. started disk (λ c. Holds disk.sectors c (stored_in disk.seen b).saved) only_now (λ c left. holds disk.sectors c (saved_state disk.seen b) (sound c left));
+  any_moment = λ sound. started disk (λ c. Holds disk.sectors c (stored_in (seen_by disk.seen b) b).saved) only_now (λ c left. holds disk.sectors c (saved_state (seen_by disk.seen b) b) (sound c left));
 }
 
 -- an entry of the directory as it is read

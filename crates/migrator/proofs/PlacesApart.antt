@@ -21,9 +21,12 @@ use Rattle.migrator.proofs.Seats.{own_seat, no_entries, seats_differ, seat_fits}
 
 -- ---- where the frame of an object is read
 
+pub in_seat : (image : Image) (p : Plan) (generation : ℕ) (es : List Entry) (n s : ℕ) → seat_in p es n ≡ Some s → frame_in image p generation es n ≡ slot_bytes image p generation s n
+in_seat image p generation es n s is =
+    ap (λ (o : Option ℕ). bytes_at image (sector_or o (slot_sector p generation) (home_place p n)) p n) is
+
 pub in_slot : (image : Image) (p : Plan) (generation : ℕ) (es : List Entry) (n s : ℕ) → slot_in es n ≡ Some s → frame_in image p generation es n ≡ slot_bytes image p generation s n
-in_slot image p generation es n s is =
-    ap (λ (o : Option ℕ). bytes_at image (sector_or o (slot_sector p generation) (home_place p n)) p n) (own_seat p es n s is)
+in_slot image p generation es n s is = in_seat image p generation es n s (own_seat p es n s is)
 
 pub at_home : (image : Image) (p : Plan) (generation : ℕ) (es : List Entry) (n : ℕ) → seat_in p es n ≡ None → frame_in image p generation es n ≡ bytes_at image (home_place p n) p n
 at_home image p generation es n is =

@@ -1,18 +1,19 @@
 -- The slots whose sectors have the frames of objects.
-use Rattle.std.proofs.Common.{◌≡◌, ℕ, zero, suc, ◌+◌, ◌-◌, ◌<◌, ◌≤◌, Bool, Option, Some, None, List, [], ◌∷◌, length, refl, sym, ap, subst, ◌∙◌, inl, inr, arith}
+use Rattle.std.proofs.Common.{◌≡◌, ℕ, zero, suc, ◌-◌, ◌<◌, ◌≤◌, Bool, true, false, not, nat_eq, Option, Some, None, List, [], ◌∷◌, length, refl, sym, ap, subst, ◌∙◌, inl, inr, arith}
 use Rattle.std.specs.Prelude.{if◌then◌else◌}
 use Rattle.std.proofs.lemmas.Bool.{cases_eq, cases_lt, eq-eqb, ne_eqb}
 use Rattle.layout.specs.declared.directory.Entry.{Entry}
-use Rattle.layout.specs.declared.shape.Shape.TheVariants.{Packed}
-use Rattle.layout.specs.declared.version.Version.TheVariants.{One}
+use Rattle.layout.specs.declared.shape.Shape.TheVariants.{Packed, Page}
 use Rattle.layout.specs.Directory.{IsDirectory, AreRising, entry_at}
-use Rattle.layout.specs.Homes.{home_place, shape_of}
+use Rattle.layout.specs.Homes.{home_place, range_with, rank_in, shape_of}
 use Rattle.layout.specs.Image.{slot_in, slot_beside, or_beside, seat_in}
 use Rattle.layout.specs.Spelt.{count_of}
+use Rattle.layout.specs.Shape.{node_shape}
 use Rattle.layout.specs.Superblock.{Plan, IsPlan}
 use Rattle.layout.proofs.SlotsOf.{found_slot, own_slot, rising_to}
-use Rattle.home_ranges.proofs.Places.{IsOwn, alone}
-use Rattle.home_ranges.proofs.Shared.{begins, home_between, own_first}
+use Rattle.home_ranges.proofs.Places.{IsOwn, alone, lt_false}
+use Rattle.home_ranges.proofs.Shared.{begins, home_between}
+use Rattle.migrator.specs.Gathered.{IsFirst}
 
 -- ---- the first entry whose home is that of an object
 
@@ -51,6 +52,27 @@ found_beside p (e ∷ es) n s is = elim (cases_eq (home_place p e.object) (home_
       record { index = suc rest.index; within = omega (arith, rest.within); home_is = rest.home_is; slot_is = rest.slot_is }
 ]
 
+-- which is the first of its home
+pub record HasFirst (p : Plan) (es : List Entry) (n slot : ℕ) : Type 0 where
+  pub index : ℕ
+  pub within : index < length es
+  pub home_is : home_place p (entry_at es index).object ≡ home_place p n
+  pub slot_is : (entry_at es index).slot ≡ slot
+  pub before : (j : ℕ) → j < index → home_place p (entry_at es j).object ≡ home_place p n → ⊥
+
+pub found_first : (p : Plan) (es : List Entry) (n s : ℕ) → slot_beside p es n ≡ Some s → HasFirst p es n s
+found_first p [] n s is = absurd cc
+found_first p (e ∷ es) n s is = elim (cases_eq (home_place p e.object) (home_place p n)) [
+  | inl same ↦ record { index = 0; within = omega arith; home_is = same; slot_is = same_some e.slot s (sym (beside_here p e es n same) ∙ is); before = λ j lt. absurd (omega (arith, lt)) }
+  | inr other ↦
+      let rest = found_first p es n s (sym (beside_behind p e es n other) ∙ is) in
+      record { index = suc rest.index; within = omega (arith, rest.within); home_is = rest.home_is; slot_is = rest.slot_is; before = behind e es rest.index other rest.before }
+] where
+  behind : (e : Entry) (es : List Entry) (k : ℕ) → (home_place p e.object ≡ home_place p n → ⊥) → ((j : ℕ) → j < k → home_place p (entry_at es j).object ≡ home_place p n → ⊥)
+      → (j : ℕ) → j < suc k → home_place p (entry_at (e ∷ es) j).object ≡ home_place p n → ⊥
+  behind e es k other before zero lt same = other same
+  behind e es k other before (suc j) lt same = before j (omega (arith, lt)) same
+
 -- where an entry has the home there is such a slot
 some_beside : (p : Plan) (es : List Entry) (n i : ℕ) → i < length es → home_place p (entry_at es i).object ≡ home_place p n → slot_beside p es n ≡ None → ⊥
 some_beside p [] n i lt is none = omega (arith, lt)
@@ -79,9 +101,9 @@ alone_beside p es n fits is lt own none = none_beside p es n (λ i within same.
     let never : None ≡ Some (entry_at es i).slot = sym none ∙ ap (slot_in es) (sym one) ∙ own_slot es i is.rising within in
     cc)
 
--- nor has any by version 1
-pub no_seat : (p : Plan) (es : List Entry) (n : ℕ) → IsPlan p → p.version ≡ One → IsDirectory p.geometry es → n < count_of p → slot_in es n ≡ None → seat_in p es n ≡ None
-no_seat p es n fits first is lt none = beside_seat p es n none ∙ alone_beside p es n fits is lt (own_first p n first) none
+-- as that of a page isn't
+pub page_own : (p : Plan) (n : ℕ) → p.geometry.nodes ≤ n → IsOwn (shape_of p n)
+page_own p n le = subst IsOwn (sym (ap (λ (test : Bool). if test then node_shape p.version (rank_in (range_with p.ranges n) n) else Page) (lt_false n p.geometry.nodes le))) tt
 
 -- where there are no entries there is none
 pub no_entries : (p : Plan) (es : List Entry) (n : ℕ) → length es ≡ 0 → seat_in p es n ≡ None
@@ -114,6 +136,27 @@ seat_fits p es n s is seat =
     let one = is.each entry.index (record { object = 0; slot = 0 }) entry.within in
     omega (arith, one.slot, entry.slot_is)
 
+-- ---- the first entry of a home
+
+not_above : (es : List Entry) (a b : ℕ) → AreRising es → a ≤ b → b < length es → (entry_at es a).object ≤ (entry_at es b).object
+not_above es a b rising le within = elim (cases_lt a b) [
+  | inl less ↦ let one = rising_to es a b rising less within in omega (arith, one)
+  | inr ge ↦ let one : a ≡ b = omega (arith, le, ge) in subst (λ (k : ℕ). (entry_at es a).object ≤ (entry_at es k).object) one (omega arith)
+]
+
+pub not_same : (a b : ℕ) → not (nat_eq a b) ≡ true → a ≡ b → ⊥
+not_same a b differs same = let never : false ≡ true = ap not (sym (eq-eqb a b same)) ∙ differs in cc
+
+-- is the one behind an entry of another home
+pub first_of : (p : Plan) (es : List Entry) (i : ℕ) → IsPlan p → IsDirectory p.geometry es → i < length es → (0 < i → home_place p (entry_at es (i - 1)).object ≡ home_place p (entry_at es i).object → ⊥) → IsFirst p es i
+first_of p es i fits is within other j less same =
+    let last : i - 1 < length es = omega (arith, within) in
+    let before : j < length es = omega (arith, less, within) in
+    let low : (entry_at es j).object ≤ (entry_at es (i - 1)).object = not_above es j (i - 1) is.rising (omega (arith, less)) last in
+    let high : (entry_at es (i - 1)).object ≤ (entry_at es i).object = not_above es (i - 1) i is.rising (omega arith) within in
+    let object : (k : ℕ) → k < length es → (entry_at es k).object < count_of p = λ k lt. (is.each k (record { object = 0; slot = 0 }) lt).object in
+    other (omega (arith, less)) (home_between p (entry_at es i).object (entry_at es (i - 1)).object (entry_at es j).object fits (object i within) (object j before) low high (sym same) ∙ same)
+
 -- ---- the search from the first number of a cluster on
 
 module _ (p : Plan) (es : List Entry) (n rank at : ℕ) (fits : IsPlan p) (is : IsDirectory p.geometry es) (lt : n < count_of p) (shape : shape_of p n ≡ Packed rank)
@@ -138,12 +181,7 @@ module _ (p : Plan) (es : List Entry) (n rank at : ℕ) (fits : IsPlan p) (is : 
         let first = from at (omega arith) (omega (arith, le, within)) in
         let start = begins p n rank fits lt shape in
         let same_start : home_place p (entry_at es i).object ≡ home_place p (n - rank) = same ∙ sym start.home in
-        let up : (entry_at es at).object ≤ (entry_at es i).object = not_above at i le within in
+        let up : (entry_at es at).object ≤ (entry_at es i).object = not_above es at i is.rising le within in
         let shared = home_between p (entry_at es i).object (entry_at es at).object (n - rank) fits (object i within) (omega (arith, lt)) first up same_start in
         other (omega (arith, le, within)) (shared ∙ start.home)
-  ]) where
-    not_above : (a b : ℕ) → a ≤ b → b < length es → (entry_at es a).object ≤ (entry_at es b).object
-    not_above a b le within = elim (cases_lt a b) [
-      | inl less ↦ let one = rising_to es a b is.rising less within in omega (arith, one)
-      | inr ge ↦ let one : a ≡ b = omega (arith, le, ge) in subst (λ (k : ℕ). (entry_at es a).object ≤ (entry_at es k).object) one (omega arith)
-    ]
+  ])

@@ -89,6 +89,10 @@ same_some a b e = cc
 pub set_here : (ps : List Place) (n : ℕ) (q : Place) → n < length ps → place_at (set ps n q) n ≡ q
 set_here ps n q lt = get_or-set_same ps n q Nowhere lt
 
+-- the slot that an object has stays its own
+pub slot_kept : (ps : List Place) (n s : ℕ) → slot_of (place_at ps n) ≡ Some s → slot_for ps n ≡ s
+slot_kept ps n s is = ap (λ (o : Option ℕ). slot_or o (taken_count ps)) is
+
 pub set_there : (ps : List Place) (n m : ℕ) (q : Place) → (m ≡ n → ⊥) → place_at (set ps n q) m ≡ place_at ps m
 set_there ps n m q other = get_or-set_other ps n m q Nowhere other
 

@@ -18,11 +18,11 @@ use Rattle.migrator.specs.declared.table.Place.TheVariants.{Torn, Whole}
 use Rattle.migrator.specs.Table.{slot_for}
 use Rattle.migrator.specs.Put.{Put, Broken, Kept, slot_bytes, slot_frame, puts_in, ArePut}
 use Rattle.checkpoint.specs.Saved.{most}
-use Rattle.migrator.specs.Durable.{Books, working_generation, Stored, GoesOnDisk, stored_in, IsRunning, IsKept, with_working}
+use Rattle.migrator.specs.Durable.{Books, working_generation, Stored, stored_in, IsRunning, IsKept, with_working}
 use Rattle.migrator.specs.Spared.{Spares}
 use Rattle.migrator.proofs.Kept.{SparesKept, stored_stays, kept_on}
 use Rattle.migrator.proofs.PlacesApart.{place_inside}
-use Rattle.migrator.proofs.GoingOn.{goes_spared}
+use Rattle.migrator.proofs.GoingOn.{GoesOnSeen, goes_spared}
 use Rattle.migrator.proofs.Spared.{touches}
 use Rattle.migrator.proofs.Putting.{torn_put, puts_set, slots_spare, saved_working, frozen_working, homes_spare, set_twice, mended, puts_mended}
 
@@ -98,7 +98,7 @@ module _ (old new : Disk) (b : Books) (n : ℕ) (f : Frame) (kept : IsKept old.s
         (puts_mended new.seen b.plan (working_generation b) b.working n (slot_for b.working n) stays_kept.working lt f spelt.1
         ∙ ap (λ (s : Stored). set s.working n (Kept f)) stays_stored ∙ set_twice (stored_in old.seen b).working n Broken (Kept f))
 
-  pub put_goes_on : (ps : List Place) → GoesOnDisk old new b (with_places b ps)
+  pub put_goes_on : (ps : List Place) → GoesOnSeen old new b (with_places b ps)
   put_goes_on ps = goes_spared old new b (with_places b ps) (place_extent b.plan (working_generation b) (slot_for b.working n) n) refl refl refl spares
       (touches (slot_sector b.plan (working_generation b) (slot_for b.working n)) (place_length b.plan n) old new writes)
 

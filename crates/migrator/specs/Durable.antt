@@ -1,5 +1,5 @@
 -- A durable store: what it keeps in memory, and what that and the device make.
-use Rattle.std.specs.Prelude.{◌≡◌, ◌⊎◌, ◌==◌, if◌then◌else◌, ℕ, ◌+◌, ◌-◌, ◌^◌, ◌<◌, ◌≤◌, Option, Some, None, List, length, option_map, slice_set, take, replicate}
+use Rattle.std.specs.Prelude.{⊤, ◌≡◌, ◌⊎◌, ◌==◌, if◌then◌else◌, ℕ, ◌+◌, ◌-◌, ◌^◌, ◌<◌, ◌≤◌, Option, Some, None, List, length, option_map, slice_set, take, replicate}
 use Rattle.model.specs.declared.frame.Frame.{Frame}
 use Rattle.model.specs.declared.object.Role.TheVariants as role
 use Rattle.model.specs.Frame.{frame_at}
@@ -11,18 +11,22 @@ use Rattle.layout.specs.declared.directory.Entry.{Entry}
 use Rattle.layout.specs.declared.header.CheckpointHeader.{CheckpointHeader}
 use Rattle.layout.specs.Directory.{IsDirectory, entry_at}
 use Rattle.layout.specs.Header.{IsHeader}
-use Rattle.layout.specs.Image.{SavedState, Encodes}
+use Rattle.layout.specs.declared.shape.Shape.TheVariants.{Packed}
+use Rattle.layout.specs.Homes.{shape_of}
+use Rattle.layout.specs.Image.{SavedState, Encodes, slot_sector}
 use Rattle.layout.specs.Spelt.{AreSpelt, state_in}
 use Rattle.layout.specs.Superblock.{Plan, IsPlan}
 use Rattle.migrator.specs.Gathered.{IsCopied}
+use Rattle.migrator.specs.Mended.{Unwritten, mended}
 use Rattle.migrator.specs.declared.table.Place.{Place}
 use Rattle.migrator.specs.declared.table.Place.TheVariants.{Nowhere}
-use Rattle.migrator.specs.Table.{place_at, taken_count}
+use Rattle.migrator.specs.Table.{place_at, slot_of, taken_count}
 use Rattle.migrator.specs.Put.{Put, Absent, put_at, put_or, kept_count, overlaid, slot_bytes, slot_frame, puts_in, ArePut}
 use Rattle.checkpoint.specs.Saved.{SavedFrames, kept_of, home_saved, LeavesSaved, replaced_saved, with_words}
 
 -- what is kept in memory: the committed header with its directory, of whose entries the first moved are home;
--- where the frames of the checkpoint on its way were put, and how many objects it writes; and where those put since
+-- where the frames of the checkpoint on its way were put, and how many objects it writes; where those put since; and a
+-- cluster that the device failed to write
 pub record Books : Type 0 where
   pub plan : Plan
   pub header : CheckpointHeader
@@ -31,10 +35,11 @@ pub record Books : Type 0 where
   pub frozen : List Place
   pub size : Option ℕ
   pub working : List Place
+  pub unwritten : Option Unwritten
 
 -- the first of a list of entries are the directory
-abbrev pub books_of : Plan → CheckpointHeader → List Entry → ℕ → List Place → Option ℕ → List Place → Books
-books_of p h es moved frozen size working = record {
+abbrev pub books_of : Plan → CheckpointHeader → List Entry → ℕ → List Place → Option ℕ → List Place → Option Unwritten → Books
+books_of p h es moved frozen size working unwritten = record {
   plan = p;
   header = h;
   directory = take h.entries es;
@@ -42,7 +47,12 @@ books_of p h es moved frozen size working = record {
   frozen = frozen;
   size = size;
   working = working;
+  unwritten = unwritten;
 }
+
+-- what a read gives, of the device and of that cluster
+abbrev pub seen_by : Image → Books → Image
+seen_by image b = mended image b.unwritten
 
 pub record DurableState (D : Type 0) : Type 0 where
   pub beneath : D
@@ -128,13 +138,29 @@ pub record IsKept (size : ℕ) (image : Image) (b : Books) : Type 0 where
   pub running : IsRunning b b.size
   pub working : ArePut image b.plan (working_generation b) b.working
 
+-- a cluster is unwritten only in a commit that failed: that of the slot of a frozen node
+pub record HasUnwritten (b : Books) (u : Unwritten) : Type 0 where
+  pub size : length u.bytes ≡ 4096
+  pub count : ℕ
+  pub running : b.size ≡ Some count
+  pub object : ℕ
+  pub slot : ℕ
+  pub place : slot_of (place_at b.frozen object) ≡ Some slot
+  pub sector_is : u.sector ≡ slot_sector b.plan (frozen_generation b) slot
+  pub rank : ℕ
+  pub shape : shape_of b.plan object ≡ Packed rank
+
+abbrev pub MayHaveUnwritten : Books → Option Unwritten → Type 0
+MayHaveUnwritten b None = ⊤
+MayHaveUnwritten b (Some u) = HasUnwritten b u
+
 -- each crash now leaves what is saved
 abbrev pub LeavesState : Disk → SavedState → Type 0
 LeavesState disk s = (c : Image) → disk.may_leave c → Encodes c disk.sectors s
 
 -- so it is until a publishing fails
 abbrev pub IsSoundOn : Disk → Books → Type 0
-IsSoundOn disk b = LeavesState disk (saved_state disk.seen b)
+IsSoundOn disk b = LeavesState disk (saved_state (seen_by disk.seen b) b)
 
 -- the same but for what was put of one object
 abbrev pub with_working : ℕ → Put → Stored → Stored
@@ -147,8 +173,11 @@ abbrev pub with_frozen : ℕ → Put → Stored → Stored
 with_frozen n put s = record s { frozen = option_map (with_put n put) s.frozen }
 
 module _ {D : Type 0} (disk : D → Disk) where
+  abbrev pub seen_of : DurableState D → Image
+  seen_of s = seen_by (disk s.beneath).seen s.books
+
   abbrev pub stored_of : DurableState D → Stored
-  stored_of s = stored_in (disk s.beneath).seen s.books
+  stored_of s = stored_in (seen_by (disk s.beneath).seen s.books) s.books
 
   abbrev pub is_sound : DurableState D → Type 0
   is_sound s = IsSoundOn (disk s.beneath) s.books
@@ -186,7 +215,7 @@ pub record GoesOnDisk (old new : Disk) (b c : Books) : Type 0 where
   pub plan : c.plan ≡ b.plan
   pub size : new.sectors ≡ old.sectors
   pub sound : IsSoundOn old b → IsSoundOn new c
-  pub any_moment : IsSoundOn old b → LeavesSaved old new (kept_of (saved_state old.seen b))
+  pub any_moment : IsSoundOn old b → LeavesSaved old new (kept_of (saved_state (seen_by old.seen b) b))
 
 abbrev pub GoesOn : {D : Type 0} → (D → Disk) → DurableState D → DurableState D → Type 0
 GoesOn disk old new = GoesOnDisk (disk old.beneath) (disk new.beneath) old.books new.books

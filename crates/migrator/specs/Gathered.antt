@@ -1,7 +1,8 @@
 -- What goes home with a saved frame.
-use Rattle.std.specs.Prelude.{◌≡◌, ℕ, List}
+use Rattle.std.specs.Prelude.{◌≡◌, ℕ, ◌<◌, List}
 use Rattle.device.specs.Disk.{Image}
 use Rattle.layout.specs.declared.directory.Entry.{Entry}
+use Rattle.layout.specs.Directory.{entry_at}
 use Rattle.layout.specs.Homes.{home_place, shape_of}
 use Rattle.layout.specs.Image.{bytes_at, frame_in}
 use Rattle.layout.specs.Shape.{shape_bytes}
@@ -15,3 +16,7 @@ IsGathered image p generation es number bytes = (n : ℕ) → IsObject p.geometr
 -- they lie at home
 abbrev pub IsCopied : Image → Image → Plan → ℕ → List Entry → ℕ → Type 0
 IsCopied old new p generation es number = (n : ℕ) → IsObject p.geometry n → home_place p n ≡ home_place p number → bytes_at new (home_place p n) p n ≡ frame_in old p generation es n
+
+-- no entry before it is of an object that has the same home
+abbrev pub IsFirst : Plan → List Entry → ℕ → Type 0
+IsFirst p es i = (j : ℕ) → j < i → home_place p (entry_at es j).object ≡ home_place p (entry_at es i).object → ⊥

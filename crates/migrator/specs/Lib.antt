@@ -6,3 +6,6 @@ pub mod Saving
 pub mod Opened
 pub mod Reserve
 pub mod Gathered
+pub mod Mended
+pub mod Completed
+pub mod Headers

@@ -1,16 +1,17 @@
 -- The memory of a store.
-use Rattle.std.specs.Prelude.{◌≡◌, [], length, replicate}
+use Rattle.std.specs.Prelude.{◌≡◌, None, [], length, replicate}
 use Rattle.layout.specs.Spelt.{count_of}
 use Rattle.layout.specs.Superblock.{Plan}
 use Rattle.migrator.specs.declared.durable.open.Reserve.{Reserve}
 use Rattle.migrator.specs.declared.table.Place.TheVariants.{Nowhere}
 
--- room for a directory and another, and for the places of all objects, none of which has one
+-- room for a directory and another, for the places of all objects, none of which has one, and for a cluster
 pub record IsTables (p : Plan) (r : Reserve) : Type 0 where
   pub directory : length r.directory.items ≡ p.geometry.log
   pub spare : length r.spare.items ≡ p.geometry.log
   pub frozen : r.frozen ≡ replicate (count_of p) Nowhere
   pub working : r.working ≡ replicate (count_of p) Nowhere
+  pub buffer : r.buffer ≡ None
 
 -- and for the headers of all objects, of which none was read
 pub record IsReserve (p : Plan) (r : Reserve) : Type 0 where

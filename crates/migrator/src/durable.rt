@@ -1,5 +1,5 @@
 // A durable store over a device.
-ghost use Rattle.std.specs.Prelude.{◌≡◌, ◌⊎◌, ◌≤◌, ◌<◌, ◌+◌, ◌^◌, Some, length, slice_set, OnOk, OnErr, IsErrOf, option_map};
+ghost use Rattle.std.specs.Prelude.{◌≡◌, ◌⊎◌, ◌≤◌, ◌<◌, ◌+◌, ◌^◌, Some, length, slice_set, None, OnOk, OnErr, IsErrOf, option_map};
 ghost use Rattle.model.specs.Keepable.{IsKeepable, AreKeepable};
 ghost use Rattle.device.specs.Calls.{Counts};
 ghost use Rattle.layout.specs.Frame.{frame_bytes};
@@ -10,9 +10,10 @@ ghost use Rattle.frame_io.specs.Frames.{IsObject};
 ghost use Rattle.migrator.specs.Table.{slot_for, whole_count};
 ghost use Rattle.migrator.specs.Put.{Broken, Kept, slot_bytes, puts_in, held_slot, sum_of, HasRoom};
 ghost use Rattle.checkpoint.specs.Saved.{most, LeavesEither, LeavesOneOf};
-ghost use Rattle.migrator.specs.Durable.{FrozenPuts, frozen_of, left_of, stored_of, is_sound, next_header, next_saved, stored_after_commit, MayCommit, with_working, with_frozen, freezing, GoesOn, working_generation, frozen_generation};
+ghost use Rattle.migrator.specs.Durable.{FrozenPuts, frozen_of, left_of, seen_of, stored_of, is_sound, next_header, next_saved, stored_after_commit, MayCommit, with_working, with_frozen, freezing, GoesOn, working_generation, frozen_generation};
 ghost use Rattle.checkpoint.specs.Refused.{IsPutAnswer, IsFreezeAnswer, IsCommitAnswer, IsRefused};
 
+use crate::cluster_buffer::ClusterBuffer;
 use crate::save::save;
 use crate::table::{Place, Table};
 use checkpoint::CheckpointFault;
@@ -49,24 +50,28 @@ pub struct Durable<D: Device> {
     /// How many objects the checkpoint on its way writes.
     size: Option<u64>,
     working: Table,
+    buffer: ClusterBuffer,
 }
 
 impl<D: Device> Model for Durable<D> {
     ghost use Rattle.std.specs.Prelude.{◌≡◌, length};
-    ghost use Rattle.migrator.specs.Durable.{DurableState, IsKept, books_of};
+    ghost use Rattle.migrator.specs.Durable.{DurableState, IsKept, MayHaveUnwritten, books_of, seen_by};
 
     ghost Value = { DurableState D };
 
     ghost view = { λ s. record {
       beneath = s.device;
-      books = books_of s.log s.header s.directory.items s.moved s.frozen s.size s.working;
+      books = books_of s.log s.header s.directory.items s.moved s.frozen s.size s.working s.buffer;
     } };
 
-    ghost invariant = { λ s. IsKept (D.disk s.device).sectors (D.disk s.device).seen
-        (books_of s.log s.header s.directory.items s.moved s.frozen s.size s.working)
+    ghost invariant = { λ s. IsKept (D.disk s.device).sectors (seen_by (D.disk s.device).seen
+        (books_of s.log s.header s.directory.items s.moved s.frozen s.size s.working s.buffer))
+        (books_of s.log s.header s.directory.items s.moved s.frozen s.size s.working s.buffer)
         × (s.home ≡ s.log)
         × (length s.directory.items ≡ s.log.geometry.log)
-        × (length s.spare.items ≡ s.log.geometry.log) };
+        × (length s.spare.items ≡ s.log.geometry.log)
+        × MayHaveUnwritten (books_of s.log s.header s.directory.items s.moved s.frozen s.size
+        s.working s.buffer) s.buffer };
 }
 
 // Writes the frame of an object into its slot in the half of a generation, or into the next one.
@@ -147,8 +152,28 @@ impl<D: Device> Durable<D> {
         )
     }
 
-    // Puts the frame of an object for the checkpoint on its way, which writes so many.
-    fn put_running(
+    // Gives up what was put of an object for the checkpoint on its way, which writes so many, and
+    // writes the cluster that the device failed to write, where there is one.
+    fn tear(&mut self, size: u64, number: u64) -> Result<(), Failed>
+        requires running { self.old.books.size ≡ Some size }
+        requires object { IsObject self.old.books.plan.geometry number }
+        requires room { HasRoom size (puts_in (seen_of D.disk self.old)
+            self.old.books.plan (frozen_generation self.old.books) self.old.books.frozen) number }
+        ensures torn { stored_of D.disk self.new
+            ≡ with_frozen number Broken (stored_of D.disk self.old) }
+        ensures size { self.new.books.size ≡ Some size }
+        ensures written { OnOk result (self.new.books.unwritten ≡ None) }
+        ensures goes_on { GoesOn D.disk self.old self.new }
+        ensures cause { Counts (D.disk self.old.beneath) (D.disk self.new.beneath) result }
+    {
+        let slot = self.frozen.slot_for(number);
+        self.frozen.set(number, Place::Torn(slot));
+        self.buffer.write(&mut self.device)
+    }
+
+    // Puts the frame of an object for the checkpoint on its way, which writes so many, where all
+    // clusters are written.
+    fn put_written(
         &mut self,
         size: u64,
         number: u64,
@@ -156,10 +181,11 @@ impl<D: Device> Durable<D> {
         content: &Content<Cap>,
     ) -> Result<(), Failed>
         requires running { self.old.books.size ≡ Some size }
+        requires written { self.old.books.unwritten ≡ None }
         requires object { IsObject self.old.books.plan.geometry number }
         requires keepable { IsKeepable self.old.books.plan.geometry most number
             (record { header = header; content = content.now }) }
-        requires room { HasRoom size (puts_in (D.disk self.old.beneath).seen
+        requires room { HasRoom size (puts_in (seen_of D.disk self.old)
             self.old.books.plan (frozen_generation self.old.books) self.old.books.frozen) number }
         ensures put { OnOk result (stored_of D.disk self.new
             ≡ with_frozen number (Kept (record { header = header; content = content.now }))
@@ -179,6 +205,32 @@ impl<D: Device> Durable<D> {
             header,
             content,
         )
+    }
+
+    // Puts the frame of an object for the checkpoint on its way, which writes so many.
+    fn put_running(
+        &mut self,
+        size: u64,
+        number: u64,
+        header: ObjectHeader,
+        content: &Content<Cap>,
+    ) -> Result<(), Failed>
+        requires running { self.old.books.size ≡ Some size }
+        requires object { IsObject self.old.books.plan.geometry number }
+        requires keepable { IsKeepable self.old.books.plan.geometry most number
+            (record { header = header; content = content.now }) }
+        requires room { HasRoom size (puts_in (seen_of D.disk self.old)
+            self.old.books.plan (frozen_generation self.old.books) self.old.books.frozen) number }
+        ensures put { OnOk result (stored_of D.disk self.new
+            ≡ with_frozen number (Kept (record { header = header; content = content.now }))
+            (stored_of D.disk self.old)) }
+        ensures broken { OnErr result (stored_of D.disk self.new
+            ≡ with_frozen number Broken (stored_of D.disk self.old)) }
+        ensures goes_on { GoesOn D.disk self.old self.new }
+        ensures cause { Counts (D.disk self.old.beneath) (D.disk self.new.beneath) result }
+    {
+        self.tear(size, number)?;
+        self.put_written(size, number, header, content)
     }
 
     /// Puts the frame of an object for the checkpoint on its way. It is written into a slot of its
@@ -261,10 +313,10 @@ impl<D: Device> Durable<D> {
         requires later { (stored_of D.disk self.old).saved.age < age }
         requires most { age ≤ 2 ^ 62 }
         requires keepable { AreKeepable self.old.books.plan.geometry age
-            (next_saved age (frozen_of (D.disk self.old.beneath).seen self.old.books size)
+            (next_saved age (frozen_of (seen_of D.disk self.old) self.old.books size)
             (stored_of D.disk self.old).saved).frames }
         ensures committed { OnOk result (stored_of D.disk self.new
-            ≡ stored_after_commit age (frozen_of (D.disk self.old.beneath).seen self.old.books size)
+            ≡ stored_after_commit age (frozen_of (seen_of D.disk self.old) self.old.books size)
             (stored_of D.disk self.old)) }
         ensures unchanged { OnErr result (stored_of D.disk self.new ≡ stored_of D.disk self.old) }
         ensures plan { self.new.books.plan ≡ self.old.books.plan }
@@ -272,12 +324,19 @@ impl<D: Device> Durable<D> {
         ensures size { (D.disk self.new.beneath).sectors ≡ (D.disk self.old.beneath).sectors }
         ensures any_moment { LeavesEither (D.disk self.old.beneath) (D.disk self.new.beneath)
             (stored_of D.disk self.old).saved
-            (next_saved age (frozen_of (D.disk self.old.beneath).seen self.old.books size)
+            (next_saved age (frozen_of (seen_of D.disk self.old) self.old.books size)
             (stored_of D.disk self.old).saved) }
         ensures cause { Counts (D.disk self.old.beneath) (D.disk self.new.beneath) result }
     {
         let header = self.next_header(age);
         let count = self.frozen.fill(&mut self.spare);
+        self.buffer.complete(
+            &mut self.device,
+            &self.log,
+            &self.home,
+            header.generation,
+            &self.spare[..count],
+        )?;
         save(&mut self.device, &self.log, header, &self.spare[..count])?;
         mem::swap(&mut self.directory, &mut self.spare);
         self.header = header;

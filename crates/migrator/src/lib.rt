@@ -1,6 +1,7 @@
 //! The durable store: the frames that are saved on a device, and those of the next checkpoint.
 #![tactic(auto)]
 
+mod cluster_buffer;
 mod copy;
 mod durable;
 mod find;
@@ -9,6 +10,7 @@ mod image;
 mod read;
 mod save;
 mod table;
+mod turn;
 
 pub use checkpoint::{Checkpoint, CheckpointFault, OpenFault, OpenRefused};
 pub use durable::{Durable, Opened};

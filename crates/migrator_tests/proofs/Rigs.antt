@@ -11,7 +11,7 @@ use Rattle.layout.specs.Image.{SavedState}
 use Rattle.layout.specs.Superblock.{Plan}
 use Rattle.migrator.specs.Put.{Put, Absent, Broken, Kept}
 use Rattle.checkpoint.specs.Saved.{SavedFrames, Holds}
-use Rattle.migrator.specs.Durable.{DurableState, FrozenPuts, Stored, stored_of, is_sound, with_working, with_frozen, freezing, next_saved, stored_after_commit, stored_after_journal, moved, saved_state, GoesOn, ReadsStore}
+use Rattle.migrator.specs.Durable.{DurableState, FrozenPuts, Stored, seen_of, stored_of, is_sound, with_working, with_frozen, freezing, next_saved, stored_after_commit, stored_after_journal, moved, saved_state, GoesOn, ReadsStore}
 use Rattle.migrator.specs.Opened.{OpensDurable}
 use Rattle.migrator_tests.specs.Rig.{IsLight, IsLightFor, IsLoad, IsRig}
 use Rattle.migrator_tests.proofs.Loads.{none_light, none_frozen, working_kept, working_broken, frozen_kept, frozen_broken, frozen_now, next_keepable, committed_now, moved_now, moved_some}
@@ -91,7 +91,7 @@ module _ {D : Type 0} (disk : D → Disk) (goes_on : Bool) (slots frozen_slots s
   rig_journaled new age n words is plan sound left = record {
     sound = λ _. sound;
     load = record {
-      saved = saved_keepable (disk new.beneath).sectors (disk new.beneath).seen (stored_of disk new).saved (saved_state (disk new.beneath).seen new.books, sound (disk new.beneath).seen left, refl);
+      saved = saved_keepable (disk new.beneath).sectors (disk new.beneath).seen (stored_of disk new).saved (saved_state (seen_of disk new) new.books, sound (disk new.beneath).seen left, refl);
       working = subst (λ (p : Plan). IsLight p.geometry slots (stored_of disk new).working) (sym plan) (subst (IsLight old.books.plan.geometry slots) (sym (ap (λ (s : Stored). s.working) is)) rig.load.working);
       frozen = λ f some. subst (λ (p : Plan). IsLightFor p.geometry frozen_slots size f) (sym plan) (rig.load.frozen f (sym (ap (λ (s : Stored). s.frozen) is) ∙ some));
     };

@@ -9,7 +9,7 @@ use Rattle.model.specs.declared.object.Content.{Content}
 use Rattle.model.specs.declared.object.Content.TheVariants as content
 use Rattle.model.specs.Frame.{blank_header, frame_at}
 use Rattle.model.specs.Machine.{touched_count}
-use Rattle.migrator.specs.Durable.{Stored, DurableState, stored_of, saved_state, is_sound}
+use Rattle.migrator.specs.Durable.{Stored, DurableState, seen_of, stored_of, saved_state, is_sound}
 use Rattle.checkpoint.specs.Saved.{Holds, LeavesSaved, most}
 use Rattle.device.specs.Moments.{Peeks}
 use Rattle.device.proofs.Moments.{leaves_weaker, peeks_started}
@@ -131,11 +131,11 @@ module _ {D : Type 0} (disk : D → Disk) where
     sound = λ sound. subst (λ (d : DurableState D). is_sound disk d) (sym goes.durable) sound;
     any_moment = λ sound. subst (λ (d : DurableState D). LeavesSaved (disk s.durable.beneath) (disk d.beneath) (stored_of disk s.durable).saved) (sym goes.durable)
         (leaves_weaker {old = disk s.durable.beneath} {new = disk s.durable.beneath} {P = (disk s.durable.beneath).may_leave} (λ c. Holds (disk s.durable.beneath).sectors c (stored_of disk s.durable).saved)
-        (λ c left. (saved_state (disk s.durable.beneath).seen s.durable.books, sound c left, refl)) (peeks_started (disk s.durable.beneath) (only_now s.durable.beneath)));
+        (λ c left. (saved_state (seen_of disk s.durable) s.durable.books, sound c left, refl)) (peeks_started (disk s.durable.beneath) (only_now s.durable.beneath)));
   }
 
   pub peeks_by : ((d : D) (c : Image) → (disk d).left_since (disk d).moment c → (disk d).may_leave c) → (s t : StoreState D) → GoesOnIn disk s t → Peeks (disk s.durable.beneath) (disk t.durable.beneath)
   peeks_by only_now s t goes = subst (λ (d : DurableState D). Peeks (disk s.durable.beneath) (disk d.beneath)) (sym goes.durable) (peeks_started (disk s.durable.beneath) (only_now s.durable.beneath))
 
   pub holds_by : (s : StoreState D) (c : Image) → is_sound disk s.durable → (disk s.durable.beneath).may_leave c → Holds (disk s.durable.beneath).sectors c (stored_of disk s.durable).saved
-  holds_by s c sound left = (saved_state (disk s.durable.beneath).seen s.durable.books, sound c left, refl)
+  holds_by s c sound left = (saved_state (seen_of disk s.durable) s.durable.books, sound c left, refl)

@@ -5,8 +5,8 @@ ghost use Rattle.layout.specs.Frame.{frame_of};
 ghost use Rattle.model.specs.Frame.{frame_at};
 ghost use Rattle.frame_io.specs.Frames.{IsObject};
 ghost use Rattle.migrator.specs.Table.{place_at};
-ghost use Rattle.migrator.specs.Put.{put_or, put_of};
-ghost use Rattle.migrator.specs.Durable.{below_at, stored_of, newest, working_generation, frozen_generation, left_of, ReadsStore};
+ghost use Rattle.migrator.specs.Put.{put_or, put_of, slot_frame};
+ghost use Rattle.migrator.specs.Durable.{below_at, seen_of, stored_of, newest, working_generation, frozen_generation, left_of, ReadsStore};
 
 use crate::durable::Durable;
 use crate::read::{read_again, read_put};
@@ -76,26 +76,43 @@ impl<D: Device> Durable<D> {
         )
     }
 
+    // Reads the frozen frame of an object, which was put into a slot: from the buffer where the
+    // device failed to write the cluster there.
+    fn read_frozen(
+        &mut self,
+        slot: u64,
+        number: u64,
+        room: &mut Room,
+    ) -> Result<(ObjectHeader, Body), Failed>
+        requires object { IsObject self.old.books.plan.geometry number }
+        requires place { place_at self.old.books.frozen number ≡ Place.Whole slot }
+        ensures found { IfOk result (λ read. frame_of read room.new
+            ≡ slot_frame (seen_of D.disk self.old) self.old.books.plan
+            (frozen_generation self.old.books) slot number) }
+        ensures reads { ReadsStore D.disk self.old self.new }
+        ensures cause { Counts (D.disk self.old.beneath) (D.disk self.new.beneath) result }
+    {
+        let generation = self.header.generation + 1;
+        let sector = self.log.slot_sector(generation, slot);
+        if self.buffer.is_for(sector) {
+            let shape = self.home.shape(number);
+            return Ok(self.buffer.read(shape, self.geometry(), number, room));
+        }
+        read_put(&mut self.device, &self.log, generation, slot, number, room)
+    }
+
     // Reads the frozen frame of an object, or else the saved one.
     fn fetch_frozen(&mut self, number: u64, room: &mut Room) -> Result<(ObjectHeader, Body), Failed>
         requires { IsObject self.old.books.plan.geometry number }
         ensures found { IfOk result (λ read. frame_of read room.new
-            ≡ put_or (put_of (D.disk self.old.beneath).seen self.old.books.plan
+            ≡ put_or (put_of (seen_of D.disk self.old) self.old.books.plan
             (frozen_generation self.old.books) number (place_at self.old.books.frozen number))
             (frame_at (stored_of D.disk self.old).saved.frames number)) }
         ensures reads { ReadsStore D.disk self.old self.new }
         ensures cause { Counts (D.disk self.old.beneath) (D.disk self.new.beneath) result }
     {
-        let generation = self.header.generation + 1;
         match self.frozen.place(number) {
-            Place::Whole(slot) => read_put(
-                &mut self.device,
-                &self.log,
-                generation,
-                slot,
-                number,
-                room,
-            ),
+            Place::Whole(slot) => self.read_frozen(slot, number, room),
             Place::Torn(_) => self.fetch_saved(number, room),
             Place::Nowhere => self.fetch_saved(number, room),
         }
@@ -110,9 +127,9 @@ impl<D: Device> Durable<D> {
     ) -> Result<(ObjectHeader, Body), Failed>
         requires { IsObject self.old.books.plan.geometry number }
         ensures found { IfOk result (λ read. frame_of read room.new
-            ≡ put_or (put_of (D.disk self.old.beneath).seen self.old.books.plan
+            ≡ put_or (put_of (seen_of D.disk self.old) self.old.books.plan
             (working_generation self.old.books) number (place_at self.old.books.working number))
-            (put_or (put_of (D.disk self.old.beneath).seen self.old.books.plan
+            (put_or (put_of (seen_of D.disk self.old) self.old.books.plan
             (frozen_generation self.old.books) number (place_at self.old.books.frozen number))
             (frame_at (stored_of D.disk self.old).saved.frames number))) }
         ensures reads { ReadsStore D.disk self.old self.new }

@@ -10,17 +10,18 @@ ghost use Rattle.checkpoint.specs.Saved.{LeavesEither, journaled_saved, replaced
 ghost use Rattle.migrator.specs.Durable.{stored_of, is_sound, left_of, first_bytes, first_frame, stored_after_journal, MayJournal, replaced, replaced_header, GoesOn, ReadsStore};
 
 use crate::durable::Durable;
+use crate::read::read_header_of;
 use crate::save::save;
 use checkpoint::CheckpointFault;
 use device::{Device, Failed};
-use frame_io::read_header;
 use layout::{CheckpointHeader, Entry};
 use model::{ObjectHeader, Words};
 use std::mem;
 
 impl<D: Device> Durable<D> {
     /// The header of the saved frame of an object, where all that is saved is home. One sector is
-    /// read, and no memory is taken. It is refused exactly where the device failed.
+    /// read, or the 8 of a cluster, and no memory is taken. It is refused exactly where the device
+    /// failed.
     pub fn saved_header(&mut self, number: u64) -> Result<ObjectHeader, Failed>
         requires object { IsObject self.old.books.plan.geometry number }
         requires home { (stored_of D.disk self.old).saved.entries ≡ 0 }
@@ -30,7 +31,7 @@ impl<D: Device> Durable<D> {
         ensures cause { Counts (D.disk self.old.beneath) (D.disk self.new.beneath) result }
     {
         let at = self.home.place(number);
-        read_header(&mut self.device, at)
+        read_header_of(&mut self.device, at, self.home.shape(number))
     }
 
     // Writes a page with other words, under the header that is saved, into the first slot of the
@@ -75,6 +76,7 @@ impl<D: Device> Durable<D> {
         requires free { self.old.books.size ≡ None }
         requires home { (stored_of D.disk self.old).saved.entries ≡ 0 }
         requires object { IsObject self.old.books.plan.geometry number }
+        requires page { self.old.books.plan.geometry.nodes ≤ number }
         requires spelt { IsFrameOf self.old.books.plan.geometry age number
             (first_bytes (D.disk self.old.beneath).seen self.old.books number)
             (first_frame (D.disk self.old.beneath).seen self.old.books number) }

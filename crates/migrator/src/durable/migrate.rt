@@ -7,11 +7,12 @@ ghost use Rattle.migrator.specs.Durable.{stored_of, is_sound, MovedBy, IsLesser,
 use crate::copy::copy_home;
 use crate::durable::Durable;
 use crate::save::save;
+use crate::turn::is_first;
 use device::{Device, Failed};
 use layout::CheckpointHeader;
 
 impl<D: Device> Durable<D> {
-    // Copies the next saved frame home.
+    // Copies the next saved frame home, where it didn't go there with the one before it.
     fn move_next(&mut self) -> Result<(), Failed>
         requires { self.old.books.moved < self.old.books.header.entries }
         ensures moved { OnOk result (MovedBy D.disk self.old self.new 1) }
@@ -22,6 +23,10 @@ impl<D: Device> Durable<D> {
         let generation = self.header.generation;
         let directory = &self.directory[..self.header.entries as usize];
         let (log, home) = (&self.log, &self.home);
+        if !is_first(home, directory, self.moved as usize) {
+            self.moved += 1;
+            return Ok(());
+        }
         copy_home(&mut self.device, log, home, generation, directory, entry)?;
         self.moved += 1;
         Ok(())

@@ -8,6 +8,7 @@ ghost use Rattle.migrator.specs.Opened.{IsRead, OpensDurable};
 ghost use Rattle.checkpoint.specs.Opened.{IsBadFor, CountsOpen, Looks, Refuses};
 ghost use Rattle.migrator.specs.Reserve.{IsReserve, IsTables};
 
+use crate::cluster_buffer::ClusterBuffer;
 use crate::durable::Durable;
 use crate::image::{read_image, read_plan};
 use crate::table::{Place, Table};
@@ -33,6 +34,7 @@ struct Reserve {
     spare: Vec<Entry>,
     frozen: Table,
     working: Table,
+    buffer: ClusterBuffer,
     headers: Vec<ObjectHeader>,
 }
 
@@ -69,6 +71,7 @@ impl Reserve {
             spare: blank_entries(alloc, geometry.log)?,
             frozen: Table::new(alloc, count)?,
             working: Table::new(alloc, count)?,
+            buffer: ClusterBuffer::new(alloc)?,
             headers: Vec::with_capacity(alloc, count)?,
         })
     }
@@ -168,6 +171,7 @@ impl<D: Device> Durable<D> {
                     spare,
                     frozen,
                     working,
+                    buffer,
                     headers,
                 } = reserve;
                 let store = Durable {
@@ -181,6 +185,7 @@ impl<D: Device> Durable<D> {
                     frozen,
                     size: None,
                     working,
+                    buffer,
                 };
                 Ok(Opened { store, headers })
             }

@@ -1,4 +1,4 @@
-use Rattle.std.proofs.Common.{◌≡◌, ◌+◌, ◌-◌, ◌*◌, ◌++◌, ℕ, List, length, take, drop, sym, ap, ◌∙◌, arith}
+use Rattle.std.proofs.Common.{◌≡◌, ◌+◌, ◌-◌, ◌*◌, ℕ, List, length, sym, ap, ◌∙◌, arith}
 use borrow.Rule.Slice.PartMut.{put_mid}
 use Rattle.layout.specs.declared.shape.Shape.TheVariants.{Packed}
 use Rattle.layout.specs.Shape.{shape_bytes}

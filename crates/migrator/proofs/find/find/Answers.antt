@@ -1,4 +1,4 @@
-use Rattle.std.proofs.Common.{◌≡◌, refl, sym, arith}
+use Rattle.std.proofs.Common.{refl, sym, arith}
 use Rattle.layout.specs.Directory.{entry_at}
 use Rattle.migrator.proofs.Opening.{found_at, none_at}
 use Rattle.migrator.proofs.find.find.Goals as goal

@@ -1,10 +1,24 @@
-use Rattle.std.proofs.Common.{◌∙◌, sym}
+use Rattle.std.proofs.Common.{◌∙◌, sym, arith}
 use Rattle.layout.specs.Homes.{shape_of}
 use Rattle.home_ranges.proofs.Shared.{own_of}
-use Rattle.migrator.proofs.Seats.{alone_beside}
+use Rattle.migrator.proofs.Seats.{alone_beside, found_there, none_there}
 use Rattle.migrator.proofs.find.find_beside.Goals as goal
+use Rattle.migrator.proofs.find.find_beside.Goals.{else-at-entries-via-then-at-entries+else-place, else-at-entries-via-else-at-entries}
 
 pub returns-in_default : goal.returns-in_default
 returns-in_default c =
     sym (alone_beside c.args.home.now c.args.entries.now c.args.number c.shape.ensures.plan c.requires.directory c.requires.object
     (own_of (shape_of c.args.home.now c.args.number) (λ rank is. c.in_default.not-Packed rank (c.shape.ensures.value ∙ is))) c.requires.none)
+
+pub returns-then-place : goal.returns-then-place
+returns-then-place c =
+    sym (found_there c.args.home.now c.args.entries.now c.args.number c.in-Packed.rank c.first_from-at.result c.shape.ensures.plan c.requires.directory c.requires.object (sym c.shape.ensures.value ∙ c.in-Packed.is)
+    c.first_from-at.ensures.below c.first_from-at.ensures.from c.if-at-entries.true (sym c.place.ensures.value ∙ c.if-place.true ∙ c.place-then-at-entries.ensures.value))
+
+pub returns-else-at-entries : goal.returns-else-at-entries
+returns-else-at-entries c =
+    sym (none_there c.args.home.now c.args.entries.now c.args.number c.in-Packed.rank c.first_from-at.result c.shape.ensures.plan c.requires.directory c.requires.object (sym c.shape.ensures.value ∙ c.in-Packed.is)
+    c.first_from-at.ensures.below c.first_from-at.ensures.from (λ within same. elim c.else-at-entries.branch [
+      | else-at-entries-via-then-at-entries+else-place w ↦ w.if-place.false (w.place.ensures.value ∙ same ∙ sym w.place-then-at-entries.ensures.value)
+      | else-at-entries-via-else-at-entries w ↦ omega (arith, within, w.if-at-entries.false)
+    ]))

@@ -1,4 +1,4 @@
-use Rattle.std.proofs.Common.{◌<◌, ◌≤◌, ◌+◌, ◌-◌, ◌/◌, ℕ, arith, length}
+use Rattle.std.proofs.Common.{◌<◌, ◌+◌, ◌-◌, ◌/◌, ℕ, arith, length}
 use Rattle.migrator.proofs.Opening.{below_more, above_more}
 use Rattle.migrator.proofs.find.first_from.Goals as goal
 

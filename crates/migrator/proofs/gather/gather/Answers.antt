@@ -1,4 +1,4 @@
-use Rattle.std.proofs.Common.{◌≡◌, ◌∙◌, ◌+◌, ◌<◌, ap, sym, subst, arith, rules}
+use Rattle.std.proofs.Common.{◌≡◌, ◌∙◌, ◌+◌, subst, arith, rules}
 use Rattle.device.specs.Disk.{Image}
 use Rattle.device.proofs.Images.{agrees_is}
 use Rattle.layout.specs.Image.{frame_in}

@@ -1,4 +1,6 @@
-use Rattle.std.proofs.Common.{ap, arith}
+use Rattle.std.proofs.Common.{◌∙◌, true≢false, sym, ap, arith}
+use Rattle.std.specs.Prelude.{is_some}
+use Rattle.bounded_cache.proofs.Outcomes.{ok_then}
 use Rattle.bounded_cache.specs.Memory.{memory_of}
 use Rattle.bounded_cache.specs.Cache.{CacheState, pending_count}
 use Rattle.bounded_cache.proofs.Turns.{few_left, none_marked}
@@ -6,6 +8,11 @@ use Rattle.bounded_cache.proofs.cache.BoundedCache.put_next.Goals as goal
 
 pub returns-in-None-clause-fewer : goal.returns-in-None-clause-fewer
 returns-in-None-clause-fewer g c = omega (arith, none_marked c.self.inside.pending (c.next.ensures.none c.in-None.is), ap (λ (t : CacheState g.row.D.Denot). pending_count t) c.self.view_is)
+
+pub returns-then-is_held-clause-fewer : goal.returns-then-is_held-clause-fewer
+returns-then-is_held-clause-fewer g c =
+    let held = sym (c.is_held.ensures ∙ ap (λ (t : CacheState g.row.D.Denot). is_some t.hand) c.self.view_is) ∙ c.if-is_held.true in
+    ok_then c.empty_hand.result c.empty_hand.ensures.fewer (λ fewer. let less = fewer (λ none. true≢false (sym held ∙ ap is_some none)) in omega (arith, less))
 
 pub returns-then-is_held-clause-few : goal.returns-then-is_held-clause-few
 returns-then-is_held-clause-few g c =

@@ -1,83 +1,22 @@
-use Rattle.std.proofs.Common.{arith, ◌∙◌, ◌<◌, ◌≡◌, ap, sym, subst}
-use Rattle.frame_io.specs.Frames.{IsObject}
-use Rattle.model.specs.Keepable.{IsKeepable}
-use Rattle.migrator.specs.Put.{HasRoom, Kept, Broken, puts_in}
-use Rattle.checkpoint.specs.Saved.{most}
-use Rattle.migrator.specs.Durable.{Books, IsRunning, frozen_generation, books_of, stored_of, stored_in, with_frozen, GoesOn}
-use Rattle.layout.specs.Spelt.{count_of}
-use Rattle.migrator.proofs.Putting.{slot_room}
-use Rattle.migrator.proofs.FrozenFrames.{put_either, put_goes_on}
-use Rattle.std.specs.Prelude.{OnOk, OnErr}
+use Rattle.std.proofs.Common.{◌∙◌, ap}
+use Rattle.migrator.specs.Put.{Broken, Kept}
+use Rattle.migrator.specs.Durable.{Stored, stored_of, with_frozen}
+use Rattle.model.specs.declared.frame.Frame.{Frame}
+use Rattle.migrator.proofs.FrozenFrames.{put_twice}
+use Rattle.migrator.proofs.Moving.{goes_trans}
+use Rattle.migrator.proofs.Saving.{err_then, ok_then}
 use Rattle.migrator.proofs.durable.Durable.put_running.Goals as goal
-
-pub put_frame-requires-clause-room : goal.put_frame-requires-clause-room
-put_frame-requires-clause-room g c =
-    let b : Books = (books_of c.self.inside.log c.self.inside.header c.self.inside.directory.items c.self.inside.moved c.self.inside.frozen c.self.inside.size c.self.inside.working) in
-    let object : c.args.number < count_of b.plan = subst (λ t. IsObject t.books.plan.geometry c.args.number) (sym c.self.view_is) c.requires.object in
-    let kept = c.self.invariant.0 in
-    let size = ap (λ t. t.books.size) c.self.view_is ∙ c.requires.running in
-    let has = subst (λ t. HasRoom c.args.size (puts_in (g.D.Device.disk t.beneath).seen t.books.plan (frozen_generation t.books) t.books.frozen) c.args.number) (sym c.self.view_is) c.requires.room in
-    let was = subst (IsRunning b) size kept.running in
-    let low = slot_room (g.D.Device.disk c.self.inside.device).seen b.plan (frozen_generation b) c.args.size b.frozen c.args.number kept.frozen.count object kept.frozen.table was.1 has in
-    omega (arith, low, was.2)
-
-pub invariant_of-self : goal.invariant_of-self
-invariant_of-self g c =
-    let b : Books = (books_of c.self.inside.log c.self.inside.header c.self.inside.directory.items c.self.inside.moved c.self.inside.frozen c.self.inside.size c.self.inside.working) in
-    let object : c.args.number < count_of b.plan = subst (λ t. IsObject t.books.plan.geometry c.args.number) (sym c.self.view_is) c.requires.object in
-    let kept = c.self.invariant.0 in
-    let size = ap (λ t. t.books.size) c.self.view_is ∙ c.requires.running in
-    let has = subst (λ t. HasRoom c.args.size (puts_in (g.D.Device.disk t.beneath).seen t.books.plan (frozen_generation t.books) t.books.frozen) c.args.number) (sym c.self.view_is) c.requires.room in
-    let was = subst (IsRunning b) size kept.running in
-    let low = slot_room (g.D.Device.disk c.self.inside.device).seen b.plan (frozen_generation b) c.args.size b.frozen c.args.number kept.frozen.count object kept.frozen.table was.1 has in
-    let writes = c.put_frame.ensures.writes in
-    let written = c.put_frame.ensures.written in
-    let keepable = subst (λ t. IsKeepable t.books.plan.geometry most c.args.number (record { header = c.args.header; content = c.args.content.now })) (sym c.self.view_is) c.requires.keepable in
-    let both = put_either (g.D.Device.disk c.self.inside.device) (g.D.Device.disk c.put_frame.new.device) b c.args.number (record { header = c.args.header; content = c.args.content.now }) kept object c.args.size size low writes
-    c.put_frame.result c.put_frame.new.table keepable c.put_frame.ensures.whole c.put_frame.ensures.torn written in
-    (both.0, c.self.invariant.1, c.self.invariant.2, c.self.invariant.3)
 
 pub returns-clause-put : goal.returns-clause-put
 returns-clause-put g c =
-    let b : Books = (books_of c.self.inside.log c.self.inside.header c.self.inside.directory.items c.self.inside.moved c.self.inside.frozen c.self.inside.size c.self.inside.working) in
-    let object : c.args.number < count_of b.plan = subst (λ t. IsObject t.books.plan.geometry c.args.number) (sym c.self.view_is) c.requires.object in
-    let kept = c.self.invariant.0 in
-    let size = ap (λ t. t.books.size) c.self.view_is ∙ c.requires.running in
-    let has = subst (λ t. HasRoom c.args.size (puts_in (g.D.Device.disk t.beneath).seen t.books.plan (frozen_generation t.books) t.books.frozen) c.args.number) (sym c.self.view_is) c.requires.room in
-    let was = subst (IsRunning b) size kept.running in
-    let low = slot_room (g.D.Device.disk c.self.inside.device).seen b.plan (frozen_generation b) c.args.size b.frozen c.args.number kept.frozen.count object kept.frozen.table was.1 has in
-    let writes = c.put_frame.ensures.writes in
-    let written = c.put_frame.ensures.written in
-    let keepable = subst (λ t. IsKeepable t.books.plan.geometry most c.args.number (record { header = c.args.header; content = c.args.content.now })) (sym c.self.view_is) c.requires.keepable in
-    let both = put_either (g.D.Device.disk c.self.inside.device) (g.D.Device.disk c.put_frame.new.device) b c.args.number (record { header = c.args.header; content = c.args.content.now }) kept object c.args.size size low writes
-    c.put_frame.result c.put_frame.new.table keepable c.put_frame.ensures.whole c.put_frame.ensures.torn written in
-    subst (λ t. OnOk c.put_frame.result (stored_in (g.D.Device.disk c.put_frame.new.device).seen (record b { frozen = c.put_frame.new.table }) ≡ with_frozen c.args.number (Kept (record { header = c.args.header; content = c.args.content.now })) (stored_of g.D.Device.disk t))) c.self.view_is both.1
+    let f : Frame = record { header = c.args.header; content = c.args.content.now } in
+    ok_then c.put_written.result (λ is. is ∙ ap (with_frozen c.args.number (Kept f)) c.tear.ensures.torn ∙ put_twice (stored_of g.D.Device.disk c.args.self.now) c.args.number Broken (Kept f)) c.put_written.ensures.put
 
 pub returns-clause-broken : goal.returns-clause-broken
 returns-clause-broken g c =
-    let b : Books = (books_of c.self.inside.log c.self.inside.header c.self.inside.directory.items c.self.inside.moved c.self.inside.frozen c.self.inside.size c.self.inside.working) in
-    let object : c.args.number < count_of b.plan = subst (λ t. IsObject t.books.plan.geometry c.args.number) (sym c.self.view_is) c.requires.object in
-    let kept = c.self.invariant.0 in
-    let size = ap (λ t. t.books.size) c.self.view_is ∙ c.requires.running in
-    let has = subst (λ t. HasRoom c.args.size (puts_in (g.D.Device.disk t.beneath).seen t.books.plan (frozen_generation t.books) t.books.frozen) c.args.number) (sym c.self.view_is) c.requires.room in
-    let was = subst (IsRunning b) size kept.running in
-    let low = slot_room (g.D.Device.disk c.self.inside.device).seen b.plan (frozen_generation b) c.args.size b.frozen c.args.number kept.frozen.count object kept.frozen.table was.1 has in
-    let writes = c.put_frame.ensures.writes in
-    let written = c.put_frame.ensures.written in
-    let keepable = subst (λ t. IsKeepable t.books.plan.geometry most c.args.number (record { header = c.args.header; content = c.args.content.now })) (sym c.self.view_is) c.requires.keepable in
-    let both = put_either (g.D.Device.disk c.self.inside.device) (g.D.Device.disk c.put_frame.new.device) b c.args.number (record { header = c.args.header; content = c.args.content.now }) kept object c.args.size size low writes
-    c.put_frame.result c.put_frame.new.table keepable c.put_frame.ensures.whole c.put_frame.ensures.torn written in
-    subst (λ t. OnErr c.put_frame.result (stored_in (g.D.Device.disk c.put_frame.new.device).seen (record b { frozen = c.put_frame.new.table }) ≡ with_frozen c.args.number Broken (stored_of g.D.Device.disk t))) c.self.view_is both.2
+    err_then c.put_written.result (λ is. is ∙ ap (with_frozen c.args.number Broken) c.tear.ensures.torn ∙ put_twice (stored_of g.D.Device.disk c.args.self.now) c.args.number Broken Broken) c.put_written.ensures.broken
 
 pub returns-clause-goes_on : goal.returns-clause-goes_on
 returns-clause-goes_on g c =
-    let b : Books = (books_of c.self.inside.log c.self.inside.header c.self.inside.directory.items c.self.inside.moved c.self.inside.frozen c.self.inside.size c.self.inside.working) in
-    let object : c.args.number < count_of b.plan = subst (λ t. IsObject t.books.plan.geometry c.args.number) (sym c.self.view_is) c.requires.object in
-    let kept = c.self.invariant.0 in
-    let size = ap (λ t. t.books.size) c.self.view_is ∙ c.requires.running in
-    let has = subst (λ t. HasRoom c.args.size (puts_in (g.D.Device.disk t.beneath).seen t.books.plan (frozen_generation t.books) t.books.frozen) c.args.number) (sym c.self.view_is) c.requires.room in
-    let was = subst (IsRunning b) size kept.running in
-    let low = slot_room (g.D.Device.disk c.self.inside.device).seen b.plan (frozen_generation b) c.args.size b.frozen c.args.number kept.frozen.count object kept.frozen.table was.1 has in
-    let writes = c.put_frame.ensures.writes in
-    subst (λ t. GoesOn g.D.Device.disk t (record { beneath = c.put_frame.new.device; books = record b { frozen = c.put_frame.new.table } })) c.self.view_is
-    (put_goes_on (g.D.Device.disk c.self.inside.device) (g.D.Device.disk c.put_frame.new.device) b c.args.number (record { header = c.args.header; content = c.args.content.now }) kept object c.args.size size low writes c.put_frame.new.table)
+    goes_trans (g.D.Device.disk c.args.self.now.beneath) (g.D.Device.disk c.tear.new.self.beneath) (g.D.Device.disk c.put_written.new.self.beneath) c.args.self.now.books c.tear.new.self.books c.put_written.new.self.books
+    (ap (λ (s : Stored). s.saved) c.tear.ensures.torn) c.tear.ensures.goes_on c.put_written.ensures.goes_on

@@ -1,0 +1,29 @@
+use Rattle.std.proofs.Common.{◌≡◌, ◌-◌, ℕ, drop, sym, ap, ◌∙◌, arith}
+use Rattle.std.proofs.lemmas.Bool.{false≢true}
+use Rattle.layout.specs.Bytes.{zeros}
+use Rattle.layout.proofs.Superblocks.{magic_from, marked, versions_told, unmarked}
+use Rattle.layout.proofs.superblock.version_in.Goals as goal
+use Rattle.layout.proofs.superblock.version_in.Goals.{then-magic-ne-SUPERBLOCK_MAGIC-via-then-magic-ne-SUPERBLOCK_MAGIC, then-magic-ne-SUPERBLOCK_MAGIC-via-else-magic-ne-SUPERBLOCK_MAGIC+then-not-is_blank_from}
+
+pub returns-then-magic-ne-SUPERBLOCK_MAGIC-clause-none : goal.returns-then-magic-ne-SUPERBLOCK_MAGIC-clause-none
+returns-then-magic-ne-SUPERBLOCK_MAGIC-clause-none c = λ mark.
+    elim c.then-magic-ne-SUPERBLOCK_MAGIC.branch [
+      | then-magic-ne-SUPERBLOCK_MAGIC-via-then-magic-ne-SUPERBLOCK_MAGIC w ↦
+          w.if-magic-ne-SUPERBLOCK_MAGIC.true (magic_from c.args.bytes.now c.number_at-magic.result c.number_at-magic.ensures (omega arith) mark)
+      | then-magic-ne-SUPERBLOCK_MAGIC-via-else-magic-ne-SUPERBLOCK_MAGIC+then-not-is_blank_from w ↦
+          false≢true (sym w.if-not-is_blank_from.true ∙ w.is_blank_from.ensures.1 (mark.blank ∙ ap (λ (n : ℕ). zeros (n - 256)) (sym c.requires)))
+    ]
+
+pub returns-clause-mark : goal.returns-clause-mark
+returns-clause-mark c =
+    let blank : drop 256 c.args.bytes.now ≡ zeros 256 = c.is_blank_from.ensures.0 c.if-not-is_blank_from.false ∙ ap (λ (n : ℕ). zeros (n - 256)) c.requires in
+    marked c.args.bytes.now c.number_at-magic.result c.number_at-second.result c.number_at-magic.ensures c.number_at-second.ensures (omega arith) c.with_number.result c.if-magic-ne-SUPERBLOCK_MAGIC.false blank
+    c.with_number.ensures.some
+
+pub returns-clause-version : goal.returns-clause-version
+returns-clause-version c =
+    versions_told c.args.bytes.now c.number_at-magic.result c.number_at-second.result c.number_at-magic.ensures c.number_at-second.ensures (omega arith) c.with_number.result c.with_number.ensures.some
+
+pub returns-clause-none : goal.returns-clause-none
+returns-clause-none c =
+    unmarked c.args.bytes.now c.number_at-magic.result c.number_at-second.result c.number_at-magic.ensures c.number_at-second.ensures (omega arith) c.with_number.result c.with_number.ensures.none

@@ -1,0 +1,206 @@
+-- What is kept of a store is kept while its slots are completed.
+use Rattle.std.proofs.Common.{◌≡◌, ℕ, ◌+◌, ◌*◌, ◌%◌, ◌<◌, Option, Some, None, List, refl, sym, ap, subst, ◌∙◌, arith}
+use Rattle.device.specs.Disk.{Image, Disk}
+use Rattle.device.specs.Calls.{IsTorn}
+use Rattle.model.specs.Keepable.{AreKeepable}
+use Rattle.layout.specs.declared.directory.Entry.{Entry}
+use Rattle.layout.specs.declared.extent.Extent.{Extent}
+use Rattle.layout.specs.declared.header.CheckpointHeader.{CheckpointHeader}
+use Rattle.layout.specs.Directory.{entry_at}
+use Rattle.layout.specs.Image.{half_sector}
+use Rattle.layout.specs.Spelt.{count_of}
+use Rattle.layout.specs.Superblock.{Plan, IsInside, half_extent}
+use Rattle.layout.specs.Homes.{shape_of}
+use Rattle.layout.proofs.SlotsOf.{found_slot, own_slot}
+use Rattle.migrator.proofs.Committing.{frozen_fits}
+use Rattle.layout.proofs.Spelling.{spelt_same}
+use Rattle.migrator.specs.declared.table.Place.{Place}
+use Rattle.migrator.specs.declared.table.Place.TheVariants.{Whole}
+use Rattle.migrator.specs.Table.{place_at, slot_of, entries_of}
+use Rattle.migrator.specs.Completed.{AreComplete, Keeps}
+use Rattle.migrator.specs.Mended.{Unwritten, mended, IfUnwritten}
+use Rattle.migrator.specs.Put.{Put, slot_bytes, puts_in}
+use Rattle.migrator.specs.Durable.{Books, frozen_generation, working_generation, generation_after, FrozenPuts, Stored, stored_in, frozen_of, next_header, next_saved, saved_state, IsKept, IsRunning, LeavesState, MayHaveUnwritten}
+use Rattle.checkpoint.specs.Saved.{Holds, LeavesEither, LeavesSaved, kept_of}
+use Rattle.migrator.proofs.Journaling.{both_runs}
+use Rattle.migrator.specs.Spared.{Spares, Touches}
+use Rattle.migrator.proofs.GoingOn.{GoesOnSeen, goes_spared}
+use Rattle.migrator.proofs.Kept.{SparesPuts, puts_same, are_put_same, puts_stay, are_put_on, stored_same, home_stays}
+use Rattle.migrator.proofs.Mended.{mended_disk, leaves_mended, leaves_raw, unmended}
+use Rattle.migrator.proofs.PlacesApart.{spares_other}
+use Rattle.migrator.proofs.Putting.{other_parity, half_spares, homes_spare}
+use Rattle.migrator.proofs.Spared.{frame_stays, state_stays}
+use Rattle.migrator.proofs.Tables.{slot_entries}
+
+module _ (old new : Disk) (b : Books) (was now : Option Unwritten) (k : ℕ) (kept : IsKept old.sectors (mended old.seen was) b) (running : b.size ≡ Some k)
+    (keeps : Keeps b.plan (frozen_generation b) (entries_of b.frozen) old was new now) where
+  abbrev before : Image
+  before = mended old.seen was
+
+  abbrev after : Image
+  after = mended new.seen now
+
+  -- the slots of the half
+  abbrev extent : Extent
+  extent = record { sector = half_sector b.plan (frozen_generation b); length = 9 * b.plan.geometry.log }
+
+  inside : IsInside extent (half_extent b.plan.geometry (half_sector b.plan (frozen_generation b)))
+  inside = record { starts = omega arith; ends = omega arith }
+
+  spares : Spares b.plan b.header b.directory extent
+  spares = spares_other b.plan b.header b.directory (frozen_generation b) extent kept.plan kept.directory kept.header.entries (other_parity b.header.generation) inside
+
+  later : working_generation b % 2 ≡ frozen_generation b % 2 → ⊥
+  later same =
+      let both : (b.header.generation + 1 + 1) % 2 ≡ frozen_generation b % 2 = ap (λ (o : Option ℕ). generation_after b.header.generation o % 2) (sym running) ∙ same in
+      other_parity (b.header.generation + 1) (sym both)
+
+  working_spares : SparesPuts b.plan (working_generation b) b.working extent
+  working_spares = half_spares b.plan (working_generation b) (frozen_generation b) b.working extent kept.plan later kept.working.table kept.working.few inside
+
+  -- the frozen frames stay in their slots
+  frozen_stay : (n s : ℕ) → n < count_of b.plan → place_at b.frozen n ≡ Whole s → slot_bytes after b.plan (frozen_generation b) s n ≡ slot_bytes before b.plan (frozen_generation b) s n
+  frozen_stay n s lt is =
+      let entry = found_slot (entries_of b.frozen) n s (slot_entries b.frozen n ∙ ap slot_of is) in
+      subst (λ (m : ℕ). slot_bytes after b.plan (frozen_generation b) s m ≡ slot_bytes before b.plan (frozen_generation b) s m) entry.object_is
+      (subst (λ (t : ℕ). slot_bytes after b.plan (frozen_generation b) t (entry_at (entries_of b.frozen) entry.index).object ≡ slot_bytes before b.plan (frozen_generation b) t (entry_at (entries_of b.frozen) entry.index).object)
+      entry.slot_is (keeps.frames entry.index entry.within))
+
+  pub puts_after : puts_in after b.plan (frozen_generation b) b.frozen ≡ puts_in before b.plan (frozen_generation b) b.frozen
+  puts_after = puts_same b.plan (frozen_generation b) b.frozen before after frozen_stay
+
+  pub frozen_after : frozen_of after b k ≡ frozen_of before b k
+  frozen_after = ap (λ (puts : List Put). record { put = puts; size = k }) puts_after
+
+  pub state_after : saved_state after b ≡ saved_state before b
+  state_after = state_stays b.plan b.header b.directory extent before after spares.frames keeps.elsewhere
+
+  pub stored_after : stored_in after b ≡ stored_in before b
+  stored_after = stored_same after before b (puts_stay b.plan (working_generation b) b.working extent before after working_spares keeps.elsewhere) puts_after state_after
+
+  kept_after : IsKept old.sectors after b
+  kept_after = record {
+    plan = kept.plan;
+    inside = kept.inside;
+    header = kept.header;
+    count = kept.count;
+    directory = kept.directory;
+    saved = λ n lt. spelt_same after before b.plan b.header.age b.header.generation b.header.generation b.directory b.directory n
+        (frame_stays b.plan b.header.generation b.directory extent before after spares.frames keeps.elsewhere n lt) (kept.saved n lt);
+    few = kept.few;
+    moved = λ i lt. home_stays b extent before after spares.frames keeps.elsewhere i kept.plan (kept.directory.each i (record { object = 0; slot = 0 }) (omega (arith, lt, kept.few, kept.count))).object
+        (homes_spare old.sectors before b (frozen_generation b) extent kept inside i lt) (kept.moved i lt);
+    frozen = are_put_same b.plan (frozen_generation b) b.frozen before after frozen_stay kept.frozen;
+    running = kept.running;
+    working = are_put_on b.plan (working_generation b) b.working extent before after working_spares keeps.elsewhere kept.working;
+  }
+
+  pub mid_kept : IsKept new.sectors after b
+  mid_kept = subst (λ (size : ℕ). IsKept size after b) (sym keeps.touches.size) kept_after
+
+  touches : Touches extent.sector extent.length (mended_disk old was) (mended_disk new now)
+  touches = record {
+    size = keeps.touches.size;
+    elsewhere = keeps.elsewhere;
+    crash = keeps.touches.crash;
+    any_moment = leaves_mended old new was now (IsTorn extent.sector extent.length old) keeps.touches.any_moment;
+  }
+
+  pub goes_after : GoesOnSeen (mended_disk old was) (mended_disk new now) b b
+  goes_after = goes_spared (mended_disk old was) (mended_disk new now) b b extent refl refl refl spares touches
+
+  pub has_after : (c : Books) → c.plan ≡ b.plan → c.header ≡ b.header → c.frozen ≡ b.frozen → c.size ≡ b.size → MayHaveUnwritten c now
+  has_after c plan header frozen size = by now keeps.unwritten where
+    by : (o : Option Unwritten) → IfUnwritten b.plan (frozen_generation b) (entries_of b.frozen) o → MayHaveUnwritten c o
+    by None is = tt
+    by (Some u) is =
+        let entry = entry_at (entries_of b.frozen) is.index in
+        let own = own_slot (entries_of b.frozen) is.index (frozen_fits old.sectors before b kept).rising is.within in
+        record {
+          size = is.size;
+          count = k;
+          running = size ∙ running;
+          object = entry.object;
+          slot = entry.slot;
+          place = ap (λ (ps : List Place). slot_of (place_at ps entry.object)) frozen ∙ sym (slot_entries b.frozen entry.object) ∙ own;
+          sector_is = rw (plan, header) is.sector_is;
+          rank = is.rank;
+          shape = ap (λ (p : Plan). shape_of p entry.object) plan ∙ is.shape;
+        }
+
+-- what is kept doesn't depend on what is unwritten
+pub kept_with : (size : ℕ) (image : Image) (b : Books) (o : Option Unwritten) → IsKept size image b → IsKept size image (record b { unwritten = o })
+kept_with size image b o kept = record {
+  plan = kept.plan;
+  inside = kept.inside;
+  header = kept.header;
+  count = kept.count;
+  directory = kept.directory;
+  saved = kept.saved;
+  few = kept.few;
+  moved = kept.moved;
+  frozen = kept.frozen;
+  running = running_with b.size kept.running;
+  working = kept.working;
+} where
+  running_with : (k : Option ℕ) → IsRunning b k → IsRunning (record b { unwritten = o }) k
+  running_with None is = is
+  running_with (Some k) is = is
+
+-- once all slots are complete, nothing is unwritten, and all is as it was
+pub record IsReady (old : Disk) (image : Image) (b : Books) (k : ℕ) (mid : Disk) : Type 0 where
+  pub kept : IsKept mid.sectors mid.seen b
+  pub size : mid.sectors ≡ old.sectors
+  pub frozen : frozen_of mid.seen b k ≡ frozen_of image b k
+  pub stored : stored_in mid.seen b ≡ stored_in image b
+  pub sound : LeavesState old (saved_state image b) → LeavesState mid (saved_state mid.seen b)
+  pub any_moment : LeavesState old (saved_state image b) → LeavesSaved old mid (kept_of (saved_state image b))
+
+pub ready : (old mid : Disk) (b : Books) (was now : Option Unwritten) (k : ℕ) → IsKept old.sectors (mended old.seen was) b → b.size ≡ Some k → Keeps b.plan (frozen_generation b) (entries_of b.frozen) old was mid now → now ≡ None
+    → IsReady old (mended old.seen was) b k mid
+ready old mid b was now k kept running keeps none =
+    let goes = goes_after old mid b was now k kept running keeps in
+    let image : mended mid.seen now ≡ mid.seen = unmended mid.seen now none in
+    record {
+      kept = subst (λ (i : Image). IsKept mid.sectors i b) image (mid_kept old mid b was now k kept running keeps);
+      size = keeps.touches.size;
+      frozen = ap (λ (i : Image). frozen_of i b k) (sym image) ∙ frozen_after old mid b was now k kept running keeps;
+      stored = ap (λ (i : Image). stored_in i b) (sym image) ∙ stored_after old mid b was now k kept running keeps;
+      sound = λ sound. subst (λ (i : Image). LeavesState mid (saved_state i b)) image (goes.sound sound);
+      any_moment = λ sound. leaves_raw old mid was now (λ c. Holds old.sectors c (kept_of (saved_state (mended old.seen was) b))) (goes.any_moment sound);
+    }
+
+-- and where not, a crash leaves what is saved
+pub unready_moments : (old new : Disk) (b : Books) (was now : Option Unwritten) (k : ℕ) → IsKept old.sectors (mended old.seen was) b → b.size ≡ Some k → Keeps b.plan (frozen_generation b) (entries_of b.frozen) old was new now
+    → LeavesState old (saved_state (mended old.seen was) b) → LeavesSaved old new (kept_of (saved_state (mended old.seen was) b))
+unready_moments old new b was now k kept running keeps sound =
+    leaves_raw old new was now (λ c. Holds old.sectors c (kept_of (saved_state (mended old.seen was) b))) ((goes_after old new b was now k kept running keeps).any_moment sound)
+
+-- ---- said of the header and the entries that are committed
+
+pub keeps_at : (b : Books) (old mid : Disk) (was now : Option Unwritten) (p : Plan) (h : CheckpointHeader) (es : List Entry) {age : ℕ} → p ≡ b.plan → h ≡ next_header age b → es ≡ entries_of b.frozen → Keeps p h.generation es old was mid now
+    → Keeps b.plan (frozen_generation b) (entries_of b.frozen) old was mid now
+keeps_at b old mid was now p h es plan header entries keeps =
+    subst (λ (q : Plan). Keeps q (frozen_generation b) (entries_of b.frozen) old was mid now) plan
+    (subst (λ (x : CheckpointHeader). Keeps p x.generation (entries_of b.frozen) old was mid now) header (subst (λ (fs : List Entry). Keeps p h.generation fs old was mid now) entries keeps))
+
+pub complete_at : (b : Books) (image : Image) (p : Plan) (h : CheckpointHeader) (es : List Entry) {age : ℕ} → p ≡ b.plan → h ≡ next_header age b → es ≡ entries_of b.frozen → AreComplete image p h.generation es
+    → AreComplete image b.plan (frozen_generation b) (entries_of b.frozen)
+complete_at b image p h es plan header entries complete =
+    subst (λ (q : Plan). AreComplete image q (frozen_generation b) (entries_of b.frozen)) plan
+    (subst (λ (x : CheckpointHeader). AreComplete image p x.generation (entries_of b.frozen)) header (subst (λ (fs : List Entry). AreComplete image p h.generation fs) entries complete))
+
+-- what is to be saved may be
+pub keepable_at : (age : ℕ) (old : Disk) (image : Image) (b : Books) (k : ℕ) (mid : Disk) → IsReady old image b k mid → AreKeepable b.plan.geometry age (next_saved age (frozen_of image b k) (stored_in image b).saved).frames
+    → AreKeepable b.plan.geometry age (next_saved age (frozen_of mid.seen b k) (stored_in mid.seen b).saved).frames
+keepable_at age old image b k mid is keepable =
+    subst (λ (s : Stored). AreKeepable b.plan.geometry age (next_saved age (frozen_of mid.seen b k) s.saved).frames) (sym is.stored)
+    (subst (λ (f : FrozenPuts). AreKeepable b.plan.geometry age (next_saved age f (stored_in image b).saved).frames) (sym is.frozen) keepable)
+
+-- and at each moment to the end a crash leaves what was saved, or what is then
+pub ready_moments : (age : ℕ) (old : Disk) (image : Image) (b : Books) (k : ℕ) (mid : Disk) → IsReady old image b k mid → (new : Disk) → LeavesState old (saved_state image b)
+    → LeavesEither mid new (stored_in mid.seen b).saved (next_saved age (frozen_of mid.seen b k) (stored_in mid.seen b).saved) → LeavesEither old new (stored_in image b).saved (next_saved age (frozen_of image b k) (stored_in image b).saved)
+ready_moments age old image b k mid is new sound run =
+    both_runs old mid new (stored_in image b).saved (next_saved age (frozen_of image b k) (stored_in image b).saved) is.size (is.any_moment sound)
+    (subst (λ (f : FrozenPuts). LeavesEither mid new (stored_in image b).saved (next_saved age f (stored_in image b).saved)) is.frozen
+    (subst (λ (s : Stored). LeavesEither mid new s.saved (next_saved age (frozen_of mid.seen b k) s.saved)) is.stored run))

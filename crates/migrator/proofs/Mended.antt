@@ -1,0 +1,198 @@
+-- What a device gives, but for a slot that it failed to write.
+use Rattle.std.proofs.Common.{◌≡◌, ℕ, ◌+◌, ◌-◌, ◌<◌, ◌≤◌, Bool, true, false, Option, Some, None, List, length, sym, ap, subst, ◌∙◌, inl, inr, arith, nat_le, nat_lt}
+use Rattle.std.specs.Prelude.{◌&&◌, if◌then◌else◌}
+use Rattle.std.proofs.lemmas.Bool.{cases_lt, and_from, and_left, and_right}
+use Rattle.std.proofs.lemmas.Bool.Decides.{nat_tests}
+use Rattle.device.specs.Disk.{Image, Disk}
+use Rattle.device.specs.Calls.{Elsewhere, IsTorn, AreSectors, image_of, sectors_of}
+use Rattle.device.specs.Moments.{Elapses, LeavesOnly}
+use Rattle.device.proofs.Images.{agrees_is, elsewhere_on}
+use Rattle.device.proofs.Moments.{leaves_weaker, leaves_on}
+use Rattle.model.specs.declared.frame.Frame.{Frame}
+use Rattle.model.specs.declared.geometry.Geometry.{Geometry}
+use Rattle.layout.specs.declared.directory.Entry.{Entry}
+use Rattle.layout.specs.declared.shape.Shape.{Shape}
+use Rattle.layout.specs.declared.shape.Shape.TheVariants.{Packed}
+use Rattle.layout.specs.Frame.{IsFrameOf}
+use Rattle.layout.specs.FrameReader.{frame_from}
+use Rattle.layout.specs.Shape.{shape_bytes}
+use Rattle.layout.proofs.Images.{one_frame}
+use Rattle.checkpoint.specs.Saved.{most}
+use Rattle.layout.specs.declared.extent.Extent.{Extent}
+use Rattle.layout.specs.Homes.{place_length}
+use Rattle.layout.specs.Image.{bytes_at, frame_in}
+use Rattle.layout.specs.Spelt.{count_of}
+use Rattle.layout.specs.Superblock.{Plan, IsApart, IsInside}
+use Rattle.frame_io.specs.Calls.{ReadsOnly, WritesAt}
+use Rattle.migrator.specs.Mended.{Unwritten, mended, unwritten_of, IsSpeltIn}
+use Rattle.migrator.specs.Spared.{SparesFrames, Touches}
+use Rattle.migrator.proofs.Spared.{bytes_stay, frame_stays}
+
+-- ---- its sectors and the others
+
+le_true : (a b : ℕ) → a ≤ b → nat_le a b ≡ true
+le_true a b le = grind (arith, nat_tests)
+
+le_false : (a b : ℕ) → b < a → nat_le a b ≡ false
+le_false a b lt = grind (arith, nat_tests)
+
+lt_true : (a b : ℕ) → a < b → nat_lt a b ≡ true
+lt_true a b lt = grind (arith, nat_tests)
+
+lt_false : (a b : ℕ) → b ≤ a → nat_lt a b ≡ false
+lt_false a b le = grind (arith, nat_tests)
+
+mended_by : (image : Image) (u : Unwritten) (i : ℕ) (test : Bool) → (nat_le u.sector i && nat_lt i (u.sector + 8)) ≡ test → mended image (Some u) i ≡ (if test then image_of u.bytes (i - u.sector) else image i)
+mended_by image u i test e = ap (λ (b : Bool). if b then image_of u.bytes (i - u.sector) else image i) e
+
+pub mended_here : (image : Image) (u : Unwritten) (i : ℕ) → u.sector ≤ i → i < u.sector + 8 → mended image (Some u) i ≡ image_of u.bytes (i - u.sector)
+mended_here image u i low high = mended_by image u i true (and_from (nat_le u.sector i) (nat_lt i (u.sector + 8)) (le_true u.sector i low) (lt_true i (u.sector + 8) high))
+
+mended_before : (image : Image) (u : Unwritten) (i : ℕ) → i < u.sector → mended image (Some u) i ≡ image i
+mended_before image u i lt = mended_by image u i false (and_left (nat_le u.sector i) (nat_lt i (u.sector + 8)) (le_false u.sector i lt))
+
+mended_behind : (image : Image) (u : Unwritten) (i : ℕ) → u.sector + 8 ≤ i → mended image (Some u) i ≡ image i
+mended_behind image u i le = mended_by image u i false (and_right (nat_le u.sector i) (nat_lt i (u.sector + 8)) (lt_false i (u.sector + 8) le))
+
+-- it is another image in those alone
+pub mended_elsewhere : (image : Image) (u : Unwritten) → Elsewhere u.sector 8 image (mended image (Some u))
+mended_elsewhere image u = record { before = λ i lt. mended_before image u i lt; after = λ i le. mended_behind image u i le }
+
+pub elsewhere_turned : (at n : ℕ) (old new : Image) → Elsewhere at n old new → Elsewhere at n new old
+elsewhere_turned at n old new change = record { before = λ i lt. sym (change.before i lt); after = λ i le. sym (change.after i le) }
+
+-- ---- the slot is written
+
+-- where the device failed again nothing is changed
+pub mended_same : (old new : Image) (u : Unwritten) → Elsewhere u.sector 8 old new → mended new (Some u) ≡ mended old (Some u)
+mended_same old new u change = agrees_is (mended new (Some u)) (mended old (Some u)) (λ i. elim (cases_lt i u.sector) [
+  | inl lt ↦ mended_before new u i lt ∙ change.before i lt ∙ sym (mended_before old u i lt)
+  | inr low ↦ elim (cases_lt i (u.sector + 8)) [
+    | inl high ↦ mended_here new u i low high ∙ sym (mended_here old u i low high)
+    | inr le ↦ mended_behind new u i le ∙ change.after i le ∙ sym (mended_behind old u i le)
+  ]
+])
+
+-- and where it didn't, the device gives what the buffer had
+pub mended_written : (old new : Image) (u : Unwritten) → length u.bytes ≡ 4096 → AreSectors new u.sector u.bytes → Elsewhere u.sector 8 old new → new ≡ mended old (Some u)
+mended_written old new u size written change = agrees_is new (mended old (Some u)) (λ i. elim (cases_lt i u.sector) [
+  | inl lt ↦ change.before i lt ∙ sym (mended_before old u i lt)
+  | inr low ↦ elim (cases_lt i (u.sector + 8)) [
+    | inl high ↦
+        let there : u.sector + (i - u.sector) ≡ i = omega (arith, low) in
+        let few : i - u.sector < sectors_of u.bytes = omega (arith, low, high, size) in
+        ap new (sym there) ∙ sym (written (i - u.sector) few) ∙ sym (mended_here old u i low high)
+    | inr le ↦ change.after i le ∙ sym (mended_behind old u i le)
+  ]
+])
+
+-- ---- what the buffer spells
+
+pub unwritten_bytes : (sector : Option ℕ) (bytes : List ℕ) (u : Unwritten) → unwritten_of sector bytes ≡ Some u → u.bytes ≡ bytes
+unwritten_bytes None bytes u is = absurd cc
+unwritten_bytes (Some at) bytes u is = let same : record { sector = at; bytes = bytes } ≡ u = cc in ap (λ (v : Unwritten). v.bytes) (sym same)
+
+same_unwritten : (u v : Unwritten) → Some u ≡ Some v → u ≡ v
+same_unwritten u v e = cc
+
+-- a frame that was read of it is the one that it spells
+pub buffer_read : (g : Geometry) (n : ℕ) (o : Option Unwritten) (u : Unwritten) (shape : Shape) (rank : ℕ) (node : List ℕ) (read : Frame) → o ≡ Some u → shape ≡ Packed rank → (v : Unwritten) × (o ≡ Some v) × IsSpeltIn v shape g n
+    → node ≡ shape_bytes (Packed rank) u.bytes → IsFrameOf g most n node read → read ≡ frame_from g n (shape_bytes shape u.bytes)
+buffer_read g n o u shape rank node read some packed has is found =
+    let spelt : IsSpeltIn u shape g n = subst (λ (v : Unwritten). IsSpeltIn v shape g n) (same_unwritten has.0 u (sym has.1 ∙ some)) has.2 in
+    let there = subst (λ (s : Shape). IsFrameOf g most n (shape_bytes s u.bytes) (frame_from g n (shape_bytes s u.bytes))) (sym spelt.packed) spelt.spelt in
+    let here = subst (λ (bytes : List ℕ). IsFrameOf g most n bytes read) (is ∙ ap (λ (s : Shape). shape_bytes s u.bytes) (sym packed)) found in
+    one_frame g most n (shape_bytes shape u.bytes) read (frame_from g n (shape_bytes shape u.bytes)) here there
+
+-- ---- sectors that were touched
+
+pub elsewhere_within : (at n : ℕ) (e : Extent) (old new : Image) → IsInside (record { sector = at; length = n }) e → Elsewhere at n old new → Elsewhere e.sector e.length old new
+elsewhere_within at n e old new inside change = record { before = λ i lt. change.before i (omega (arith, lt, inside.starts)); after = λ i le. change.after i (omega (arith, le, inside.ends)) }
+
+torn_within : (at n : ℕ) (e : Extent) (disk : Disk) (c : Image) → IsInside (record { sector = at; length = n }) e → IsTorn at n disk c → IsTorn e.sector e.length disk c
+torn_within at n e disk c inside torn = (torn.0, torn.1, elsewhere_within at n e torn.0 c inside torn.2)
+
+-- are among more
+pub touches_within : (at n : ℕ) (e : Extent) (old new : Disk) → IsInside (record { sector = at; length = n }) e → Touches at n old new → Touches e.sector e.length old new
+touches_within at n e old new inside touches = record {
+  size = touches.size;
+  elsewhere = elsewhere_within at n e old.seen new.seen inside touches.elsewhere;
+  crash = λ c left. torn_within at n e old c inside (touches.crash c left);
+  any_moment = leaves_weaker {old = old} {new = new} {P = IsTorn at n old} (IsTorn e.sector e.length old) (λ c. torn_within at n e old c inside) touches.any_moment;
+}
+
+torn_twice : (at n : ℕ) (old mid : Disk) → Touches at n old mid → (c : Image) → IsTorn at n mid c → IsTorn at n old c
+torn_twice at n old mid touches c torn =
+    let first = touches.crash torn.0 torn.1 in
+    (first.0, first.1, elsewhere_on at n first.0 torn.0 c first.2 torn.2)
+
+-- and twice
+pub touches_on : (at n : ℕ) (old mid new : Disk) → Touches at n old mid → Touches at n mid new → Touches at n old new
+touches_on at n old mid new first second = record {
+  size = second.size ∙ first.size;
+  elsewhere = elsewhere_on at n old.seen mid.seen new.seen first.elsewhere second.elsewhere;
+  crash = λ c left. torn_twice at n old mid first c (second.crash c left);
+  any_moment = leaves_on {old = old} {mid = mid} {new = new} {P = IsTorn at n old} first.any_moment
+      (leaves_weaker {old = mid} {new = new} {P = IsTorn at n mid} (IsTorn at n old) (torn_twice at n old mid first) second.any_moment);
+}
+
+-- ---- a device as it gives what was written and what wasn't
+
+abbrev pub mended_disk : Disk → Option Unwritten → Disk
+mended_disk disk o = record disk { seen = mended disk.seen o }
+
+-- where nothing is unwritten it is the device
+pub unmended : (image : Image) (o : Option Unwritten) → o ≡ None → mended image o ≡ image
+unmended image o none = ap (mended image) none
+
+pub elsewhere_mended : (at n : ℕ) (old new : Image) (o : Option Unwritten) → Elsewhere at n old new → Elsewhere at n (mended old o) (mended new o)
+elsewhere_mended at n old new None change = change
+elsewhere_mended at n old new (Some u) change = record { before = λ i lt. same i (change.before i lt); after = λ i le. same i (change.after i le) } where
+  same : (i : ℕ) → new i ≡ old i → mended new (Some u) i ≡ mended old (Some u) i
+  same i is = ap (λ (bytes : List ℕ). if nat_le u.sector i && nat_lt i (u.sector + 8) then image_of u.bytes (i - u.sector) else bytes) is
+
+pub leaves_mended : (old new : Disk) (a b : Option Unwritten) (P : Image → Type 0) → LeavesOnly old new P → LeavesOnly (mended_disk old a) (mended_disk new b) P
+leaves_mended old new a b P run = record { later = run.later; each = run.each; before = run.before; keeps = run.keeps }
+
+pub leaves_raw : (old new : Disk) (a b : Option Unwritten) (P : Image → Type 0) → LeavesOnly (mended_disk old a) (mended_disk new b) P → LeavesOnly old new P
+leaves_raw old new a b P run = record { later = run.later; each = run.each; before = run.before; keeps = run.keeps }
+
+elapses_mended : (old new : Disk) (o : Option Unwritten) → Elapses old new → Elapses (mended_disk old o) (mended_disk new o)
+elapses_mended old new o time = record { later = time.later; nothing_else = time.nothing_else; keeps = time.keeps }
+
+pub touches_mended : (at n : ℕ) (old new : Disk) (o : Option Unwritten) → Touches at n old new → Touches at n (mended_disk old o) (mended_disk new o)
+touches_mended at n old new o touches = record {
+  size = touches.size;
+  elsewhere = elsewhere_mended at n old.seen new.seen o touches.elsewhere;
+  crash = touches.crash;
+  any_moment = leaves_mended old new o o (IsTorn at n old) touches.any_moment;
+}
+
+pub writes_mended : (at n : ℕ) (old new : Disk) (o : Option Unwritten) → WritesAt at n old new → WritesAt at n (mended_disk old o) (mended_disk new o)
+writes_mended at n old new o writes = record {
+  size = writes.size;
+  elsewhere = elsewhere_mended at n old.seen new.seen o writes.elsewhere;
+  crash = writes.crash;
+  any_moment = leaves_mended old new o o (IsTorn at n old) writes.any_moment;
+  time = elapses_mended old new o writes.time;
+}
+
+pub reads_mended : (old new : Disk) (o : Option Unwritten) → ReadsOnly old new → ReadsOnly (mended_disk old o) (mended_disk new o)
+reads_mended old new o reads = record {
+  size = reads.size;
+  seen = λ i. ap (λ (image : Image). mended image o i) (agrees_is new.seen old.seen reads.seen);
+  crash = reads.crash;
+  nothing_durable = reads.nothing_durable;
+  any_moment = leaves_mended old new o o old.may_leave reads.any_moment;
+  time = elapses_mended old new o reads.time;
+}
+
+-- ---- what lies apart from the slot
+
+-- is what the device gives
+pub apart_bytes : (image : Image) (u : Unwritten) (at : ℕ) (p : Plan) (n : ℕ) → IsApart (record { sector = at; length = place_length p n }) (record { sector = u.sector; length = 8 }) → bytes_at (mended image (Some u)) at p n ≡ bytes_at image at p n
+apart_bytes image u at p n apart = bytes_stay at p n (record { sector = u.sector; length = 8 }) image (mended image (Some u)) apart (mended_elsewhere image u)
+
+pub apart_frame : (image : Image) (u : Unwritten) (p : Plan) (generation : ℕ) (es : List Entry) → SparesFrames p generation es (record { sector = u.sector; length = 8 }) → (n : ℕ) → n < count_of p
+    → frame_in (mended image (Some u)) p generation es n ≡ frame_in image p generation es n
+apart_frame image u p generation es spares n lt = frame_stays p generation es (record { sector = u.sector; length = 8 }) image (mended image (Some u)) spares (mended_elsewhere image u) n lt

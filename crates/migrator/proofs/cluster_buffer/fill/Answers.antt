@@ -1,0 +1,25 @@
+use Rattle.std.proofs.Common.{◌≡◌, ◌∙◌, refl, sym, subst}
+use Rattle.device.specs.Disk.{Image}
+use Rattle.device.proofs.Images.{agrees_is}
+use Rattle.layout.specs.declared.shape.Shape.TheVariants.{Packed}
+use Rattle.layout.specs.Image.{sectors_from, shaped_at}
+use Rattle.home_ranges.proofs.Shared.{begins}
+use Rattle.migrator.proofs.Completing.{filled}
+use Rattle.migrator.proofs.Gathering.{packed_end}
+use Rattle.migrator.proofs.cluster_buffer.fill.Goals as goal
+
+pub gather-requires-clause-shape : goal.gather-requires-clause-shape
+gather-requires-clause-shape g c = (begins c.args.log.now c.args.entry.object c.args.rank c.requires.plan c.requires.object c.requires.shape).first
+
+pub pack_node-requires-clause-end : goal.pack_node-requires-clause-end
+pack_node-requires-clause-end g c =
+    packed_end (sectors_from (g.D.Device.disk c.read_packed.new.device).seen c.slot_sector.result 8) c.read_packed.new.node (Packed c.args.rank) c.args.rank refl (sym c.in_ok-read_packed.ensures.found) c.read_packed.ensures.length
+
+pub returns-clause-filled : goal.returns-clause-filled
+returns-clause-filled g c =
+    let seen = agrees_is (g.D.Device.disk c.read_packed.new.device).seen (g.D.Device.disk c.gather.new.device).seen c.read_packed.ensures.reads.seen ∙ agrees_is (g.D.Device.disk c.gather.new.device).seen (g.D.Device.disk c.args.device.now).seen c.gather.ensures.reads.seen in
+    let read = subst (λ (image : Image). shaped_at image c.slot_sector.result (Packed c.args.rank) ≡ c.read_packed.new.node) seen c.in_ok-read_packed.ensures.found in
+    let there = rw c.slot_sector.ensures.value at read in
+    rw c.copy_from_slice.ensures.after
+    (filled (g.D.Device.disk c.args.device.now).seen c.args.log.now c.args.generation c.args.rank c.args.entry c.read_packed.new.node c.gather.new.cluster c.pack_node.new.cluster
+    c.requires.plan c.requires.object c.requires.shape c.in_ok-gather.ensures.gathered there c.pack_node.ensures.packed c.pack_node.ensures.others)

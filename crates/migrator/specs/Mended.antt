@@ -1,0 +1,52 @@
+-- A cluster that a device failed to write.
+use Rattle.std.specs.Prelude.{⊤, ◌≡◌, ℕ, ◌+◌, ◌-◌, ◌<◌, nat_le, nat_lt, ◌&&◌, if◌then◌else◌, Option, Some, None, List, length}
+use Rattle.model.specs.declared.geometry.Geometry.{Geometry}
+use Rattle.device.specs.Disk.{Image}
+use Rattle.device.specs.Calls.{image_of}
+use Rattle.layout.specs.declared.directory.Entry.{Entry}
+use Rattle.layout.specs.declared.shape.Shape.{Shape}
+use Rattle.layout.specs.declared.shape.Shape.TheVariants.{Packed}
+use Rattle.layout.specs.Directory.{entry_at}
+use Rattle.layout.specs.Homes.{shape_of}
+use Rattle.layout.specs.Frame.{IsFrameOf}
+use Rattle.layout.specs.FrameReader.{frame_from}
+use Rattle.layout.specs.Image.{slot_sector}
+use Rattle.layout.specs.Shape.{shape_bytes}
+use Rattle.checkpoint.specs.Saved.{most}
+use Rattle.layout.specs.Superblock.{Plan}
+
+-- the first sector of the slot that is to have it, and its bytes
+pub record Unwritten : Type 0 where
+  pub sector : ℕ
+  pub bytes : List ℕ
+
+-- what a device gives, but for that slot, which has these bytes
+abbrev pub mended : Image → Option Unwritten → Image
+mended image None = image
+mended image (Some u) = λ i. if nat_le u.sector i && nat_lt i (u.sector + 8) then image_of u.bytes (i - u.sector) else image i
+
+-- the slot is that of one of these entries, whose object is a node of a cluster
+pub record IsUnwritten (p : Plan) (generation : ℕ) (es : List Entry) (u : Unwritten) : Type 0 where
+  pub size : length u.bytes ≡ 4096
+  pub index : ℕ
+  pub within : index < length es
+  pub sector_is : u.sector ≡ slot_sector p generation (entry_at es index).slot
+  pub rank : ℕ
+  pub shape : shape_of p (entry_at es index).object ≡ Packed rank
+
+abbrev pub IfUnwritten : Plan → ℕ → List Entry → Option Unwritten → Type 0
+IfUnwritten p generation es None = ⊤
+IfUnwritten p generation es (Some u) = IsUnwritten p generation es u
+
+-- it spells the frame of a node that has this shape in it
+pub record IsSpeltIn (u : Unwritten) (shape : Shape) (g : Geometry) (number : ℕ) : Type 0 where
+  pub rank : ℕ
+  pub low : rank < 5
+  pub packed : shape ≡ Packed rank
+  pub node : number < g.nodes
+  pub spelt : IsFrameOf g most number (shape_bytes (Packed rank) u.bytes) (frame_from g number (shape_bytes (Packed rank) u.bytes))
+
+-- where it is in memory, and whether the device failed to write it
+abbrev pub unwritten_of : Option ℕ → List ℕ → Option Unwritten
+unwritten_of None bytes = None
+unwritten_of (Some sector) bytes = Some (record { sector = sector; bytes = bytes })

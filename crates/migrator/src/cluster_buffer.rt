@@ -1,0 +1,230 @@
+// A cluster on its way into a slot of the log.
+ghost use Rattle.std.specs.Prelude.{◌≡◌, ◌+◌, ◌<◌, ◌≤◌, None, Some, true, false, length, IfOk, OnOk, OnErr};
+ghost use Rattle.device.specs.Calls.{Counts};
+ghost use Rattle.layout.specs.declared.shape.Shape.TheVariants as shape;
+ghost use Rattle.layout.specs.Directory.{IsDirectory};
+ghost use Rattle.layout.specs.Frame.{frame_of};
+ghost use Rattle.layout.specs.FrameReader.{frame_from};
+ghost use Rattle.layout.specs.Homes.{shape_of};
+ghost use Rattle.layout.specs.Shape.{shape_bytes};
+ghost use Rattle.layout.specs.Superblock.{IsPlan};
+ghost use Rattle.frame_io.specs.Calls.{ReadsOnly};
+ghost use Rattle.frame_io.specs.Frames.{IsObject};
+ghost use Rattle.migrator.specs.Completed.{AreComplete, IsComplete, IsFilled, Keeps, KeepsOne};
+ghost use Rattle.migrator.specs.Mended.{IfUnwritten, IsSpeltIn, Unwritten, mended};
+ghost use Rattle.migrator.specs.Spared.{Touches};
+
+use crate::gather::gather;
+use crate::turn::is_first;
+use ckpt_log::Log;
+use device::{Device, Failed};
+use frame_io::read_packed;
+use home_ranges::Home;
+use layout::{
+    Body, CLUSTER_BYTES, Entry, NODE_FRAME_BYTES, Room, Shape, decode_frame, pack_node, unpack_node,
+};
+use model::{Geometry, ObjectHeader};
+use std::alloc::{AllocError, Global};
+use std::marker::Model;
+
+/// The cluster that a slot is to have. Where the device failed to write it, the slot may hold any
+/// bytes, and this is the only copy of what it is to have.
+#[derive(Drop)]
+pub(crate) struct ClusterBuffer {
+    // The first sector of the slot, where the device failed to write it.
+    sector: Option<u64>,
+    bytes: Vec<u8>,
+}
+
+impl Model for ClusterBuffer {
+    ghost use Rattle.std.specs.Prelude.{◌≡◌, Option, length};
+    ghost use Rattle.migrator.specs.Mended.{Unwritten, unwritten_of};
+
+    ghost Value = { Option Unwritten };
+
+    ghost view = { λ b. unwritten_of b.sector b.bytes.items };
+
+    ghost invariant = { λ b. length b.bytes.items ≡ 4096 };
+}
+
+// Puts a cluster together for the slot of a node that has this rank in it: its frame that lies there,
+// the frames of the other nodes from home, and zeros where there is no node.
+fn fill<D: Device>(
+    device: &mut D,
+    log: &Log,
+    home: &Home,
+    generation: u64,
+    entry: Entry,
+    rank: u64,
+    cluster: &mut [u8],
+) -> Result<(), Failed>
+    requires plan { IsPlan log.now }
+    requires same { home.now ≡ log.now }
+    requires object { IsObject log.now.geometry entry.object }
+    requires slot { entry.slot < log.now.geometry.log }
+    requires shape { shape_of log.now entry.object ≡ shape.Packed rank }
+    requires rank { rank < 5 }
+    requires cluster { length cluster.old ≡ 4096 }
+    requires inside { log.now.total ≤ (D.disk device.old).sectors }
+    ensures filled { OnOk result (IsFilled (D.disk device.old).seen log.now generation entry cluster.new) }
+    ensures size { length cluster.new ≡ 4096 }
+    ensures reads { ReadsOnly (D.disk device.old) (D.disk device.new) }
+    ensures cause { Counts (D.disk device.old) (D.disk device.new) result }
+{
+    let mut whole = [0; CLUSTER_BYTES];
+    gather(
+        device,
+        log,
+        home,
+        generation,
+        &[],
+        entry.object - rank,
+        &mut whole,
+    )?;
+    let mut node = [0; NODE_FRAME_BYTES];
+    read_packed(
+        device,
+        log.slot_sector(generation, entry.slot),
+        rank,
+        &mut node,
+    )?;
+    pack_node(&node, rank as usize, &mut whole);
+    cluster.copy_from_slice(&whole);
+    Ok(())
+}
+
+impl ClusterBuffer {
+    /// One that nothing is in.
+    pub(crate) fn new(alloc: Global) -> Result<ClusterBuffer, AllocError>
+        ensures { IfOk result (λ b. b ≡ None) }
+    {
+        let mut bytes = Vec::with_capacity(alloc, CLUSTER_BYTES)?;
+        bytes.resize(CLUSTER_BYTES, 0)?;
+        Ok(ClusterBuffer {
+            sector: None,
+            bytes,
+        })
+    }
+
+    /// Writes the cluster into its slot, where a device failed to. It is refused exactly where the
+    /// device fails.
+    pub(crate) fn write<D: Device>(&mut self, device: &mut D) -> Result<(), Failed>
+        requires inside { (u : Unwritten) → self.old ≡ Some u
+            → u.sector + 8 ≤ (D.disk device.old).sectors }
+        ensures written { OnOk result (self.new ≡ None) }
+        ensures kept { OnErr result (self.new ≡ self.old) }
+        ensures seen { mended (D.disk device.new).seen self.new
+            ≡ mended (D.disk device.old).seen self.old }
+        ensures touches { (u : Unwritten) → self.old ≡ Some u
+            → Touches u.sector 8 (D.disk device.old) (D.disk device.new) }
+        ensures nothing { self.old ≡ None → device.new ≡ device.old }
+        ensures cause { Counts (D.disk device.old) (D.disk device.new) result }
+    {
+        let Some(sector) = self.sector else {
+            return Ok(());
+        };
+        device.write(sector, &self.bytes)?;
+        self.sector = None;
+        Ok(())
+    }
+
+    /// Whether the device failed to write the cluster into the slot that begins at this sector.
+    pub(crate) fn is_for(&self, sector: u64) -> bool
+        ensures yes { result ≡ true → (u : Unwritten) × (self.now ≡ Some u) × (u.sector ≡ sector) }
+        ensures no { result ≡ false → (u : Unwritten) → self.now ≡ Some u → u.sector ≡ sector → ⊥ }
+    {
+        self.sector == Some(sector)
+    }
+
+    /// Reads the frame of a node that lies in the cluster.
+    pub(crate) fn read(
+        &self,
+        shape: Shape,
+        geometry: Geometry,
+        number: u64,
+        room: &mut Room,
+    ) -> (ObjectHeader, Body)
+        requires spelt { (u : Unwritten) × (self.now ≡ Some u)
+            × IsSpeltIn u shape geometry number }
+        ensures { (u : Unwritten) → self.now ≡ Some u → frame_of result room.new
+            ≡ frame_from geometry number (shape_bytes shape u.bytes) }
+    {
+        let Shape::Packed(rank) = shape else {
+            unreachable!()
+        };
+        let mut node = [0; NODE_FRAME_BYTES];
+        unpack_node(&self.bytes, rank as usize, &mut node);
+        match decode_frame(&node, geometry, number, u64::MAX, room) {
+            Ok(read) => read,
+            Err(_) => unreachable!(),
+        }
+    }
+
+    // Completes the slot of an entry that is the first of its home: beside its frame it gets those
+    // that the other nodes of the cluster have at home.
+    fn complete_one<D: Device>(
+        &mut self,
+        device: &mut D,
+        log: &Log,
+        home: &Home,
+        generation: u64,
+        entries: &[Entry],
+        index: usize,
+    ) -> Result<(), Failed>
+        requires none { self.old ≡ None }
+        requires same { home.now ≡ log.now }
+        requires directory { IsDirectory log.now.geometry entries.now }
+        requires within { index < length entries.now }
+        requires inside { log.now.total ≤ (D.disk device.old).sectors }
+        ensures none { OnOk result (self.new ≡ None) }
+        ensures complete { OnOk result (IsComplete (D.disk device.new).seen log.now generation
+            entries.now index) }
+        ensures keeps { KeepsOne log.now generation entries.now index (D.disk device.old)
+            (D.disk device.new) self.new }
+        ensures cause { Counts (D.disk device.old) (D.disk device.new) result }
+    {
+        let entry = entries[index];
+        let Shape::Packed(rank) = home.shape(entry.object) else {
+            return Ok(());
+        };
+        if !is_first(home, entries, index) {
+            return Ok(());
+        }
+        fill(device, log, home, generation, entry, rank, &mut self.bytes)?;
+        self.sector = Some(log.slot_sector(generation, entry.slot));
+        self.write(device)
+    }
+
+    /// Completes the slots of a directory's entries: each node without an entry, whose cluster has
+    /// one, gets the frame that it has at home into the slot of the first of these. A cluster that
+    /// the device failed to write before goes first.
+    ///
+    /// It is refused exactly where the device fails; the frames of the entries are then read from
+    /// this buffer where they can't be from their slots.
+    pub(crate) fn complete<D: Device>(
+        &mut self,
+        device: &mut D,
+        log: &Log,
+        home: &Home,
+        generation: u64,
+        entries: &[Entry],
+    ) -> Result<(), Failed>
+        requires plan { IsPlan log.now }
+        requires unwritten { IfUnwritten log.now generation entries.now self.old }
+        requires same { home.now ≡ log.now }
+        requires directory { IsDirectory log.now.geometry entries.now }
+        requires inside { log.now.total ≤ (D.disk device.old).sectors }
+        ensures none { OnOk result (self.new ≡ None) }
+        ensures complete { OnOk result (AreComplete (D.disk device.new).seen log.now generation
+            entries.now) }
+        ensures keeps { Keeps log.now generation entries.now (D.disk device.old) self.old
+            (D.disk device.new) self.new }
+        ensures cause { Counts (D.disk device.old) (D.disk device.new) result }
+    {
+        self.write(device)?;
+        for index in 0..entries.len() {
+            self.complete_one(device, log, home, generation, entries, index)?;
+        }
+        Ok(())
+    }
+}
