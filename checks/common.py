@@ -2,6 +2,7 @@
 import os
 import re
 import subprocess
+import sys
 from pathlib import Path
 
 ROOT = Path(__file__).resolve().parent.parent
@@ -44,6 +45,22 @@ def program():
         return Path(os.environ["EROS"]).resolve()
     subprocess.run([ROOT / "eros", "--help"], stdout=subprocess.DEVNULL, check=True)
     return ROOT / "crates" / "runner" / "out" / "runner"
+
+
+def stopper():
+    """The program that runs scripts over devices that stop."""
+    if "STOPPER" in os.environ:
+        return Path(os.environ["STOPPER"]).resolve()
+    sys.path.append(str(ROOT / "tools"))
+    from crates import closure
+
+    made = ROOT / "crates" / "stop_tests" / "out" / "stop_tests"
+    parts = [ROOT / "crates" / crate / it for crate in closure(["stop_tests"]) for it in ("src", "specs", "proofs")]
+    sources = [ROOT / "crates.txt", *(file for part in parts for file in part.rglob("*") if file.is_file())]
+    if not made.exists() or any(it.stat().st_mtime > made.stat().st_mtime for it in sources):
+        subprocess.run([ROOT / "tools" / "build", "stop_tests"], check=True)
+        made.touch()
+    return made
 
 
 def is_word(word, form):

@@ -1,4 +1,4 @@
--- Words that the command takes name a job.
+-- Words that the command takes name a job, unless they are an upgrade of one word to itself.
 use Rattle.std.proofs.Common.{◌≡◌, ◌∙◌, ◌&&◌, ◌||◌, ℕ, is_some, option_map, refl, sym, subst, ap, List, [], Bool, drop, true, false, Option, Some, None, true≢false, codes}
 use Rattle.std.specs.Prelude.{cond}
 use Rattle.std.specs.Option.{option_map_or}
@@ -15,7 +15,8 @@ use Rattle.clap.specs.Takes.{entered_passes, level_passes, takes}
 use Rattle.clap.proofs.ValueTestLemmas.{accepts-Accepts}
 use Rattle.clap.proofs.WalkLemmas.{both}
 use Rattle.command_line.specs.Commands.{capacity_parser, eros_app}
-use Rattle.command_line.specs.Jobs.{IsCache, IsScript, NamesNone}
+use Rattle.command_line.specs.Jobs.{IsCache, IsGiven, IsScript, NamesNone}
+use Rattle.command_line.specs.Refusals.{IsSameTwice}
 use Rattle.command_line.specs.declared.asked.Job.TheVariants as job
 use Rattle.command_line.specs.declared.asked.Script.{Script}
 use Rattle.command_line.specs.declared.asked.Script.TheVariants as script
@@ -72,7 +73,25 @@ check_named rows has none =
     let image = text_in _ (both _ _ has).0 in
     none (job.Check image.0) (refl, image.1)
 
-no_help : (name : Text) → is_no_help whole.top name ≡ true → answers_to name (label_of (sub 3)) ≡ true → ⊥
+upgrade_named : (rows : List Row) → (is_some (first_of (codes "OLD") rows) && (is_some (first_of (codes "NEW") rows) && true)) ≡ true
+    → NamesNone (Some (codes "upgrade", rows)) → IsSameTwice (Some (codes "upgrade", rows))
+upgrade_named rows has none =
+    let parts = both _ _ has in
+    let old = text_in _ parts.0 in
+    let new = text_in _ (both _ _ parts.1).0 in
+    go old.0 new.0 old.1 new.1 (bytes_eq old.0.now new.0.now) refl
+  where
+    go : (old new : Bor Text) → IsGiven rows (codes "OLD") old.now → IsGiven rows (codes "NEW") new.now → (b : Bool) → bytes_eq old.now new.now ≡ b
+        → IsSameTwice (Some (codes "upgrade", rows))
+    go old new old_is new_is true e = (refl, old.now, old_is, subst (IsGiven rows (codes "NEW")) (sym ((bytes_eq-Decides _ _).0 e)) new_is)
+    go old new old_is new_is false e = absurd (none (job.Upgrade old new) (refl, old_is, new_is, λ same. true≢false (sym ((bytes_eq-Decides _ _).1 same) ∙ e)))
+
+describe_named : (rows : List Row) → (is_some (first_of (codes "IMAGE") rows) && true) ≡ true → NamesNone (Some (codes "describe", rows)) → ⊥
+describe_named rows has none =
+    let image = text_in _ (both _ _ has).0 in
+    none (job.Describe image.0) (refl, image.1)
+
+no_help : (name : Text) → is_no_help whole.top name ≡ true → answers_to name (label_of (sub 5)) ≡ true → ⊥
 no_help name other help = go (bytes_eq (codes "help") name) refl help
   where
     go : (b : Bool) → bytes_eq (codes "help") name ≡ b → (b || false) ≡ true → ⊥
@@ -83,27 +102,33 @@ no_help name other help = go (bytes_eq (codes "help") name) refl help
         true≢false (sym bad)
 
 entered_named : (stop : Option (Text × List Text)) → is_some (entered whole stop) ≡ true → StopsWell whole.top stop → entered_passes whole stop ≡ true
-    → NamesNone (entered whole stop) → ⊥
-entered_named None some well passes none = true≢false (sym some)
-entered_named (Some p) some well passes none =
-    go (answers_to p.0 (label_of (sub 0))) (answers_to p.0 (label_of (sub 1))) (answers_to p.0 (label_of (sub 2))) (answers_to p.0 (label_of (sub 3))) refl some passes none
+    → NamesNone (entered whole stop) → IsSameTwice (entered whole stop)
+entered_named None some well passes none = absurd (true≢false (sym some))
+entered_named (Some p) some well passes none = go (names 0) (names 1) (names 2) (names 3) (names 4) (names 5) refl some passes none
   where
-    chosen : Bool → Bool → Bool → Bool → Option Shape
-    chosen a b c d = cond a (Some (sub 0)) (cond b (Some (sub 1)) (cond c (Some (sub 2)) (cond d (Some (sub 3)) None)))
+    names : ℕ → Bool
+    names k = answers_to p.0 (label_of (sub k))
 
-    go : (a b c d : Bool) → answers_to p.0 (label_of (sub 3)) ≡ d → is_some (option_map (λ s. rows_at s p.1) (chosen a b c d)) ≡ true
-        → option_map_or (λ s. level_passes s [] nothing_held p.1 false) (chosen a b c d) true ≡ true
-        → NamesNone (option_map (λ s. rows_at s p.1) (chosen a b c d)) → ⊥
-    go true b c d help has level empty = build_named (rows_at (sub 0) p.1).1 (level_keeps (sub 0) [] p.1 false refl refl level).0 empty
-    go false true c d help has level empty =
+    chosen : Bool → Bool → Bool → Bool → Bool → Bool → Option Shape
+    chosen a b c d e f =
+        cond a (Some (sub 0)) (cond b (Some (sub 1)) (cond c (Some (sub 2)) (cond d (Some (sub 3)) (cond e (Some (sub 4)) (cond f (Some (sub 5)) None)))))
+
+    go : (a b c d e f : Bool) → answers_to p.0 (label_of (sub 5)) ≡ f → is_some (option_map (λ s. rows_at s p.1) (chosen a b c d e f)) ≡ true
+        → option_map_or (λ s. level_passes s [] nothing_held p.1 false) (chosen a b c d e f) true ≡ true
+        → NamesNone (option_map (λ s. rows_at s p.1) (chosen a b c d e f)) → IsSameTwice (option_map (λ s. rows_at s p.1) (chosen a b c d e f))
+    go true b c d e f help has level empty = absurd (build_named (rows_at (sub 0) p.1).1 (level_keeps (sub 0) [] p.1 false refl refl level).0 empty)
+    go false true c d e f help has level empty =
         let kept = level_keeps (sub 1) [] p.1 false refl refl level in
-        run_named (rows_at (sub 1) p.1).1 kept.3 kept.0 empty
-    go false false true d help has level empty = check_named (rows_at (sub 2) p.1).1 (level_keeps (sub 2) [] p.1 false refl refl level).0 empty
-    go false false false true help has level empty = no_help p.0 well help
-    go false false false false help has level empty = true≢false (sym has)
+        absurd (run_named (rows_at (sub 1) p.1).1 kept.3 kept.0 empty)
+    go false false true d e f help has level empty = absurd (check_named (rows_at (sub 2) p.1).1 (level_keeps (sub 2) [] p.1 false refl refl level).0 empty)
+    go false false false true e f help has level empty = upgrade_named (rows_at (sub 3) p.1).1 (level_keeps (sub 3) [] p.1 false refl refl level).0 empty
+    go false false false false true f help has level empty =
+        absurd (describe_named (rows_at (sub 4) p.1).1 (level_keeps (sub 4) [] p.1 false refl refl level).0 empty)
+    go false false false false false true help has level empty = absurd (no_help p.0 well help)
+    go false false false false false false help has level empty = absurd (true≢false (sym has))
 
--- words that the command takes name a job
-pub takes_named : (words : List Text) → takes eros_app words ≡ true → NamesNone (subcommand_of eros_app words) → ⊥
+-- words that the command takes name a job, unless they are an upgrade of one word to itself
+pub takes_named : (words : List Text) → takes eros_app words ≡ true → NamesNone (subcommand_of eros_app words) → IsSameTwice (subcommand_of eros_app words)
 takes_named words taken none =
     let parts = both (is_simple eros_app) _ taken in
     let given = drop 1 words in
@@ -112,9 +137,9 @@ takes_named words taken none =
     let kept = level_keeps whole.top (names_of whole) given (is_some (entered whole stop)) refl refl passes.1 in
     entered_named stop kept.2 kept.1 passes.0 none
 
--- a parse that gives matches of such words names a job
+-- and so does a parse that gives matches of such words
 pub unnamed : (words : List Text) (command : Command) (m : ArgMatches) → app_of command ≡ eros_app → HasMatchesOf (app_of command) words m
-    → NamesNone (subcommand_rows_of m) → takes eros_app words ≡ true → ⊥
+    → NamesNone (subcommand_rows_of m) → takes eros_app words ≡ true → IsSameTwice (subcommand_of eros_app words)
 unnamed words command m is has none taken =
     let same = (has (ap is_simple is)).1 ∙ ap (λ a. subcommand_of a words) is in
     takes_named words taken (subst NamesNone same none)

@@ -1,5 +1,5 @@
 -- What a command is once a subcommand is added.
-use Rattle.std.proofs.Common.{◌∙◌, ◌||◌, ap, ap₂}
+use Rattle.std.proofs.Common.{◌∙◌, ◌||◌, ap, ap₂, IfOk, Result, Ok, Err}
 use Rattle.clap.specs.Words.{AddsSubcommand, App, with_subcommand}
 use Rattle.clap.specs.declared.builder.command.Command.{Command}
 use Rattle.command_line.specs.Commands.{IsCommand}
@@ -9,3 +9,9 @@ added a b old sub new adds is_old is_sub = (
   adds.shape is_sub.1 ∙ ap₂ with_subcommand is_old.0 (ap (λ (x : App). x.top) is_sub.0),
   adds.globals ∙ ap₂ (λ x y. x || y) is_old.1 is_sub.1,
 )
+
+-- and where it may fail
+pub added_if : {E : Type 0} (a b : App) (old sub : Command) (r : Result Command E) → IfOk r (AddsSubcommand old sub) → IsCommand a old → IsCommand b sub
+    → IfOk r (IsCommand (with_subcommand a b.top))
+added_if a b old sub (Ok new) adds is_old is_sub = added a b old sub new adds is_old is_sub
+added_if a b old sub (Err e) adds is_old is_sub = tt

@@ -13,7 +13,7 @@ use Rattle.clap.specs.declared.builder.command.Command.{Command}
 use Rattle.clap.specs.declared.error.Error.{Error}
 use Rattle.clap.specs.declared.error.kind.ErrorKind.TheVariants.{OutOfMemory}
 use Rattle.command_line.specs.Commands.{eros_app}
-use Rattle.command_line.specs.Jobs.{IsGiven, IsJob, IsNoCache}
+use Rattle.command_line.specs.Jobs.{IsGiven, IsJob, IsNoCache, IsNoJob}
 use Rattle.command_line.specs.declared.asked.Job.{Job}
 use Rattle.command_line.specs.declared.asked.Job.TheVariants as job
 
@@ -53,35 +53,58 @@ no_cache rows word given bad (Some count) is =
 apart : {a b : Text} → a ≡ b → (slice_index a 0 ≡ slice_index b 0 → ⊥) → ⊥
 apart same differ = differ (ap (λ t. slice_index t 0) same)
 
--- without an image no job is named
-pub no_image : (name : Text) (rows : List Row) → first_of (codes "IMAGE") rows ≡ None → (x : Job) → IsJob name rows x → ⊥
-no_image name rows none (job.Build description image) is = let bad : None ≡ Some image.now = sym none ∙ is.2 in cc
-no_image name rows none (job.Run image script cache) is = let bad : None ≡ Some image.now = sym none ∙ is.2 in cc
-no_image name rows none (job.Check image) is = let bad : None ≡ Some image.now = sym none ∙ is.1 in cc
+-- without an image no job is named but an upgrade
+pub no_image : (name : Text) (rows : List Row) → (name ≡ codes "upgrade" → ⊥) → first_of (codes "IMAGE") rows ≡ None → (x : Job) → IsJob name rows x → ⊥
+no_image name rows other none (job.Build description image) is = let bad : None ≡ Some image.now = sym none ∙ is.2 in cc
+no_image name rows other none (job.Run image script cache) is = let bad : None ≡ Some image.now = sym none ∙ is.2 in cc
+no_image name rows other none (job.Check image) is = let bad : None ≡ Some image.now = sym none ∙ is.1 in cc
+no_image name rows other none (job.Upgrade old new) is = other is.0
+no_image name rows other none (job.Describe image) is = let bad : None ≡ Some image.now = sym none ∙ is.1 in cc
 
 -- nor is a build without a description
 pub no_description : (name : Text) (rows : List Row) → name ≡ codes "build" → first_of (codes "DESCRIPTION") rows ≡ None → (x : Job) → IsJob name rows x → ⊥
 no_description name rows build none (job.Build description image) is = let bad : None ≡ Some description.now = sym none ∙ is.1 in cc
 no_description name rows build none (job.Run image script cache) is = apart (sym build ∙ is.0) (λ e. absurd (omega arith))
 no_description name rows build none (job.Check image) is = apart (sym build ∙ is.0) (λ e. absurd (omega arith))
+no_description name rows build none (job.Upgrade old new) is = apart (sym build ∙ is.0) (λ e. absurd (omega arith))
+no_description name rows build none (job.Describe image) is = apart (sym build ∙ is.0) (λ e. absurd (omega arith))
 
 -- nor a run without a script
 pub no_script : (name : Text) (rows : List Row) → name ≡ codes "run" → first_of (codes "SCRIPT") rows ≡ None → (x : Job) → IsJob name rows x → ⊥
 no_script name rows run none (job.Build description image) is = apart (sym run ∙ is.0) (λ e. absurd (omega arith))
 no_script name rows run none (job.Run image script cache) is = let bad : None ≡ Some is.3 = sym none ∙ is.4 in cc
 no_script name rows run none (job.Check image) is = apart (sym run ∙ is.0) (λ e. absurd (omega arith))
+no_script name rows run none (job.Upgrade old new) is = apart (sym run ∙ is.0) (λ e. absurd (omega arith))
+no_script name rows run none (job.Describe image) is = apart (sym run ∙ is.0) (λ e. absurd (omega arith))
 
 -- nor is a run with a capacity that is none
 pub no_capacity : (name : Text) (rows : List Row) → name ≡ codes "run" → IsNoCache rows → (x : Job) → IsJob name rows x → ⊥
 no_capacity name rows run none (job.Build description image) is = apart (sym run ∙ is.0) (λ e. absurd (omega arith))
 no_capacity name rows run none (job.Run image script cache) is = none cache is.1
 no_capacity name rows run none (job.Check image) is = apart (sym run ∙ is.0) (λ e. absurd (omega arith))
+no_capacity name rows run none (job.Upgrade old new) is = apart (sym run ∙ is.0) (λ e. absurd (omega arith))
+no_capacity name rows run none (job.Describe image) is = apart (sym run ∙ is.0) (λ e. absurd (omega arith))
 
--- nor is a job of another name
-pub no_name : (name : Text) (rows : List Row) → (name ≡ codes "build" → ⊥) → (name ≡ codes "run" → ⊥) → (name ≡ codes "check" → ⊥) → (x : Job) → IsJob name rows x → ⊥
-no_name name rows build run check (job.Build description image) is = build is.0
-no_name name rows build run check (job.Run image script cache) is = run is.0
-no_name name rows build run check (job.Check image) is = check is.0
+-- nor is an upgrade whose two words are equal, if both are given
+no_upgrade : (rows : List Row) → ((old new : Text) → IsGiven rows (codes "OLD") old → IsGiven rows (codes "NEW") new → old ≡ new) → IsNoJob (codes "upgrade") rows
+no_upgrade rows same (job.Build description image) is = apart is.0 (λ e. absurd (omega arith))
+no_upgrade rows same (job.Run image script cache) is = apart is.0 (λ e. absurd (omega arith))
+no_upgrade rows same (job.Check image) is = apart is.0 (λ e. absurd (omega arith))
+no_upgrade rows same (job.Upgrade old new) is = is.3 (same old.now new.now is.1 is.2)
+no_upgrade rows same (job.Describe image) is = apart is.0 (λ e. absurd (omega arith))
+
+pub no_old : (rows : List Row) → first_of (codes "OLD") rows ≡ None → IsNoJob (codes "upgrade") rows
+no_old rows none = no_upgrade rows (λ old new old_is new_is. let bad : None ≡ Some old = sym none ∙ old_is in cc)
+
+pub no_new : (rows : List Row) → first_of (codes "NEW") rows ≡ None → IsNoJob (codes "upgrade") rows
+no_new rows none = no_upgrade rows (λ old new old_is new_is. let bad : None ≡ Some new = sym none ∙ new_is in cc)
+
+pub no_difference : (rows : List Row) (one other : Text) → IsGiven rows (codes "OLD") one → IsGiven rows (codes "NEW") other → one ≡ other → IsNoJob (codes "upgrade") rows
+no_difference rows one other one_is other_is same = no_upgrade rows (λ old new old_is new_is.
+    given_text old one (sym old_is ∙ one_is) ∙ same ∙ sym (given_text new other (sym new_is ∙ other_is)))
+  where
+    given_text : (a b : Text) → Some a ≡ Some b → a ≡ b
+    given_text a b is = ap (λ (o : Option Text). unwrap_or o a) is
 
 -- what the parse says of its error holds of the error that is passed on
 pub passed_on : (words : List Text) (command : Command) (why : Error) → app_of command ≡ eros_app

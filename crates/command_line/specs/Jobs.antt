@@ -36,6 +36,9 @@ IsJob name rows (job.Build description image) = (name ≡ codes "build")
 IsJob name rows (job.Run image script cache) = (name ≡ codes "run") × IsCache rows cache
     × IsGiven rows (codes "IMAGE") image.now × (word : Text) × IsGiven rows (codes "SCRIPT") word × IsScript word script
 IsJob name rows (job.Check image) = (name ≡ codes "check") × IsGiven rows (codes "IMAGE") image.now
+IsJob name rows (job.Upgrade old new) = (name ≡ codes "upgrade")
+    × IsGiven rows (codes "OLD") old.now × IsGiven rows (codes "NEW") new.now × (old.now ≢ new.now)
+IsJob name rows (job.Describe image) = (name ≡ codes "describe") × IsGiven rows (codes "IMAGE") image.now
 
 -- no job is the subcommand of this name with these arguments
 abbrev pub IsNoJob : Text → List Row → Type 0

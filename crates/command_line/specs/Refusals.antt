@@ -1,10 +1,11 @@
 -- Why words name no job.
-use Rattle.std.specs.Prelude.{◌≡◌, ◌≢◌, List, false}
-use Rattle.clap.specs.Words.{Text, kind_of, takes}
+use Rattle.std.specs.Prelude.{◌≡◌, ◌≢◌, ◌⊎◌, List, Option, Some, None, codes, false}
+use Rattle.clap.specs.Words.{Row, Text, kind_of, subcommand_of, takes}
 use Rattle.clap.specs.declared.error.Error.{Error}
 use Rattle.clap.specs.declared.error.kind.ErrorKind.{ErrorKind}
 use Rattle.clap.specs.declared.error.kind.ErrorKind.TheVariants.{OutOfMemory}
 use Rattle.command_line.specs.Commands.{eros_app}
+use Rattle.command_line.specs.Jobs.{IsGiven}
 use Rattle.command_line.specs.declared.fault.JobFault.{JobFault}
 use Rattle.command_line.specs.declared.fault.JobFault.TheVariants as fault
 
@@ -13,9 +14,15 @@ abbrev pub IsFaultOf : Error → JobFault → Type 0
 IsFaultOf e (fault.BadWords why) = (why ≡ e) × (kind_of e ≢ OutOfMemory)
 IsFaultOf e fault.NoMemory = kind_of e ≡ OutOfMemory
 
--- words are refused as bad ones only where the command doesn't take them, and never for want of memory
+-- it is an upgrade whose two words are equal
+abbrev pub IsSameTwice : Option (Text × List Row) → Type 0
+IsSameTwice None = ⊥
+IsSameTwice (Some met) = (met.0 ≡ codes "upgrade") × (word : Text) × IsGiven met.1 (codes "OLD") word × IsGiven met.1 (codes "NEW") word
+
+-- words are refused as bad ones only where the command doesn't take them, or where they ask for an upgrade of one word to
+-- itself, and never for want of memory
 abbrev pub IsRefused : List Text → JobFault → Type 0
-IsRefused words (fault.BadWords why) = (takes eros_app words ≡ false) × (kind_of why ≢ OutOfMemory)
+IsRefused words (fault.BadWords why) = ((takes eros_app words ≡ false) ⊎ IsSameTwice (subcommand_of eros_app words)) × (kind_of why ≢ OutOfMemory)
 IsRefused words fault.NoMemory = Unit {0}
 
 -- words are refused as bad ones for this reason

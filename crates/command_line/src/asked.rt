@@ -1,11 +1,14 @@
 // Which job the words name.
-ghost use Rattle.std.specs.Prelude.{◌≡◌, IfErr, IfOk, IfSome, IsNone, map, true};
+ghost use Rattle.std.specs.Prelude.{◌≡◌, ◌⊎◌, IfErr, IfOk, IfSome, IsNone, codes, map, true};
 ghost use Rattle.clap.specs.Words.{IsUnsignedIn, found_of, kind_of, rows_of, subcommand_of, subcommand_rows_of, takes};
 ghost use Rattle.clap.specs.declared.error.kind.ErrorKind.TheVariants.{OutOfMemory};
 ghost use Rattle.command_line.specs.Commands.{IsCommand, eros_app};
 ghost use Rattle.command_line.specs.Jobs.{IsCache, IsCapacity, IsJob, IsNoCache, IsNoJob, IsScript, NamesJob, NamesNone};
+ghost use Rattle.command_line.specs.Refusals.{IsSameTwice};
 
-use crate::subcommands::{CACHE, DESCRIPTION, GREATEST_CAPACITY, IMAGE, LEAST_CAPACITY, SCRIPT};
+use crate::subcommands::{
+    CACHE, DESCRIPTION, GREATEST_CAPACITY, IMAGE, LEAST_CAPACITY, NEW, OLD, SCRIPT,
+};
 use clap::error::ErrorKind;
 use clap::{ArgMatches, Command, Error};
 use std::convert::AsStr;
@@ -36,6 +39,15 @@ pub enum Job<'a> {
     },
     /// An image is to be checked.
     Check {
+        image: &'a str,
+    },
+    /// What an image saves is to be written to a new image, of version 2 of the layout. The two names differ.
+    Upgrade {
+        old: &'a str,
+        new: &'a str,
+    },
+    /// What an image saves is to be described.
+    Describe {
         image: &'a str,
     },
 }
@@ -76,11 +88,27 @@ fn cache_of(inner: &ArgMatches<'_>) -> Option<Option<u64>>
     }
 }
 
+// The upgrade that the matches name, or none where both of its words are one.
+fn upgrade_of<'a>(inner: &ArgMatches<'a>) -> Option<Job<'a>>
+    ensures named { IfSome result (IsJob (codes "upgrade") (rows_of (found_of inner.now))) }
+    ensures none { IsNone result → IsNoJob (codes "upgrade") (rows_of (found_of inner.now)) }
+{
+    let old = inner.get_str(OLD)?;
+    let new = inner.get_str(NEW)?;
+    if old == new {
+        return None;
+    }
+    Some(Job::Upgrade { old, new })
+}
+
 // The job of a subcommand with its matches, or none.
 fn job_of<'a>(name: &str, inner: &ArgMatches<'a>) -> Option<Job<'a>>
     ensures named { IfSome result (IsJob name.now (rows_of (found_of inner.now))) }
     ensures none { IsNone result → IsNoJob name.now (rows_of (found_of inner.now)) }
 {
+    if name == "upgrade" {
+        return upgrade_of(inner);
+    }
     let image = inner.get_str(IMAGE)?;
     if name == "build" {
         let description = inner.get_str(DESCRIPTION)?;
@@ -99,6 +127,9 @@ fn job_of<'a>(name: &str, inner: &ArgMatches<'a>) -> Option<Job<'a>>
     if name == "check" {
         return Some(Job::Check { image });
     }
+    if name == "describe" {
+        return Some(Job::Describe { image });
+    }
     None
 }
 
@@ -112,20 +143,20 @@ fn asked<'a>(matches: &ArgMatches<'a>) -> Option<Job<'a>>
 }
 
 // The job that the words name. Fails with what clap says of words that the command doesn't take, also where they ask for
-// help, and where memory runs out.
+// help, where an upgrade has one word twice, and where memory runs out.
 pub(crate) fn read_job<'a, S: AsStr>(
     mut command: Command<'a>,
     words: &'a [S],
 ) -> Result<Job<'a>, Error>
     requires { IsCommand eros_app command }
     ensures named { IfOk result (NamesJob (subcommand_of eros_app (map S.text words.entry.now))) }
-    ensures refused { IfErr result (λ e.
-        takes eros_app (map S.text words.entry.now) ≡ true → kind_of e ≡ OutOfMemory) }
+    ensures refused { IfErr result (λ e. takes eros_app (map S.text words.entry.now) ≡ true
+        → (kind_of e ≡ OutOfMemory) ⊎ IsSameTwice (subcommand_of eros_app (map S.text words.entry.now))) }
 {
     let matches = command.try_get_matches_from_mut(words)?;
     match asked(&matches) {
         Some(job) => Ok(job),
-        // No words that the command takes come here.
-        None => Err(command.error(ErrorKind::MissingSubcommand, "the words name no job")?),
+        // Of the words that the command takes, only those of an upgrade of one word to itself come here.
+        None => Err(command.error(ErrorKind::ValueValidation, "OLD and NEW are the same file")?),
     }
 }

@@ -12,7 +12,7 @@ use std::alloc::{AllocError, Global};
 /// Why words name no job.
 #[derive(Drop)]
 pub enum JobFault {
-    /// The command doesn't take them, or they ask for help. This is what clap tells of that.
+    /// The command doesn't take them, they ask for help, or an upgrade has one word twice. This is what clap tells of that.
     BadWords(Error),
     /// Memory ran out.
     NoMemory,

@@ -1,7 +1,7 @@
 // The command that clap takes the words by.
 ghost use Rattle.std.specs.Prelude.{◌≡◌, IfOk, false};
 ghost use Rattle.clap.specs.Words.{app_of, rule_of};
-ghost use Rattle.command_line.specs.Commands.{IsCommand, bare_app, build_app, cache_rule, check_app, eros_app, file_rule, run_app};
+ghost use Rattle.command_line.specs.Commands.{IsCommand, bare_app, build_app, cache_rule, check_app, describe_app, eros_app, file_rule, run_app, upgrade_app};
 
 use clap::builder::ValueParser;
 use clap::{Arg, Command};
@@ -12,6 +12,10 @@ pub(crate) const DESCRIPTION: &str = "DESCRIPTION";
 pub(crate) const IMAGE: &str = "IMAGE";
 
 pub(crate) const SCRIPT: &str = "SCRIPT";
+
+pub(crate) const OLD: &str = "OLD";
+
+pub(crate) const NEW: &str = "NEW";
 
 pub(crate) const CACHE: &str = "cache";
 
@@ -82,6 +86,29 @@ fn check<'a>(alloc: Global) -> Result<Command<'a>, AllocError>
         .arg(file(alloc, IMAGE, "The image, which isn't changed"))
 }
 
+fn upgrade<'a>(alloc: Global) -> Result<Command<'a>, AllocError>
+    ensures { IfOk result (IsCommand upgrade_app) }
+{
+    Command::new(alloc, "upgrade")
+        .about(
+            "Writes what an image saves to a new image of version 2 of the layout, where nodes take less room",
+        )
+        .arg(file(alloc, OLD, "The image, which isn't changed"))?
+        .arg(file(
+            alloc,
+            NEW,
+            "The file to make, in place of one that is there",
+        ))
+}
+
+fn describe<'a>(alloc: Global) -> Result<Command<'a>, AllocError>
+    ensures { IfOk result (IsCommand describe_app) }
+{
+    Command::new(alloc, "describe")
+        .about("Prints the description of what an image saves, in TOML")
+        .arg(file(alloc, IMAGE, "The image, which isn't changed"))
+}
+
 // The program, with no subcommand yet.
 fn bare<'a>(alloc: Global) -> Result<Command<'a>, AllocError>
     ensures { IfOk result (IsCommand bare_app) }
@@ -92,7 +119,9 @@ fn bare<'a>(alloc: Global) -> Result<Command<'a>, AllocError>
         .after_help(
             "Example:\n  eros build examples/first-steps.toml first.image    prints: built 399 sectors\n  \
              eros run first.image examples/first-steps.eros      prints the answers, a line or more each\n  \
-             eros check first.image                              prints: ok generation 1 age 3 entries 0\n\n\
+             eros check first.image                              prints: ok generation 1 age 3 entries 0\n  \
+             eros upgrade first.image second.image               prints: upgraded 399 sectors\n  \
+             eros describe first.image                           prints the description of what it saves\n\n\
              The status is 0, whatever the answers are; 1 after a fault, of which one line is told on standard\n\
              error; and 2 where the command line isn't understood.",
         )
@@ -101,12 +130,13 @@ fn bare<'a>(alloc: Global) -> Result<Command<'a>, AllocError>
 }
 
 /// The command line of `eros`. Fails where memory runs out.
-#[tactic(auto, using(crate::proofs::Building::added))]
 pub(crate) fn command<'a>(alloc: Global) -> Result<Command<'a>, AllocError>
     ensures { IfOk result (IsCommand eros_app) }
 {
     bare(alloc)?
         .subcommand(build(alloc)?)?
         .subcommand(run(alloc)?)?
-        .subcommand(check(alloc)?)
+        .subcommand(check(alloc)?)?
+        .subcommand(upgrade(alloc)?)?
+        .subcommand(describe(alloc)?)
 }

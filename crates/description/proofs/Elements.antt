@@ -32,7 +32,7 @@ count_read P (item d ds) (x ∷ xs) are = ap suc (count_read P ds xs are.1)
 pub same_length : {A : Type 0} (P : Data → A → Type 0) (d : Data) (xs ys : List A) → IsList P d xs → IsList P d ys → length xs ≡ length ys
 same_length P d xs ys a b = count_read P a.0 xs a.2 ∙ ap item_count (same_items a.0 b.0 (sym a.1 ∙ b.1)) ∙ sym (count_read P b.0 ys b.2)
 
-last_read : {A : Type 0} (P : Data → A → Type 0) (vs : List Value) (xs : List A) (v : Value) (x : A) → AreItems P (items_view vs) xs → P (view v) x → AreItems P (items_view (vs ++ v ∷ [])) (xs ++ x ∷ [])
+pub last_read : {A : Type 0} (P : Data → A → Type 0) (vs : List Value) (xs : List A) (v : Value) (x : A) → AreItems P (items_view vs) xs → P (view v) x → AreItems P (items_view (vs ++ v ∷ [])) (xs ++ x ∷ [])
 last_read P [] [] v x are is = (is, tt)
 last_read P [] (y ∷ ys) v x are is = absurd are
 last_read P (w ∷ ws) [] v x are is = absurd are

@@ -1,7 +1,8 @@
 -- What is at a key, and what isn't.
-use Rattle.std.proofs.Common.{◌≡◌, List, Option, Some, None, IsSomeAnd, MatchOption, Result, Vec, Global, refl, sym}
+use Rattle.std.proofs.Common.{◌≡◌, ℕ, List, Option, Some, None, IsSomeAnd, MatchOption, Result, Vec, Global, refl, sym}
 use Rattle.std.proofs.lemmas.Option.{none-some, same_Some}
-use Rattle.toml.specs.Data.{Data}
+use Rattle.toml.specs.Data.{Data, Members, get_member}
+use Rattle.description.specs.Reading.{AtOr}
 use Rattle.description.specs.Outcomes.{ReadsList}
 use Rattle.description.specs.declared.fault.DescriptionFault.{DescriptionFault}
 
@@ -17,3 +18,11 @@ defaulted P (Some d) is x = absurd (none-some d is)
 pub list_held : {A : Type 0} (P : Data → List A → Type 0) (default : List A) (o : Option Data) (d : Data) (r : Result (Vec A Global) DescriptionFault) → Some d ≡ o → ReadsList (P d) r → ReadsList (λ xs. MatchOption o (xs ≡ default) (λ d. P d xs)) r
 list_held P default None d r is reads = absurd (none-some d (sym is))
 list_held P default (Some e) d r is reads = rw (same_Some d e is) at reads
+
+-- where a key may be left out, what is said with one default is said with another
+other_default : {A : Type 0} (P : Data → A → Type 0) (o : Option Data) (x y a : A) → MatchOption o (a ≡ x) (λ d. P d a) → (b : A) × MatchOption o (b ≡ y) (λ d. P d b)
+other_default P None x y a is = (y, refl)
+other_default P (Some d) x y a is = (a, is)
+
+pub at_either : {A : Type 0} (key : List ℕ) (P : Data → A → Type 0) (ms : Members) (x y a : A) → AtOr x key P ms a → (b : A) × AtOr y key P ms b
+at_either key P ms x y a is = other_default P (get_member key ms) x y a is

@@ -1,6 +1,6 @@
 pub mod Elements
 pub mod Keyed
 pub mod Keys
-mod Once
+pub mod Once
 pub mod Parts
 pub mod Types

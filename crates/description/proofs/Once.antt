@@ -1,10 +1,10 @@
 -- A value says one thing, and so a table says one description.
-use Rattle.std.proofs.Common.{◌≡◌, ℕ, pos, Option, Some, None, if◌then◌else◌, List, [], ◌∷◌, codes, IsSomeAnd, MatchOption, refl, sym, ap, subst, ◌∙◌}
+use Rattle.std.proofs.Common.{◌≡◌, inl, inr, ℕ, pos, Option, Some, None, if◌then◌else◌, List, [], ◌∷◌, codes, IsSomeAnd, MatchOption, refl, sym, ap, subst, ◌∙◌}
 use Rattle.std.specs.Str.{bytes_eq}
 use Rattle.std.proofs.lemmas.Option.{same_Some}
 use Rattle.model.specs.Text.{capability_text, state_text}
 use Rattle.model.specs.declared.capability.Capability.{Capability}
-use Rattle.model.specs.declared.capability.Capability.TheVariants.{Void}
+use Rattle.model.specs.declared.capability.Capability.TheVariants.{Number, Void}
 use Rattle.model.specs.declared.geometry.Geometry.{Geometry}
 use Rattle.model.specs.declared.object.State.{State}
 use Rattle.model.specs.declared.object.State.TheVariants.{Available, Running, Waiting}
@@ -38,15 +38,25 @@ same_rest a b ds es e = cc
 abbrev Once : {A B : Type 0} → (B → A → Type 0) → (A → A → Type 0) → Type 0
 Once {A = A} {B = B} P R = (d : B) (x y : A) → P d x → P d y → R x y
 
-number_once : Once IsNumber ◌≡◌
-number_once d m n one other = same_integer m n (sym one ∙ other)
-
-capability_once : Once IsCapability ◌≡◌
+pub capability_once : Once IsCapability ◌≡◌
 capability_once d None None one other = refl
 capability_once d None (Some c) one other = absurd (one.2 c other.0 other.1 (same_string (capability_text c) one.0 (sym other.2 ∙ one.1)))
 capability_once d (Some c) None one other = absurd (other.2 c one.0 one.1 (same_string (capability_text c) other.0 (sym one.2 ∙ other.1)))
 capability_once d (Some b) (Some c) one other =
     ap Some (text_once b c (one.0, one.1) (other.0, other.1) (same_string (capability_text b) (capability_text c) (sym one.2 ∙ other.2)))
+
+same_number : (m n : ℕ) → (let x : Option Capability = Some (Number m) in x) ≡ Some (Number n) → m ≡ n
+same_number m n e = cc
+
+integer_or_text : (n : ℕ) (text : List ℕ) → integer (pos n) ≡ string text → ⊥
+integer_or_text n text e = cc
+
+number_once : Once IsNumber ◌≡◌
+unfolding IsNumber
+number_once d m n (inl one) (inl other) = same_integer m n (sym one ∙ other)
+number_once d m n (inl one) (inr other) = absurd (integer_or_text m (capability_text (Number n)) (sym one ∙ other.2))
+number_once d m n (inr one) (inl other) = absurd (integer_or_text n (capability_text (Number m)) (sym other ∙ one.2))
+number_once d m n (inr one) (inr other) = same_number m n (capability_once d (Some (Number m)) (Some (Number n)) one other)
 
 abbrev state_found : List ℕ → Option State
 state_found text =

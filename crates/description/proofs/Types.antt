@@ -1,5 +1,5 @@
 -- Values of their types, and of others.
-use Rattle.std.proofs.Common.{◌≡◌, ◌≢◌, ℕ, ◌^◌, ◌<◌, ℤ, pos, negsuc, true, false, Option, Some, None, List, IfSome, IfNone, sym, ap, ◌∙◌, arith}
+use Rattle.std.proofs.Common.{◌≡◌, ◌≢◌, inl, inr, ℕ, ◌^◌, ◌<◌, ℤ, pos, negsuc, true, false, Option, Some, None, List, IfSome, IfNone, sym, ap, ◌∙◌, arith}
 use Rattle.std.proofs.lemmas.Option.{none-some, same_Some}
 use Rattle.std.specs.Prelude.{unsigned_abs}
 use Rattle.std.specs.Int.{is_negative}
@@ -7,9 +7,14 @@ use Rattle.std.proofs.lemmas.Bool.{false≢true}
 use Rattle.model.specs.Capability.{IsWellFormed, named}
 use Rattle.model.specs.Text.{capability_text, state_text}
 use Rattle.model.specs.declared.capability.Capability.{Capability}
+use Rattle.model.specs.declared.capability.Capability.TheVariants.{Number}
 use Rattle.model.specs.declared.object.State.{State}
 use Rattle.toml.specs.Data.{Data, string, integer, float, boolean, datetime, array, table, as_integer, as_str}
-use Rattle.description.specs.Reading.{IsCapability, IsState}
+use Rattle.description.specs.Reading.{IsCapability, IsNumber, IsState}
+use Rattle.description.specs.Outcomes.{Fails}
+use Rattle.description.specs.declared.fault.DescriptionFault.{DescriptionFault}
+use Rattle.description.specs.declared.fault.DescriptionFault.TheVariants.{NoMemory, Shape}
+use Rattle.description.proofs.Once.{capability_once}
 
 pub integer_is : (d : Data) (z : ℤ) → Some z ≡ as_integer d → d ≡ integer z
 integer_is (string s) z e = absurd (none-some z (sym e))
@@ -29,19 +34,42 @@ string_is (datetime dt) text e = absurd (none-some text (sym e))
 string_is (array ds) text e = absurd (none-some text (sym e))
 string_is (table ms) text e = absurd (none-some text (sym e))
 
+-- an integer says no text
+no_text : (d : Data) (z : ℤ) (text : List ℕ) → Some z ≡ as_integer d → d ≡ string text → ⊥
+no_text d z text is e = none-some z (sym (is ∙ ap as_integer e))
+
 -- a negative number is none
-pub negative : (d : Data) (z : ℤ) → Some z ≡ as_integer d → is_negative z ≡ true → (n : ℕ) → d ≡ integer (pos n) → ⊥
-negative d (pos m) is below n e = let none : ⊥ = grind (arith, below) in absurd none
-negative d (negsuc m) is below n e = grind (arith, same_Some (negsuc m) (pos n) (is ∙ ap as_integer e))
+negative_integer : (d : Data) (z : ℤ) → Some z ≡ as_integer d → is_negative z ≡ true → (n : ℕ) → d ≡ integer (pos n) → ⊥
+negative_integer d (pos m) is below n e = let none : ⊥ = grind (arith, below) in absurd none
+negative_integer d (negsuc m) is below n e = grind (arith, same_Some (negsuc m) (pos n) (is ∙ ap as_integer e))
+
+pub negative : (d : Data) (z : ℤ) → Some z ≡ as_integer d → is_negative z ≡ true → (n : ℕ) → IsNumber d n → ⊥
+unfolding IsNumber
+negative d z is below n (inl e) = negative_integer d z is below n e
+negative d z is below n (inr text) = no_text d z (capability_text (Number n)) is text.2
 
 -- one that isn't negative is
-pub natural : (d : Data) (z : ℤ) → Some z ≡ as_integer d → is_negative z ≡ false → d ≡ integer (pos (unsigned_abs z))
-natural d (pos n) is above = integer_is d (pos n) is
-natural d (negsuc n) is above = absurd (false≢true (sym above))
+natural_integer : (d : Data) (z : ℤ) → Some z ≡ as_integer d → is_negative z ≡ false → d ≡ integer (pos (unsigned_abs z))
+natural_integer d (pos n) is above = integer_is d (pos n) is
+natural_integer d (negsuc n) is above = absurd (false≢true (sym above))
 
--- what is no integer is no number
-pub no_number : (d : Data) → None ≡ as_integer d → (n : ℕ) → d ≡ integer (pos n) → ⊥
-no_number d none n e = none-some (pos n) (none ∙ ap as_integer e)
+pub natural : (d : Data) (z : ℤ) → Some z ≡ as_integer d → is_negative z ≡ false → IsNumber d (unsigned_abs z)
+unfolding IsNumber
+natural d z is above = inl (natural_integer d z is above)
+
+-- what is no integer is a number only as a text
+pub no_integer : (d : Data) → as_integer d ≡ None → (n : ℕ) → IsNumber d n → IsCapability d (Some (Number n))
+unfolding IsNumber
+no_integer d none n (inl e) = absurd (none-some (pos n) (sym none ∙ ap as_integer e))
+no_integer d none n (inr text) = text
+
+pub number_text : (d : Data) (n : ℕ) → IsCapability d (Some (Number n)) → IsNumber d n
+unfolding IsNumber
+number_text d n text = inr text
+
+-- a value that says another capability, or none, or no text, says no number
+pub other_text : (d : Data) (r : Option Capability) → as_integer d ≡ None → IsCapability d r → ((n : ℕ) → r ≢ Some (Number n)) → (n : ℕ) → IsNumber d n → ⊥
+other_text d r none said other n number = other n (capability_once d r (Some (Number n)) said (no_integer d none n number))
 
 -- what is found to a text
 pub capability_told : (d : Data) (text : List ℕ) (r : Option Capability) → Some text ≡ as_str d → IfSome r (λ c. IsWellFormed c × IfSome (named c) (λ n. n < 2 ^ 64) × (capability_text c ≡ text)) → IfNone r ((c : Capability) → IsWellFormed c → IfSome (named c) (λ n. n < 2 ^ 64) → capability_text c ≢ text) → IsCapability d r
@@ -60,3 +88,8 @@ no_capability d none (Some c) told = none-some (capability_text c) (none ∙ ap 
 pub no_state : (d : Data) → None ≡ as_str d → (r : Option State) → IsState d r → ⊥
 no_state d none None told = none-some told.0 (none ∙ ap as_str told.1)
 no_state d none (Some s) told = none-some (state_text s) (none ∙ ap as_str told)
+
+-- and one that isn't read
+pub no_number : (d : Data) (fault : DescriptionFault) → as_integer d ≡ None → Fails (IsCapability d) fault → Fails (IsNumber d) fault
+no_number d Shape none fails = λ n number. fails (Some (Number n)) (no_integer d none n number)
+no_number d NoMemory none fails = tt

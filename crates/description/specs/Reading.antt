@@ -1,11 +1,11 @@
 -- What a table says.
-use Rattle.std.specs.Prelude.{◌≡◌, ◌≢◌, ℕ, ◌^◌, ◌<◌, pos, Bool, true, ◌&&◌, Option, None, Some, List, [], ◌∷◌, length, codes, IfSome, IsTrue, IsSomeAnd, MatchOption}
+use Rattle.std.specs.Prelude.{◌≡◌, ◌≢◌, ◌⊎◌, ℕ, ◌^◌, ◌<◌, pos, Bool, true, ◌&&◌, Option, None, Some, List, [], ◌∷◌, length, codes, IfSome, IsTrue, IsSomeAnd, MatchOption}
 use Rattle.std.specs.List.{list_any}
 use Rattle.image_writer.specs.declared.number_range.NumberRange.{NumberRange}
 use Rattle.model.specs.Capability.{IsWellFormed, named}
 use Rattle.model.specs.Text.{capability_text, state_text}
 use Rattle.model.specs.declared.capability.Capability.{Capability}
-use Rattle.model.specs.declared.capability.Capability.TheVariants.{Void}
+use Rattle.model.specs.declared.capability.Capability.TheVariants.{Number, Void}
 use Rattle.model.specs.declared.geometry.Geometry.{Geometry}
 use Rattle.model.specs.declared.object.State.{State}
 use Rattle.toml.specs.Data.{Data, integer, string, array, table, Items, no_items, item, Members, no_members, member, get_member, same_key}
@@ -19,13 +19,14 @@ use Rattle.description.specs.declared.entry.WordEntry.{WordEntry}
 
 -- Values
 
-abbrev pub IsNumber : Data → ℕ → Type 0
-IsNumber d n = d ≡ integer (pos n)
-
 -- a text, and the capability that has it, or none where none has it; numbers of objects have 64 bits
 abbrev pub IsCapability : Data → Option Capability → Type 0
 IsCapability d (Some c) = IsWellFormed c × IfSome (named c) (λ n. n < 2 ^ 64) × (d ≡ string (capability_text c))
 IsCapability d None = (text : List ℕ) × (d ≡ string text) × ((c : Capability) → IsWellFormed c → IfSome (named c) (λ n. n < 2 ^ 64) → capability_text c ≢ text)
+
+-- a number, or as those of TOML end below 2^63, the text of its capability
+unfoldable pub IsNumber : Data → ℕ → Type 0
+IsNumber d n = (d ≡ integer (pos n)) ⊎ IsCapability d (Some (Number n))
 
 -- a text, and the state that has it, or none where no state has it
 abbrev pub IsState : Data → Option State → Type 0

@@ -1,6 +1,6 @@
 // Values of their types.
-ghost use Rattle.std.specs.Prelude.{◌≡◌, MatchResult};
-ghost use Rattle.toml.specs.Data.{Data, Items, Members, array, table, item, no_items};
+ghost use Rattle.std.specs.Prelude.{◌≡◌, ◌≢◌, ℕ, None, Some, IfNone, IfSome, MatchResult};
+ghost use Rattle.toml.specs.Data.{Data, Items, Members, array, as_integer, table, item, no_items};
 ghost use Rattle.toml.specs.View.{array_view, table_view, view};
 ghost use Rattle.description.specs.Outcomes.{Reads};
 ghost use Rattle.description.specs.Reading.{IsCapability, IsNumber, IsState};
@@ -12,7 +12,32 @@ use script::{capability_of, state_of};
 use toml::value::Array;
 use toml::{Table, Value};
 
-// A number that isn't negative.
+// The number that a capability is to.
+fn number_held(capability: Option<Capability>) -> Option<u64>
+    ensures found { IfSome result (λ n. capability ≡ Some (Capability.Number n)) }
+    ensures none { IfNone result ((n : ℕ) → capability ≢ Some (Capability.Number n)) }
+{
+    match capability {
+        Some(Capability::Number(number)) => Some(number),
+        _ => None,
+    }
+}
+
+// The number that a text says, as that of a capability.
+fn number_in_text(value: &Value) -> Result<u64, DescriptionFault>
+    requires { as_integer (view value.now) ≡ None }
+    ensures { Reads (IsNumber (view value.now)) result }
+{
+    match capability_at(value) {
+        Ok(capability) => match number_held(capability) {
+            Some(number) => Ok(number),
+            None => Err(DescriptionFault::Shape),
+        },
+        Err(fault) => Err(fault),
+    }
+}
+
+// A number that isn't negative, or one that a text says.
 pub(crate) fn number_of(value: &Value) -> Result<u64, DescriptionFault>
     ensures { Reads (IsNumber (view value.now)) result }
 {
@@ -23,7 +48,7 @@ pub(crate) fn number_of(value: &Value) -> Result<u64, DescriptionFault>
             }
             Ok(number.unsigned_abs())
         }
-        None => Err(DescriptionFault::Shape),
+        None => number_in_text(value),
     }
 }
 

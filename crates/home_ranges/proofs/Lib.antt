@@ -1,3 +1,4 @@
 pub mod Places
 pub mod Shared
 mod Runs
+pub mod Seats

@@ -61,6 +61,13 @@ impl Home {
         }
     }
 
+    /// The superblock that tells it.
+    pub fn superblock(&self) -> &Superblock
+        ensures { result.now ≡ self.now }
+    {
+        &self.superblock
+    }
+
     /// The first sector of the home of an object: of its own frame, or of the cluster that has it.
     pub fn place(&self, number: u64) -> u64
         requires object { IsObject self.now.geometry number }

@@ -25,7 +25,7 @@ use Rattle.image_builder.proofs.DescribedOnce.{described_once}
 use Rattle.image_builder.proofs.Refusals.{accepted}
 
 -- an image holds one state
-holds_one : (size : ℕ) (c : Image) (a b : SavedFrames) → Holds size c a → Holds size c b → a ≡ b
+pub holds_one : (size : ℕ) (c : Image) (a b : SavedFrames) → Holds size c a → Holds size c b → a ≡ b
 holds_one size c a b in_a in_b = sym in_a.2 ∙ ap kept_of (one_state c size in_a.0 in_b.0 in_a.1 in_b.1) ∙ in_b.2
 
 module _ (d : Description) (hs : List ObjectHeader) (cs : List (Content Cap)) (laid : AreLaid d hs cs) where

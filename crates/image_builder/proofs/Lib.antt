@@ -1,4 +1,6 @@
-mod DescribedOnce
+pub mod DescribedOnce
 mod Rules
 mod Refusals
 pub mod Images
+mod Numbered
+mod Upgrades

@@ -1,3 +1,4 @@
 pub mod Built
 pub mod Checked
 pub mod Laws
+pub mod Upgraded

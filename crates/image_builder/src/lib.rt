@@ -1,5 +1,6 @@
-//! Images from their descriptions: a table tells what an image is to hold, and it is written to a
-//! device where it stands for a sound world.
+//! Images from their descriptions, and from older ones: a table tells what an image is to hold, and
+//! it is written to a device where it stands for a sound world; what an image saves is written to
+//! another by version 2 of the layout.
 #![tactic(auto)]
 
 mod blueprint;
@@ -7,9 +8,13 @@ mod building;
 mod fault;
 pub mod laws;
 mod reading;
+mod upgrade_fault;
+mod upgrading;
 mod worlds;
 mod writing;
 
 pub use blueprint::Blueprint;
 pub use building::{build, sectors_needed};
 pub use fault::BuildFault;
+pub use upgrade_fault::UpgradeFault;
+pub use upgrading::{upgrade, upgrade_and_count, upgraded_sectors};

@@ -1,7 +1,9 @@
--- A fresh image denotes its state once the gate is open.
-use Rattle.std.proofs.Common.{◌≡◌, ◌⊎◌, inl, inr, ⊎_elim, ℕ, ◌^◌, ◌<◌, ◌≤◌, ◌+◌, ◌-◌, ◌%◌, Bool, true, false, List, [], Some, Result, Ok, Err, refl, sym, ap, subst, ◌∙◌, arith}
+-- An image denotes its state once the gate is open.
+use Rattle.std.proofs.Common.{◌≡◌, ◌⊎◌, inl, inr, ⊎_elim, ℕ, ◌^◌, ◌<◌, ◌≤◌, ◌+◌, ◌-◌, ◌*◌, ◌%◌, Bool, true, false, List, [], length, take, Some, Result, Ok, Err, refl, sym, ap, subst, ◌∙◌, arith}
 use Rattle.std.specs.Prelude.{◌==◌, ◌&&◌, OnOk}
 use Rattle.model.specs.declared.frame.Frame.{Frame}
+use Rattle.model.specs.declared.geometry.Geometry.{Geometry}
+use Rattle.model.specs.Frame.{frame_at}
 use Rattle.model.specs.Keepable.{AreKeepable}
 use Rattle.model.specs.Sound.{object_count}
 use Rattle.device.specs.Disk.{Disk, Image}
@@ -9,37 +11,25 @@ use Rattle.device.specs.Moments.{LeavesOnly}
 use Rattle.device.proofs.Moments.{leaves_on, leaves_weaker}
 use Rattle.device.specs.Calls.{Agrees, Elsewhere}
 use Rattle.device.proofs.Images.{agrees_is}
-use Rattle.layout.specs.Directory.{directory_bytes}
+use Rattle.layout.specs.declared.directory.Entry.{Entry}
+use Rattle.layout.specs.declared.header.CheckpointHeader.{CheckpointHeader}
+use Rattle.layout.specs.Directory.{IsDirectory, directory_bytes}
+use Rattle.layout.specs.Frame.{frame_bytes}
 use Rattle.layout.specs.Gate.{is_open}
 use Rattle.layout.specs.Header.{IsHeader, header_bytes}
-use Rattle.layout.specs.Homes.{home_place, shape_of}
-use Rattle.layout.specs.Image.{bytes_at, Encodes, HasDirectory, HasNoHeader, committed_of, committed_bytes, does_count, option_at, sequence_in}
+use Rattle.layout.specs.Homes.{place_length, shape_of}
+use Rattle.layout.specs.Image.{Encodes, HasNoHeader, committed_of, committed_bytes, directory_in, directory_length, directory_sector, does_count, frame_in, frame_sector, option_at, sectors_from, sequence_in}
+use Rattle.layout.specs.Shape.{shape_bytes}
 use Rattle.layout.specs.Superblock.{Plan, IsPlan}
 use Rattle.layout.proofs.Halves.{half_within}
-use Rattle.layout.proofs.Shapes.{same_shaped}
+use Rattle.layout.proofs.Sectors.{same_sectors}
 use Rattle.home_ranges.proofs.Places.{places_within}
 use Rattle.ckpt_log.specs.Closing.{AreClosed}
 use Rattle.ckpt_log.proofs.Closings.{none_committed}
-use Rattle.checkpoint.specs.Saved.{Holds, SavedFrames}
-use Rattle.ckpt_log.proofs.BesideHeaders.{sequences_told}
-use Rattle.image_writer.specs.Written.{AreHome, HasOpeningSectors, IsBeforeOrNone, IsLeftWriting, IsWritten, first_header, first_saved, first_state}
-
--- no entries
-no_entries : (image : Image) (p : Plan) (age : ℕ) → HasDirectory image p (first_header age) []
-unfolding directory_bytes
-no_entries image p age = record {
-  count = refl;
-  fits = record {
-    each = λ i e lt. absurd (omega (arith, lt));
-    rising = λ i lt. absurd (omega (arith, lt));
-    apart = λ i j first lt same. absurd (omega (arith, lt));
-  };
-  spelt = refl;
-}
-
--- the header is within its limits
-header_fits : (room age : ℕ) → age ≤ 2 ^ 62 → IsHeader room (first_header age)
-header_fits room age most = record { entries = omega arith; age = most; generation = omega arith; sequence = omega arith; entries_fit = omega arith }
+use Rattle.checkpoint.specs.Saved.{Holds, SavedFrames, kept_of}
+use Rattle.ckpt_log.proofs.BesideHeaders.{half_behind, sequences_told}
+use Rattle.ckpt_log.proofs.Denoted.{frames_behind}
+use Rattle.image_writer.specs.Written.{HasOpeningSectors, IsBeforeOrNone, IsLeftWriting, IsWritten, first_header, state_of}
 
 -- of two headers the first is committed, where it counts and the other doesn't
 first_alone : (first second : Bool) (m n : ℕ) → first ≡ true → second ≡ false → committed_of first m second n ≡ Some 0
@@ -49,47 +39,56 @@ first_alone first second m n is isnt = rw (is, isnt) refl
 pub five : (p : Plan) → IsPlan p → 5 ≤ p.total
 five p fits = let within = half_within p 0 fits in omega (arith, within.0, within.1)
 
-module _ (p : Plan) (age : ℕ) (frames : List Frame) (old new : Image) (is : IsWritten p age frames old) (change : Elsewhere 2 1 old new) (gate : is_open (new 2) ≡ true) where
-  header_is : new 1 ≡ header_bytes (first_header age)
+-- a change of the gate leaves what lies behind the headers
+behind : (at n : ℕ) (old new : Image) → 5 ≤ at → Elsewhere 2 1 old new → sectors_from new at n ≡ sectors_from old at n
+behind at n old new low change = same_sectors at n old new (λ i lt. change.after (at + i) (omega (arith, low)))
+
+module _ (p : Plan) (h : CheckpointHeader) (es : List Entry) (frames : List Frame) (old new : Image) (is : IsWritten p h es frames old) (first : h.sequence ≡ 0) (change : Elsewhere 2 1 old new) (gate : is_open (new 2) ≡ true) where
+  header_is : new 1 ≡ header_bytes h
   header_is = change.before 1 (omega arith) ∙ is.opening.header
 
   header_counts : does_count (new 1) (new 2) 0 ≡ true
   header_counts =
-      ap (λ (h : List ℕ). does_count h (new 2) 0) header_is ∙ ap (λ (open' : Bool). open' && (sequence_in (header_bytes (first_header age)) % 2 == 0)) gate
-      ∙ ap (λ (n : ℕ). true && (n % 2 == 0)) (sequences_told (first_header age) (omega arith))
+      ap (λ (b : List ℕ). does_count b (new 2) 0) header_is ∙ ap (λ (open' : Bool). open' && (sequence_in (header_bytes h) % 2 == 0)) gate
+      ∙ ap (λ (n : ℕ). true && (n % 2 == 0)) (sequences_told h (omega (arith, first)) ∙ first)
 
   other_does_not : does_count (new 3) (new 4) 1 ≡ false
   other_does_not = ap (λ (open' : Bool). open' && (sequence_in (new 3) % 2 == 1)) (ap is_open (change.after 4 (omega arith)) ∙ is.closed.second)
 
-  committed : committed_bytes new ≡ Some (header_bytes (first_header age))
+  committed : committed_bytes new ≡ Some (header_bytes h)
   committed =
       ap (option_at new) (first_alone (does_count (new 1) (new 2) 0) (does_count (new 3) (new 4) 1) (sequence_in (new 1)) (sequence_in (new 3)) header_counts other_does_not)
       ∙ ap (λ (b : List ℕ). Some b) header_is
 
-  frame_stays : (a : ℕ) → a < object_count p.geometry → bytes_at new (home_place p a) p a ≡ bytes_at old (home_place p a) p a
-  frame_stays a lt =
-      let within = places_within p a is.plan lt in
-      same_shaped (home_place p a) (shape_of p a) old new (λ i few. change.after (home_place p a + i) (omega (arith, within.0)))
+  directory_stays : (n : ℕ) → directory_in new p h.generation n ≡ directory_in old p h.generation n
+  directory_stays n =
+      let half = half_behind p h.generation is.plan in
+      ap (λ (bytes : List ℕ). take (16 * n) bytes) (behind (directory_sector p h.generation) (directory_length n) old new (omega (arith, half)) change)
 
-  pub denotes : (size : ℕ) → age ≤ 2 ^ 62 → p.total ≤ size → AreKeepable p.geometry age frames → Encodes new size (first_state p age frames)
-  denotes size most whole keepable = record {
+  frame_stays : (a : ℕ) → a < object_count p.geometry → frame_in new p h.generation es a ≡ frame_in old p h.generation es a
+  frame_stays a lt =
+      ap (shape_bytes (shape_of p a)) (behind (frame_sector p h.generation es a) (place_length p a) old new (frames_behind p h.generation es a is.plan (places_within p a is.plan lt).0) change)
+
+  pub denotes : (size : ℕ) → IsHeader p.geometry.log h → IsDirectory p.geometry es → length es ≡ h.entries → p.total ≤ size → AreKeepable p.geometry h.age frames → Encodes new size (state_of p h es frames)
+  denotes size header directory count whole keepable = record {
     plan = record { least = omega (arith, whole, five p is.plan); whole = whole; fits = is.plan; spelt = change.before 0 (omega arith) ∙ is.opening.superblock };
-    header = record { fits = header_fits p.geometry.log age most; spelt = committed };
-    directory = no_entries new p age;
+    header = record { fits = header; spelt = committed };
+    directory = record { count = count; fits = directory; spelt = ap (λ (n : ℕ). directory_in new p h.generation n) (sym count) ∙ directory_stays (length es) ∙ is.directory };
     count = keepable.count;
-    each = λ a lt. (keepable.each a lt, frame_stays a lt ∙ is.home a lt);
+    each = λ a lt. (keepable.each a lt, frame_stays a lt ∙ is.placed a lt);
   }
 
 -- ---- while the gate is opened
 
 -- a gate that is torn is open over all of the image, or closed
-module _ (p : Plan) (age : ℕ) (frames : List Frame) (old c : Image) (is : IsWritten p age frames old) (change : Elsewhere 2 1 old c) where
-  opening_by : (b : Bool) (size : ℕ) → is_open (c 2) ≡ b → age ≤ 2 ^ 62 → p.total ≤ size → AreKeepable p.geometry age frames → HasNoHeader c ⊎ Holds size c (first_saved p.geometry age frames)
-  opening_by true size gate most whole keepable = inr (first_state p age frames, denotes p age frames old c is change gate size most whole keepable, refl)
-  opening_by false size gate most whole keepable = inl (none_committed c (record { first = gate; second = ap is_open (change.after 4 (omega arith)) ∙ is.closed.second }))
+module _ (p : Plan) (h : CheckpointHeader) (es : List Entry) (frames : List Frame) (old c : Image) (is : IsWritten p h es frames old) (first : h.sequence ≡ 0) (change : Elsewhere 2 1 old c) (size : ℕ) (header : IsHeader p.geometry.log h)
+    (directory : IsDirectory p.geometry es) (count : length es ≡ h.entries) (whole : p.total ≤ size) (keepable : AreKeepable p.geometry h.age frames) where
+  opening_by : (b : Bool) → is_open (c 2) ≡ b → HasNoHeader c ⊎ Holds size c (kept_of (state_of p h es frames))
+  opening_by true gate = inr (state_of p h es frames, denotes p h es frames old c is first change gate size header directory count whole keepable, refl)
+  opening_by false gate = inl (none_committed c (record { first = gate; second = ap is_open (change.after 4 (omega arith)) ∙ is.closed.second }))
 
-  opening : (size : ℕ) → age ≤ 2 ^ 62 → p.total ≤ size → AreKeepable p.geometry age frames → HasNoHeader c ⊎ Holds size c (first_saved p.geometry age frames)
-  opening size most whole keepable = opening_by (is_open (c 2)) size refl most whole keepable
+  opening : HasNoHeader c ⊎ Holds size c (kept_of (state_of p h es frames))
+  opening = opening_by (is_open (c 2)) refl
 
 -- until the gate is opened
 pub not_yet : {old mid : Disk} (saved : SavedFrames) → LeavesOnly old mid (λ c. IsBeforeOrNone old c) → LeavesOnly old mid (λ c. IsLeftWriting old saved c)
@@ -97,12 +96,26 @@ not_yet {old} {mid} saved run =
     leaves_weaker {old = old} {new = mid} {P = λ c. IsBeforeOrNone old c} (λ c. IsLeftWriting old saved c) (λ c is. ⊎_elim (λ before. inl before) (λ none. inr (inl none)) is) run
 
 -- and with it
-pub opening_run : (p : Plan) (age : ℕ) (frames : List Frame) {old mid new : Disk} → IsWritten p age frames mid.seen → age ≤ 2 ^ 62 → p.total ≤ old.sectors → AreKeepable p.geometry age frames
-    → LeavesOnly old mid (λ c. IsBeforeOrNone old c) → LeavesOnly mid new (λ c. Elsewhere 2 1 mid.seen c) → LeavesOnly old new (λ c. IsLeftWriting old (first_saved p.geometry age frames) c)
-opening_run p age frames {old} {mid} {new} is most whole keepable first second =
-    leaves_on {old = old} {mid = mid} {new = new} {P = λ c. IsLeftWriting old (first_saved p.geometry age frames) c} (not_yet {old = old} {mid = mid} (first_saved p.geometry age frames) first)
-    (leaves_weaker {old = mid} {new = new} {P = λ c. Elsewhere 2 1 mid.seen c} (λ c. IsLeftWriting old (first_saved p.geometry age frames) c)
-    (λ c change. inr (opening p age frames mid.seen c is change old.sectors most whole keepable)) second)
+pub opening_run : (p : Plan) (h : CheckpointHeader) (es : List Entry) (frames : List Frame) {old mid new : Disk} → IsWritten p h es frames mid.seen → h.sequence ≡ 0 → IsHeader p.geometry.log h → IsDirectory p.geometry es → length es ≡ h.entries
+    → p.total ≤ old.sectors → AreKeepable p.geometry h.age frames
+    → LeavesOnly old mid (λ c. IsBeforeOrNone old c) → LeavesOnly mid new (λ c. Elsewhere 2 1 mid.seen c) → LeavesOnly old new (λ c. IsLeftWriting old (kept_of (state_of p h es frames)) c)
+opening_run p h es frames {old} {mid} {new} is first_header header directory count whole keepable first second =
+    leaves_on {old = old} {mid = mid} {new = new} {P = λ c. IsLeftWriting old (kept_of (state_of p h es frames)) c} (not_yet {old = old} {mid = mid} (kept_of (state_of p h es frames)) first)
+    (leaves_weaker {old = mid} {new = new} {P = λ c. Elsewhere 2 1 mid.seen c} (λ c. IsLeftWriting old (kept_of (state_of p h es frames)) c)
+    (λ c change. inr (opening p h es frames mid.seen c is first_header change old.sectors header directory count whole keepable)) second)
+
+-- ---- a fresh image has no entries
+
+pub no_directory : (g : Geometry) → IsDirectory g []
+no_directory g = record {
+  each = λ i e lt. absurd (omega (arith, lt));
+  rising = λ i lt. absurd (omega (arith, lt));
+  apart = λ i j first lt same. absurd (omega (arith, lt));
+}
+
+-- and its header is within the limits
+pub header_fits : (room age : ℕ) → age ≤ 2 ^ 62 → IsHeader room (first_header age)
+header_fits room age most = record { entries = omega arith; age = most; generation = omega arith; sequence = omega arith; entries_fit = omega arith }
 
 -- ---- what is so where a call succeeds
 
@@ -116,13 +129,15 @@ durable_is (Ok value) left P seen is only = λ c may. subst P (sym (agrees_is c 
 durable_is (Err error) left P seen is only = tt
 
 -- what was written is whole once it is durable
-pub all_written : (p : Plan) (age : ℕ) (frames : List Frame) (front homes now : Image) → IsPlan p → HasOpeningSectors p age front → Elsewhere 5 (p.total - 5) front homes
-    → AreHome p frames (object_count p.geometry) homes → AreClosed homes → Agrees now homes → IsWritten p age frames now
-all_written p age frames front homes now fits has change home closed same = subst (λ (i : Image). IsWritten p age frames i) (sym (agrees_is now homes same)) (record {
+pub all_written : (p : Plan) (h : CheckpointHeader) (es : List Entry) (frames : List Frame) (front behind now : Image) → IsPlan p → HasOpeningSectors p h front → Elsewhere 5 (p.total - 5) front behind
+    → directory_in behind p h.generation (length es) ≡ directory_bytes es → ((a : ℕ) → a < object_count p.geometry → frame_in behind p h.generation es a ≡ frame_bytes p.geometry a (frame_at frames a))
+    → AreClosed behind → Agrees now behind → IsWritten p h es frames now
+all_written p h es frames front behind now fits has change directory placed closed same = subst (λ (i : Image). IsWritten p h es frames i) (sym (agrees_is now behind same)) (record {
   plan = fits;
   opening = record { superblock = change.before 0 (omega arith) ∙ has.superblock; header = change.before 1 (omega arith) ∙ has.header };
   closed = closed;
-  home = home;
+  directory = directory;
+  placed = placed;
 })
 
 -- ---- sectors of the image

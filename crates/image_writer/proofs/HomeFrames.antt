@@ -22,7 +22,7 @@ use Rattle.layout.proofs.Shapes.{same_shaped}
 use Rattle.frame_io.specs.Frames.{IsObject}
 use Rattle.home_ranges.proofs.Places.{IsOwn, alone, one_before, places_within, places_apart}
 use Rattle.capability.proofs.Frames.{frame_in}
-use Rattle.image_writer.specs.Homes.{IsHome, frames_before}
+use Rattle.image_writer.specs.Homes.{IsHome, LieAt, frames_before}
 use Rattle.image_writer.specs.Written.{AreHome}
 
 -- what has the home of a number below n is home
@@ -75,13 +75,18 @@ frame_there hs cs n c lt size is =
 
 -- ---- the home of one number
 
--- a frame in sectors of its own is all of its home
+-- a frame in sectors of its own is that of all that have its home
+pub own_at : (p : Plan) (hs : List ObjectHeader) (cs : List (Content Cap)) (n at : ℕ) (c : Content Cap) (image : Image) → IsPlan p → IsObject p.geometry n → length hs ≡ object_count p.geometry → length cs ≡ object_count p.geometry
+    → c ≡ slice_index_or cs n c → IsOwn (shape_of p n) → bytes_at image at p n ≡ frame_bytes p.geometry n (record { header = header_at hs n; content = c }) → LieAt p (frames_in hs cs) n at image
+own_at p hs cs n at c image fits is size same_size held own written a is_a same =
+    let one : n ≡ a = sym (alone p a n fits is_a is own same) in
+    subst (λ (b : ℕ). bytes_at image at p b ≡ frame_bytes p.geometry b (frame_at (frames_in hs cs) b)) one
+    (written ∙ ap (frame_bytes p.geometry n) (frame_there hs cs n c (omega (arith, is, size)) (same_size ∙ sym size) held))
+
 own_home : (p : Plan) (hs : List ObjectHeader) (cs : List (Content Cap)) (n : ℕ) (c : Content Cap) (image : Image) → IsPlan p → IsObject p.geometry n → length hs ≡ object_count p.geometry → length cs ≡ object_count p.geometry
     → c ≡ slice_index_or cs n c → IsOwn (shape_of p n) → bytes_at image (home_place p n) p n ≡ frame_bytes p.geometry n (record { header = header_at hs n; content = c }) → IsHome p (frames_in hs cs) n image
 own_home p hs cs n c image fits is size same_size held own written a is_a same =
-    let one : n ≡ a = sym (alone p a n fits is_a is own same) in
-    subst (λ (b : ℕ). bytes_at image (home_place p b) p b ≡ frame_bytes p.geometry b (frame_at (frames_in hs cs) b)) one
-    (written ∙ ap (frame_bytes p.geometry n) (frame_there hs cs n c (omega (arith, is, size)) (same_size ∙ sym size) held))
+    ap (λ (at : ℕ). bytes_at image at p a) same ∙ own_at p hs cs n (home_place p n) c image fits is size same_size held own written a is_a same
 
 pub own_written : {T E : Type 0} (result : Result T E) (p : Plan) (hs : List ObjectHeader) (cs : List (Content Cap)) (n : ℕ) (c : Content Cap) (image : Image) → IsPlan p → IsObject p.geometry n → length hs ≡ object_count p.geometry
     → length cs ≡ object_count p.geometry → c ≡ slice_index_or cs n c → IsOwn (shape_of p n) → OnOk result (bytes_at image (home_place p n) p n ≡ frame_bytes p.geometry n (record { header = header_at hs n; content = c }))

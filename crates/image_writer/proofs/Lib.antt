@@ -1,8 +1,10 @@
 mod ClosedGates
 mod FreshImages
 mod HomeFrames
+pub mod LaidAgain
 mod LaidPlans
 mod Laying
 pub mod OldImages
 mod Ranks
 mod SingleSectors
+mod SlotFrames

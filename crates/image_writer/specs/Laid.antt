@@ -31,6 +31,14 @@ behind v g at (r ∷ rs) = behind v g (at + sectors_of v g r) rs
 abbrev pub plan_from : Version → Geometry → List NumberRange → Plan
 plan_from v g rs = plan_of v g (laid v g 5 rs) (behind v g 5 rs) (behind v g 5 rs + half_length g) (behind v g 5 rs + half_length g + half_length g)
 
+-- the numbers of a home range
+abbrev pub numbers_of : HomeRange → NumberRange
+numbers_of r = record { first = r.first; count = r.count }
+
+-- the plan of a version with the objects and the ranges of another
+abbrev pub laid_again : Version → Plan → Plan
+laid_again v p = plan_from v p.geometry (map numbers_of p.ranges)
+
 -- what the format asks of the numbers, whatever the version and wherever the ranges lie
 pub record MayBeLaid (g : Geometry) (rs : List NumberRange) : Type 0 where
   pub geometry : IsGeometry g

@@ -1,18 +1,25 @@
 -- What a fresh image saves, and its parts.
-use Rattle.std.specs.Prelude.{◌≡◌, ◌⊎◌, ℕ, ◌<◌, List, []}
+use Rattle.std.specs.Prelude.{◌≡◌, ◌⊎◌, ℕ, ◌<◌, List, [], length}
 use Rattle.model.specs.declared.frame.Frame.{Frame}
 use Rattle.model.specs.declared.geometry.Geometry.{Geometry}
 use Rattle.model.specs.Frame.{frame_at}
 use Rattle.model.specs.Sound.{object_count}
 use Rattle.device.specs.Disk.{Disk, Image}
+use Rattle.layout.specs.declared.directory.Entry.{Entry}
 use Rattle.layout.specs.declared.header.CheckpointHeader.{CheckpointHeader}
+use Rattle.layout.specs.Directory.{directory_bytes, entry_at}
 use Rattle.layout.specs.Frame.{frame_bytes}
 use Rattle.layout.specs.Header.{header_bytes}
 use Rattle.layout.specs.Homes.{home_place}
-use Rattle.layout.specs.Image.{HasNoHeader, SavedState, bytes_at}
+use Rattle.layout.specs.Image.{HasNoHeader, SavedState, bytes_at, directory_in, frame_in, slot_sector}
 use Rattle.layout.specs.Superblock.{Plan, IsPlan, superblock_bytes}
 use Rattle.ckpt_log.specs.Closing.{AreClosed, KeepsImage}
 use Rattle.checkpoint.specs.Saved.{Holds, SavedFrames}
+use Rattle.image_writer.specs.Homes.{LieAt}
+
+-- a saved state with these parts
+abbrev pub state_of : Plan → CheckpointHeader → List Entry → List Frame → SavedState
+state_of p h es frames = record { plan = p; header = h; directory = es; frames = frames }
 
 -- the header of a checkpoint of generation 0, all of which is home
 abbrev pub first_header : ℕ → CheckpointHeader
@@ -26,21 +33,26 @@ first_state p age frames = record { plan = p; header = first_header age; directo
 abbrev pub first_saved : Geometry → ℕ → List Frame → SavedFrames
 first_saved g age frames = record { geometry = g; frames = frames; generation = 0; entries = 0; age = age }
 
--- a superblock, and the first header
-pub record HasOpeningSectors (p : Plan) (age : ℕ) (image : Image) : Type 0 where
+-- a superblock, and a header in the first slot
+pub record HasOpeningSectors (p : Plan) (h : CheckpointHeader) (image : Image) : Type 0 where
   pub superblock : image 0 ≡ superblock_bytes p
-  pub header : image 1 ≡ header_bytes (first_header age)
+  pub header : image 1 ≡ header_bytes h
 
 -- the frames of the first n numbers lie at home
 abbrev pub AreHome : Plan → List Frame → ℕ → Image → Type 0
 AreHome p frames n image = (a : ℕ) → a < n → bytes_at image (home_place p a) p a ≡ frame_bytes p.geometry a (frame_at frames a)
 
--- all of a fresh image, under closed gates
-pub record IsWritten (p : Plan) (age : ℕ) (frames : List Frame) (image : Image) : Type 0 where
+-- in the slots of the first n entries lie the frames of all that have the homes of their objects
+abbrev pub AreInSlots : Plan → ℕ → List Entry → List Frame → ℕ → Image → Type 0
+AreInSlots p generation es frames n image = (j : ℕ) → j < n → LieAt p frames (entry_at es j).object (slot_sector p generation (entry_at es j).slot) image
+
+-- all of an image, under closed gates: each frame lies where the directory says
+pub record IsWritten (p : Plan) (h : CheckpointHeader) (es : List Entry) (frames : List Frame) (image : Image) : Type 0 where
   pub plan : IsPlan p
-  pub opening : HasOpeningSectors p age image
+  pub opening : HasOpeningSectors p h image
   pub closed : AreClosed image
-  pub home : AreHome p frames (object_count p.geometry) image
+  pub directory : directory_in image p h.generation (length es) ≡ directory_bytes es
+  pub placed : (a : ℕ) → a < object_count p.geometry → frame_in image p h.generation es a ≡ frame_bytes p.geometry a (frame_at frames a)
 
 -- ---- what a crash leaves on the way
 

@@ -1,36 +1,85 @@
-// Writing a fresh image.
-ghost use Rattle.std.specs.Prelude.{◌≡◌, ◌^◌, ◌≤◌, length, OnOk};
+// Writing an image over whatever a device holds.
+ghost use Rattle.std.specs.Prelude.{◌≡◌, ◌-◌, ◌^◌, ◌<◌, ◌≤◌, ℕ, length, OnOk};
 ghost use Rattle.device.specs.Disk.{Image};
 ghost use Rattle.device.specs.Calls.{Counts, Elsewhere, Only};
 ghost use Rattle.device.specs.Moments.{LeavesOnly};
-ghost use Rattle.layout.specs.Image.{Encodes};
-ghost use Rattle.checkpoint.specs.Saved.{Holds};
-ghost use Rattle.model.specs.Frame.{frames_in};
+ghost use Rattle.layout.specs.Directory.{IsDirectory, directory_bytes};
+ghost use Rattle.layout.specs.Frame.{frame_bytes};
+ghost use Rattle.layout.specs.Header.{IsHeader};
+ghost use Rattle.layout.specs.Image.{Encodes, directory_in, frame_in};
+ghost use Rattle.layout.specs.Superblock.{IsPlan};
+ghost use Rattle.checkpoint.specs.Saved.{Holds, kept_of};
+ghost use Rattle.ckpt_log.specs.Closing.{AreClosed};
+ghost use Rattle.model.specs.Frame.{frame_at, frames_in};
 ghost use Rattle.model.specs.Keepable.{AreKeepable};
-ghost use Rattle.image_writer.specs.Written.{IsBeforeOrNone, IsLeftWriting, IsWritten, first_state, first_saved};
+ghost use Rattle.model.specs.Sound.{object_count};
+ghost use Rattle.image_writer.specs.Written.{IsBeforeOrNone, IsLeftWriting, IsWritten, LeavesClosed, first_state, first_saved, state_of};
 
 use crate::homes::write_homes;
 use crate::opening_sectors::{open_gate, write_opening_sectors};
-use ckpt_log::close_gates;
+use crate::slots::write_log;
+use ckpt_log::{Log, close_gates};
 use device::{Device, Failed};
 use home_ranges::Home;
-use layout::Superblock;
+use layout::{CheckpointHeader, Entry, Superblock};
 use model::{Cap, Content, Geometry, ObjectHeader};
+
+// Writes the homes of so many objects, which are all there are, and the half of the log of a
+// generation. The gates of both headers are closed, and a crash at any moment leaves them so.
+fn write_frames<D: Device>(
+    device: &mut D,
+    superblock: &Superblock,
+    count: u64,
+    generation: u64,
+    entries: &[Entry],
+    headers: &[ObjectHeader],
+    contents: &[Content<Cap>],
+) -> Result<(), Failed>
+    requires plan { IsPlan superblock.now }
+    requires count { count ≡ object_count superblock.now.geometry }
+    requires directory { IsDirectory superblock.now.geometry entries.now }
+    requires few { length entries.now ≤ superblock.now.geometry.log }
+    requires headers { length headers.now ≡ count }
+    requires contents { length contents.now ≡ count }
+    requires inside { superblock.now.total ≤ (D.disk device.old).sectors }
+    requires closed { LeavesClosed (D.disk device.old) }
+    ensures frames { OnOk result ((a : ℕ) → a < object_count superblock.now.geometry
+        → frame_in (D.disk device.new).seen superblock.now generation entries.now a
+        ≡ frame_bytes superblock.now.geometry a
+        (frame_at (frames_in headers.now contents.now) a)) }
+    ensures directory { OnOk result
+        (directory_in (D.disk device.new).seen superblock.now generation (length entries.now)
+        ≡ directory_bytes entries.now) }
+    ensures closed { LeavesClosed (D.disk device.new) }
+    ensures elsewhere { Elsewhere 5 (superblock.now.total - 5)
+        (D.disk device.old).seen (D.disk device.new).seen }
+    ensures size { (D.disk device.new).sectors ≡ (D.disk device.old).sectors }
+    ensures any_moment { LeavesOnly (D.disk device.old) (D.disk device.new) (λ c. AreClosed c) }
+    ensures cause { Counts (D.disk device.old) (D.disk device.new) result }
+{
+    let home = Home::new(superblock);
+    let log = Log::new(superblock);
+    write_homes(device, &home, count, headers, contents)?;
+    write_log(device, &log, &home, generation, entries, headers, contents)
+}
 
 // Closes the gates of what the device holds, writes all of an image but that its gate is open, and
 // makes that durable. A crash at any moment leaves what the device held, or nothing that opens.
 fn write_parts<D: Device>(
     device: &mut D,
     superblock: &Superblock,
-    age: u64,
+    header: CheckpointHeader,
+    entries: &[Entry],
     headers: &[ObjectHeader],
     contents: &[Content<Cap>],
 ) -> Result<(), Failed>
     requires inside { superblock.now.total ≤ (D.disk device.old).sectors }
+    requires directory { IsDirectory superblock.now.geometry entries.now }
+    requires few { length entries.now ≤ superblock.now.geometry.log }
     requires contents { length contents.now ≡ length headers.now }
-    requires keepable { AreKeepable superblock.now.geometry age
+    requires keepable { AreKeepable superblock.now.geometry header.age
         (frames_in headers.now contents.now) }
-    ensures written { OnOk result (IsWritten superblock.now age
+    ensures written { OnOk result (IsWritten superblock.now header entries.now
         (frames_in headers.now contents.now) (D.disk device.new).seen) }
     ensures durable { OnOk result (Only (D.disk device.new).seen (D.disk device.new)) }
     ensures elsewhere { Elsewhere 0 superblock.now.total
@@ -40,23 +89,77 @@ fn write_parts<D: Device>(
         (λ c. IsBeforeOrNone (D.disk device.old) c) }
     ensures cause { Counts (D.disk device.old) (D.disk device.new) result }
 {
-    let home = Home::new(superblock);
-    let Geometry { nodes, pages, .. } = home.geometry();
+    let Geometry { nodes, pages, .. } = superblock.geometry();
     close_gates(device)?;
-    write_opening_sectors(device, superblock, age)?;
-    write_homes(device, &home, nodes + pages, headers, contents)?;
+    write_opening_sectors(device, superblock, header)?;
+    write_frames(
+        device,
+        superblock,
+        nodes + pages,
+        header.generation,
+        entries,
+        headers,
+        contents,
+    )?;
     device.sync()
 }
 
-/// Writes a fresh image over whatever the device holds: the frames of all objects, each from the
-/// header and the content of its number, at home, and one committed checkpoint of generation 0 with
-/// no entries, sequence number 0 and this age. From `Ok` on a read gives that state, and so does
-/// each crash.
+/// Writes an image over whatever the device holds: one committed checkpoint with this header, whose
+/// sequence number is 0, and this directory; the frames of all objects, each from the header and the
+/// content of its number, at home, and in the slots of the directory's entries those of all that have
+/// the homes of their objects. From `Ok` on a read gives that state, and so does each crash.
 ///
 /// The gates of what the device held are closed first, the committed header's last: until then a
 /// crash leaves that image as it was. From then on, until the gate of the new header is written, it
 /// leaves nothing that can be opened, since no header is committed; and then that, or the new image.
 /// Each of the three steps is durable before the next begins.
+///
+/// It is refused exactly where the device fails, and the image's sectors may then hold any bytes,
+/// but at no moment such that a crash leaves anything else that can be opened. Sectors behind its
+/// total hold what they held. No memory is taken.
+///
+/// The device has at least as many sectors as the superblock tells, header and directory fit it and
+/// one another, and each frame can be kept at the header's age.
+pub fn write_saved<D: Device>(
+    device: &mut D,
+    superblock: &Superblock,
+    header: CheckpointHeader,
+    entries: &[Entry],
+    headers: &[ObjectHeader],
+    contents: &[Content<Cap>],
+) -> Result<(), Failed>
+    requires inside { superblock.now.total ≤ (D.disk device.old).sectors }
+    requires header { IsHeader superblock.now.geometry.log header }
+    requires first { header.sequence ≡ 0 }
+    requires directory { IsDirectory superblock.now.geometry entries.now }
+    requires count { length entries.now ≡ header.entries }
+    requires contents { length contents.now ≡ length headers.now }
+    requires keepable { AreKeepable superblock.now.geometry header.age
+        (frames_in headers.now contents.now) }
+    ensures denotes { OnOk result (Encodes (D.disk device.new).seen (D.disk device.new).sectors
+        (state_of superblock.now header entries.now (frames_in headers.now contents.now))) }
+    ensures crash { OnOk result ((c : Image) → (D.disk device.new).may_leave c →
+        Encodes c (D.disk device.new).sectors
+        (state_of superblock.now header entries.now (frames_in headers.now contents.now))) }
+    ensures elsewhere { Elsewhere 0 superblock.now.total
+        (D.disk device.old).seen (D.disk device.new).seen }
+    ensures size { (D.disk device.new).sectors ≡ (D.disk device.old).sectors }
+
+    // A crash at any moment leaves what it could have left before but for the gates, with the same
+    // committed header; or no committed header; or the image, whole.
+    ensures any_moment { LeavesOnly (D.disk device.old) (D.disk device.new)
+        (λ c. IsLeftWriting (D.disk device.old) (kept_of
+        (state_of superblock.now header entries.now (frames_in headers.now contents.now))) c) }
+    ensures cause { Counts (D.disk device.old) (D.disk device.new) result }
+{
+    write_parts(device, superblock, header, entries, headers, contents)?;
+    open_gate(device)
+}
+
+/// Writes a fresh image over whatever the device holds: the frames of all objects, each from the
+/// header and the content of its number, at home, and one committed checkpoint of generation 0 with
+/// no entries, sequence number 0 and this age, as `write_saved` does. From `Ok` on a read gives that
+/// state, and so does each crash.
 ///
 /// It is refused exactly where the device fails, and the image's sectors may then hold any bytes,
 /// but at no moment such that a crash leaves anything else that can be opened. Sectors behind its
@@ -94,6 +197,11 @@ pub fn write_image<D: Device>(
         (first_saved superblock.now.geometry age (frames_in headers.now contents.now)) c) }
     ensures cause { Counts (D.disk device.old) (D.disk device.new) result }
 {
-    write_parts(device, superblock, age, headers, contents)?;
-    open_gate(device)
+    let header = CheckpointHeader {
+        sequence: 0,
+        generation: 0,
+        entries: 0,
+        age,
+    };
+    write_saved(device, superblock, header, &[], headers, contents)
 }

@@ -8,7 +8,8 @@ pub mod laws;
 mod number_range;
 mod opening_sectors;
 mod plan;
+mod slots;
 
-pub use image::write_image;
+pub use image::{write_image, write_saved};
 pub use number_range::NumberRange;
-pub use plan::{LayOutFault, lay_out};
+pub use plan::{LayOutFault, lay_out, lay_out_again};

@@ -7,7 +7,7 @@ ghost use Rattle.layout.specs.Gate.{gate_bytes};
 ghost use Rattle.layout.specs.Header.{header_bytes};
 ghost use Rattle.layout.specs.Superblock.{superblock_bytes};
 ghost use Rattle.ckpt_log.specs.Closing.{AreClosed};
-ghost use Rattle.image_writer.specs.Written.{HasOpeningSectors, LeavesClosed, first_header};
+ghost use Rattle.image_writer.specs.Written.{HasOpeningSectors, LeavesClosed};
 
 use ckpt_log::HeaderSlot;
 use device::{Device, Failed, SECTOR_SIZE};
@@ -48,40 +48,34 @@ fn write_superblock<D: Device>(device: &mut D, superblock: &Superblock) -> Resul
     write_sector(device, 0, &sector)
 }
 
-// Writes the header of generation 0.
-fn write_header<D: Device>(device: &mut D, age: u64) -> Result<(), Failed>
+// Writes the first header.
+fn write_header<D: Device>(device: &mut D, header: CheckpointHeader) -> Result<(), Failed>
     requires inside { 5 ≤ (D.disk device.old).sectors }
     requires closed { LeavesClosed (D.disk device.old) }
     ensures written { OnOk result
-        ((D.disk device.new).seen 1 ≡ header_bytes (first_header age)) }
+        ((D.disk device.new).seen 1 ≡ header_bytes header) }
     ensures closed { LeavesClosed (D.disk device.new) }
     ensures elsewhere { Elsewhere 1 1 (D.disk device.old).seen (D.disk device.new).seen }
     ensures size { (D.disk device.new).sectors ≡ (D.disk device.old).sectors }
     ensures any_moment { LeavesOnly (D.disk device.old) (D.disk device.new) (λ c. AreClosed c) }
     ensures cause { Counts (D.disk device.old) (D.disk device.new) result }
 {
-    let header = CheckpointHeader {
-        sequence: 0,
-        generation: 0,
-        entries: 0,
-        age,
-    };
     let mut sector = [0; SECTOR_SIZE];
     encode_header(header, &mut sector);
     write_sector(device, HeaderSlot::First.header(), &sector)
 }
 
-/// Writes the superblock, and the header of generation 0, under closed gates. A crash at any moment
+/// Writes the superblock, and the first header, under closed gates. A crash at any moment
 /// leaves these closed.
 pub(crate) fn write_opening_sectors<D: Device>(
     device: &mut D,
     superblock: &Superblock,
-    age: u64,
+    header: CheckpointHeader,
 ) -> Result<(), Failed>
     requires inside { 5 ≤ (D.disk device.old).sectors }
     requires closed { LeavesClosed (D.disk device.old) }
     ensures written { OnOk result
-        (HasOpeningSectors superblock.now age (D.disk device.new).seen) }
+        (HasOpeningSectors superblock.now header (D.disk device.new).seen) }
     ensures closed { LeavesClosed (D.disk device.new) }
     ensures elsewhere { Elsewhere 0 5 (D.disk device.old).seen (D.disk device.new).seen }
     ensures size { (D.disk device.new).sectors ≡ (D.disk device.old).sectors }
@@ -89,7 +83,7 @@ pub(crate) fn write_opening_sectors<D: Device>(
     ensures cause { Counts (D.disk device.old) (D.disk device.new) result }
 {
     write_superblock(device, superblock)?;
-    write_header(device, age)
+    write_header(device, header)
 }
 
 // Writes the gate of the first header, and touches no other sector.

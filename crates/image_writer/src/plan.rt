@@ -1,8 +1,8 @@
 // Where the parts of a fresh image lie.
-ghost use Rattle.std.specs.Prelude.{◌≡◌, ◌≤◌, length, IsTrue, IfOk, IfErr, ◌↔◌};
+ghost use Rattle.std.specs.Prelude.{◌≡◌, ◌≤◌, length, map, IsTrue, IfOk, IfErr, ◌↔◌};
 ghost use Rattle.std.specs.List.{All};
 ghost use Rattle.layout.specs.Superblock.{IsPlan};
-ghost use Rattle.image_writer.specs.Laid.{MayBeLaid, behind, laid, plan_from};
+ghost use Rattle.image_writer.specs.Laid.{MayBeLaid, behind, laid, laid_again, numbers_of, plan_from};
 
 use crate::number_range::NumberRange;
 use layout::{HomeRange, MAX_LOG, MAX_RANGES, Superblock, Version, half_extent, range_extent};
@@ -90,5 +90,34 @@ pub fn lay_out(
     match Superblock::new(version, geometry, used, first, second, total) {
         Some(superblock) => Ok(superblock),
         None => Err(LayOutFault),
+    }
+}
+
+// The numbers of home ranges.
+fn put_numbers(ranges: &[HomeRange], into: &mut [NumberRange])
+    requires size { length into.old ≡ length ranges.now }
+    ensures { into.new ≡ map numbers_of ranges.now }
+{
+    for (i, range) in ranges.iter().enumerate() {
+        into[i] = NumberRange {
+            first: range.first,
+            count: range.count,
+        };
+    }
+}
+
+/// Lays an image of a version out anew, with the objects and the home ranges of another: the ranges
+/// from sector 5 on, as `lay_out` does.
+pub fn lay_out_again(version: Version, superblock: &Superblock) -> Superblock
+    ensures laid { result ≡ laid_again version superblock.now }
+    ensures fits { IsPlan result }
+{
+    let mut numbers = [NumberRange { first: 0, count: 0 }; MAX_RANGES];
+    let ranges = superblock.ranges();
+    let used = &mut numbers[..ranges.len()];
+    put_numbers(ranges, used);
+    match lay_out(version, superblock.geometry(), used) {
+        Ok(laid) => laid,
+        Err(_) => unreachable!(),
     }
 }

@@ -1,2 +1,4 @@
 mod BuiltImages
+mod DescribedImages
 mod RunImages
+mod UpgradedImages

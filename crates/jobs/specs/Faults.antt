@@ -7,6 +7,8 @@ use Rattle.checkpoint.specs.declared.open_fault.OpenFault.TheVariants as opening
 use Rattle.model.specs.Text.{line_of, spaced}
 use Rattle.image_builder.specs.declared.fault.BuildFault.{BuildFault}
 use Rattle.image_builder.specs.declared.fault.BuildFault.TheVariants as build
+use Rattle.image_builder.specs.declared.upgrade_fault.UpgradeFault.{UpgradeFault}
+use Rattle.image_builder.specs.declared.upgrade_fault.UpgradeFault.TheVariants as upgrade
 use Rattle.image_builder.specs.Built.{fault_number}
 use Rattle.script.specs.declared.fault.RunFault.{RunFault}
 use Rattle.script.specs.declared.fault.RunFault.TheVariants as run
@@ -38,6 +40,12 @@ open_text opening.Failed = codes "eros: device failed"
 open_text opening.NoMemory = codes "eros: no memory"
 open_text (opening.Bad reason) = spaced (codes "eros: bad image" ∷ decimal (reason_number reason) ∷ [])
 
+abbrev pub upgrade_text : UpgradeFault → List ℕ
+upgrade_text (upgrade.Old why) = open_text why
+upgrade_text upgrade.Small = codes "eros: cannot write image"
+upgrade_text upgrade.Failed = codes "eros: device failed"
+upgrade_text upgrade.NoMemory = codes "eros: no memory"
+
 abbrev pub fault_text : Fault → List ℕ
 fault_text fault.CannotReadDescription = codes "eros: cannot read description"
 fault_text fault.NotToml = codes "eros: bad description"
@@ -48,6 +56,7 @@ fault_text fault.CannotWriteOutput = codes "eros: cannot write output"
 fault_text fault.NoMemory = codes "eros: no memory"
 fault_text (fault.Build why) = build_text why
 fault_text (fault.Open why) = open_text why
+fault_text (fault.Upgrade why) = upgrade_text why
 
 -- what a run's failure is to the program
 abbrev pub run_fault : RunFault → Fault

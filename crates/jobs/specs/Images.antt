@@ -1,12 +1,19 @@
 -- What the commands do with images.
-use Rattle.std.specs.Prelude.{◌≡◌, ◌≢◌, ◌↔◌, ◌<◌, ℕ, List, [], ◌∷◌, codes, decimal, Option, Result, Ok, Err}
+use Rattle.std.specs.Prelude.{◌≡◌, ◌≢◌, ◌↔◌, ◌<◌, ℕ, List, [], ◌∷◌, codes, decimal, map, Option, Some, Result, Ok, Err}
 use Rattle.std.specs.Io.KnownBytes.{Appends}
 use Rattle.toml.specs.Data.{Members}
+use Rattle.toml.specs.Parse.{parse_document}
+use Rattle.model.specs.declared.frame.Frame.{Frame}
 use Rattle.model.specs.declared.geometry.Geometry.{Geometry}
+use Rattle.model.specs.Keepable.{IsSoundFrames, world_at}
 use Rattle.model.specs.Machine.{Saved}
 use Rattle.model.specs.Text.{line_of, spaced}
 use Rattle.device.specs.Disk.{Disk}
+use Rattle.layout.specs.Image.{Encodes, SavedState}
+use Rattle.layout.specs.Superblock.{Plan, version_number}
+use Rattle.layout.specs.declared.version.Version.TheVariants.{Two}
 use Rattle.checkpoint.specs.Opened.{Looks}
+use Rattle.image_writer.specs.Laid.{laid_again, numbers_of}
 use Rattle.capability.specs.Parts.{Parts}
 use Rattle.object_store.specs.Store.{View}
 use Rattle.kernel.specs.declared.power.Power.{Power}
@@ -16,7 +23,10 @@ use Rattle.kernel.specs.Standing.{IsDeviceOf}
 use Rattle.description.specs.declared.entry.Description.{Description}
 use Rattle.description.specs.Reading.{IsDescription}
 use Rattle.image_builder.specs.declared.fault.BuildFault.TheVariants as build
+use Rattle.image_builder.specs.declared.upgrade_fault.UpgradeFault.TheVariants as upgrade
 use Rattle.image_builder.specs.Built.{BuildsFrom, Refuses, plan_for}
+use Rattle.image_describer.specs.Describes.{Describes, IsBrief}
+use Rattle.image_builder.specs.Upgraded.{IsNotUpgraded, Upgrades}
 use Rattle.runs.specs.KernelRuns.{RunsOver}
 use Rattle.script.specs.declared.fault.RunFault.{RunFault}
 use Rattle.script.specs.declared.fault.RunFault.TheVariants as run
@@ -43,6 +53,23 @@ BuildsImage disk ms old new output output_left (Err fault.CannotWriteOutput) = B
 BuildsImage disk ms old new output output_left (Err (fault.Build why)) =
     Refuses ms (disk old).sectors why × (why ≢ build.Failed → new ≡ old) × ((why ≡ build.Failed) ↔ ((disk old).failures < (disk new).failures)) × (output_left ≡ output)
 BuildsImage disk ms old new output output_left (Err _) = ⊥
+
+-- the total of an image that was upgraded is told
+abbrev pub upgraded_text : ℕ → List ℕ
+upgraded_text total = spaced (codes "upgraded" ∷ decimal total ∷ codes "sectors" ∷ [])
+
+abbrev pub UpgradesAndTells : {D E : Type 0} → (D → Disk) → (E → Disk) → D → E → E → (List ℕ → Type 0) → Type 0
+UpgradesAndTells disk new_disk old before new Told =
+    (done : Upgrades (disk old) (new_disk before) (new_disk new)) × Told (line_of (upgraded_text (laid_again Two done.state.plan).total))
+
+-- what an old device saves was written to a new one, and the total told; or that couldn't be written whole; or nothing was
+abbrev pub UpgradesImage : {D E : Type 0} → (D → Disk) → (E → Disk) → D → E → E → Option (List ℕ) → Option (List ℕ) → Result (Unit {0}) Fault → Type 0
+UpgradesImage disk new_disk old before new output output_left (Ok a) = UpgradesAndTells disk new_disk old before new (Appends output output_left)
+UpgradesImage disk new_disk old before new output output_left (Err fault.CannotWriteOutput) = UpgradesAndTells disk new_disk old before new (AppendsFront output output_left)
+UpgradesImage disk new_disk old before new output output_left (Err (fault.Upgrade why)) =
+    IsNotUpgraded disk old (new_disk before).sectors why × (why ≢ upgrade.Failed → new ≡ before)
+    × ((why ≡ upgrade.Failed) ↔ ((new_disk before).failures < (new_disk new).failures)) × (output_left ≡ output)
+UpgradesImage disk new_disk old before new output output_left (Err _) = ⊥
 
 -- The parameters are ghost members of a device and of an object store.
 module _ {D S : Type 0} (disk : D → Disk) (view : S → View D) (parts : S → Parts) where
@@ -73,3 +100,32 @@ ChecksImage disk device back output output_left (Ok a) = TellsSaved disk device 
 ChecksImage disk device back output output_left (Err fault.CannotWriteOutput) = TellsSaved disk device back (AppendsFront output output_left)
 ChecksImage disk device back output output_left (Err (fault.Open why)) = RefusesToOpen disk device back why × (output_left ≡ output)
 ChecksImage disk device back output output_left (Err _) = ⊥
+
+-- A text is that of a description which tells each object that frames stand for as it is, at their age, and nothing else:
+-- nothing at its default, numbers in order, and the home ranges and the version of a plan.
+pub record IsTextOf (p : Plan) (age : ℕ) (frames : List Frame) (text : List ℕ) : Type 0 where
+  pub table : Members
+  pub read : parse_document text ≡ Some table
+  pub description : Description
+  pub said : IsDescription table description
+  pub describes : Describes p.geometry (world_at age frames) description
+  pub brief : IsBrief description
+  pub ranges : description.ranges.items ≡ map numbers_of p.ranges
+  pub layout : description.layout ≡ version_number p.version
+
+-- a device was opened and nothing written to it, at no moment, and all that is saved on it told
+pub record TellsWhole {D : Type 0} (disk : D → Disk) (device back : D) (Told : List ℕ → Type 0) : Type 0 where
+  pub state : SavedState
+  pub encodes : Encodes (disk device).seen (disk device).sectors state
+  pub sound : IsSoundFrames state.plan.geometry state.header.age state.frames
+  pub text : List ℕ
+  pub whole : IsTextOf state.plan state.header.age state.frames text
+  pub told : Told text
+  pub looks : Looks (disk device) (disk back)
+
+-- so it was; or that couldn't be written whole; or the device wasn't opened, or memory ran out
+abbrev pub DescribesImage : {D : Type 0} → (D → Disk) → D → D → Option (List ℕ) → Option (List ℕ) → Result (Unit {0}) Fault → Type 0
+DescribesImage disk device back output output_left (Ok a) = TellsWhole disk device back (Appends output output_left)
+DescribesImage disk device back output output_left (Err fault.CannotWriteOutput) = TellsWhole disk device back (AppendsFront output output_left)
+DescribesImage disk device back output output_left (Err (fault.Open why)) = RefusesToOpen disk device back why × (output_left ≡ output)
+DescribesImage disk device back output output_left (Err _) = ⊥

@@ -1,15 +1,32 @@
 -- What is built can be run.
-use Rattle.std.specs.Prelude.{ℕ, List}
+use Rattle.std.specs.Prelude.{◌≡◌, ℕ, List, Some}
+use Rattle.toml.specs.Data.{Members}
+use Rattle.toml.specs.Parse.{parse_document}
 use Rattle.model.specs.declared.frame.Frame.{Frame}
 use Rattle.model.specs.Keepable.{IsSoundFrames, world_at}
+use Rattle.model.specs.Machine.{Saved}
 use Rattle.device.specs.Disk.{Image}
-use Rattle.checkpoint.specs.Saved.{Holds}
+use Rattle.layout.specs.Superblock.{Plan}
+use Rattle.checkpoint.specs.Saved.{Holds, SavedFrames}
 use Rattle.image_writer.specs.Written.{first_saved}
 use Rattle.kernel.specs.Denotes.{Denotes}
 use Rattle.description.specs.declared.entry.Description.{Description}
+use Rattle.description.specs.Reading.{IsDescription}
+use Rattle.image_builder.specs.Built.{IsSavedOf}
+use Rattle.jobs.specs.Images.{IsTextOf}
 
 -- what holds the frames of a built image denotes the world that they stand for, of generation 0 and with nothing in the
 -- log: none of the ten reasons to refuse it holds
 abbrev pub BuiltIsDenoted : Type 0
 BuiltIsDenoted = (d : Description) (frames : List Frame) (size : ℕ) (c : Image) → IsSoundFrames d.geometry d.age frames → Holds size c (first_saved d.geometry d.age frames) →
     Denotes d.geometry size c (record { world = world_at d.age frames; generation = 0; entries = 0 })
+
+-- what is saved of frames that were never saved before
+abbrev pub anew : ℕ → List Frame → Saved
+anew age frames = record { world = world_at age frames; generation = 0; entries = 0 }
+
+-- What holds frames that are saved as `build` does of a text told of an image denotes the world that the text tells, of
+-- generation 0 and with nothing in the log.
+abbrev pub DescribedIsDenoted : Type 0
+DescribedIsDenoted = (p : Plan) (age : ℕ) (frames : List Frame) (text : List ℕ) (table : Members) (d : Description) (saved : SavedFrames) (size : ℕ) (c : Image) → IsSoundFrames p.geometry age frames →
+    IsTextOf p age frames text → parse_document text ≡ Some table → IsDescription table d → IsSavedOf d saved → Holds size c saved → Denotes p.geometry size c (anew age frames)

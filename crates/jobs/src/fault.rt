@@ -2,10 +2,10 @@
 ghost use Rattle.std.specs.Prelude.{◌≡◌, ◌≤◌, length};
 ghost use Rattle.model.specs.Text.{line_of};
 ghost use Rattle.script.specs.Writing.{Writes};
-ghost use Rattle.jobs.specs.Faults.{IsTold, build_text, fault_text, open_text, reason_number, run_outcome, status_of};
+ghost use Rattle.jobs.specs.Faults.{IsTold, build_text, fault_text, open_text, reason_number, run_outcome, status_of, upgrade_text};
 
 use checkpoint::OpenFault;
-use image_builder::BuildFault;
+use image_builder::{BuildFault, UpgradeFault};
 use layout::BadImage;
 use script::{LineText, RunFault};
 use std::io::Write;
@@ -31,6 +31,8 @@ pub enum Fault {
     Build(BuildFault),
     /// The device isn't opened.
     Open(OpenFault),
+    /// No image was upgraded.
+    Upgrade(UpgradeFault),
 }
 
 /// What the end of a run is to the program.
@@ -81,6 +83,19 @@ fn open_line(fault: OpenFault) -> LineText
     }
 }
 
+// What is told where no image was upgraded.
+fn upgrade_line(fault: UpgradeFault) -> LineText
+    ensures text { result ≡ upgrade_text fault }
+    ensures short { length result ≤ 60 }
+{
+    match fault {
+        UpgradeFault::Old(why) => open_line(why),
+        UpgradeFault::Small => LineText::new(b"eros: cannot write image"),
+        UpgradeFault::Failed => LineText::new(b"eros: device failed"),
+        UpgradeFault::NoMemory => LineText::new(b"eros: no memory"),
+    }
+}
+
 impl Fault {
     // What is told of it.
     fn line(self) -> LineText
@@ -97,6 +112,7 @@ impl Fault {
             Fault::NoMemory => LineText::new(b"eros: no memory"),
             Fault::Build(fault) => build_line(fault),
             Fault::Open(fault) => open_line(fault),
+            Fault::Upgrade(fault) => upgrade_line(fault),
         }
     }
 

@@ -1,9 +1,15 @@
-//! A law of images, the contract of a function that does nothing.
+//! Laws of images, each the contract of a function that does nothing.
 
-ghost use Rattle.jobs.specs.Laws.{BuiltIsDenoted};
+ghost use Rattle.jobs.specs.Laws.{BuiltIsDenoted, DescribedIsDenoted};
 
 /// What `build_image` leaves on a device, and what each crash leaves of it, can be opened and run: it
 /// denotes the described world, of generation 0 and with nothing in the log.
 pub fn built_is_denoted()
     ensures { BuiltIsDenoted }
+{}
+
+/// What `build_image` leaves on a device of the text that `describe_image` wrote, and what each crash
+/// leaves of it, denotes the world that the text tells, of generation 0 and with nothing in the log.
+pub fn described_is_denoted()
+    ensures { DescribedIsDenoted }
 {}

@@ -3,15 +3,19 @@
 
 mod building;
 mod checking;
+mod describing;
 mod done;
 mod fault;
 pub mod laws;
 mod output;
 mod running;
+mod upgrading;
 
 pub use building::build_image;
 pub use checking::check_image;
+pub use describing::describe_image;
 pub use done::Done;
 pub use fault::Fault;
 pub use output::finish;
 pub use running::run_image;
+pub use upgrading::upgrade_image;

@@ -157,6 +157,7 @@ module _ {D S : Type 0} (disk : D → Disk) (view : S → View D) (parts : S →
         sound = is_sound;
         leaves = leaves_saved (view t).aside.saved.geometry (disk (view t).beneath) (view t).aside.saved saved_sound (λ c left. sound_holds t c (leads.sound opens.sound) left);
       };
+      frames = frames;
       at_saved = at_saved;
       durable = durable_on (disk (view s).beneath) (disk (view t).beneath) opens.durable (peeks still_untouched opens.frozen) (counts_now (view t).beneath) (seen_left (view t).beneath);
       looks = looked;

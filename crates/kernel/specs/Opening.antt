@@ -17,7 +17,7 @@ use Rattle.checkpoint.specs.declared.open_fault.OpenFault.{OpenFault}
 use Rattle.checkpoint.specs.declared.open_fault.OpenFault.TheVariants as fault
 use Rattle.checkpoint.specs.Opened.{Looks}
 use Rattle.checkpoint.specs.Saved.{SavedFrames, Holds}
-use Rattle.capability.specs.Parts.{Parts}
+use Rattle.capability.specs.Parts.{Parts, frames_of}
 use Rattle.object_store.specs.Store.{View}
 use Rattle.consistency.specs.declared.reason.CheckFault.{CheckFault}
 use Rattle.consistency.specs.declared.reason.CheckFault.TheVariants as check
@@ -90,6 +90,7 @@ module _ {D S : Type 0} (disk : D → Disk) (view : S → View D) (parts : S →
   pub record Wakes (device : D) (l : Live S) : Type 0 where
     pub holds : Holds (disk device).sectors (disk device).seen (view l.store).aside.saved
     pub up : IsUp disk view parts (view l.store).aside.saved.geometry l
+    pub frames : frames_of (parts l.store) ≡ (view l.store).aside.saved.frames
     pub at_saved : running disk view parts l ≡ opened (view l.store).aside.saved.geometry (saved_of (view l.store).aside.saved)
     pub durable : Only (disk_at disk view parts l).seen (disk_at disk view parts l)
     pub looks : Looks (disk device) (disk_at disk view parts l)

@@ -11,3 +11,5 @@ mod serving;
 mod waking;
 
 pub use kernel::Kernel;
+pub use power::Live;
+pub use waking::wake;

@@ -21,6 +21,7 @@ use Rattle.layout.specs.Spelt.{count_of, frame_read, frames_read, IsSpelt, AreSp
 use Rattle.layout.specs.Superblock.{Plan, IsApart, IsInside, half_extent}
 use Rattle.layout.proofs.Halves.{itself, apart_inside, half_within}
 use Rattle.layout.proofs.Spelling.{length_read, read_at, spelt_same, spelt_at}
+use Rattle.home_ranges.proofs.Seats.{beside_seat}
 use Rattle.home_ranges.proofs.Places.{places_within}
 use Rattle.ckpt_log.specs.Commit.{header_sector}
 use Rattle.ckpt_log.specs.Places.{slot_extent, place_extent, directory_extent}
@@ -42,7 +43,7 @@ use Rattle.migrator.proofs.Spared.{state_stays}
 use Rattle.checkpoint.proofs.Lists.{maps_same}
 use Rattle.migrator.proofs.Kept.{SparesKept, stored_stays, kept_on}
 use Rattle.migrator.proofs.PlacesApart.{in_slot, in_seat, at_home, frame_apart, home_apart, spares_other, homes_behind}
-use Rattle.migrator.proofs.Seats.{beside_seat, no_entries, seat_fits}
+use Rattle.migrator.proofs.Seats.{no_entries, seat_fits}
 use Rattle.migrator.proofs.Putting.{put_is, other_parity, half_spares, none_spares, homes_spare}
 
 -- ---- what is kept through a directory and a header that are written

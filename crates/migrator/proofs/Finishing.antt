@@ -15,6 +15,7 @@ use Rattle.layout.specs.Spelt.{count_of, AreSpelt, frames_read, state_in}
 use Rattle.layout.specs.Superblock.{Plan, IsApart, IsInside, half_extent}
 use Rattle.layout.proofs.Halves.{half_within, within_inside}
 use Rattle.layout.proofs.Spelling.{read_same, spelt_same}
+use Rattle.home_ranges.proofs.Seats.{seat_entry}
 use Rattle.home_ranges.specs.Laws.{home_extent}
 use Rattle.ckpt_log.specs.Places.{directory_extent}
 use Rattle.migrator.specs.declared.table.Place.TheVariants.{Nowhere}
@@ -26,7 +27,7 @@ use Rattle.migrator.specs.Spared.{SparesFrames, Spares}
 use Rattle.migrator.proofs.Kept.{SparesPuts, SparesKept}
 use Rattle.migrator.proofs.GoingOn.{holds}
 use Rattle.migrator.proofs.PlacesApart.{at_home, frame_apart, home_apart}
-use Rattle.migrator.proofs.Seats.{seat_entry, seat_fits}
+use Rattle.migrator.proofs.Seats.{seat_fits}
 use Rattle.migrator.proofs.Putting.{none_spares, half_spares, homes_spare, other_parity}
 use Rattle.migrator.proofs.Committing.{slots_apart_directory, directory_inside, kept_saves, stored_saves, state_saves}
 use Rattle.migrator.proofs.Moving.{no_checkpoint}

@@ -45,6 +45,7 @@ use Rattle.migrator.specs.Table.{place_at}
 use Rattle.migrator.specs.Put.{Put, Kept, slot_bytes, put_of, puts_in, ArePut}
 use Rattle.checkpoint.specs.Saved.{most, SavedFrames, kept_of, Holds, LeavesSaved, LeavesEither, replaced_saved, with_words, journaled_saved}
 use Rattle.migrator.specs.Durable.{Books, books_of, DurableState, frozen_generation, working_generation, generation_after, FrozenPuts, Stored, saved_state, frozen_of, stored_in, stored_of, IsRunning, IsKept, LeavesState, replaced, replaced_header, stored_after_journal, first_bytes, first_frame}
+use Rattle.home_ranges.proofs.Seats.{beside_seat}
 use Rattle.home_ranges.proofs.Places.{alone}
 use Rattle.migrator.specs.Headers.{IsHeaderOf}
 use Rattle.migrator.specs.Saving.{MaySave, SavesOnly}
@@ -55,7 +56,7 @@ use Rattle.migrator.proofs.Kept.{map_set, SparesKept, stored_stays, kept_on}
 use Rattle.migrator.proofs.GoingOn.{GoesOnSeen, holds, goes_spared}
 use Rattle.migrator.proofs.Later.{keepable_later}
 use Rattle.migrator.proofs.PlacesApart.{in_slot, at_home, frame_apart, home_apart, spares_log}
-use Rattle.migrator.proofs.Seats.{beside_seat, none_beside, page_own, no_entries, seat_fits}
+use Rattle.migrator.proofs.Seats.{none_beside, page_own, no_entries, seat_fits}
 use Rattle.migrator.proofs.Putting.{other_parity, half_spares, none_spares, homes_spare}
 use Rattle.migrator.proofs.Committing.{one_more, slots_apart_directory, directory_inside, kept_saves, stored_saves, state_saves}
 

@@ -1,5 +1,6 @@
 -- What is read of a device as it is opened.
-use Rattle.std.proofs.Common.{◌≡◌, ℕ, ◌+◌, ◌<◌, ◌≤◌, Some, None, List, length, sym, ap, subst, ◌∙◌, append-nil, inl, inr, ⊎_elim, arith}
+use Rattle.std.proofs.Common.{◌≡◌, Result, Ok, Err, ℕ, ◌+◌, ◌<◌, ◌≤◌, Some, None, List, length, sym, ap, subst, ◌∙◌, append-nil, inl, inr, ⊎_elim, arith}
+use Rattle.std.specs.Prelude.{IfErr}
 use Rattle.std.proofs.lemmas.Bool.{cases_lt}
 use Rattle.device.specs.Disk.{Image}
 use Rattle.device.specs.Calls.{Agrees}
@@ -11,6 +12,10 @@ use Rattle.layout.specs.Image.{HasPlan, IsBadBy, IsTooSmall, total_in, sectors_f
 use Rattle.layout.specs.Superblock.{Plan, IsPlan, IsRefused, superblock_bytes}
 use Rattle.layout.proofs.SlotsOf.{own_slot, rising_to, no_slot}
 use Rattle.layout.proofs.Totals.{total_told}
+use Rattle.checkpoint.specs.declared.open_fault.OpenFault.{OpenFault}
+use Rattle.checkpoint.specs.declared.open_fault.OpenFault.TheVariants as refusal
+use Rattle.checkpoint.specs.Opened.{IsBadFor}
+use Rattle.migrator.specs.Opened.{HasNoPlan, IsUnplanned}
 
 -- ---- the superblock
 
@@ -27,7 +32,7 @@ not_small image size bytes is least whole small = ⊎_elim (λ lt. omega (arith,
 pub total_small : (image : Image) (size : ℕ) (bytes : List ℕ) → image 0 ≡ bytes → size < total_in bytes → IsTooSmall image size
 total_small image size bytes is lt = inr (subst (λ (b : List ℕ). size < total_in b) (sym is) lt)
 
-pub plan_refused : (image : Image) (size : ℕ) (bytes : List ℕ) (reason : BadImage) → image 0 ≡ bytes → 5 ≤ size → total_in bytes ≤ size → IsRefused bytes reason → IsBadBy image size reason
+pub plan_refused : (image : Image) (size : ℕ) (bytes : List ℕ) (reason : BadImage) → image 0 ≡ bytes → 5 ≤ size → total_in bytes ≤ size → IsRefused bytes reason → HasNoPlan image size reason
 plan_refused image size bytes bad.Small is least whole refused = absurd refused
 plan_refused image size bytes bad.NotASuperblock is least whole refused =
     (not_small image size bytes is least whole, subst (λ (b : List ℕ). IsRefused b bad.NotASuperblock) (sym is) refused)
@@ -41,6 +46,28 @@ plan_refused image size bytes bad.BadFrame is least whole refused = absurd refus
 plan_refused image size bytes bad.BadCapability is least whole refused = absurd refused
 plan_refused image size bytes bad.BadProcess is least whole refused = absurd refused
 plan_refused image size bytes bad.BadBank is least whole refused = absurd refused
+
+-- such a reason is the least of all
+pub planless : (image : Image) (size : ℕ) (reason : BadImage) → HasNoPlan image size reason → IsBadBy image size reason
+planless image size bad.Small none = none
+planless image size bad.NotASuperblock none = none
+planless image size bad.BadGeometry none = none
+planless image size bad.NoHeader none = absurd none
+planless image size bad.BadHeader none = absurd none
+planless image size bad.BadDirectory none = absurd none
+planless image size bad.BadFrame none = absurd none
+planless image size bad.BadCapability none = absurd none
+planless image size bad.BadProcess none = absurd none
+planless image size bad.BadBank none = absurd none
+
+unplanned : (image : Image) (size : ℕ) (why : OpenFault) → IsUnplanned image size why → IsBadFor image size why
+unplanned image size refusal.Failed none = tt
+unplanned image size refusal.NoMemory none = absurd none
+unplanned image size (refusal.Bad reason) none = planless image size reason none
+
+pub refused_plan : {T : Type 0} (result : Result T OpenFault) (image : Image) (size : ℕ) → IfErr result (λ why. IsUnplanned image size why) → IfErr result (λ why. IsBadFor image size why)
+refused_plan (Ok value) image size none = tt
+refused_plan (Err why) image size none = unplanned image size why none
 
 pub plan_read : (image : Image) (size : ℕ) (bytes : List ℕ) (p : Plan) → image 0 ≡ bytes → 5 ≤ size → total_in bytes ≤ size → bytes ≡ superblock_bytes p → IsPlan p → HasPlan image size p
 plan_read image size bytes p is least whole spelt fits = record {

@@ -10,6 +10,7 @@ use Rattle.layout.specs.Image.{bytes_at, frame_in, seat_in, slot_in, slot_sector
 use Rattle.layout.specs.Spelt.{count_of}
 use Rattle.layout.specs.Superblock.{Plan, IsPlan, IsApart, IsInside, half_extent}
 use Rattle.layout.proofs.Halves.{itself, apart_inside, apart_turned, within_inside}
+use Rattle.home_ranges.proofs.Seats.{own_seat}
 use Rattle.home_ranges.specs.Laws.{home_extent}
 use Rattle.home_ranges.proofs.Places.{places_within, places_apart, places_spare_log}
 use Rattle.ckpt_log.specs.Places.{place_extent, directory_extent}
@@ -17,7 +18,7 @@ use Rattle.ckpt_log.proofs.Places.{slots_inside, frames_in_slots, directories_in
 use Rattle.ckpt_log.specs.CommitLaws.{HomesAreBehind}
 use Rattle.migrator.specs.Put.{slot_bytes}
 use Rattle.migrator.specs.Spared.{frame_extent, Spares}
-use Rattle.migrator.proofs.Seats.{own_seat, no_entries, seats_differ, seat_fits}
+use Rattle.migrator.proofs.Seats.{no_entries, seats_differ, seat_fits}
 
 -- ---- where the frame of an object is read
 

@@ -1,4 +1,4 @@
--- The slots whose sectors have the frames of objects.
+-- Which slot has the frame of an object, or of another in its cluster.
 use Rattle.std.proofs.Common.{◌≡◌, ℕ, zero, suc, ◌-◌, ◌<◌, ◌≤◌, Bool, true, false, not, nat_eq, Option, Some, None, List, [], ◌∷◌, length, refl, sym, ap, subst, ◌∙◌, inl, inr, arith}
 use Rattle.std.specs.Prelude.{if◌then◌else◌}
 use Rattle.std.proofs.lemmas.Bool.{cases_eq, cases_lt, eq-eqb, ne_eqb}
@@ -6,22 +6,17 @@ use Rattle.layout.specs.declared.directory.Entry.{Entry}
 use Rattle.layout.specs.declared.shape.Shape.TheVariants.{Packed, Page}
 use Rattle.layout.specs.Directory.{IsDirectory, AreRising, entry_at}
 use Rattle.layout.specs.Homes.{home_place, range_with, rank_in, shape_of}
-use Rattle.layout.specs.Image.{slot_in, slot_beside, or_beside, seat_in}
+use Rattle.layout.specs.Image.{slot_in, slot_beside, seat_in}
 use Rattle.layout.specs.Spelt.{count_of}
 use Rattle.layout.specs.Shape.{node_shape}
 use Rattle.layout.specs.Superblock.{Plan, IsPlan}
 use Rattle.layout.proofs.SlotsOf.{found_slot, own_slot, rising_to}
 use Rattle.home_ranges.proofs.Places.{IsOwn, alone, lt_false}
+use Rattle.home_ranges.proofs.Seats.{beside_behind, beside_here, beside_seat, own_seat, same_some, seat_entry}
 use Rattle.home_ranges.proofs.Shared.{begins, home_between}
 use Rattle.migrator.specs.Gathered.{IsFirst}
 
 -- ---- the first entry whose home is that of an object
-
-beside_here : (p : Plan) (e : Entry) (es : List Entry) (n : ℕ) → home_place p e.object ≡ home_place p n → slot_beside p (e ∷ es) n ≡ Some e.slot
-beside_here p e es n is = ap (λ (b : Bool). if b then Some e.slot else slot_beside p es n) (eq-eqb (home_place p e.object) (home_place p n) is)
-
-beside_behind : (p : Plan) (e : Entry) (es : List Entry) (n : ℕ) → (home_place p e.object ≡ home_place p n → ⊥) → slot_beside p (e ∷ es) n ≡ slot_beside p es n
-beside_behind p e es n other = ap (λ (b : Bool). if b then Some e.slot else slot_beside p es n) (ne_eqb (home_place p e.object) (home_place p n) other)
 
 pub none_beside : (p : Plan) (es : List Entry) (n : ℕ) → ((i : ℕ) → i < length es → home_place p (entry_at es i).object ≡ home_place p n → ⊥) → slot_beside p es n ≡ None
 none_beside p [] n none = refl
@@ -32,25 +27,6 @@ pub beside_at : (p : Plan) (es : List Entry) (n i : ℕ) → i < length es → (
 beside_at p [] n i lt before is = absurd (omega (arith, lt))
 beside_at p (e ∷ es) n zero lt before is = beside_here p e es n is
 beside_at p (e ∷ es) n (suc i) lt before is = beside_behind p e es n (before 0 (omega arith)) ∙ beside_at p es n i (omega (arith, lt)) (λ j less. before (suc j) (omega (arith, less))) is
-
--- the entry of such a slot
-pub record HasBeside (p : Plan) (es : List Entry) (n slot : ℕ) : Type 0 where
-  pub index : ℕ
-  pub within : index < length es
-  pub home_is : home_place p (entry_at es index).object ≡ home_place p n
-  pub slot_is : (entry_at es index).slot ≡ slot
-
-same_some : (a b : ℕ) → Some a ≡ Some b → a ≡ b
-same_some a b e = cc
-
-pub found_beside : (p : Plan) (es : List Entry) (n s : ℕ) → slot_beside p es n ≡ Some s → HasBeside p es n s
-found_beside p [] n s is = absurd cc
-found_beside p (e ∷ es) n s is = elim (cases_eq (home_place p e.object) (home_place p n)) [
-  | inl same ↦ record { index = 0; within = omega arith; home_is = same; slot_is = same_some e.slot s (sym (beside_here p e es n same) ∙ is) }
-  | inr other ↦
-      let rest = found_beside p es n s (sym (beside_behind p e es n other) ∙ is) in
-      record { index = suc rest.index; within = omega (arith, rest.within); home_is = rest.home_is; slot_is = rest.slot_is }
-]
 
 -- which is the first of its home
 pub record HasFirst (p : Plan) (es : List Entry) (n slot : ℕ) : Type 0 where
@@ -82,17 +58,6 @@ some_beside p (e ∷ es) n (suc i) lt is none = elim (cases_eq (home_place p e.o
   | inr other ↦ some_beside p es n i (omega (arith, lt)) is (sym (beside_behind p e es n other) ∙ none)
 ]
 
--- ---- the slot of an object, or else that one
-
-seat_by : (p : Plan) (es : List Entry) (n : ℕ) (own : Option ℕ) → slot_in es n ≡ own → seat_in p es n ≡ or_beside own (slot_beside p es n)
-seat_by p es n own is = ap (λ (o : Option ℕ). or_beside o (slot_beside p es n)) is
-
-pub own_seat : (p : Plan) (es : List Entry) (n s : ℕ) → slot_in es n ≡ Some s → seat_in p es n ≡ Some s
-own_seat p es n s is = seat_by p es n (Some s) is
-
-pub beside_seat : (p : Plan) (es : List Entry) (n : ℕ) → slot_in es n ≡ None → seat_in p es n ≡ slot_beside p es n
-beside_seat p es n is = seat_by p es n None is
-
 -- an object whose frame isn't packed has no slot but its own
 pub alone_beside : (p : Plan) (es : List Entry) (n : ℕ) → IsPlan p → IsDirectory p.geometry es → n < count_of p → IsOwn (shape_of p n) → slot_in es n ≡ None → slot_beside p es n ≡ None
 alone_beside p es n fits is lt own none = none_beside p es n (λ i within same.
@@ -118,16 +83,6 @@ seats_differ p es n m t has none same =
       beside_none : (o : Option ℕ) → slot_in es n ≡ o → slot_beside p es n ≡ None
       beside_none None is = sym (beside_seat p es n is) ∙ none
       beside_none (Some s) is = let never : None ≡ Some s = sym none ∙ own_seat p es n s is in absurd cc
-
--- the entry of a seat
-pub seat_entry : (p : Plan) (es : List Entry) (n s : ℕ) → seat_in p es n ≡ Some s → HasBeside p es n s
-seat_entry p es n s seat = by (slot_in es n) refl where
-  by : (o : Option ℕ) → slot_in es n ≡ o → HasBeside p es n s
-  by None none = found_beside p es n s (sym (beside_seat p es n none) ∙ seat)
-  by (Some t) own =
-      let entry = found_slot es n t own in
-      let same : t ≡ s = same_some t s (sym (own_seat p es n t own) ∙ seat) in
-      record { index = entry.index; within = entry.within; home_is = ap (home_place p) entry.object_is; slot_is = entry.slot_is ∙ same }
 
 -- a seat is a slot of some entry
 pub seat_fits : (p : Plan) (es : List Entry) (n s : ℕ) → IsDirectory p.geometry es → seat_in p es n ≡ Some s → s < p.geometry.log

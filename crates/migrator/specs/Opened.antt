@@ -4,6 +4,8 @@ use Rattle.model.specs.declared.frame.Frame.{Frame}
 use Rattle.model.specs.Frame.{headers}
 use Rattle.layout.specs.declared.directory.Entry.{Entry}
 use Rattle.layout.specs.declared.header.CheckpointHeader.{CheckpointHeader}
+use Rattle.layout.specs.declared.bad_image.BadImage.{BadImage}
+use Rattle.layout.specs.declared.bad_image.BadImage.TheVariants as bad
 use Rattle.layout.specs.declared.bad_image.BadImage.TheVariants.{BadFrame}
 use Rattle.layout.specs.Frame.{IsFrameOf}
 use Rattle.layout.specs.Spelt.{AreSpelt, frames_read}
@@ -21,10 +23,23 @@ use Rattle.checkpoint.specs.Saved.{Holds}
 use Rattle.checkpoint.specs.Opened.{Looks}
 use Rattle.migrator.specs.Durable.{DurableState, stored_of, is_sound}
 
--- why an image is refused, where the device didn't fail
+-- why an image has no superblock: the least of the first three reasons
+abbrev pub HasNoPlan : Image → ℕ → BadImage → Type 0
+HasNoPlan image size bad.Small = IsBadBy image size bad.Small
+HasNoPlan image size bad.NotASuperblock = IsBadBy image size bad.NotASuperblock
+HasNoPlan image size bad.BadGeometry = IsBadBy image size bad.BadGeometry
+HasNoPlan image size _ = ⊥
+
+-- so it is where the device didn't fail
 abbrev pub IsNoPlan : Image → ℕ → ReadFault → Type 0
 IsNoPlan image size fault.Failed = ⊤
-IsNoPlan image size (fault.Bad reason) = IsBadBy image size reason
+IsNoPlan image size (fault.Bad reason) = HasNoPlan image size reason
+
+-- and where that is told without memory
+abbrev pub IsUnplanned : Image → ℕ → OpenFault → Type 0
+IsUnplanned image size refusal.Failed = ⊤
+IsUnplanned image size refusal.NoMemory = ⊥
+IsUnplanned image size (refusal.Bad reason) = HasNoPlan image size reason
 
 -- the saved frame of an object is none
 abbrev pub IsBadAt : Image → Plan → CheckpointHeader → List Entry → ℕ → OpenFault → Type 0

@@ -10,7 +10,7 @@ ghost use Rattle.frame_io.specs.Frames.{IsObject};
 ghost use Rattle.migrator.specs.Opened.{IsBadAt, IsRead};
 ghost use Rattle.checkpoint.specs.Opened.{IsBadFor, CountsOpen, Looks};
 
-use crate::read::{read_saved, read_superblock};
+use crate::read::{read_saved, superblock_of};
 use checkpoint::OpenFault;
 use ckpt_log::Log;
 use device::Device;
@@ -65,11 +65,7 @@ pub(crate) fn read_plan<D: Device>(device: &mut D) -> Result<Superblock, OpenFau
     ensures cause { CountsOpen (D.disk device.old) (D.disk device.new) result }
 {
     match device.sync() {
-        Ok(()) => match read_superblock(device) {
-            Ok(superblock) => Ok(superblock),
-            Err(ReadFault::Failed) => Err(OpenFault::Failed),
-            Err(ReadFault::Bad(reason)) => Err(OpenFault::Bad(reason)),
-        },
+        Ok(()) => superblock_of(device),
         Err(_) => Err(OpenFault::Failed),
     }
 }

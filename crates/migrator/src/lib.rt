@@ -14,3 +14,4 @@ mod turn;
 
 pub use checkpoint::{Checkpoint, CheckpointFault, OpenFault, OpenRefused};
 pub use durable::{Durable, Opened};
+pub use read::superblock_of;

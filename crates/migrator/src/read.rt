@@ -10,11 +10,13 @@ ghost use Rattle.device.specs.Calls.{Counts};
 ghost use Rattle.layout.specs.Spelt.{IsSpelt, frame_read};
 ghost use Rattle.layout.specs.Shape.{shape_length};
 ghost use Rattle.migrator.specs.Headers.{IsHeaderOf};
-ghost use Rattle.migrator.specs.Opened.{IsNoPlan};
+ghost use Rattle.migrator.specs.Opened.{IsNoPlan, IsUnplanned};
+ghost use Rattle.checkpoint.specs.Opened.{CountsOpen};
 ghost use Rattle.migrator.specs.Put.{slot_bytes, slot_frame};
 ghost use Rattle.checkpoint.specs.Saved.{most};
 
 use crate::find::find_seat;
+use checkpoint::OpenFault;
 use ckpt_log::Log;
 use device::{Device, Failed, SECTOR_SIZE};
 use frame_io::{ReadFault, read_header, read_packed, read_sectors};
@@ -25,9 +27,9 @@ use layout::{
 };
 use model::ObjectHeader;
 
-/// Reads the superblock of a device. It is refused by `Failed` exactly where the device failed, and
-/// else by the least of the first three reasons that holds.
-pub(crate) fn read_superblock<D: Device>(device: &mut D) -> Result<Superblock, ReadFault>
+// Reads the superblock of a device. It is refused by `Failed` exactly where the device failed, and
+// else by the least of the first three reasons that holds.
+fn read_superblock<D: Device>(device: &mut D) -> Result<Superblock, ReadFault>
     ensures found { IfOk result (λ s.
         HasPlan (D.disk device.old).seen (D.disk device.old).sectors s) }
     ensures refused { IfErr result (λ e.
@@ -47,6 +49,24 @@ pub(crate) fn read_superblock<D: Device>(device: &mut D) -> Result<Superblock, R
     match decode_superblock(&sector) {
         Ok(superblock) => Ok(superblock),
         Err(reason) => Err(ReadFault::Bad(reason)),
+    }
+}
+
+/// Reads the superblock of a device, and no other sector. It is refused by `Failed` exactly where
+/// the device failed, and else by the least of the first three reasons that holds. It takes no
+/// memory.
+pub fn superblock_of<D: Device>(device: &mut D) -> Result<Superblock, OpenFault>
+    ensures found { IfOk result (λ s.
+        HasPlan (D.disk device.old).seen (D.disk device.old).sectors s) }
+    ensures refused { IfErr result (λ e.
+        IsUnplanned (D.disk device.old).seen (D.disk device.old).sectors e) }
+    ensures reads { ReadsOnly (D.disk device.old) (D.disk device.new) }
+    ensures cause { CountsOpen (D.disk device.old) (D.disk device.new) result }
+{
+    match read_superblock(device) {
+        Ok(superblock) => Ok(superblock),
+        Err(ReadFault::Failed) => Err(OpenFault::Failed),
+        Err(ReadFault::Bad(reason)) => Err(OpenFault::Bad(reason)),
     }
 }
 

@@ -10,7 +10,8 @@ use Rattle.model.specs.Sound.{object_count}
 use Rattle.device.specs.Disk.{Disk}
 use Rattle.migrator.specs.Put.{Absent}
 use Rattle.checkpoint.specs.Saved.{most}
-use Rattle.migrator.specs.Durable.{DurableState, FrozenPuts, Stored, GoesOn, left_of, stored_of, is_sound}
+use Rattle.layout.specs.Image.{SavedState}
+use Rattle.migrator.specs.Durable.{DurableState, FrozenPuts, Stored, GoesOn, left_of, saved_state, seen_of, stored_of, is_sound}
 use Rattle.capability.specs.Parts.{Parts}
 use Rattle.capability.specs.Plain.{PlainState, HasRoom, IsThere, with_content_at}
 use Rattle.object_cache.specs.declared.snapshot.Snapshot.{Snapshot}
@@ -70,6 +71,10 @@ module _ {D : Type 0} (disk : D → Disk) where
     touched = s.present.touched;
     failures = (disk s.durable.beneath).failures;
   }
+
+  -- the checkpoint that is saved
+  abbrev pub saved_by : StoreState D → SavedState
+  saved_by s = saved_state (seen_of disk s.durable) s.durable.books
 
   abbrev pub frozen_frames_of : StoreState D → List Frame
   frozen_frames_of s = frozen_frames (stored_of disk s.durable) (present_frames s.present) s.snapshots

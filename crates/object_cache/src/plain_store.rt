@@ -10,6 +10,7 @@ use crate::snapshot::Snapshot;
 use crate::snapshots::{Snapshots, copy_frozen};
 use capability::{Fresh, MAX_FETCHED, ObjectTable, Plain, PrepareFault, PresentFrames};
 use device::Device;
+use layout::Superblock;
 use migrator::Durable;
 use model::{Cap, Content, Geometry};
 use std::alloc::{AllocError, Global};
@@ -46,6 +47,23 @@ impl<D: Device> Model for PlainStore<D> {
 
 impl<D: Device> PlainStore<D> {
     ghost use Rattle.object_cache.specs.PlainStore.{parts_of, IsFetchedIn, IsAnnouncedIn, GoesOnIn};
+
+    /// The superblock of the device.
+    pub fn superblock(&self) -> &Superblock
+        ensures { result.now ≡ self.now.durable.books.plan }
+    {
+        self.durable.superblock()
+    }
+
+    /// What is saved and what was put, over the device, and the present objects. It makes no call of
+    /// the device.
+    pub fn into_parts(self) -> (Durable<D>, Plain)
+        ensures durable { result.0 ≡ self.durable }
+        ensures present { result.1 ≡ self.present }
+        ensures whole { length self.present.contents ≡ length self.present.headers }
+    {
+        (self.durable, self.present)
+    }
 
     // Keeps the frozen frames of the objects of a list apart from the present ones.
     fn copy_written(&mut self, alloc: Global, written: &[u64]) -> Result<(), AllocError>

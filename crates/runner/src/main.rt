@@ -2,15 +2,14 @@
 #![tactic(auto)]
 
 ghost use Rattle.std.specs.Prelude.{◌≡◌, IfOk};
-ghost use Rattle.image_builder.specs.Built.{plan_for};
 ghost use Rattle.file_device.specs.FileDevice.{file_disk};
 
 use bounded_cache::{BoundedCache, Capacity};
 use command_line::{Job, JobFault, Script, job};
 use device::MAX_SECTORS;
 use file_device::{FileDevice, FileFault};
-use image_builder::Blueprint;
-use jobs::{Fault, build_image, check_image, finish, run_image};
+use image_builder::{Blueprint, upgraded_sectors};
+use jobs::{Fault, build_image, check_image, describe_image, finish, run_image, upgrade_image};
 use object_cache::PlainStore;
 use object_store::ObjectStore;
 use std::fs::{self, File};
@@ -68,18 +67,11 @@ fn read_blueprint(rt: &HostRuntime, description: &str) -> Result<Blueprint, Faul
 }
 
 // The device in a new file, of so many sectors as an image has, all zeros. A file that is there is
-// replaced, unless the description is read from it.
-fn create(
-    rt: &HostRuntime,
-    blueprint: &Blueprint,
-    description: &str,
-    path: &str,
-) -> Result<FileDevice, Fault>
-    ensures { IfOk result (λ device.
-        (file_disk device).sectors ≡ (plan_for blueprint.now).total) }
+// replaced, unless what the image is made of is read from it.
+fn create(rt: &HostRuntime, sectors: u64, source: &str, path: &str) -> Result<FileDevice, Fault>
+    ensures { IfOk result (λ device. (file_disk device).sectors ≡ sectors) }
 {
-    let sectors = blueprint.sectors();
-    if sectors > MAX_SECTORS || is_one_file(rt, description, path) {
+    if sectors > MAX_SECTORS || is_one_file(rt, source, path) {
         return Err(Fault::CannotWriteImage);
     }
     match FileDevice::create(rt, path, sectors) {
@@ -96,7 +88,7 @@ fn output(rt: &HostRuntime) -> Result<BufWriter<Stdout>, Fault> {
 // Builds an image, and gives the status.
 fn build(rt: &HostRuntime, description: &str, image: &str) -> Result<u8, Fault> {
     let blueprint = read_blueprint(rt, description)?;
-    let mut device = create(rt, &blueprint, description, image)?;
+    let mut device = create(rt, blueprint.sectors(), description, image)?;
     let (mut writer, mut errors) = (output(rt)?, rt.stderr());
     let status = build_image(
         rt.alloc(),
@@ -171,6 +163,30 @@ fn check(rt: &HostRuntime, image: &str) -> Result<u8, Fault> {
     Ok(finish(&mut writer, done.status, &mut errors))
 }
 
+// Writes what an image saves to a new one by version 2 of the layout, and gives the status.
+fn upgrade(rt: &HostRuntime, old: &str, new: &str) -> Result<u8, Fault> {
+    let mut device = FileDevice::open_to_read(rt, old).map_err(|fault| of_file(
+        fault,
+        Fault::CannotOpenImage,
+    ))?;
+    let sectors = upgraded_sectors(&mut device).map_err(Fault::Open)?;
+    let mut upgraded = create(rt, sectors, old, new)?;
+    let (mut writer, mut errors) = (output(rt)?, rt.stderr());
+    let status = upgrade_image(rt.alloc(), device, &mut upgraded, &mut writer, &mut errors);
+    Ok(finish(&mut writer, status, &mut errors))
+}
+
+// Describes an image, and gives the status.
+fn describe(rt: &HostRuntime, image: &str) -> Result<u8, Fault> {
+    let device = FileDevice::open_to_read(rt, image).map_err(|fault| of_file(
+        fault,
+        Fault::CannotOpenImage,
+    ))?;
+    let (mut writer, mut errors) = (output(rt)?, rt.stderr());
+    let done = describe_image(rt.alloc(), device, &mut writer, &mut errors);
+    Ok(finish(&mut writer, done.status, &mut errors))
+}
+
 // Does a job, and gives the status.
 fn serve(rt: &HostRuntime, job: &Job<'_>) -> Result<u8, Fault> {
     match job {
@@ -190,6 +206,8 @@ fn serve(rt: &HostRuntime, job: &Job<'_>) -> Result<u8, Fault> {
             None => Ok(2),
         },
         Job::Check { image } => check(rt, image),
+        Job::Upgrade { old, new } => upgrade(rt, old, new),
+        Job::Describe { image } => describe(rt, image),
     }
 }
 

@@ -20,3 +20,4 @@ pub use lines::LineBuffer;
 pub use named::{capability_of, state_of};
 pub use parse::parse_line;
 pub use print::{print_answer, print_bad_line};
+pub use writing::write_fully;

@@ -42,8 +42,8 @@ fn write_to_fault<D: Device, S: ObjectStore<D>, W: Write>(
     Ok(None)
 }
 
-// Tells what a power cut leaves of a device, and what a kernel answers that opens it.
-fn write_left<D: Device, W: Write>(
+/// Tells what a power cut leaves of a device, and what a kernel answers that opens it.
+pub(crate) fn write_left<D: Device, W: Write>(
     alloc: Global,
     device: D,
     task: &Task<'_>,

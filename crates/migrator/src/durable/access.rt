@@ -13,7 +13,7 @@ use crate::read::{read_again, read_put};
 use crate::table::Place;
 use checkpoint::Checkpoint;
 use device::{Device, Failed};
-use layout::{Body, Room};
+use layout::{Body, Entry, Room, Superblock};
 use model::{Geometry, ObjectHeader};
 
 impl<D: Device> Durable<D> {
@@ -23,6 +23,21 @@ impl<D: Device> Durable<D> {
         ensures few { result.nodes + result.pages ≤ 8192 }
     {
         self.home.geometry()
+    }
+
+    /// The superblock of the device.
+    pub fn superblock(&self) -> &Superblock
+        ensures { result.now ≡ self.now.books.plan }
+    {
+        self.home.superblock()
+    }
+
+    /// The directory of the committed checkpoint: which objects it names, and the slots of the log
+    /// that have their frames.
+    pub fn directory(&self) -> &[Entry]
+        ensures { result.now ≡ self.now.books.directory }
+    {
+        &self.directory[..self.header.entries as usize]
     }
 
     /// Of how many objects the frame is still to be put, where a checkpoint is on its way.

@@ -1,7 +1,17 @@
 use Rattle.toml.specs.View.{table_view}
-use Rattle.description.specs.Reading.{IsDescription}
+use Rattle.description.specs.Reading.{AtOr, IsDescription, IsList, IsRange, whole_ranges}
+use Rattle.description.proofs.Keyed.{at_either}
+use Rattle.image_writer.specs.declared.number_range.NumberRange.{NumberRange}
+use Rattle.std.proofs.Common.{List, codes}
 use Rattle.description.proofs.Parts.{failed}
 use Rattle.description.proofs.read.read_description.Goals as goal
 
 pub returns-in_err-check_keys : goal.returns-in_err-check_keys
 returns-in_err-check_keys c = failed _ (IsDescription (table_view c.args.table.now)) c.in_err-check_keys.field-0.0 c.from_residual.result c.from_residual.ensures.1 c.in_err-check_keys.ensures (λ _ is. (tt, is.known))
+
+pub returns-in_err-ranges : goal.returns-in_err-ranges
+returns-in_err-ranges c =
+    let ms = table_view c.args.table.now in
+    let g = c.in_ok-geometry.geometry in
+    failed (λ (rs : List NumberRange). AtOr (whole_ranges g) (codes "ranges") (IsList IsRange) ms rs) (IsDescription ms) c.in_err-ranges.field-0.0 c.from_residual-in_err-ranges.result c.from_residual-in_err-ranges.ensures.1
+    c.in_err-ranges.ensures (λ d is. at_either (codes "ranges") (IsList IsRange) ms (whole_ranges d.geometry) (whole_ranges g) d.ranges.items is.ranges)

@@ -1,11 +1,14 @@
-use Rattle.std.proofs.Common.{subst, ℕ}
+use Rattle.std.proofs.Common.{Err, subst, ℕ}
+use Rattle.std.specs.Prelude.{IfErr}
 use Rattle.device.specs.Disk.{Image}
 use Rattle.device.proofs.Images.{agrees_is}
-use Rattle.layout.specs.Image.{IsBadBy}
+use Rattle.checkpoint.specs.declared.open_fault.OpenFault.{OpenFault}
+use Rattle.checkpoint.specs.Opened.{IsBadFor}
+use Rattle.migrator.proofs.Opening.{refused_plan}
 use Rattle.migrator.proofs.image.read_plan.Goals as goal
 
-pub returns-in-Err-Bad-clause-refused : goal.returns-in-Err-Bad-clause-refused
-returns-in-Err-Bad-clause-refused g c =
-    let refused = rw c.in-Err-Bad.field-0-is at c.in-Err-Bad.ensures.refused in
-    subst (λ (i : Image). IsBadBy i (g.D.Device.disk c.args.device.now).sectors c.in-Err-Bad.reason) (agrees_is (g.D.Device.disk c.sync.new.self).seen (g.D.Device.disk c.args.device.now).seen c.sync.ensures.seen)
-    (subst (λ (k : ℕ). IsBadBy (g.D.Device.disk c.sync.new.self).seen k c.in-Err-Bad.reason) c.sync.ensures.size refused)
+pub returns-in-Ok-clause-refused : goal.returns-in-Ok-clause-refused
+returns-in-Ok-clause-refused g c =
+    subst (λ (i : Image). IfErr c.superblock_of.result (λ (e : OpenFault). IsBadFor i (g.D.Device.disk c.args.device.now).sectors e)) (agrees_is (g.D.Device.disk c.sync.new.self).seen (g.D.Device.disk c.args.device.now).seen c.sync.ensures.seen)
+    (subst (λ (k : ℕ). IfErr c.superblock_of.result (λ (e : OpenFault). IsBadFor (g.D.Device.disk c.sync.new.self).seen k e)) c.sync.ensures.size
+    (refused_plan c.superblock_of.result (g.D.Device.disk c.sync.new.self).seen (g.D.Device.disk c.sync.new.self).sectors c.superblock_of.ensures.refused))

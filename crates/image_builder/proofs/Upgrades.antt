@@ -1,0 +1,89 @@
+-- What a device saves, written to another.
+use Rattle.std.proofs.Common.{◌≡◌, ◌⊎◌, ℕ, ◌+◌, ◌<◌, ◌≤◌, List, length, ap, inl, inr, refl, subst, sym, ◌∙◌, arith}
+use Rattle.std.specs.Prelude.{◌≢◌, Result, Ok, Err, IfErr, IfOk, IsErrOf, OnOk}
+use Rattle.model.specs.declared.frame.Frame.{Frame}
+use Rattle.device.specs.Disk.{Disk, Image}
+use Rattle.device.specs.Calls.{Agrees, Elsewhere}
+use Rattle.device.specs.Moments.{LeavesOnly}
+use Rattle.device.proofs.Images.{agrees_is}
+use Rattle.device.proofs.Moments.{OnlyNow, leaves_weaker, started}
+use Rattle.layout.specs.declared.directory.Entry.{Entry}
+use Rattle.layout.specs.declared.version.Version.TheVariants.{Two}
+use Rattle.layout.specs.Directory.{IsDirectory}
+use Rattle.layout.specs.Header.{IsHeader}
+use Rattle.layout.specs.Image.{Encodes, SavedState}
+use Rattle.layout.specs.Superblock.{Plan}
+use Rattle.checkpoint.specs.declared.open_fault.OpenFault.{OpenFault}
+use Rattle.checkpoint.specs.Saved.{Holds, SavedFrames, kept_of}
+use Rattle.image_writer.specs.Laid.{laid_again}
+use Rattle.image_writer.specs.Written.{IsLeftWriting, state_of}
+use Rattle.image_writer.proofs.OldImages.{kept_holds_the_same, none_is_held}
+use Rattle.kernel.specs.Denotes.{IsSoundSaved}
+use Rattle.image_builder.specs.declared.upgrade_fault.UpgradeFault.{UpgradeFault}
+use Rattle.image_builder.specs.declared.upgrade_fault.UpgradeFault.TheVariants as fault
+use Rattle.image_builder.specs.Upgraded.{IsLeftUpgrading, IsNotUpgraded, Upgrades, numbered, upgraded}
+use Rattle.image_builder.proofs.Images.{holds_one}
+use Rattle.image_builder.proofs.Numbered.{directory_numbered, length_numbered}
+
+-- ---- the parts of the new image
+
+module _ (image : Image) (size : ℕ) (s : SavedState) (is : Encodes image size s) where
+  few : length s.directory ≤ s.plan.geometry.log
+  few = omega (arith, is.directory.count, is.header.fits.entries)
+
+  pub directory_fits : IsDirectory s.plan.geometry (numbered 0 s.directory)
+  directory_fits = directory_numbered s.plan.geometry s.directory is.directory.fits few is.plan.fits.geometry.most_log
+
+  pub directory_count : length (numbered 0 s.directory) ≡ s.header.entries
+  directory_count = length_numbered 0 s.directory ∙ is.directory.count
+
+  pub header_fits : IsHeader s.plan.geometry.log (record s.header { sequence = 0 })
+  header_fits = record { entries = is.header.fits.entries; age = is.header.fits.age; generation = is.header.fits.generation; sequence = omega arith; entries_fit = is.header.fits.entries_fit }
+
+-- it has the same state but for the places
+pub same_state : (s : SavedState) (p : Plan) (generation entries age : ℕ) (es : List Entry) (fs : List Frame) → p ≡ laid_again Two s.plan → generation ≡ s.header.generation → entries ≡ s.header.entries → age ≡ s.header.age
+    → es ≡ numbered 0 s.directory → fs ≡ s.frames → state_of p (record { sequence = 0; generation = generation; entries = entries; age = age }) es fs ≡ upgraded s
+same_state s p generation entries age es fs plan_is generation_is entries_is age_is directory_is frames_is =
+    ap (λ (q : Plan). state_of q (record { sequence = 0; generation = generation; entries = entries; age = age }) es fs) plan_is
+    ∙ ap (λ (n : ℕ). state_of (laid_again Two s.plan) (record { sequence = 0; generation = n; entries = entries; age = age }) es fs) generation_is
+    ∙ ap (λ (n : ℕ). state_of (laid_again Two s.plan) (record { sequence = 0; generation = s.header.generation; entries = n; age = age }) es fs) entries_is
+    ∙ ap (λ (n : ℕ). state_of (laid_again Two s.plan) (record { sequence = 0; generation = s.header.generation; entries = s.header.entries; age = n }) es fs) age_is
+    ∙ ap (λ (xs : List Entry). state_of (laid_again Two s.plan) (record s.header { sequence = 0 }) xs fs) directory_is
+    ∙ ap (λ (xs : List Frame). state_of (laid_again Two s.plan) (record s.header { sequence = 0 }) (numbered 0 s.directory) xs) frames_is
+
+-- ---- what is told of it
+
+pub counted : (result : Result ℕ UpgradeFault) (old before new : Disk) (s : SavedState) → Encodes old.seen old.sectors s → IsSoundSaved s.plan.geometry (kept_of s) → IfOk result (λ total. total ≡ (laid_again Two s.plan).total)
+    → OnOk result (Encodes new.seen new.sectors (upgraded s)) → OnOk result ((c : Image) → new.may_leave c → Encodes c new.sectors (upgraded s)) → OnOk result (Elsewhere 0 (laid_again Two s.plan).total before.seen new.seen)
+    → IfOk result (λ total. (done : Upgrades old before new) × (total ≡ (laid_again Two done.state.plan).total))
+counted (Ok total) old before new s was sound told encodes crash elsewhere = (record { state = s; was = was; sound = sound; encodes = encodes; crash = crash; elsewhere = elsewhere }, told)
+counted (Err fault) old before new s was sound told encodes crash elsewhere = tt
+
+-- and of why it isn't written
+pub not_upgraded : {D : Type 0} (result : Result ℕ UpgradeFault) (disk : D → Disk) (old : D) (sectors : ℕ) (s : SavedState) → Encodes (disk old).seen (disk old).sectors s → (IsErrOf result fault.Small → sectors < (laid_again Two s.plan).total)
+    → IfErr result (λ why. (opening : OpenFault) → why ≢ fault.Old opening) → IfErr result (λ why. IsNotUpgraded disk old sectors why)
+not_upgraded (Ok total) disk old sectors s was small opened = tt
+not_upgraded (Err (fault.Old why)) disk old sectors s was small opened = absurd (opened why refl)
+not_upgraded (Err fault.Small) disk old sectors s was small opened = (s, was, small refl)
+not_upgraded (Err fault.Failed) disk old sectors s was small opened = tt
+not_upgraded (Err fault.NoMemory) disk old sectors s was small opened = tt
+
+-- ---- what a crash leaves
+
+-- an image that a crash leaves of a device is what it holds, where a read gives it
+pub seen_encodes : (old new : Disk) (s : SavedState) → ((c : Image) → new.may_leave c → Encodes c new.sectors s) → new.may_leave new.seen → Agrees new.seen old.seen → new.sectors ≡ old.sectors → Encodes old.seen old.sectors s
+seen_encodes old new s leaves left same size =
+    subst (λ (n : ℕ). Encodes old.seen n s) size (subst (λ (c : Image). Encodes c new.sectors s) (agrees_is new.seen old.seen same) (leaves new.seen left))
+
+left_by : (old before : Disk) (s : SavedState) → Encodes old.seen old.sectors s → (c : Image) → IsLeftWriting before (kept_of s) c → IsLeftUpgrading old before c
+left_by old before s was c (inl (d, left, kept)) saved holds = inl (d, left, (kept_holds_the_same before.sectors d c saved kept).1 holds)
+left_by old before s was c (inr (inl none)) saved holds = absurd (none_is_held before.sectors c saved none holds)
+left_by old before s was c (inr (inr whole)) saved holds = inr (s, was, sym (holds_one before.sectors c saved (kept_of s) holds whole))
+
+pub left_upgrading : (old : Disk) (s : SavedState) {before new : Disk} → Encodes old.seen old.sectors s → LeavesOnly before new (λ c. IsLeftWriting before (kept_of s) c) → LeavesOnly before new (λ c. IsLeftUpgrading old before c)
+left_upgrading old s {before} {new} was run =
+    leaves_weaker {old = before} {new = new} {P = λ c. IsLeftWriting before (kept_of s) c} (λ c. IsLeftUpgrading old before c) (λ c left. left_by old before s was c left) run
+
+-- where nothing was written
+pub untouched : (old before : Disk) → OnlyNow before → LeavesOnly before before (λ c. IsLeftUpgrading old before c)
+untouched old before only_now = started before (λ c. IsLeftUpgrading old before c) only_now (λ c left saved holds. inl (c, left, holds))

@@ -1,0 +1,6 @@
+use Rattle.std.proofs.Common.{◌≡◌, ◌++◌, drop}
+use Rattle.image_builder.specs.Upgraded.{numbered}
+use Rattle.image_builder.proofs.upgrading.in_order.Given as goal
+
+abbrev pub invariant-loop-slot : goal.invariant-loop-slot
+invariant-loop-slot l = l.found.items ++ numbered l.slot (drop l.slot l.entries) ≡ numbered 0 l.entries

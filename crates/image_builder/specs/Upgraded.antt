@@ -1,0 +1,55 @@
+-- What `upgrade` writes, and why it doesn't.
+use Rattle.std.specs.Prelude.{◌≡◌, ◌⊎◌, ℕ, ◌+◌, ◌<◌, List, [], ◌∷◌}
+use Rattle.device.specs.Disk.{Disk, Image}
+use Rattle.device.specs.Calls.{Elsewhere}
+use Rattle.layout.specs.declared.directory.Entry.{Entry}
+use Rattle.layout.specs.declared.version.Version.TheVariants.{Two}
+use Rattle.layout.specs.Image.{Encodes, HasPlan, SavedState}
+use Rattle.checkpoint.specs.declared.open_fault.OpenFault.{OpenFault}
+use Rattle.checkpoint.specs.declared.open_fault.OpenFault.TheVariants as opening
+use Rattle.checkpoint.specs.Saved.{Holds, SavedFrames, kept_of}
+use Rattle.image_writer.specs.Laid.{laid_again}
+use Rattle.kernel.specs.Denotes.{IsSoundSaved}
+use Rattle.kernel.specs.Opening.{RefusesToOpen}
+use Rattle.image_builder.specs.declared.upgrade_fault.UpgradeFault.{UpgradeFault}
+use Rattle.image_builder.specs.declared.upgrade_fault.UpgradeFault.TheVariants as fault
+
+-- entries of the same objects, whose slots rise by one from a number on
+unfoldable pub numbered : ℕ → List Entry → List Entry
+numbered at [] = []
+numbered at (e ∷ es) = record { object = e.object; slot = at } ∷ numbered (at + 1) es
+
+-- the same checkpoint by version 2 of the layout: ranges from sector 5 on, slots in order, the sequence number 0
+abbrev pub upgraded : SavedState → SavedState
+upgraded s = record { plan = laid_again Two s.plan; header = record s.header { sequence = 0 }; directory = numbered 0 s.directory; frames = s.frames }
+
+-- what an old device saves, which stands for a sound world, is written over what a new one held; a crash leaves the same
+pub record Upgrades (old before new : Disk) : Type 0 where
+  pub state : SavedState
+  pub was : Encodes old.seen old.sectors state
+  pub sound : IsSoundSaved state.plan.geometry (kept_of state)
+  pub encodes : Encodes new.seen new.sectors (upgraded state)
+  pub crash : (c : Image) → new.may_leave c → Encodes c new.sectors (upgraded state)
+  pub elsewhere : Elsewhere 0 (laid_again Two state.plan).total before.seen new.seen
+
+-- the old device wasn't opened, as by a kernel
+abbrev pub IsNotOpened : {D : Type 0} → (D → Disk) → D → OpenFault → Type 0
+IsNotOpened disk old opening.NoMemory = ⊥
+IsNotOpened {D} disk old why = (back : D) × RefusesToOpen disk old back why
+
+-- an old device saves what needs more sectors
+abbrev pub NeedsMore : Disk → ℕ → Type 0
+NeedsMore old sectors = (state : SavedState) × Encodes old.seen old.sectors state × (sectors < (laid_again Two state.plan).total)
+
+-- why nothing is upgraded, on a new device of so many sectors; the last two for what isn't the images' own
+abbrev pub IsNotUpgraded : {D : Type 0} → (D → Disk) → D → ℕ → UpgradeFault → Type 0
+IsNotUpgraded disk old sectors (fault.Old why) = IsNotOpened disk old why
+IsNotUpgraded disk old sectors fault.Small = NeedsMore (disk old) sectors
+IsNotUpgraded disk old sectors fault.Failed = Unit {0}
+IsNotUpgraded disk old sectors fault.NoMemory = Unit {0}
+
+-- What a crash leaves while an image is upgraded: what saved frames it holds, if any, it could have left before, or they
+-- are those of the old device.
+abbrev pub IsLeftUpgrading : Disk → Disk → Image → Type 0
+IsLeftUpgrading old before c = (saved : SavedFrames) → Holds before.sectors c saved →
+    ((d : Image) × before.may_leave d × Holds before.sectors d saved) ⊎ Holds old.sectors old.seen saved

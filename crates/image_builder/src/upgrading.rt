@@ -1,0 +1,188 @@
+// Writing what an image saves to another, by version 2 of the layout.
+ghost use Rattle.std.specs.Prelude.{◌≡◌, ◌≢◌, ◌<◌, ◌≤◌, ◌↔◌, ℕ, IfOk, IfErr, IsErrOf, OnOk};
+ghost use Rattle.device.specs.Disk.{Image};
+ghost use Rattle.device.specs.Calls.{Elsewhere};
+ghost use Rattle.device.specs.Moments.{LeavesOnly};
+ghost use Rattle.layout.specs.declared.version.Version.TheVariants.{Two};
+ghost use Rattle.layout.specs.Image.{Encodes, HasPlan};
+ghost use Rattle.layout.specs.Superblock.{Plan};
+ghost use Rattle.frame_io.specs.Calls.{ReadsOnly};
+ghost use Rattle.checkpoint.specs.Opened.{CountsOpen};
+ghost use Rattle.checkpoint.specs.Saved.{kept_of};
+ghost use Rattle.image_writer.specs.Laid.{laid_again};
+ghost use Rattle.image_writer.specs.Written.{IsLeftWriting};
+ghost use Rattle.kernel.specs.Denotes.{IsSoundSaved};
+ghost use Rattle.migrator.specs.Opened.{IsUnplanned};
+ghost use Rattle.object_cache.specs.PlainStore.{parts_of, saved_by};
+ghost use Rattle.capability.specs.Parts.{frames_of};
+ghost use Rattle.image_builder.specs.Upgraded.{IsLeftUpgrading, IsNotOpened, IsNotUpgraded, Upgrades, numbered, upgraded};
+
+use crate::upgrade_fault::UpgradeFault;
+use checkpoint::OpenFault;
+use device::Device;
+use image_writer::{lay_out_again, write_saved};
+use kernel::{Live, wake};
+use layout::{CheckpointHeader, Entry, Version};
+use migrator::superblock_of;
+use object_cache::PlainStore;
+use std::alloc::{AllocError, Global};
+
+/// How many sectors a device needs for what the image on another saves, by version 2 of the layout.
+/// It reads the superblock alone.
+///
+/// `Failed` exactly where the device failed, and else the least of the reasons 1 to 3 to refuse an
+/// image. It takes no memory.
+pub fn upgraded_sectors<D: Device>(device: &mut D) -> Result<u64, OpenFault>
+    ensures told { IfOk result (λ sectors. (p : Plan)
+        × HasPlan (D.disk device.old).seen (D.disk device.old).sectors p
+        × (sectors ≡ (laid_again Two p).total)) }
+    ensures refused { IfErr result (λ why.
+        IsUnplanned (D.disk device.old).seen (D.disk device.old).sectors why) }
+    ensures reads { ReadsOnly (D.disk device.old) (D.disk device.new) }
+    ensures cause { CountsOpen (D.disk device.old) (D.disk device.new) result }
+{
+    match superblock_of(device) {
+        Ok(superblock) => Ok(lay_out_again(Version::Two, &superblock).total()),
+        Err(why) => Err(why),
+    }
+}
+
+// The entries of a directory, in slots that rise from 0.
+fn in_order(alloc: Global, entries: &[Entry]) -> Result<Vec<Entry>, AllocError>
+    ensures { IfOk result (λ found. found.items ≡ numbered 0 entries.now) }
+{
+    let mut found = Vec::with_capacity(alloc, entries.len())?;
+    for (slot, entry) in entries.iter().enumerate() {
+        found.push(Entry {
+            object: entry.object,
+            slot: slot as u64,
+        })?;
+    }
+    Ok(found)
+}
+
+// Writes what a store has of its device's checkpoint, which is all in memory, and answers how many
+// sectors the image has.
+fn write_store<D: Device, E: Device>(
+    alloc: Global,
+    store: PlainStore<D>,
+    new: &mut E,
+) -> Result<u64, UpgradeFault>
+    requires encoded { (image : Image) × (size : ℕ) × Encodes image size (saved_by D.disk store) }
+    requires sound { IsSoundSaved (saved_by D.disk store).plan.geometry
+        (kept_of (saved_by D.disk store)) }
+    requires frames { frames_of (parts_of D.disk store) ≡ (saved_by D.disk store).frames }
+    ensures total { IfOk result (λ total.
+        total ≡ (laid_again Two (saved_by D.disk store).plan).total) }
+    ensures encodes { OnOk result (Encodes (E.disk new.new).seen (E.disk new.new).sectors
+        (upgraded (saved_by D.disk store))) }
+    ensures crash { OnOk result ((c : Image) → (E.disk new.new).may_leave c
+        → Encodes c (E.disk new.new).sectors (upgraded (saved_by D.disk store))) }
+    ensures elsewhere { OnOk result (Elsewhere 0 (laid_again Two (saved_by D.disk store).plan).total
+        (E.disk new.old).seen (E.disk new.new).seen) }
+    ensures small { IsErrOf result UpgradeFault.Small
+        → (E.disk new.old).sectors < (laid_again Two (saved_by D.disk store).plan).total }
+    ensures opened { IfErr result (λ fault. (why : OpenFault) → fault ≢ UpgradeFault.Old why) }
+    ensures untouched { IfErr result (λ fault. fault ≢ UpgradeFault.Failed → new.new ≡ new.old) }
+    ensures any_moment { LeavesOnly (E.disk new.old) (E.disk new.new) (λ c. IsLeftWriting
+        (E.disk new.old) (kept_of (saved_by D.disk store)) c) }
+    ensures size { (E.disk new.new).sectors ≡ (E.disk new.old).sectors }
+    ensures later { (E.disk new.old).failures ≤ (E.disk new.new).failures }
+    ensures cause { IsErrOf result UpgradeFault.Failed
+        ↔ ((E.disk new.old).failures < (E.disk new.new).failures) }
+{
+    let (saved, present) = store.into_parts();
+    let superblock = lay_out_again(Version::Two, saved.superblock());
+    let entries = match in_order(alloc, saved.directory()) {
+        Ok(entries) => entries,
+        Err(_) => return Err(UpgradeFault::NoMemory),
+    };
+    let sectors = new.sectors();
+    if sectors < superblock.total() {
+        return Err(UpgradeFault::Small);
+    }
+    let checkpoint = saved.saved();
+    let header = CheckpointHeader {
+        sequence: 0,
+        generation: checkpoint.generation,
+        entries: checkpoint.entries,
+        age: checkpoint.age,
+    };
+    let (headers, contents) = present.into_parts();
+    match write_saved(new, &superblock, header, &entries, &headers, &contents) {
+        Ok(()) => Ok(superblock.total()),
+        Err(_) => Err(UpgradeFault::Failed),
+    }
+}
+
+// The fault where the old device isn't opened.
+fn of_old(why: OpenFault) -> UpgradeFault
+    ensures memory { why ≡ OpenFault.NoMemory → result ≡ UpgradeFault.NoMemory }
+    ensures other { why ≢ OpenFault.NoMemory → result ≡ UpgradeFault.Old why }
+{
+    match why {
+        OpenFault::NoMemory => UpgradeFault::NoMemory,
+        OpenFault::Failed | OpenFault::Bad(_) => UpgradeFault::Old(why),
+    }
+}
+
+/// Opens an old device as a kernel does, and writes what its image saves over whatever a new one
+/// holds, by version 2 of the layout; answers how many sectors the new image has. Apart from that it
+/// is `upgrade`.
+pub fn upgrade_and_count<D: Device, E: Device>(
+    alloc: Global,
+    old: D,
+    new: &mut E,
+) -> Result<u64, UpgradeFault>
+    ensures upgraded { IfOk result (λ total.
+        (done : Upgrades (D.disk old) (E.disk new.old) (E.disk new.new))
+        × (total ≡ (laid_again Two done.state.plan).total)) }
+    ensures refused { IfErr result (λ fault.
+        IsNotUpgraded D.disk old (E.disk new.old).sectors fault) }
+    ensures untouched { IfErr result (λ fault. fault ≢ UpgradeFault.Failed → new.new ≡ new.old) }
+    ensures any_moment { LeavesOnly (E.disk new.old) (E.disk new.new)
+        (λ c. IsLeftUpgrading (D.disk old) (E.disk new.old) c) }
+    ensures size { (E.disk new.new).sectors ≡ (E.disk new.old).sectors }
+    ensures later { (E.disk new.old).failures ≤ (E.disk new.new).failures }
+    ensures cause { IsErrOf result UpgradeFault.Failed
+        ↔ ((E.disk new.old).failures < (E.disk new.new).failures) }
+{
+    match wake::<D, PlainStore<D>>(alloc, old, ()) {
+        Ok(live) => {
+            let Live { store, .. } = live;
+            write_store(alloc, store, new)
+        }
+        Err(refused) => Err(of_old(refused.fault)),
+    }
+}
+
+/// Opens an old device as a kernel does, and writes what its image saves over whatever a new one
+/// holds, by version 2 of the layout: the same frames, generation, entries and age, with the sequence
+/// number 0, the same home ranges from sector 5 on, and the slots of the log in order. From `Ok` on a
+/// read of the new device gives that, and so does each crash. An old image of version 2 is taken too.
+///
+/// `Old` exactly where a kernel doesn't open the old device, with its reason, but for want of memory;
+/// `Small` where the new device has fewer sectors than `upgraded_sectors` tells of the old one;
+/// `Failed` exactly where the new device failed; and `NoMemory` where memory ran out. The new device
+/// is as it was, but after `Failed`: then the image's sectors may hold any bytes.
+///
+/// A crash of the new device at any moment leaves the image that it could have left before; or
+/// nothing that can be opened, as no header is committed; or the new image, whole. So it is after
+/// `Failed` too. The old device isn't given back.
+pub fn upgrade<D: Device, E: Device>(alloc: Global, old: D, new: &mut E) -> Result<(), UpgradeFault>
+    ensures upgraded { OnOk result (Upgrades (D.disk old) (E.disk new.old) (E.disk new.new)) }
+    ensures refused { IfErr result (λ fault.
+        IsNotUpgraded D.disk old (E.disk new.old).sectors fault) }
+    ensures untouched { IfErr result (λ fault. fault ≢ UpgradeFault.Failed → new.new ≡ new.old) }
+    ensures any_moment { LeavesOnly (E.disk new.old) (E.disk new.new)
+        (λ c. IsLeftUpgrading (D.disk old) (E.disk new.old) c) }
+    ensures size { (E.disk new.new).sectors ≡ (E.disk new.old).sectors }
+    ensures later { (E.disk new.old).failures ≤ (E.disk new.new).failures }
+    ensures cause { IsErrOf result UpgradeFault.Failed
+        ↔ ((E.disk new.old).failures < (E.disk new.new).failures) }
+{
+    match upgrade_and_count(alloc, old, new) {
+        Ok(_total) => Ok(()),
+        Err(fault) => Err(fault),
+    }
+}

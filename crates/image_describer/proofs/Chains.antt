@@ -1,0 +1,81 @@
+-- Tables that come of an empty one by several values put at keys.
+use Rattle.std.proofs.Common.{◌≡◌, ℕ, zero, suc, ◌<◌, ◌≤◌, Bool, true, false, not, ◌&&◌, List, [], ◌∷◌, length, Option, None, IfSome, slice_index_or, refl, sym, ap, ◌∙◌, subst, arith}
+use Rattle.std.specs.Prelude.{IsTrue}
+use Rattle.std.specs.List.{list_any}
+use Rattle.toml.specs.Data.{Data, Members, depth, get_member, members_depth, same_key}
+use Rattle.description.specs.Reading.{has_only}
+use Rattle.image_describer.specs.Tables.{Puts}
+
+-- a key, and what is put there
+abbrev pub Pair : Type 0
+Pair = List ℕ × Option Data
+
+-- all of them are put, one after the other
+abbrev pub Chain : List Pair → Members → Members → Type 0
+Chain [] old new = new ≡ old
+Chain (p ∷ ps) old new = (mid : Members) × Puts p.0 p.1 old mid × Chain ps mid new
+
+-- a key is none of the others, whichever is looked for
+abbrev is_apart : List ℕ → List Pair → Bool
+is_apart k [] = true
+is_apart k (p ∷ ps) = not (same_key k p.0) && (not (same_key p.0 k) && is_apart k ps)
+
+abbrev pub are_apart : List Pair → Bool
+are_apart [] = true
+are_apart (p ∷ ps) = is_apart p.0 ps && are_apart ps
+
+abbrev pub are_known : List (List ℕ) → List Pair → Bool
+are_known keys [] = true
+are_known keys (p ∷ ps) = list_any (same_key p.0) keys && are_known keys ps
+
+abbrev pub AreDeep : ℕ → List Pair → Type 0
+AreDeep n [] = Unit {0}
+AreDeep n (p ∷ ps) = IfSome p.1 (λ d. depth d ≤ n) × AreDeep n ps
+
+left : (a b : Bool) → IsTrue (a && b) → IsTrue a
+left true b is = refl
+left false b is = is
+
+right : (a b : Bool) → IsTrue (a && b) → IsTrue b
+right true b is = is
+right false b is = absurd cc
+
+falsely : (a : Bool) → IsTrue (not a) → a ≡ false
+falsely true is = sym is
+falsely false is = refl
+
+-- a key that is none of those keeps what it had
+chain_other : (ps : List Pair) (k : List ℕ) (old new : Members) → Chain ps old new → IsTrue (is_apart k ps) → get_member k new ≡ get_member k old
+chain_other [] k old new chain apart = ap (get_member k) chain
+chain_other (p ∷ ps) k old new chain apart =
+    let rest = right (not (same_key k p.0)) (not (same_key p.0 k) && is_apart k ps) apart in
+    chain_other ps k chain.0 new chain.2 (right (not (same_key p.0 k)) (is_apart k ps) rest)
+    ∙ chain.1.others k (falsely (same_key k p.0) (left (not (same_key k p.0)) (not (same_key p.0 k) && is_apart k ps) apart))
+
+-- a key of those isn't the first
+apart_at : (k : List ℕ) (ps : List Pair) (i : ℕ) (d : Pair) → IsTrue (is_apart k ps) → i < length ps → same_key (slice_index_or ps i d).0 k ≡ false
+apart_at k [] i d apart inside = absurd (omega (arith, inside))
+apart_at k (p ∷ ps) zero d apart inside =
+    falsely (same_key p.0 k) (left (not (same_key p.0 k)) (is_apart k ps) (right (not (same_key k p.0)) (not (same_key p.0 k) && is_apart k ps) apart))
+apart_at k (p ∷ ps) (suc i) d apart inside =
+    apart_at k ps i d (right (not (same_key p.0 k)) (is_apart k ps) (right (not (same_key k p.0)) (not (same_key p.0 k) && is_apart k ps) apart)) (omega (arith, inside))
+
+-- each key has what was put there
+pub chain_at : (ps : List Pair) (i : ℕ) (d : Pair) (old new : Members) → Chain ps old new → IsTrue (are_apart ps) → i < length ps → get_member (slice_index_or ps i d).0 old ≡ None
+    → get_member (slice_index_or ps i d).0 new ≡ (slice_index_or ps i d).1
+chain_at [] i d old new chain apart inside none = absurd (omega (arith, inside))
+chain_at (p ∷ ps) zero d old new chain apart inside none = chain_other ps p.0 chain.0 new chain.2 (left (is_apart p.0 ps) (are_apart ps) apart) ∙ chain.1.found none
+chain_at (p ∷ ps) (suc i) d old new chain apart inside none =
+    let within : i < length ps = omega (arith, inside) in
+    chain_at ps i d chain.0 new chain.2 (right (is_apart p.0 ps) (are_apart ps) apart) within
+    (chain.1.others (slice_index_or ps i d).0 (apart_at p.0 ps i d (left (is_apart p.0 ps) (are_apart ps) apart) within) ∙ none)
+
+pub chain_only : (ps : List Pair) (keys : List (List ℕ)) (old new : Members) → Chain ps old new → IsTrue (are_known keys ps) → IsTrue (has_only keys old) → IsTrue (has_only keys new)
+chain_only [] keys old new chain known all = subst (λ (ms : Members). IsTrue (has_only keys ms)) (sym chain) all
+chain_only (p ∷ ps) keys old new chain known all =
+    chain_only ps keys chain.0 new chain.2 (right (list_any (same_key p.0) keys) (are_known keys ps) known)
+    (chain.1.only keys (left (list_any (same_key p.0) keys) (are_known keys ps) known) all)
+
+pub chain_deep : (ps : List Pair) (n : ℕ) (old new : Members) → Chain ps old new → AreDeep n ps → members_depth old ≤ n → members_depth new ≤ n
+chain_deep [] n old new chain deep all = subst (λ (ms : Members). members_depth ms ≤ n) (sym chain) all
+chain_deep (p ∷ ps) n old new chain deep all = chain_deep ps n chain.0 new chain.2 deep.1 (chain.1.deep n deep.0 all)

@@ -1,0 +1,12 @@
+mod Assembled
+mod Chains
+mod Covers
+mod Looking
+mod Members
+mod Naming
+pub mod Plain
+mod Rising
+pub mod SameTables
+mod Said
+mod Sayings
+mod Telling

@@ -1,0 +1,220 @@
+-- Plain frames stand for the objects that they were made of, and are sound where those are.
+use Rattle.std.proofs.Common.{◌≡◌, ℕ, ◌^◌, ◌≤◌, nat_lt, if◌then◌else◌, Bool, true, false, List, [], ◌∷◌, map, length, slice_index_or, refl, sym, ap, ◌∙◌, subst, arith}
+use Rattle.std.specs.List.{All}
+use Rattle.std.proofs.Math.ListN.{get_or-map}
+use Rattle.std.proofs.lemmas.List.{length-map}
+use Rattle.std.proofs.lemmas.List.Elements.{All-map, All-weaker}
+use Rattle.model.specs.declared.capability.Cap.{Cap}
+use Rattle.model.specs.declared.capability.Capability.{Capability}
+use Rattle.model.specs.declared.capability.Capability.TheVariants.{Void, Number, Page, Node, Space, Process, Start, Resume, Bank, Discrim}
+use Rattle.model.specs.declared.frame.Frame.{Frame}
+use Rattle.model.specs.declared.frame.ObjectHeader.{ObjectHeader}
+use Rattle.model.specs.declared.geometry.Geometry.{Geometry}
+use Rattle.model.specs.declared.object.Content.{Content}
+use Rattle.model.specs.declared.object.Content.TheVariants as content
+use Rattle.model.specs.declared.object.Object.{Object}
+use Rattle.model.specs.Frame.{blank_frame, conveyed, current_count, frame_at, header_at, headers, object_of, objects_of, void_held}
+use Rattle.model.specs.Keepable.{AreCurrent, AreKeepable, AreKeptSlots, Follows, IsCurrent, IsKeepable, IsKeptCap, IsSoundFrames, MayBeKept, caps_in, world_at}
+use Rattle.model.specs.Object.{free, map_content, role_of}
+use Rattle.model.specs.Sound.{IsSound, IsSpace}
+use Rattle.model.specs.World.{object_at}
+use Rattle.capability.specs.Plain.{fresh_cap}
+use Rattle.capability.proofs.Mapped.{kind_map, mapped}
+use Rattle.described_world.specs.declared.fault.WorldFault.TheVariants as fault
+use Rattle.consistency.proofs.Unsound.{sound_banked, sound_named}
+use Rattle.image_builder.specs.declared.fault.BuildFault.TheVariants as build
+use Rattle.image_builder.proofs.DescribedOnce.{described_once}
+use Rattle.image_describer.specs.Describes.{plain_frame, plain_frames}
+use Rattle.image_describer.specs.Laws.{DescribedIsAccepted, DescribedIsLaid, DescribedIsSame}
+
+plain_at : (os : List Object) (n : ℕ) → frame_at (plain_frames os) n ≡ plain_frame (object_at os n)
+unfolding plain_frames
+plain_at os n = get_or-map plain_frame os n free
+
+header_plain : (os : List Object) (n : ℕ) → header_at (headers (plain_frames os)) n ≡ (plain_frame (object_at os n)).header
+header_plain os n = get_or-map (λ (f : Frame). f.header) (plain_frames os) n blank_frame ∙ ap (λ (f : Frame). f.header) (plain_at os n)
+
+-- no count was raised
+no_allocations : (os : List Object) (n : ℕ) → (header_at (headers (plain_frames os)) n).allocations ≡ 0
+no_allocations os n = ap (λ (h : ObjectHeader). h.allocations) (header_plain os n)
+
+no_calls : (os : List Object) (n : ℕ) → (header_at (headers (plain_frames os)) n).calls ≡ 0
+no_calls os n = ap (λ (h : ObjectHeader). h.calls) (header_plain os n)
+
+no_count : (os : List Object) (c : Capability) → current_count (headers (plain_frames os)) c ≡ 0
+no_count os Void = refl
+no_count os (Number n) = refl
+no_count os (Page o a) = no_allocations os o
+no_count os (Node o a) = no_allocations os o
+no_count os (Space o h a) = no_allocations os o
+no_count os (Process p) = no_allocations os p
+no_count os (Start p key) = no_allocations os p
+no_count os (Resume p) = no_calls os p
+no_count os (Bank b) = no_allocations os b
+no_count os Discrim = refl
+
+-- so each capability conveys what it is
+conveyed_plain : (os : List Object) (c : Capability) → conveyed (headers (plain_frames os)) (fresh_cap c) ≡ c
+conveyed_plain os c = ap (λ (n : ℕ). if nat_lt 0 n then Void else c) (no_count os c)
+
+module _ (hs : List ObjectHeader) (same : (c : Capability) → conveyed hs (fresh_cap c) ≡ c) where
+  caps_same : (cs : List Capability) → map (conveyed hs) (map fresh_cap cs) ≡ cs
+  caps_same [] = refl
+  caps_same (c ∷ cs) = ap (λ (d : Capability). d ∷ map (conveyed hs) (map fresh_cap cs)) (same c) ∙ ap (λ (ds : List Capability). c ∷ ds) (caps_same cs)
+
+  content_same : (c : Content Capability) → map_content (conveyed hs) (map_content fresh_cap c) ≡ c
+  content_same content.Free = refl
+  content_same (content.Page words) = refl
+  content_same (content.Node slots) = ap (λ (cs : List Capability). let x : Content Capability = content.Node cs in x) (caps_same slots)
+  content_same (content.Root r) =
+      ap (λ (c : Capability). let x : Content Capability = content.Root (record { state = r.state; words = r.words; key = r.key; annex = r.annex; space = c }) in x) (same r.space)
+  content_same (content.Annex registers) = ap (λ (cs : List Capability). let x : Content Capability = content.Annex cs in x) (caps_same registers)
+  content_same (content.Bank limit) = refl
+
+  objects_same : (us : List Object) → map (object_of hs) (map plain_frame us) ≡ us
+  objects_same [] = refl
+  objects_same (u ∷ us) =
+      ap (λ (c : Content Capability). let x : Object = record { owner = u.owner; content = c } in x ∷ map (object_of hs) (map plain_frame us)) (content_same u.content)
+      ∙ ap (λ (vs : List Object). u ∷ vs) (objects_same us)
+
+pub objects_plain : (os : List Object) → objects_of (plain_frames os) ≡ os
+unfolding objects_of plain_frames
+objects_plain os = objects_same (headers (plain_frames os)) (conveyed_plain os) os
+
+-- What can be kept can be kept with counts of 0.
+module _ (g : Geometry) (age : ℕ) (hs : List ObjectHeader) where
+  follows_none : (count : ℕ) (c : Capability) → Follows g age count c → Follows g age 0 c
+  follows_none count Void h = refl
+  follows_none count (Number n) h = (h.0, refl)
+  follows_none count (Page o a) h = (h.0, h.1, (omega arith, omega arith))
+  follows_none count (Node o a) h = (h.0, h.1, (omega arith, omega arith))
+  follows_none count (Space o k a) h = (h.0, h.1, h.2, h.3, (omega arith, omega arith))
+  follows_none count (Process p) h = (h.0, (omega arith, omega arith))
+  follows_none count (Start p key) h = (h.0, h.1, (omega arith, omega arith))
+  follows_none count (Resume p) h = (h.0, (omega arith, omega arith))
+  follows_none count (Bank b) h = (h.0, (omega arith, omega arith))
+  follows_none count Discrim h = refl
+
+  kept_either : (c : Cap) (b : Bool) → IsKeptCap g age c → IsKeptCap g age (fresh_cap (if b then Void else c.what))
+  kept_either c true kept = refl
+  kept_either c false kept = follows_none c.count c.what kept
+
+  kept_plain : (c : Cap) → IsKeptCap g age c → IsKeptCap g age (fresh_cap (conveyed hs c))
+  kept_plain c kept = kept_either c (nat_lt c.count (current_count hs c.what)) kept
+
+  space_either : (c : Capability) (b : Bool) → IsSpace c → IsSpace (if b then Void else c)
+  space_either c true is = tt
+  space_either c false is = is
+
+  slots_plain : (slots : List Cap) → AreKeptSlots g age slots → AreKeptSlots g age (map fresh_cap (map (conveyed hs) slots))
+  slots_plain slots kept = record {
+    count = length-map (map (conveyed hs) slots) fresh_cap ∙ length-map slots (conveyed hs) ∙ kept.count;
+    each = All-map (IsKeptCap g age) fresh_cap (map (conveyed hs) slots)
+        (All-map (λ (c : Capability). IsKeptCap g age (fresh_cap c)) (conveyed hs) slots
+        (All-weaker (IsKeptCap g age) (λ (c : Cap). IsKeptCap g age (fresh_cap (conveyed hs c))) kept_plain slots kept.each));
+  }
+
+  first_plain : (registers : List Cap) → slice_index_or registers 0 void_held ≡ void_held → slice_index_or (map fresh_cap (map (conveyed hs) registers)) 0 void_held ≡ void_held
+  first_plain registers void =
+      get_or-map fresh_cap (map (conveyed hs) registers) 0 Void
+      ∙ ap fresh_cap (get_or-map (conveyed hs) registers 0 void_held ∙ ap (conveyed hs) void)
+
+  content_plain : (c : Content Cap) → MayBeKept g age c → MayBeKept g age (map_content fresh_cap (map_content (conveyed hs) c))
+  content_plain content.Free kept = tt
+  content_plain (content.Page words) kept = kept
+  content_plain (content.Node slots) kept = slots_plain slots kept
+  content_plain (content.Root r) kept = (
+    kept.0,
+    kept.1,
+    kept.2,
+    kept_plain r.space kept.3,
+    space_either r.space.what (nat_lt r.space.count (current_count hs r.space.what)) kept.4,
+  )
+  content_plain (content.Annex registers) kept = (slots_plain registers kept.0, first_plain registers kept.1)
+  content_plain (content.Bank limit) kept = kept
+
+  frame_plain : (n : ℕ) (f : Frame) → IsKeepable g age n f → IsKeepable g age n (plain_frame (object_of hs f))
+  frame_plain n f keepable =
+      let kept = keepable.kept in
+      let same : role_of (map_content fresh_cap (map_content (conveyed hs) f.content)) ≡ f.header.role =
+      (mapped fresh_cap (map_content (conveyed hs) f.content)).role ∙ (mapped (conveyed hs) f.content).role ∙ sym kept.role in
+      record {
+        kind = kind_map g n fresh_cap (map_content (conveyed hs) f.content) (kind_map g n (conveyed hs) f.content keepable.kind);
+        kept = record {
+          role = refl;
+          allocations = (omega arith, omega arith);
+          calls = (omega arith, omega arith);
+          owner = kept.owner;
+          unowned = λ free. kept.unowned (sym same ∙ free);
+          content = content_plain f.content kept.content;
+        };
+      }
+
+object_is : (fs : List Frame) (n : ℕ) → object_at (objects_of fs) n ≡ object_of (headers fs) (frame_at fs n)
+unfolding objects_of
+object_is fs n = get_or-map (object_of (headers fs)) fs n blank_frame
+
+length_is : (fs : List Frame) → length (plain_frames (objects_of fs)) ≡ length fs
+unfolding objects_of plain_frames
+length_is fs = length-map (map (object_of (headers fs)) fs) plain_frame ∙ length-map fs (object_of (headers fs))
+
+keepable_plain : (g : Geometry) (age : ℕ) (fs : List Frame) → AreKeepable g age fs → AreKeepable g age (plain_frames (objects_of fs))
+keepable_plain g age fs keepable = record {
+  count = length_is fs ∙ keepable.count;
+  each = λ n inside.
+      subst (IsKeepable g age n) (sym (plain_at (objects_of fs) n ∙ ap plain_frame (object_is fs n)))
+      (frame_plain g age (headers fs) n (frame_at fs n) (keepable.each n inside));
+}
+
+-- No capability is ahead.
+never_ahead : (hs : List ObjectHeader) (c : Content Capability) → All (IsCurrent hs) (caps_in (map_content fresh_cap c))
+never_ahead hs content.Free = λ k d inside. absurd (omega (arith, inside))
+never_ahead hs (content.Page words) = λ k d inside. absurd (omega (arith, inside))
+never_ahead hs (content.Node slots) = All-map (IsCurrent hs) fresh_cap slots (λ k d inside. omega arith)
+never_ahead hs (content.Root r) = All-map (IsCurrent hs) fresh_cap (r.space ∷ []) (λ k d inside. omega arith)
+never_ahead hs (content.Annex registers) = All-map (IsCurrent hs) fresh_cap registers (λ k d inside. omega arith)
+never_ahead hs (content.Bank limit) = λ k d inside. absurd (omega (arith, inside))
+
+current_plain : (os : List Object) → AreCurrent (plain_frames os)
+current_plain os n =
+    subst (λ (f : Frame). All (IsCurrent (headers (plain_frames os))) (caps_in f.content)) (sym (plain_at os n))
+    (never_ahead (headers (plain_frames os)) (object_at os n).content)
+
+pub sound_plain : (g : Geometry) (age : ℕ) (fs : List Frame) → IsSoundFrames g age fs → IsSoundFrames g age (plain_frames (objects_of fs))
+sound_plain g age fs sound = record {
+  keepable = keepable_plain g age fs sound.keepable;
+  current = current_plain (objects_of fs);
+  sound = subst (λ (os : List Object). IsSound g (record { objects = os; age = age })) (sym (objects_plain (objects_of fs))) sound.sound;
+}
+
+-- The laws.
+pub described_is_same : DescribedIsSame
+described_is_same g age fs gs d sound describes is =
+    let same : plain_frames (objects_of fs) ≡ gs = described_once d (plain_frames (objects_of fs)) gs describes.frames is in (
+      subst (λ (h : Geometry). IsSoundFrames h d.age gs) (sym describes.geometry)
+          (subst (λ (m : ℕ). IsSoundFrames g m gs) (sym describes.age) (subst (IsSoundFrames g age) same (sound_plain g age fs sound))),
+      ap (λ (m : ℕ). world_at m gs) describes.age
+          ∙ ap (λ (hs : List Frame). world_at age hs) (sym same)
+          ∙ ap (λ (os : List Object). let w = record (world_at age fs) { objects = os } in w) (objects_plain (objects_of fs)),
+    )
+
+pub described_is_laid : DescribedIsLaid
+described_is_laid g age fs d fault.Number sound describes wrong = absurd (wrong describes.numbers)
+described_is_laid g age fs d fault.Field sound describes wrong = absurd (wrong.1 describes.fields)
+described_is_laid g age fs d fault.Target sound describes wrong =
+    absurd (wrong.2 (plain_frames (objects_of fs)) describes.frames (sound_named g age (plain_frames (objects_of fs)) (sound_plain g age fs sound)))
+described_is_laid g age fs d fault.NoMemory sound describes wrong = refl
+
+pub described_is_accepted : DescribedIsAccepted
+described_is_accepted g age fs d v sectors sound describes layout laid room build.Limits =
+    record { layout = (v, layout); laid = laid; age = subst (λ (n : ℕ). n ≤ 2 ^ 62) (sym describes.age) sound.sound.age }
+described_is_accepted g age fs d v sectors sound describes layout laid room build.Number = describes.numbers
+described_is_accepted g age fs d v sectors sound describes layout laid room build.Field = describes.fields
+described_is_accepted g age fs d v sectors sound describes layout laid room build.Target =
+    (plain_frames (objects_of fs), describes.frames, sound_named g age (plain_frames (objects_of fs)) (sound_plain g age fs sound))
+described_is_accepted g age fs d v sectors sound describes layout laid room build.Owner =
+    (plain_frames (objects_of fs), describes.frames, sound_banked g age (plain_frames (objects_of fs)) (sound_plain g age fs sound))
+described_is_accepted g age fs d v sectors sound describes layout laid room build.Small = room
+described_is_accepted g age fs d v sectors sound describes layout laid room build.Shape = tt
+described_is_accepted g age fs d v sectors sound describes layout laid room build.Failed = tt
+described_is_accepted g age fs d v sectors sound describes layout laid room build.NoMemory = tt

@@ -1,0 +1,50 @@
+-- Numbers that rise, and lists of which no number comes twice.
+use Rattle.std.proofs.Common.{◌≡◌, ℕ, ◌<◌, inl, inr, List, [], ◌∷◌, ◌++◌, map, subst, arith}
+use Rattle.std.specs.List.{All, Contains}
+use Rattle.std.proofs.lemmas.List.Elements.{All-contains, All-head, All-push, All-tail, Contains-append_cases}
+use Rattle.described_world.specs.Described.{AreDistinct}
+use Rattle.described_world.proofs.Lists.{contains_here, contains_map, contains_there, map_contains}
+use Rattle.image_describer.specs.Describes.{AreRising}
+
+-- one more, above all
+pub rising_more : (ns : List ℕ) (n : ℕ) → AreRising ns → All (λ m. m < n) ns → AreRising (ns ++ n ∷ [])
+rising_more [] n rising below = ((λ k d inside. absurd (omega (arith, inside))), tt)
+rising_more (m ∷ ns) n rising below = (
+  All-push (λ x. m < x) ns n rising.0 (All-head (λ x. x < n) m ns below),
+  rising_more ns n rising.1 (All-tail (λ x. x < n) m ns below),
+)
+
+-- none comes twice
+pub rising_distinct : (ns : List ℕ) → AreRising ns → AreDistinct ns
+rising_distinct [] rising = tt
+rising_distinct (n ∷ ns) rising = (
+  (λ there. let above = All-contains (λ m. n < m) ns n rising.0 there in absurd (omega (arith, above))),
+  rising_distinct ns rising.1,
+)
+
+-- nor where two lists share none
+pub distinct_both : (ns ms : List ℕ) → AreDistinct ns → AreDistinct ms → ((n : ℕ) → Contains ns n → Contains ms n → ⊥) → AreDistinct (ns ++ ms)
+distinct_both [] ms one other apart = other
+distinct_both (n ∷ ns) ms one other apart = (
+  (λ there. elim (Contains-append_cases ns ms n there) [
+    | inl left ↦ one.0 left
+    | inr right ↦ apart n (contains_here n ns) right
+  ]),
+  distinct_both ns ms one.1 other (λ m left right. apart m (contains_there m n ns left) right),
+)
+
+-- nor in other numbers of the same things, where two with the same have the same first number
+pub distinct_other : {E : Type 0} → (first second : E → ℕ) (es : List E) → AreDistinct (map first es)
+    → ((e f : E) → Contains es e → Contains es f → second e ≡ second f → first e ≡ first f) → AreDistinct (map second es)
+distinct_other first second [] distinct same = tt
+distinct_other first second (e ∷ es) distinct same = (
+  (λ there.
+      let found = map_contains second (second e) es there in
+      let one : first found.0 ≡ first e = same found.0 e (contains_there found.0 e es found.1) (contains_here e es) found.2 in
+      distinct.0 (subst (Contains (map first es)) one (contains_map first found.0 es found.1))),
+  distinct_other first second es distinct.1 (λ f h left right is. same f h (contains_there f e es left) (contains_there h e es right) is),
+)
+
+-- lists of which one has a kind that the other hasn't share none
+pub apart_by : (P : ℕ → Type 0) (ns ms : List ℕ) → All (λ n. P n → ⊥) ns → All P ms → (n : ℕ) → Contains ns n → Contains ms n → ⊥
+apart_by P ns ms none all n left right = All-contains (λ m. P m → ⊥) ns n none left (All-contains P ms n all right)

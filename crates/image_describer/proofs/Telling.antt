@@ -1,0 +1,85 @@
+-- Objects of a kind, told one number after another.
+use Rattle.std.proofs.Common.{◌≡◌, ◌≢◌, ℕ, ◌+◌, ◌<◌, ◌≤◌, inl, inr, List, [], ◌∷◌, ◌++◌, map, length, Option, None, Some, option_to_list, sym, ap, ◌∙◌, subst, arith}
+use Rattle.std.specs.List.{All, Contains}
+use Rattle.std.proofs.lemmas.Bool.{cases_lt}
+use Rattle.std.proofs.lemmas.List.{append-nil}
+use Rattle.std.proofs.lemmas.List.Elements.{All-map, All-push, All-weaker, Contains-append_left, Contains-append_right}
+use Rattle.model.specs.declared.frame.ObjectHeader.{ObjectHeader}
+use Rattle.model.specs.declared.object.Object.{Object}
+use Rattle.model.specs.declared.object.Role.{Role}
+use Rattle.model.specs.declared.object.Role.TheVariants as role
+use Rattle.model.specs.Object.{role_of}
+use Rattle.model.specs.World.{content_at}
+use Rattle.capability.specs.Parts.{Parts, objects_in}
+use Rattle.capability.proofs.Frames.{object_past}
+use Rattle.described_world.proofs.Lists.{contains_here, map_both}
+use Rattle.image_describer.specs.Describes.{AreRising}
+use Rattle.image_describer.specs.Told.{MayTell, TellAll}
+use Rattle.image_describer.proofs.Rising.{rising_more}
+
+module _ {E : Type 0} (number : E → ℕ) (Tells : E → Type 0) (kind : Role) (os : List Object) where
+  -- those below a number are told
+  pub record TellBelow (count : ℕ) (es : List E) : Type 0 where
+    pub each : All Tells es
+    pub whole : (n : ℕ) → n < count → role_of (content_at os n) ≡ kind → Contains (map number es) n
+    pub below : All (λ e. number e < count) es
+    pub rising : AreRising (map number es)
+
+  pub tell_none : TellBelow 0 []
+  tell_none = record {
+    each = λ k d inside. absurd (omega (arith, inside));
+    whole = λ n under is. absurd (omega (arith, under));
+    below = λ k d inside. absurd (omega (arith, inside));
+    rising = tt;
+  }
+
+  -- a number of another kind has none
+  pub tell_less : (count : ℕ) (es : List E) → TellBelow count es → role_of (content_at os count) ≢ kind → TellBelow (count + 1) es
+  tell_less count es tell other = record {
+    each = tell.each;
+    whole = λ n under is. elim (cases_lt n count) [
+      | inl before ↦ tell.whole n before is
+      | inr past ↦ let same : n ≡ count = omega (arith, under, past) in absurd (other (subst (λ m. role_of (content_at os m) ≡ kind) same is))
+    ];
+    below = All-weaker (λ e. number e < count) (λ e. number e < count + 1) (λ e under. omega (arith, under)) es tell.below;
+    rising = tell.rising;
+  }
+
+  -- one of this kind has an entry
+  pub tell_more : (count : ℕ) (es : List E) (e : E) → TellBelow count es → number e ≡ count → Tells e → TellBelow (count + 1) (es ++ e ∷ [])
+  tell_more count es e tell at told = record {
+    each = All-push Tells es e tell.each told;
+    whole = λ n under is. subst (λ ns. Contains ns n) (sym (map_both number es (e ∷ []))) (elim (cases_lt n count) [
+      | inl before ↦ Contains-append_left (map number es) (number e ∷ []) n (tell.whole n before is)
+      | inr past ↦
+          let same : number e ≡ n = omega (arith, under, past, at) in
+          Contains-append_right (map number es) (number e ∷ []) n (subst (Contains (number e ∷ [])) same (contains_here (number e) []))
+    ]);
+    below = All-push (λ f. number f < count + 1) es e (All-weaker (λ f. number f < count) (λ f. number f < count + 1) (λ f under. omega (arith, under)) es tell.below) (omega (arith, at));
+    rising = subst AreRising (sym (map_both number es (e ∷ [])))
+        (rising_more (map number es) (number e) tell.rising
+        (All-map (λ n. n < number e) number es (All-weaker (λ f. number f < count) (λ f. number f < number e) (λ f under. omega (arith, under, at)) es tell.below)));
+  }
+
+  -- the next number is told of
+  pub tell_next : (count : ℕ) (es next : List E) (o : Option E) → TellBelow count es → MayTell number Tells kind os count o → next ≡ es ++ option_to_list o → TellBelow (count + 1) next
+  tell_next count es next None tell may made = subst (TellBelow (count + 1)) (sym (made ∙ append-nil es)) (tell_less count es tell may)
+  tell_next count es next (Some e) tell may made = subst (TellBelow (count + 1)) (sym made) (tell_more count es e tell may.0 may.1)
+
+  -- all are told where all else is free
+  pub tell_all : (count : ℕ) (es : List E) → TellBelow count es → kind ≢ role.Free → ((n : ℕ) → count ≤ n → role_of (content_at os n) ≡ role.Free) → TellAll number Tells kind os es
+  tell_all count es tell some free = record {
+    each = tell.each;
+    whole = λ n is. elim (cases_lt n count) [
+      | inl before ↦ tell.whole n before is
+      | inr past ↦ absurd (some (sym is ∙ free n past))
+    ];
+    rising = tell.rising;
+  }
+
+-- past the last header all is free
+pub role_past : (p : Parts) (hs : List ObjectHeader) (count : ℕ) → hs ≡ p.headers → length hs ≤ count → (n : ℕ) → count ≤ n → role_of (content_at (objects_in p) n) ≡ role.Free
+role_past p hs count same all n past =
+    let total : length hs ≡ length p.headers = ap (λ (ks : List ObjectHeader). length ks) same in
+    let over : length p.headers ≤ n = omega (arith, all, past, total) in
+    ap (λ (o : Object). role_of o.content) (object_past p.headers p.contents n over)

@@ -1,0 +1,29 @@
+use Rattle.std.proofs.Common.{List, arith, rules, subst}
+use Rattle.model.specs.declared.object.Object.{Object}
+use Rattle.model.specs.declared.object.Role.TheVariants as role
+use Rattle.capability.specs.Parts.{objects_in}
+use Rattle.description.specs.declared.entry.NodeEntry.{NodeEntry}
+use Rattle.image_describer.specs.Told.{MayTell, TellsNode}
+use Rattle.image_describer.proofs.Looking.{looked_objects, looked_on, looked_sound}
+use Rattle.image_describer.proofs.Telling.{role_past, tell_all, tell_next}
+use Rattle.image_describer.proofs.describing.nodes.Goals as goal
+
+pub node-requires-clause-sound : goal.node-requires-clause-sound
+node-requires-clause-sound g c = looked_sound c.loop-number.invariant.looked.aside c.requires
+
+pub loop-number-preserved : goal.loop-number-preserved
+loop-number-preserved g c =
+    let os = objects_in (g.F.PresentFrames.parts c.args.store.now) in
+    let looked = c.loop-number.invariant.looked in
+    record {
+      told = tell_next (λ (n : NodeEntry). n.number) (TellsNode os) role.Node os c.loop-number.number c.loop-number.nodes.items c.add.new.entries.items c.in_ok-node.node c.loop-number.invariant.told
+          (subst (λ (us : List Object). MayTell (λ (n : NodeEntry). n.number) (TellsNode us) role.Node us c.loop-number.number c.in_ok-node.node) (looked_objects looked.aside) c.in_ok-node.ensures.told)
+          (search rules);
+      looked = looked_on g.F.PresentFrames.parts g.F.PresentFrames.LeadsTo g.met.F.PresentFrames.leads_twice c.args.store.now c.loop-number.store c.node.new.store looked c.in_ok-node.ensures.looks (λ wrong. cc);
+    }
+
+pub returns-clause-told : goal.returns-clause-told
+returns-clause-told g c =
+    let p = g.F.PresentFrames.parts c.args.store.now in
+    tell_all (λ (n : NodeEntry). n.number) (TellsNode (objects_in p)) role.Node (objects_in p) c.loop-number.number c.loop-number.nodes.items c.loop-number.invariant.told (λ e. cc)
+    (role_past p c.table.result.now c.loop-number.number c.table.ensures (omega (arith, c.count-number-end.ensures, c.loop-number-test.false)))

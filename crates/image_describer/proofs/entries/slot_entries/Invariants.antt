@@ -1,0 +1,7 @@
+use Rattle.std.specs.Prelude.{unwrap_or}
+use Rattle.model.specs.declared.capability.Capability.TheVariants.{Void}
+use Rattle.image_describer.proofs.Naming.{NamesBefore}
+use Rattle.image_describer.proofs.entries.slot_entries.Given as goal
+
+abbrev pub invariant-loop-i : goal.invariant-loop-i
+invariant-loop-i l = NamesBefore (λ s. s.index) (λ s. unwrap_or s.capability Void) Void l.slots l.i l.entries.items

@@ -1,0 +1,4 @@
+pub mod Describes
+pub mod Laws
+pub mod Tables
+pub mod Told

@@ -1,0 +1,56 @@
+-- Objects that are told one by one.
+use Rattle.std.specs.Prelude.{◌≡◌, ◌≢◌, ℕ, List, map, Option, None, Some}
+use Rattle.std.specs.List.{All, Contains}
+use Rattle.model.specs.declared.capability.Capability.{Capability}
+use Rattle.model.specs.declared.object.Content.TheVariants as content
+use Rattle.model.specs.declared.object.Object.{Object}
+use Rattle.model.specs.declared.object.Role.{Role}
+use Rattle.model.specs.declared.object.State.{State}
+use Rattle.model.specs.Object.{role_of}
+use Rattle.model.specs.World.{content_at, object_at}
+use Rattle.description.specs.declared.entry.BankEntry.{BankEntry}
+use Rattle.description.specs.declared.entry.NodeEntry.{NodeEntry}
+use Rattle.description.specs.declared.entry.PageEntry.{PageEntry}
+use Rattle.description.specs.declared.entry.ProcessEntry.{ProcessEntry}
+use Rattle.image_describer.specs.Describes.{AreRising, NamesSlots, NamesWords}
+
+-- what is named of an item at an index: an entry that has it, or nothing where it is at its default
+abbrev pub MayName : {E V : Type 0} → (E → ℕ) → (E → V) → V → ℕ → V → Option E → Type 0
+MayName index value default i x (Some e) = (index e ≡ i) × (value e ≡ x) × (x ≢ default)
+MayName index value default i x None = x ≡ default
+
+-- an entry tells the object at its number
+abbrev pub TellsBank : List Object → BankEntry → Type 0
+TellsBank os b = object_at os b.number ≡ record { owner = b.owner; content = content.Bank b.limit }
+
+abbrev pub TellsNode : List Object → NodeEntry → Type 0
+TellsNode os n = (slots : List Capability) × NamesSlots slots n.slots.items × (object_at os n.number ≡ record { owner = n.owner; content = content.Node slots })
+
+abbrev pub TellsPage : List Object → PageEntry → Type 0
+TellsPage os p = (words : List ℕ) × NamesWords words p.words.items × (object_at os p.number ≡ record { owner = p.owner; content = content.Page words })
+
+-- that of a process the root and the annex
+abbrev pub TellsRoot : List Object → ProcessEntry → Type 0
+TellsRoot os p = (state : State) × (space : Capability) × (p.state ≡ Some state) × (p.space ≡ Some space)
+    × (object_at os p.root ≡ record {
+      owner = p.owner;
+      content = content.Root (record { state = state; words = p.words; key = p.key; annex = p.annex; space = space });
+    })
+
+abbrev pub TellsAnnex : List Object → ProcessEntry → Type 0
+TellsAnnex os p = (registers : List Capability) × NamesSlots registers p.registers.items
+    × (object_at os p.annex ≡ record { owner = p.owner; content = content.Annex registers })
+
+abbrev pub TellsProcess : List Object → ProcessEntry → Type 0
+TellsProcess os p = TellsRoot os p × TellsAnnex os p
+
+-- What is told of a number: an entry where its object is of this kind, else nothing.
+abbrev pub MayTell : {E : Type 0} → (E → ℕ) → (E → Type 0) → Role → List Object → ℕ → Option E → Type 0
+MayTell number Tells kind os n (Some e) = (number e ≡ n) × Tells e
+MayTell number Tells kind os n None = role_of (content_at os n) ≢ kind
+
+-- entries tell all objects of a kind, in order
+pub record TellAll {E : Type 0} (number : E → ℕ) (Tells : E → Type 0) (kind : Role) (os : List Object) (es : List E) : Type 0 where
+  pub each : All Tells es
+  pub whole : (n : ℕ) → role_of (content_at os n) ≡ kind → Contains (map number es) n
+  pub rising : AreRising (map number es)

@@ -1,0 +1,17 @@
+// Lists that grow by one entry at a time.
+ghost use Rattle.std.specs.Prelude.{◌≡◌, ◌++◌, OnOk, option_to_list};
+
+use std::alloc::AllocError;
+
+/// Adds an entry, if there is one. Fails only where memory runs out.
+pub(crate) fn add<E: Drop>(entries: &mut Vec<E>, entry: Option<E>) -> Result<(), AllocError>
+    ensures { OnOk result (entries.new.items ≡ entries.old.items ++ option_to_list entry) }
+{
+    match entry {
+        None => Ok(()),
+        Some(entry) => match entries.push(entry) {
+            Ok(()) => Ok(()),
+            Err(_) => Err(AllocError),
+        },
+    }
+}

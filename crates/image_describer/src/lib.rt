@@ -1,0 +1,17 @@
+//! Descriptions of what images hold: from the objects of a store comes a description of the same
+//! world.
+#![tactic(auto)]
+
+mod adding;
+mod describing;
+mod entries;
+pub mod laws;
+mod objects;
+mod ranges;
+mod tables;
+mod text;
+mod values;
+
+pub use describing::describe;
+pub use ranges::ranges_of;
+pub use text::text_of;

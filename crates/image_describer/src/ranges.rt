@@ -1,0 +1,31 @@
+// The home ranges of an image, as a description names them.
+ghost use Rattle.std.specs.Prelude.{◌≡◌, map, IfOk};
+ghost use Rattle.image_writer.specs.Laid.{MayBeLaid, numbers_of};
+
+use image_writer::NumberRange;
+use layout::{HomeRange, Superblock};
+use std::alloc::{AllocError, Global};
+
+// The numbers of ranges, wherever they lie.
+fn collected(alloc: Global, homes: &[HomeRange]) -> Result<Vec<NumberRange>, AllocError>
+    ensures { IfOk result (λ ranges. ranges.items ≡ map numbers_of homes.now) }
+{
+    homes
+        .iter()
+        .map(|home| NumberRange {
+            first: home.first,
+            count: home.count,
+        })
+        .collect(alloc)
+}
+
+/// The home ranges of an image, as a description names them: an image may have them again. Fails
+/// only where memory runs out.
+pub fn ranges_of(alloc: Global, superblock: &Superblock) -> Result<Vec<NumberRange>, AllocError>
+    ensures ranges { IfOk result (λ ranges.
+        ranges.items ≡ map numbers_of superblock.now.ranges) }
+    ensures laid { IfOk result (λ ranges. MayBeLaid superblock.now.geometry ranges.items) }
+{
+    let ranges = collected(alloc, superblock.ranges())?;
+    Ok(ranges)
+}

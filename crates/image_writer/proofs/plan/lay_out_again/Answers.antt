@@ -1,0 +1,14 @@
+use Rattle.std.proofs.Common.{List, map, subst, sym, ◌∙◌, ap}
+use Rattle.model.specs.declared.geometry.Geometry.{Geometry}
+use Rattle.layout.specs.declared.extent.HomeRange.{HomeRange}
+use Rattle.image_writer.specs.declared.number_range.NumberRange.{NumberRange}
+use Rattle.image_writer.specs.Laid.{MayBeLaid, numbers_of}
+use Rattle.image_writer.proofs.LaidAgain.{may_be_laid}
+use Rattle.image_writer.proofs.plan.lay_out_again.Goals as goal
+
+pub unreachable-requires : goal.unreachable-requires
+unreachable-requires c =
+    c.in-Err.ensures.refused (
+    subst (λ (g : Geometry). MayBeLaid g c.put_numbers.new.into) (sym c.geometry.ensures.value)
+    (subst (λ (rs : List NumberRange). MayBeLaid c.args.superblock.now.geometry rs) (sym (c.put_numbers.ensures ∙ ap (λ (rs : List HomeRange). map numbers_of rs) c.ranges-ranges.ensures.value))
+    (may_be_laid c.args.superblock.now c.geometry.ensures.fits)))

@@ -1,0 +1,15 @@
+use Rattle.std.proofs.Common.{ap}
+use Rattle.layout.specs.Shape.{shape_length}
+use Rattle.home_ranges.proofs.Shared.{begins}
+use Rattle.model.specs.Frame.{frames_in}
+use Rattle.image_writer.proofs.SlotFrames.{packed_written}
+use Rattle.image_writer.proofs.slots.write_cluster.Goals as goal
+
+pub fill_cluster-requires-clause-first : goal.fill_cluster-requires-clause-first
+fill_cluster-requires-clause-first g c = (begins c.args.home.now c.args.entry.object c.args.rank c.requires.plan c.requires.object c.requires.shape).first
+
+pub returns-clause-written : goal.returns-clause-written
+returns-clause-written g c =
+    let place = rw c.requires.same at c.slot_sector-at.ensures.value in
+    packed_written c.write_sectors.result c.args.home.now (frames_in c.args.headers.now c.args.contents.now) c.args.entry.object c.args.rank _ c.fill_cluster.new.cluster (g.D.Device.disk c.write_sectors.new.device).seen
+    c.requires.plan c.requires.object c.requires.shape (rw place at c.write_sectors.ensures.written) c.fill_cluster.ensures.frames

@@ -1,0 +1,20 @@
+use Rattle.std.proofs.Common.{◌≡◌, subst}
+use Rattle.std.specs.Prelude.{OnOk}
+use Rattle.layout.specs.Frame.{frame_bytes}
+use Rattle.layout.specs.Image.{bytes_at, slot_sector}
+use Rattle.layout.specs.Superblock.{Plan}
+use Rattle.model.specs.Frame.{header_at}
+use Rattle.home_ranges.proofs.Places.{IsOwn}
+use Rattle.image_writer.proofs.SlotFrames.{own_written_at}
+use Rattle.image_writer.proofs.slots.write_entry.Goals as goal
+
+pub returns-in-Node-clause-written : goal.returns-in-Node-clause-written
+returns-in-Node-clause-written g c =
+    own_written_at c.write_slot.result c.args.home.now c.args.headers.now c.args.contents.now c.args.entry.object (slot_sector c.args.home.now c.args.generation c.args.entry.slot) c.index-contents-at.result
+    (g.D.Device.disk c.write_slot.new.device).seen c.requires.plan c.requires.object c.requires.headers c.requires.contents c.index-contents-at.is (subst IsOwn c.in-Node.ensures.value tt) (rw c.requires.same at c.write_slot.ensures.written)
+
+pub returns-in-Page-clause-written : goal.returns-in-Page-clause-written
+returns-in-Page-clause-written g c =
+    own_written_at c.write_slot-in-Page.result c.args.home.now c.args.headers.now c.args.contents.now c.args.entry.object (slot_sector c.args.home.now c.args.generation c.args.entry.slot) c.index-contents-at-in-Page.result
+    (g.D.Device.disk c.write_slot-in-Page.new.device).seen c.requires.plan c.requires.object c.requires.headers c.requires.contents c.index-contents-at-in-Page.is (subst IsOwn c.in-Page.ensures.value tt)
+    (rw c.requires.same at c.write_slot-in-Page.ensures.written)

@@ -1,0 +1,14 @@
+use Rattle.std.proofs.Common.{length, refl}
+use Rattle.layout.specs.Image.{directory_length, directory_sector}
+use Rattle.model.specs.Frame.{frames_in}
+use Rattle.image_writer.proofs.FreshImages.{on_ok}
+use Rattle.image_writer.proofs.SlotFrames.{slots_stay}
+use Rattle.image_writer.proofs.slots.write_log.Goals as goal
+
+pub returns-clause-slots : goal.returns-clause-slots
+returns-clause-slots g c =
+    let change = rw c.requires.same at c.write_directory.ensures.writes.elsewhere in
+    on_ok c.write_directory.result
+    (λ written. slots_stay c.args.home.now c.args.generation (directory_sector c.args.home.now c.args.generation) (directory_length (length c.args.entries.now)) c.args.entries.now (frames_in c.args.headers.now c.args.contents.now)
+    (g.D.Device.disk c.write_slots.new.device).seen (g.D.Device.disk c.write_directory.new.device).seen c.requires.directory refl change c.in_ok-write_slots.ensures.slots)
+    c.write_directory.ensures.written

@@ -1,0 +1,89 @@
+-- What the command that describes comes to, and what its text is built as.
+use Rattle.std.proofs.Common.{◌≡◌, ℕ, List, sym, ap, ◌∙◌, subst}
+use Rattle.std.proofs.lemmas.Option.{same_Some}
+use Rattle.toml.specs.Data.{Members}
+use Rattle.model.specs.declared.frame.Frame.{Frame}
+use Rattle.model.specs.declared.geometry.Geometry.{Geometry}
+use Rattle.model.specs.Keepable.{IsSoundFrames, world_at}
+use Rattle.model.specs.World.{World}
+use Rattle.model.specs.Machine.{Saved}
+use Rattle.device.specs.Disk.{Disk, Image}
+use Rattle.device.proofs.Images.{agrees_is}
+use Rattle.layout.specs.Image.{Encodes, SavedState}
+use Rattle.checkpoint.specs.declared.open_fault.OpenFault.TheVariants as opening
+use Rattle.checkpoint.specs.Opened.{Looks}
+use Rattle.checkpoint.specs.Saved.{Holds, SavedFrames}
+use Rattle.migrator.specs.Durable.{saved_state, seen_of}
+use Rattle.capability.specs.Parts.{frames_of}
+use Rattle.image_writer.specs.Written.{first_saved}
+use Rattle.kernel.specs.declared.power.Live.{Live}
+use Rattle.kernel.specs.Opening.{RefusesToOpen, Wakes}
+use Rattle.description.specs.declared.entry.Description.{Description}
+use Rattle.description.specs.Reading.{IsDescription}
+use Rattle.description.specs.Laws.{IsSame}
+use Rattle.description.proofs.Once.{description_once}
+use Rattle.image_describer.proofs.Plain.{described_is_same}
+use Rattle.image_describer.proofs.SameTables.{same_described}
+use Rattle.object_cache.specs.PlainStore.{StoreState, parts_of, view_of}
+use Rattle.jobs.specs.Images.{IsTextOf, TellsWhole}
+use Rattle.jobs.specs.Laws.{DescribedIsDenoted}
+
+-- A store that was made of a device.
+module _ {D : Type 0} (disk : D → Disk) (seen_left : (d : D) → (disk d).may_leave (disk d).seen) (device : D) (l : Live (StoreState D)) (wakes : Wakes disk (view_of disk) (parts_of disk) device l) where
+  -- what is saved, as the device gives it
+  abbrev state_of : SavedState
+  state_of = saved_state (seen_of disk l.store.durable) l.store.durable.books
+
+  encodes : Encodes (disk device).seen (disk device).sectors state_of
+  encodes =
+      let beneath = l.store.durable.beneath in
+      subst (λ (i : Image). Encodes i (disk device).sectors state_of) (agrees_is (disk beneath).seen (disk device).seen wakes.looks.seen)
+      (subst (λ (n : ℕ). Encodes (disk beneath).seen n state_of) wakes.looks.size (wakes.up.store (disk beneath).seen (seen_left beneath)))
+
+  sound : IsSoundFrames state_of.plan.geometry state_of.header.age state_of.frames
+  sound = wakes.up.sound.saved.sound
+
+  pub sound_at : (age : ℕ) → age ≡ state_of.header.age → IsSoundFrames (parts_of disk l.store).geometry age (frames_of (parts_of disk l.store))
+  sound_at age is =
+      subst (λ (n : ℕ). IsSoundFrames state_of.plan.geometry n (frames_of (parts_of disk l.store))) (sym is)
+      (subst (λ (fs : List Frame). IsSoundFrames state_of.plan.geometry state_of.header.age fs) (sym wakes.frames) sound)
+
+  module _ (back : D) (same : back ≡ l.store.durable.beneath) where
+    looked : Looks (disk device) (disk back)
+    looked = subst (λ (d : D). Looks (disk device) (disk d)) (sym same) wakes.looks
+
+    pub no_memory : RefusesToOpen disk device back opening.NoMemory
+    no_memory = record {
+      is_why = ap (λ (d : D). (disk d).failures) same ∙ wakes.failures;
+      looks = looked;
+    }
+
+    module _ (age : ℕ) (age_is : age ≡ state_of.header.age) (text : List ℕ) (whole : IsTextOf l.store.durable.books.plan age (frames_of (parts_of disk l.store)) text) where
+      pub tells : (Told : List ℕ → Type 0) → Told text → TellsWhole disk device back Told
+      tells Told told = record {
+        state = state_of;
+        encodes = encodes;
+        sound = sound;
+        text = text;
+        whole = subst (λ (n : ℕ). IsTextOf state_of.plan n state_of.frames text) age_is
+            (subst (λ (fs : List Frame). IsTextOf state_of.plan age fs text) wakes.frames whole);
+        told = told;
+        looks = looked;
+      }
+
+-- What is built of the text denotes the world that it was told of.
+pub described_is_denoted : DescribedIsDenoted
+described_is_denoted p age frames text table e saved size c sound told read said built holds =
+    let d = told.description in
+    let gs : List Frame = built.0 in
+    let tables : told.table ≡ table = same_Some told.table table (sym told.read ∙ read) in
+    let same : IsSame d e = description_once table d e (subst (λ (ms : Members). IsDescription ms d) tables told.said) said in
+    let is = described_is_same p.geometry age frames gs d sound told.describes (same_described d e same gs built.1) in
+    let world : world_at e.age gs ≡ world_at age frames = ap (λ (n : ℕ). world_at n gs) (sym same.age) ∙ is.1 in
+    let geometry : e.geometry ≡ p.geometry = sym same.geometry ∙ told.describes.geometry in
+    record {
+      frames = first_saved e.geometry e.age gs;
+      holds = subst (λ (s : SavedFrames). Holds size c s) built.3 holds;
+      sound = record { geometry = geometry; sound = subst (λ (g : Geometry). IsSoundFrames g e.age gs) geometry built.2 };
+      stands = ap (λ (w : World). let s : Saved = record { world = w; generation = 0; entries = 0 } in s) world;
+    }

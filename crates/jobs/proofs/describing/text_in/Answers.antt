@@ -1,0 +1,20 @@
+use Rattle.std.proofs.Common.{List, refl, ap, map, ◌∙◌, subst}
+use Rattle.std.specs.Prelude.{Vec}
+use Rattle.std.specs.declared.alloc.Global.{Global}
+use Rattle.layout.specs.Superblock.{Plan, version_number}
+use Rattle.layout.specs.declared.version.Version.{Version}
+use Rattle.image_writer.specs.declared.number_range.NumberRange.{NumberRange}
+use Rattle.image_writer.specs.Laid.{numbers_of}
+use Rattle.jobs.proofs.describing.text_in.Goals as goal
+
+pub returns-in_ok-text_of-in-Ok-clause-told : goal.returns-in_ok-text_of-in-Ok-clause-told
+returns-in_ok-text_of-in-Ok-clause-told g c = record {
+  table = c.in_ok-text_of-in-Ok.ensures.0;
+  read = c.in_ok-text_of-in-Ok.ensures.1;
+  description = c.in-Ok.description;
+  said = c.in_ok-text_of-in-Ok.ensures.2;
+  describes = c.in-Ok.ensures.describes;
+  brief = c.in-Ok.ensures.brief;
+  ranges = ap (λ (v : Vec NumberRange Global). v.items) c.in-Ok.ensures.ranges ∙ c.in_ok-ranges.ensures.ranges ∙ ap (λ (p : Plan). map numbers_of p.ranges) c.superblock-2.ensures;
+  layout = c.in-Ok.ensures.layout ∙ ap (λ (v : Version). version_number v) c.version-version.ensures.value ∙ ap (λ (p : Plan). version_number p.version) c.superblock.ensures;
+}
