@@ -49,6 +49,17 @@ ssize_t __write(int to, const void *bytes, size_t length) {
     return write(to, bytes, length);
 }
 
+ssize_t pwrite(int to, const void *bytes, size_t length, off_t place) {
+    ssize_t written = syscall(SYS_pwrite64, to, bytes, length, place);
+    if (written > 0 && to == file)
+        record('W', place, bytes, written);
+    return written;
+}
+
+ssize_t pwrite64(int to, const void *bytes, size_t length, off_t place) {
+    return pwrite(to, bytes, length, place);
+}
+
 int ftruncate(int of, off_t length) {
     int status = syscall(SYS_ftruncate, of, length);
     if (status == 0 && of == file)

@@ -1,5 +1,5 @@
 -- Trees of nodes, level by level.
-use Rattle.std.proofs.Common.{◌≡◌, ◌≢◌, ℕ, zero, suc, ◌+◌, ◌-◌, ◌/◌, ◌%◌, ◌^◌, ◌<◌, ◌≤◌, ◌==◌, true, false, List, Result, Ok, Err, refl, sym, ap, ◌∙◌, arith}
+use Rattle.std.proofs.Common.{◌≡◌, ◌≢◌, ℕ, zero, suc, ◌+◌, ◌-◌, ◌*◌, ◌/◌, ◌%◌, ◌^◌, ◌<◌, ◌≤◌, ◌==◌, true, false, List, Result, Ok, Err, refl, sym, ap, ◌∙◌, arith}
 use Rattle.std.proofs.lemmas.Bool.{eq-eqb, ne_eqb}
 use Rattle.model.specs.declared.access.Access.{Access}
 use Rattle.model.specs.declared.answer.MemoryFault.{MemoryFault}
@@ -22,6 +22,14 @@ power_fits (suc (suc zero)) le = omega arith
 power_fits (suc (suc (suc zero))) le = omega arith
 power_fits (suc (suc (suc (suc zero)))) le = omega arith
 power_fits (suc (suc (suc (suc (suc h))))) le = absurd (omega (arith, le))
+
+pub bits_power : (h : ℕ) → h ≤ 4 → 2 ^ (5 * h) ≡ 32 ^ h
+bits_power zero le = refl
+bits_power (suc zero) le = refl
+bits_power (suc (suc zero)) le = refl
+bits_power (suc (suc (suc zero))) le = refl
+bits_power (suc (suc (suc (suc zero)))) le = refl
+bits_power (suc (suc (suc (suc (suc h))))) le = absurd (omega (arith, le))
 
 -- A tree at least one high, and what its slot on the way holds.
 module _ (os : List Object) (o h index : ℕ) (a : Access) (s : Capability) (some : 1 ≤ h) (there : s ≡ slot_at os o (index / 32 ^ (h - 1) % 32)) where

@@ -1,5 +1,5 @@
 // The walk through an address space.
-ghost use Rattle.std.specs.Prelude.{◌≡◌, ◌-◌, ◌/◌, ◌%◌, ◌^◌, ◌<◌, ◌≤◌, IfOk};
+ghost use Rattle.std.specs.Prelude.{◌≡◌, ◌-◌, ◌*◌, ◌/◌, ◌%◌, ◌^◌, ◌<◌, ◌≤◌, IfOk};
 ghost use Rattle.model.specs.Capability.{union};
 ghost use Rattle.model.specs.Sound.{MayBeHeld};
 ghost use Rattle.model.specs.Walk.{path, walk as walked, walk_along};
@@ -194,20 +194,29 @@ fn next_slot<F: PresentFrames>(
     Ok(objects::slot(frames, tree.node, digit(index, tree.height - 1)))
 }
 
+// How many bits of a page's index tell the slots of so many levels: a digit to base 32 has five.
+fn bits(levels: u8) -> u32
+    requires { levels ≤ 4 }
+    ensures { result ≡ 5 * levels }
+{
+    5 * u32::from(levels)
+}
+
 // How many pages a tree of that height has room for.
-#[tactic(auto, using(crate::proofs::Paths::power_fits, crate::proofs::Paths::power_some))]
+#[tactic(auto, using(crate::proofs::Paths::bits_power, crate::proofs::Paths::power_fits, crate::proofs::Paths::power_some))]
 fn page_count(height: u8) -> u64
     requires { height ≤ 4 }
     ensures count { result ≡ 32 ^ height }
     ensures some { 0 < result }
 {
-    (SLOTS as u64).pow(height as u32)
+    1 << bits(height)
 }
 
 // The slot on the way to a page, in the nodes that have so many levels below them.
+#[tactic(auto, using(crate::proofs::Paths::bits_power))]
 fn digit(index: u64, level: u8) -> usize
     requires { level < 4 }
     ensures { result ≡ index / 32 ^ level % 32 }
 {
-    (index / page_count(level)) as usize % SLOTS
+    (index >> bits(level)) as usize % SLOTS
 }

@@ -1,3 +1,4 @@
+pub mod DescribedOnce
 pub mod Entries
 pub mod KeptFrames
 pub mod LaidFrames

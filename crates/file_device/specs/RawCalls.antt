@@ -1,14 +1,13 @@
 -- The calls of a file of the operating system, and what they do to its sectors.
-use Rattle.std.specs.Prelude.{◌≡◌, ℕ, ◌*◌, List, [], ◌∷◌, ◌++◌, map, Option, None, Some, ⊤}
+use Rattle.std.specs.Prelude.{◌≡◌, ℕ, ◌+◌, ◌*◌, List, [], ◌∷◌, ◌++◌, length, Option, None, Some, ⊤}
 use Rattle.std.specs.List.{concat, flat_map}
 use Rattle.memory_device.specs.declared.record.Outcome.TheVariants.{Keep}
 use Rattle.device.specs.Calls.{sectors_of}
 use Rattle.memory_device.specs.Past.{Event, synced, cut, writes_of}
 
--- a call that went well: to a byte, bytes taken from there on, or what was written made durable
+-- a call that went well: bytes taken from a byte on, or what was written made durable
 pub data Call : Type 0 where
-  went : ℕ → Call
-  took : List ℕ → Call
+  took : ℕ → List ℕ → Call
   kept : Call
 
 -- known calls, and more; what isn't known stays so
@@ -23,9 +22,14 @@ pub data Deed : Type 0 where
   syncs : Deed
   cuts : Deed
 
+-- pieces are taken one behind the other from a byte on
+abbrev pub taken : ℕ → List (List ℕ) → List Call
+taken byte [] = []
+taken byte (piece ∷ pieces) = took byte piece ∷ taken (byte + length piece) pieces
+
 -- the calls that do it
 abbrev pub calls_of : Deed → List Call
-calls_of (writes at pieces) = went (512 * at) ∷ map took pieces
+calls_of (writes at pieces) = taken (512 * at) pieces
 calls_of syncs = kept ∷ []
 calls_of cuts = []
 
@@ -35,13 +39,9 @@ events_by (writes at pieces) = writes_of at (sectors_of (concat pieces)) (concat
 events_by syncs = synced ∷ []
 events_by cuts = cut Keep ∷ []
 
--- all of the bytes were taken, one piece after another
-abbrev pub Takes : Option (List Call) → Option (List Call) → List ℕ → Type 0
-Takes old new bytes = (pieces : List (List ℕ)) × (concat pieces ≡ bytes) × Adds old new (map took pieces)
-
--- they were written from a sector on
-abbrev pub WritesAt : ℕ → Option (List Call) → Option (List Call) → List ℕ → Type 0
-WritesAt at old new bytes = (pieces : List (List ℕ)) × (concat pieces ≡ bytes) × Adds old new (calls_of (writes at pieces))
+-- all of the bytes were taken from a byte on, one piece after another
+abbrev pub Takes : ℕ → Option (List Call) → Option (List Call) → List ℕ → Type 0
+Takes byte old new bytes = (pieces : List (List ℕ)) × (concat pieces ≡ bytes) × Adds old new (taken byte pieces)
 
 -- known calls, and no others, did what is told
 abbrev pub Tells : List Event → Option (List Call) → Type 0

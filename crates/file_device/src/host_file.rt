@@ -1,6 +1,6 @@
 // A file of the operating system, as a file of sectors.
-ghost use Rattle.std.specs.Prelude.{◌≡◌, ◌≤◌, [], false, nat_lt, length, take, IfSome, IsOk, OnOk};
-ghost use Rattle.file_device.specs.RawCalls.{Adds, Takes, Tells, WritesAt, calls_of, syncs};
+ghost use Rattle.std.specs.Prelude.{◌≡◌, ◌*◌, ◌≤◌, [], false, nat_lt, IfSome, OnOk};
+ghost use Rattle.file_device.specs.RawCalls.{Adds, Takes, Tells, calls_of, syncs};
 
 use crate::history::{History, Step};
 use crate::raw_file::RawFile;
@@ -21,16 +21,17 @@ pub struct HostFile<F: RawFile> {
     ghost told: { is_broken ≡ false → ∥ Tells history.events (F.calls file) ∥₁ },
 }
 
-// Writes all of the bytes, where the file stands. A call that was interrupted is made again.
-fn put_fully<F: RawFile>(file: &mut F, from: &[u8]) -> Result<(), Failed>
-    ensures { OnOk result (Takes (F.calls file.old) (F.calls file.new) from.now) }
+// Writes all of the bytes at the byte `at`. A call that was interrupted is made again.
+fn put_fully<F: RawFile>(file: &mut F, at: u64, from: &[u8]) -> Result<(), Failed>
+    requires { at ≤ 512 * 131072 }
+    ensures { OnOk result (Takes at (F.calls file.old) (F.calls file.new) from.now) }
 {
     let mut done = 0;
     for _ in 0..u64::MAX {
         if done == from.len() {
             return Ok(());
         }
-        match file.put(&from[done..]) {
+        match file.put(at + done as u64, &from[done..]) {
             Ok(0) => return Err(Failed),
             Ok(count) => done += count,
             Err(error) => {
@@ -46,12 +47,9 @@ fn put_fully<F: RawFile>(file: &mut F, from: &[u8]) -> Result<(), Failed>
 // Writes these sectors from `at` on.
 fn put_sectors<F: RawFile>(file: &mut F, at: u64, from: &[u8]) -> Result<(), Failed>
     requires { at ≤ 131072 }
-    ensures { OnOk result (WritesAt at (F.calls file.old) (F.calls file.new) from.now) }
+    ensures { OnOk result (Takes (512 * at) (F.calls file.old) (F.calls file.new) from.now) }
 {
-    match file.go_to(at * SECTOR_SIZE as u64) {
-        Ok(_) => put_fully(file, from),
-        Err(_) => Err(Failed),
-    }
+    put_fully(file, at * SECTOR_SIZE as u64, from)
 }
 
 // Makes durable what was written.

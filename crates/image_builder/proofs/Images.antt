@@ -21,7 +21,7 @@ use Rattle.description.specs.Reading.{IsDescription}
 use Rattle.description.specs.declared.entry.Description.{Description}
 use Rattle.image_builder.specs.Built.{Builds, IsLeftOf, IsWithinLimits, plan_for}
 use Rattle.image_builder.specs.Checked.{AreLaid, IsLeftBuilding, IsSoundDescription}
-use Rattle.image_builder.proofs.DescribedOnce.{described_once}
+use Rattle.described_world.proofs.DescribedOnce.{described_once}
 use Rattle.image_builder.proofs.Refusals.{accepted}
 
 -- an image holds one state

@@ -1,4 +1,3 @@
-pub mod DescribedOnce
 mod Rules
 mod Refusals
 pub mod Images

@@ -21,7 +21,7 @@ use Rattle.image_builder.specs.declared.fault.BuildFault.{BuildFault}
 use Rattle.image_builder.specs.declared.fault.BuildFault.TheVariants.{Shape, Limits, Number, Field, Target, Owner, Small, Failed, NoMemory}
 use Rattle.image_builder.specs.Built.{Builds, BuildsFrom, IsAccepted, IsRefused, IsWithinLimits, Refuses, Rule, TellsNoSize, fault_number}
 use Rattle.image_builder.specs.Checked.{AreLaid, IsRefusedEarly, IsSoundDescription}
-use Rattle.image_builder.proofs.DescribedOnce.{described_once}
+use Rattle.described_world.proofs.DescribedOnce.{described_once}
 use Rattle.image_builder.proofs.Rules.{all_kept, field_broken, number_broken, owner_broken, small_broken, target_broken}
 
 -- a lesser fault isn't that of the device

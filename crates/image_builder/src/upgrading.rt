@@ -1,5 +1,5 @@
 // Writing what an image saves to another, by version 2 of the layout.
-ghost use Rattle.std.specs.Prelude.{◌≡◌, ◌≢◌, ◌<◌, ◌≤◌, ◌↔◌, ℕ, IfOk, IfErr, IsErrOf, OnOk};
+ghost use Rattle.std.specs.Prelude.{◌≡◌, ◌≢◌, ◌<◌, ◌≤◌, ◌↔◌, ℕ, length, IfOk, IfErr, IsErrOf, OnOk};
 ghost use Rattle.device.specs.Disk.{Image};
 ghost use Rattle.device.specs.Calls.{Elsewhere};
 ghost use Rattle.device.specs.Moments.{LeavesOnly};
@@ -13,6 +13,8 @@ ghost use Rattle.image_writer.specs.Laid.{laid_again};
 ghost use Rattle.image_writer.specs.Written.{IsLeftWriting};
 ghost use Rattle.kernel.specs.Denotes.{IsSoundSaved};
 ghost use Rattle.migrator.specs.Opened.{IsUnplanned};
+ghost use Rattle.migrator.specs.Durable.{saved_state, seen_of};
+ghost use Rattle.model.specs.Frame.{frames_in};
 ghost use Rattle.object_cache.specs.PlainStore.{parts_of, saved_by};
 ghost use Rattle.capability.specs.Parts.{frames_of};
 ghost use Rattle.image_builder.specs.Upgraded.{IsLeftUpgrading, IsNotOpened, IsNotUpgraded, Upgrades, numbered, upgraded};
@@ -23,7 +25,8 @@ use device::Device;
 use image_writer::{lay_out_again, write_saved};
 use kernel::{Live, wake};
 use layout::{CheckpointHeader, Entry, Version};
-use migrator::superblock_of;
+use migrator::{Durable, superblock_of};
+use model::{Cap, Content, ObjectHeader};
 use object_cache::PlainStore;
 use std::alloc::{AllocError, Global};
 
@@ -61,6 +64,60 @@ fn in_order(alloc: Global, entries: &[Entry]) -> Result<Vec<Entry>, AllocError>
     Ok(found)
 }
 
+// Writes what is saved, with these entries in place of its own and the frames that these headers and
+// contents are, and answers how many sectors the image has.
+fn write_over<D: Device, E: Device>(
+    saved: &Durable<D>,
+    entries: &[Entry],
+    headers: &[ObjectHeader],
+    contents: &[Content<Cap>],
+    new: &mut E,
+) -> Result<u64, UpgradeFault>
+    requires encoded { (image : Image) × (size : ℕ)
+        × Encodes image size (saved_state (seen_of D.disk saved.now) saved.now.books) }
+    requires sound { let state = saved_state (seen_of D.disk saved.now) saved.now.books in
+        IsSoundSaved state.plan.geometry (kept_of state) }
+    requires entries { entries.now ≡ numbered 0 saved.now.books.directory }
+    requires contents { length contents.now ≡ length headers.now }
+    requires frames { frames_in headers.now contents.now
+        ≡ (saved_state (seen_of D.disk saved.now) saved.now.books).frames }
+    ensures total { IfOk result (λ total. total ≡ (laid_again Two saved.now.books.plan).total) }
+    ensures encodes { OnOk result (Encodes (E.disk new.new).seen (E.disk new.new).sectors
+        (upgraded (saved_state (seen_of D.disk saved.now) saved.now.books))) }
+    ensures crash { OnOk result ((c : Image) → (E.disk new.new).may_leave c
+        → Encodes c (E.disk new.new).sectors
+        (upgraded (saved_state (seen_of D.disk saved.now) saved.now.books))) }
+    ensures elsewhere { OnOk result (Elsewhere 0 (laid_again Two saved.now.books.plan).total
+        (E.disk new.old).seen (E.disk new.new).seen) }
+    ensures small { IsErrOf result UpgradeFault.Small
+        → (E.disk new.old).sectors < (laid_again Two saved.now.books.plan).total }
+    ensures opened { IfErr result (λ fault. (why : OpenFault) → fault ≢ UpgradeFault.Old why) }
+    ensures untouched { IfErr result (λ fault. fault ≢ UpgradeFault.Failed → new.new ≡ new.old) }
+    ensures any_moment { LeavesOnly (E.disk new.old) (E.disk new.new) (λ c. IsLeftWriting
+        (E.disk new.old) (kept_of (saved_state (seen_of D.disk saved.now) saved.now.books)) c) }
+    ensures size { (E.disk new.new).sectors ≡ (E.disk new.old).sectors }
+    ensures later { (E.disk new.old).failures ≤ (E.disk new.new).failures }
+    ensures cause { IsErrOf result UpgradeFault.Failed
+        ↔ ((E.disk new.old).failures < (E.disk new.new).failures) }
+{
+    let superblock = lay_out_again(Version::Two, saved.superblock());
+    let sectors = new.sectors();
+    if sectors < superblock.total() {
+        return Err(UpgradeFault::Small);
+    }
+    let checkpoint = saved.saved();
+    let header = CheckpointHeader {
+        sequence: 0,
+        generation: checkpoint.generation,
+        entries: checkpoint.entries,
+        age: checkpoint.age,
+    };
+    match write_saved(new, &superblock, header, entries, headers, contents) {
+        Ok(()) => Ok(superblock.total()),
+        Err(_) => Err(UpgradeFault::Failed),
+    }
+}
+
 // Writes what a store has of its device's checkpoint, which is all in memory, and answers how many
 // sectors the image has.
 fn write_store<D: Device, E: Device>(
@@ -92,26 +149,10 @@ fn write_store<D: Device, E: Device>(
         ↔ ((E.disk new.old).failures < (E.disk new.new).failures) }
 {
     let (saved, present) = store.into_parts();
-    let superblock = lay_out_again(Version::Two, saved.superblock());
-    let entries = match in_order(alloc, saved.directory()) {
-        Ok(entries) => entries,
-        Err(_) => return Err(UpgradeFault::NoMemory),
-    };
-    let sectors = new.sectors();
-    if sectors < superblock.total() {
-        return Err(UpgradeFault::Small);
-    }
-    let checkpoint = saved.saved();
-    let header = CheckpointHeader {
-        sequence: 0,
-        generation: checkpoint.generation,
-        entries: checkpoint.entries,
-        age: checkpoint.age,
-    };
     let (headers, contents) = present.into_parts();
-    match write_saved(new, &superblock, header, &entries, &headers, &contents) {
-        Ok(()) => Ok(superblock.total()),
-        Err(_) => Err(UpgradeFault::Failed),
+    match in_order(alloc, saved.directory()) {
+        Ok(entries) => write_over(&saved, &entries, &headers, &contents, new),
+        Err(_) => Err(UpgradeFault::NoMemory),
     }
 }
 

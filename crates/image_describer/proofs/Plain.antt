@@ -21,11 +21,10 @@ use Rattle.model.specs.World.{object_at}
 use Rattle.capability.specs.Plain.{fresh_cap}
 use Rattle.capability.proofs.Mapped.{kind_map, mapped}
 use Rattle.described_world.specs.declared.fault.WorldFault.TheVariants as fault
-use Rattle.consistency.proofs.Unsound.{sound_banked, sound_named}
-use Rattle.image_builder.specs.declared.fault.BuildFault.TheVariants as build
-use Rattle.image_builder.proofs.DescribedOnce.{described_once}
+use Rattle.consistency.proofs.Unsound.{sound_named}
+use Rattle.described_world.proofs.DescribedOnce.{described_once}
 use Rattle.image_describer.specs.Describes.{plain_frame, plain_frames}
-use Rattle.image_describer.specs.Laws.{DescribedIsAccepted, DescribedIsLaid, DescribedIsSame}
+use Rattle.image_describer.specs.Laws.{DescribedIsLaid, DescribedIsSame}
 
 plain_at : (os : List Object) (n : ℕ) → frame_at (plain_frames os) n ≡ plain_frame (object_at os n)
 unfolding plain_frames
@@ -204,17 +203,3 @@ described_is_laid g age fs d fault.Field sound describes wrong = absurd (wrong.1
 described_is_laid g age fs d fault.Target sound describes wrong =
     absurd (wrong.2 (plain_frames (objects_of fs)) describes.frames (sound_named g age (plain_frames (objects_of fs)) (sound_plain g age fs sound)))
 described_is_laid g age fs d fault.NoMemory sound describes wrong = refl
-
-pub described_is_accepted : DescribedIsAccepted
-described_is_accepted g age fs d v sectors sound describes layout laid room build.Limits =
-    record { layout = (v, layout); laid = laid; age = subst (λ (n : ℕ). n ≤ 2 ^ 62) (sym describes.age) sound.sound.age }
-described_is_accepted g age fs d v sectors sound describes layout laid room build.Number = describes.numbers
-described_is_accepted g age fs d v sectors sound describes layout laid room build.Field = describes.fields
-described_is_accepted g age fs d v sectors sound describes layout laid room build.Target =
-    (plain_frames (objects_of fs), describes.frames, sound_named g age (plain_frames (objects_of fs)) (sound_plain g age fs sound))
-described_is_accepted g age fs d v sectors sound describes layout laid room build.Owner =
-    (plain_frames (objects_of fs), describes.frames, sound_banked g age (plain_frames (objects_of fs)) (sound_plain g age fs sound))
-described_is_accepted g age fs d v sectors sound describes layout laid room build.Small = room
-described_is_accepted g age fs d v sectors sound describes layout laid room build.Shape = tt
-described_is_accepted g age fs d v sectors sound describes layout laid room build.Failed = tt
-described_is_accepted g age fs d v sectors sound describes layout laid room build.NoMemory = tt

@@ -1,16 +1,12 @@
 -- What a description of a world is laid as.
-use Rattle.std.specs.Prelude.{◌≡◌, ℕ, ◌≤◌, List}
+use Rattle.std.specs.Prelude.{◌≡◌, ℕ, List}
 use Rattle.model.specs.declared.frame.Frame.{Frame}
 use Rattle.model.specs.declared.geometry.Geometry.{Geometry}
 use Rattle.model.specs.Keepable.{IsSoundFrames, world_at}
-use Rattle.layout.specs.declared.version.Version.{Version}
-use Rattle.layout.specs.Superblock.{version_number}
 use Rattle.description.specs.declared.entry.Description.{Description}
 use Rattle.described_world.specs.Described.{IsDescribed, IsWorldFault}
 use Rattle.described_world.specs.declared.fault.WorldFault.{WorldFault}
 use Rattle.described_world.specs.declared.fault.WorldFault.TheVariants.{NoMemory}
-use Rattle.image_writer.specs.Laid.{MayBeLaid}
-use Rattle.image_builder.specs.Built.{IsAccepted, plan_for}
 use Rattle.image_describer.specs.Describes.{Describes}
 
 -- any frames of the description of a world are sound, and stand for that world at that age
@@ -21,8 +17,3 @@ DescribedIsSame = (g : Geometry) (age : ℕ) (fs gs : List Frame) (d : Descripti
 -- and no fault is told of it
 abbrev pub DescribedIsLaid : Type 0
 DescribedIsLaid = (g : Geometry) (age : ℕ) (fs : List Frame) (d : Description) (fault : WorldFault) → IsSoundFrames g age fs → Describes g (world_at age fs) d → IsWorldFault d fault → fault ≡ NoMemory
-
--- With a version and home ranges that an image may have it is built on a device with enough sectors.
-abbrev pub DescribedIsAccepted : Type 0
-DescribedIsAccepted = (g : Geometry) (age : ℕ) (fs : List Frame) (d : Description) (v : Version) (sectors : ℕ) → IsSoundFrames g age fs → Describes g (world_at age fs) d →
-    d.layout ≡ version_number v → MayBeLaid d.geometry d.ranges.items → (plan_for d).total ≤ sectors → IsAccepted d sectors

@@ -1,6 +1,6 @@
 //! Laws of descriptions of worlds, each the contract of a function that does nothing.
 
-ghost use Rattle.image_describer.specs.Laws.{DescribedIsAccepted, DescribedIsLaid, DescribedIsSame};
+ghost use Rattle.image_describer.specs.Laws.{DescribedIsLaid, DescribedIsSame};
 
 /// The frames of a world's description stand for the same world, at its age, and are sound.
 pub fn described_is_same()
@@ -10,10 +10,4 @@ pub fn described_is_same()
 /// A description of a world is refused with no fault of its own: its world is laid.
 pub fn described_is_laid()
     ensures { DescribedIsLaid }
-{}
-
-/// With a version and home ranges that an image may have, it is built wherever there are enough
-/// sectors.
-pub fn described_is_accepted()
-    ensures { DescribedIsAccepted }
 {}

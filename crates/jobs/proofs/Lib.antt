@@ -1,3 +1,4 @@
+mod AcceptedDescriptions
 mod BuiltImages
 mod DescribedImages
 mod RunImages

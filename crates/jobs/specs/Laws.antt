@@ -1,18 +1,22 @@
 -- What is built can be run.
-use Rattle.std.specs.Prelude.{◌≡◌, ℕ, List, Some}
+use Rattle.std.specs.Prelude.{◌≡◌, ℕ, ◌≤◌, List, Some}
 use Rattle.toml.specs.Data.{Members}
 use Rattle.toml.specs.Parse.{parse_document}
 use Rattle.model.specs.declared.frame.Frame.{Frame}
+use Rattle.model.specs.declared.geometry.Geometry.{Geometry}
 use Rattle.model.specs.Keepable.{IsSoundFrames, world_at}
 use Rattle.model.specs.Machine.{Saved}
 use Rattle.device.specs.Disk.{Image}
-use Rattle.layout.specs.Superblock.{Plan}
+use Rattle.layout.specs.declared.version.Version.{Version}
+use Rattle.layout.specs.Superblock.{Plan, version_number}
 use Rattle.checkpoint.specs.Saved.{Holds, SavedFrames}
+use Rattle.image_writer.specs.Laid.{MayBeLaid}
 use Rattle.image_writer.specs.Written.{first_saved}
 use Rattle.kernel.specs.Denotes.{Denotes}
 use Rattle.description.specs.declared.entry.Description.{Description}
 use Rattle.description.specs.Reading.{IsDescription}
-use Rattle.image_builder.specs.Built.{IsSavedOf}
+use Rattle.image_builder.specs.Built.{IsAccepted, IsSavedOf, plan_for}
+use Rattle.image_describer.specs.Describes.{Describes}
 use Rattle.jobs.specs.Images.{IsTextOf}
 
 -- what holds the frames of a built image denotes the world that they stand for, of generation 0 and with nothing in the
@@ -30,3 +34,9 @@ anew age frames = record { world = world_at age frames; generation = 0; entries 
 abbrev pub DescribedIsDenoted : Type 0
 DescribedIsDenoted = (p : Plan) (age : ℕ) (frames : List Frame) (text : List ℕ) (table : Members) (d : Description) (saved : SavedFrames) (size : ℕ) (c : Image) → IsSoundFrames p.geometry age frames →
     IsTextOf p age frames text → parse_document text ≡ Some table → IsDescription table d → IsSavedOf d saved → Holds size c saved → Denotes p.geometry size c (anew age frames)
+
+-- The description of a world is accepted: with a version and home ranges that an image may have it is built on a device with
+-- enough sectors.
+abbrev pub DescribedIsAccepted : Type 0
+DescribedIsAccepted = (g : Geometry) (age : ℕ) (fs : List Frame) (d : Description) (v : Version) (sectors : ℕ) → IsSoundFrames g age fs → Describes g (world_at age fs) d →
+    d.layout ≡ version_number v → MayBeLaid d.geometry d.ranges.items → (plan_for d).total ≤ sectors → IsAccepted d sectors

@@ -1,6 +1,6 @@
 //! Laws of images, each the contract of a function that does nothing.
 
-ghost use Rattle.jobs.specs.Laws.{BuiltIsDenoted, DescribedIsDenoted};
+ghost use Rattle.jobs.specs.Laws.{BuiltIsDenoted, DescribedIsAccepted, DescribedIsDenoted};
 
 /// What `build_image` leaves on a device, and what each crash leaves of it, can be opened and run: it
 /// denotes the described world, of generation 0 and with nothing in the log.
@@ -12,4 +12,10 @@ pub fn built_is_denoted()
 /// leaves of it, denotes the world that the text tells, of generation 0 and with nothing in the log.
 pub fn described_is_denoted()
     ensures { DescribedIsDenoted }
+{}
+
+/// With a version and home ranges that an image may have, the description of a world is built
+/// wherever there are enough sectors.
+pub fn described_is_accepted()
+    ensures { DescribedIsAccepted }
 {}

@@ -1,67 +1,12 @@
-use Rattle.std.proofs.Common.{rules, ◌≡◌, List, length, ap, subst, sym, ◌∙◌}
-use Rattle.model.specs.declared.frame.Frame.{Frame}
-use Rattle.model.specs.declared.geometry.Geometry.{Geometry}
-use Rattle.model.specs.Frame.{frames_in}
+use Rattle.std.proofs.Common.{subst}
 use Rattle.device.specs.Moments.{LeavesOnly}
-use Rattle.layout.specs.declared.directory.Entry.{Entry}
-use Rattle.layout.specs.declared.version.Version.TheVariants.{Two}
-use Rattle.layout.specs.Directory.{IsDirectory}
-use Rattle.layout.specs.Image.{Encodes, SavedState}
-use Rattle.layout.specs.Superblock.{Plan}
-use Rattle.checkpoint.specs.Saved.{SavedFrames, kept_of}
-use Rattle.image_writer.specs.Laid.{laid_again}
-use Rattle.image_writer.specs.Written.{IsLeftWriting, state_of}
-use Rattle.object_cache.specs.PlainStore.{saved_by}
-use Rattle.image_builder.specs.Upgraded.{numbered, upgraded}
-use Rattle.image_builder.proofs.Upgrades.{directory_count, directory_fits, same_state}
+use Rattle.checkpoint.specs.Saved.{kept_of}
+use Rattle.image_writer.specs.Written.{IsLeftWriting}
+use Rattle.migrator.specs.Durable.{DurableState, saved_state, seen_of}
 use Rattle.image_builder.proofs.upgrading.write_store.Goals as goal
 
-pub write_saved-requires-clause-directory : goal.write_saved-requires-clause-directory
-write_saved-requires-clause-directory g c =
-    let s = saved_by g.D.Device.disk c.args.store in
-    let laid : c.lay_out_again-superblock.result ≡ laid_again Two s.plan = search rules in
-    let entries : c.deref.result.now ≡ numbered 0 s.directory = search rules in
-    subst (λ (geometry : Geometry). IsDirectory geometry c.deref.result.now) (sym (ap (λ (p : Plan). p.geometry) laid))
-    (subst (λ (es : List Entry). IsDirectory s.plan.geometry es) (sym entries) (directory_fits c.requires.encoded.0 c.requires.encoded.1 s c.requires.encoded.2))
-
-pub write_saved-requires-clause-count : goal.write_saved-requires-clause-count
-write_saved-requires-clause-count g c =
-    let s = saved_by g.D.Device.disk c.args.store in
-    let entries : c.deref.result.now ≡ numbered 0 s.directory = search rules in
-    let count : c.saved-checkpoint.result.entries ≡ s.header.entries = search rules in
-    ap length entries ∙ directory_count c.requires.encoded.0 c.requires.encoded.1 s c.requires.encoded.2 ∙ sym count
-
-pub returns-in-Ok-write_saved-clause-crash : goal.returns-in-Ok-write_saved-clause-crash
-returns-in-Ok-write_saved-clause-crash g c x left =
-    let s = saved_by g.D.Device.disk c.args.store in
-    let laid : c.lay_out_again-superblock.result ≡ laid_again Two s.plan = search rules in
-    let entries : c.deref.result.now ≡ numbered 0 s.directory = search rules in
-    let generation : c.saved-checkpoint.result.generation ≡ s.header.generation = search rules in
-    let count : c.saved-checkpoint.result.entries ≡ s.header.entries = search rules in
-    let age : c.saved-checkpoint.result.age ≡ s.header.age = search rules in
-    let frames : frames_in c.deref-2.result.now c.deref-3.result.now ≡ s.frames = search rules in
-    subst (λ (state : SavedState). Encodes x (g.E.Device.disk c.write_saved.new.device).sectors state) (same_state s _ _ _ _ _ _ laid generation count age entries frames) (c.in-Ok-write_saved.ensures.crash x left)
-
-pub returns-in-Ok-write_saved-clause-any_moment : goal.returns-in-Ok-write_saved-clause-any_moment
-returns-in-Ok-write_saved-clause-any_moment g c =
-    let s = saved_by g.D.Device.disk c.args.store in
-    let laid : c.lay_out_again-superblock.result ≡ laid_again Two s.plan = search rules in
-    let entries : c.deref.result.now ≡ numbered 0 s.directory = search rules in
-    let generation : c.saved-checkpoint.result.generation ≡ s.header.generation = search rules in
-    let count : c.saved-checkpoint.result.entries ≡ s.header.entries = search rules in
-    let age : c.saved-checkpoint.result.age ≡ s.header.age = search rules in
-    let frames : frames_in c.deref-2.result.now c.deref-3.result.now ≡ s.frames = search rules in
-    subst (λ (saved : SavedFrames). LeavesOnly (g.E.Device.disk c.args.new.now) (g.E.Device.disk c.write_saved.new.device) (λ x. IsLeftWriting (g.E.Device.disk c.args.new.now) saved x))
-    (ap kept_of (same_state s _ _ _ _ _ _ laid generation count age entries frames)) c.write_saved.ensures.any_moment
-
-pub returns-clause-any_moment : goal.returns-clause-any_moment
-returns-clause-any_moment g c =
-    let s = saved_by g.D.Device.disk c.args.store in
-    let laid : c.lay_out_again-superblock.result ≡ laid_again Two s.plan = search rules in
-    let entries : c.deref.result.now ≡ numbered 0 s.directory = search rules in
-    let generation : c.saved-checkpoint.result.generation ≡ s.header.generation = search rules in
-    let count : c.saved-checkpoint.result.entries ≡ s.header.entries = search rules in
-    let age : c.saved-checkpoint.result.age ≡ s.header.age = search rules in
-    let frames : frames_in c.deref-2.result.now c.deref-3.result.now ≡ s.frames = search rules in
-    subst (λ (saved : SavedFrames). LeavesOnly (g.E.Device.disk c.args.new.now) (g.E.Device.disk c.write_saved.new.device) (λ x. IsLeftWriting (g.E.Device.disk c.args.new.now) saved x))
-    (ap kept_of (same_state s _ _ _ _ _ _ laid generation count age entries frames)) c.write_saved.ensures.any_moment
+pub returns-in-Ok-clause-any_moment : goal.returns-in-Ok-clause-any_moment
+returns-in-Ok-clause-any_moment g c =
+    subst (λ (s : DurableState _). LeavesOnly (g.E.Device.disk c.args.new.now) (g.E.Device.disk c.write_over.new.new)
+    (λ x. IsLeftWriting (g.E.Device.disk c.args.new.now) (kept_of (saved_state (seen_of g.D.Device.disk s) s.books)) x))
+    c.into_parts-saved.ensures.durable c.write_over.ensures.any_moment

@@ -1,0 +1,22 @@
+-- The description of a world is built.
+use Rattle.std.proofs.Common.{◌≡◌, ℕ, ◌^◌, ◌≤◌, sym, subst}
+use Rattle.model.specs.Frame.{objects_of}
+use Rattle.consistency.proofs.Unsound.{sound_banked, sound_named}
+use Rattle.image_builder.specs.declared.fault.BuildFault.TheVariants as build
+use Rattle.image_describer.proofs.Plain.{sound_plain}
+use Rattle.image_describer.specs.Describes.{plain_frames}
+use Rattle.jobs.specs.Laws.{DescribedIsAccepted}
+
+pub described_is_accepted : DescribedIsAccepted
+described_is_accepted g age fs d v sectors sound describes layout laid room build.Limits =
+    record { layout = (v, layout); laid = laid; age = subst (λ (n : ℕ). n ≤ 2 ^ 62) (sym describes.age) sound.sound.age }
+described_is_accepted g age fs d v sectors sound describes layout laid room build.Number = describes.numbers
+described_is_accepted g age fs d v sectors sound describes layout laid room build.Field = describes.fields
+described_is_accepted g age fs d v sectors sound describes layout laid room build.Target =
+    (plain_frames (objects_of fs), describes.frames, sound_named g age (plain_frames (objects_of fs)) (sound_plain g age fs sound))
+described_is_accepted g age fs d v sectors sound describes layout laid room build.Owner =
+    (plain_frames (objects_of fs), describes.frames, sound_banked g age (plain_frames (objects_of fs)) (sound_plain g age fs sound))
+described_is_accepted g age fs d v sectors sound describes layout laid room build.Small = room
+described_is_accepted g age fs d v sectors sound describes layout laid room build.Shape = tt
+described_is_accepted g age fs d v sectors sound describes layout laid room build.Failed = tt
+described_is_accepted g age fs d v sectors sound describes layout laid room build.NoMemory = tt
