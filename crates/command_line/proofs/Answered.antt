@@ -91,7 +91,12 @@ describe_named rows has none =
     let image = text_in _ (both _ _ has).0 in
     none (job.Describe image.0) (refl, image.1)
 
-no_help : (name : Text) → is_no_help whole.top name ≡ true → answers_to name (label_of (sub 5)) ≡ true → ⊥
+draw_named : (rows : List Row) → (is_some (first_of (codes "IMAGE") rows) && true) ≡ true → NamesNone (Some (codes "draw", rows)) → ⊥
+draw_named rows has none =
+    let image = text_in _ (both _ _ has).0 in
+    none (job.Draw image.0) (refl, image.1)
+
+no_help : (name : Text) → is_no_help whole.top name ≡ true → answers_to name (label_of (sub 6)) ≡ true → ⊥
 no_help name other help = go (bytes_eq (codes "help") name) refl help
   where
     go : (b : Bool) → bytes_eq (codes "help") name ≡ b → (b || false) ≡ true → ⊥
@@ -104,28 +109,30 @@ no_help name other help = go (bytes_eq (codes "help") name) refl help
 entered_named : (stop : Option (Text × List Text)) → is_some (entered whole stop) ≡ true → StopsWell whole.top stop → entered_passes whole stop ≡ true
     → NamesNone (entered whole stop) → IsSameTwice (entered whole stop)
 entered_named None some well passes none = absurd (true≢false (sym some))
-entered_named (Some p) some well passes none = go (names 0) (names 1) (names 2) (names 3) (names 4) (names 5) refl some passes none
+entered_named (Some p) some well passes none = go (names 0) (names 1) (names 2) (names 3) (names 4) (names 5) (names 6) refl some passes none
   where
     names : ℕ → Bool
     names k = answers_to p.0 (label_of (sub k))
 
-    chosen : Bool → Bool → Bool → Bool → Bool → Bool → Option Shape
-    chosen a b c d e f =
-        cond a (Some (sub 0)) (cond b (Some (sub 1)) (cond c (Some (sub 2)) (cond d (Some (sub 3)) (cond e (Some (sub 4)) (cond f (Some (sub 5)) None)))))
+    chosen : Bool → Bool → Bool → Bool → Bool → Bool → Bool → Option Shape
+    chosen a b c d e f h =
+        cond a (Some (sub 0)) (cond b (Some (sub 1)) (cond c (Some (sub 2)) (cond d (Some (sub 3)) (cond e (Some (sub 4)) (cond f (Some (sub 5)) (cond h (Some (sub 6)) None))))))
 
-    go : (a b c d e f : Bool) → answers_to p.0 (label_of (sub 5)) ≡ f → is_some (option_map (λ s. rows_at s p.1) (chosen a b c d e f)) ≡ true
-        → option_map_or (λ s. level_passes s [] nothing_held p.1 false) (chosen a b c d e f) true ≡ true
-        → NamesNone (option_map (λ s. rows_at s p.1) (chosen a b c d e f)) → IsSameTwice (option_map (λ s. rows_at s p.1) (chosen a b c d e f))
-    go true b c d e f help has level empty = absurd (build_named (rows_at (sub 0) p.1).1 (level_keeps (sub 0) [] p.1 false refl refl level).0 empty)
-    go false true c d e f help has level empty =
+    go : (a b c d e f h : Bool) → answers_to p.0 (label_of (sub 6)) ≡ h → is_some (option_map (λ s. rows_at s p.1) (chosen a b c d e f h)) ≡ true
+        → option_map_or (λ s. level_passes s [] nothing_held p.1 false) (chosen a b c d e f h) true ≡ true
+        → NamesNone (option_map (λ s. rows_at s p.1) (chosen a b c d e f h)) → IsSameTwice (option_map (λ s. rows_at s p.1) (chosen a b c d e f h))
+    go true b c d e f h help has level empty = absurd (build_named (rows_at (sub 0) p.1).1 (level_keeps (sub 0) [] p.1 false refl refl level).0 empty)
+    go false true c d e f h help has level empty =
         let kept = level_keeps (sub 1) [] p.1 false refl refl level in
         absurd (run_named (rows_at (sub 1) p.1).1 kept.3 kept.0 empty)
-    go false false true d e f help has level empty = absurd (check_named (rows_at (sub 2) p.1).1 (level_keeps (sub 2) [] p.1 false refl refl level).0 empty)
-    go false false false true e f help has level empty = upgrade_named (rows_at (sub 3) p.1).1 (level_keeps (sub 3) [] p.1 false refl refl level).0 empty
-    go false false false false true f help has level empty =
+    go false false true d e f h help has level empty = absurd (check_named (rows_at (sub 2) p.1).1 (level_keeps (sub 2) [] p.1 false refl refl level).0 empty)
+    go false false false true e f h help has level empty = upgrade_named (rows_at (sub 3) p.1).1 (level_keeps (sub 3) [] p.1 false refl refl level).0 empty
+    go false false false false true f h help has level empty =
         absurd (describe_named (rows_at (sub 4) p.1).1 (level_keeps (sub 4) [] p.1 false refl refl level).0 empty)
-    go false false false false false true help has level empty = absurd (no_help p.0 well help)
-    go false false false false false false help has level empty = absurd (true≢false (sym has))
+    go false false false false false true h help has level empty =
+        absurd (draw_named (rows_at (sub 5) p.1).1 (level_keeps (sub 5) [] p.1 false refl refl level).0 empty)
+    go false false false false false false true help has level empty = absurd (no_help p.0 well help)
+    go false false false false false false false help has level empty = absurd (true≢false (sym has))
 
 -- words that the command takes name a job, unless they are an upgrade of one word to itself
 pub takes_named : (words : List Text) → takes eros_app words ≡ true → NamesNone (subcommand_of eros_app words) → IsSameTwice (subcommand_of eros_app words)

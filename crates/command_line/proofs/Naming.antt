@@ -60,6 +60,7 @@ no_image name rows other none (job.Run image script cache) is = let bad : None �
 no_image name rows other none (job.Check image) is = let bad : None ≡ Some image.now = sym none ∙ is.1 in cc
 no_image name rows other none (job.Upgrade old new) is = other is.0
 no_image name rows other none (job.Describe image) is = let bad : None ≡ Some image.now = sym none ∙ is.1 in cc
+no_image name rows other none (job.Draw image) is = let bad : None ≡ Some image.now = sym none ∙ is.1 in cc
 
 -- nor is a build without a description
 pub no_description : (name : Text) (rows : List Row) → name ≡ codes "build" → first_of (codes "DESCRIPTION") rows ≡ None → (x : Job) → IsJob name rows x → ⊥
@@ -68,6 +69,7 @@ no_description name rows build none (job.Run image script cache) is = apart (sym
 no_description name rows build none (job.Check image) is = apart (sym build ∙ is.0) (λ e. absurd (omega arith))
 no_description name rows build none (job.Upgrade old new) is = apart (sym build ∙ is.0) (λ e. absurd (omega arith))
 no_description name rows build none (job.Describe image) is = apart (sym build ∙ is.0) (λ e. absurd (omega arith))
+no_description name rows build none (job.Draw image) is = apart (sym build ∙ is.0) (λ e. absurd (omega arith))
 
 -- nor a run without a script
 pub no_script : (name : Text) (rows : List Row) → name ≡ codes "run" → first_of (codes "SCRIPT") rows ≡ None → (x : Job) → IsJob name rows x → ⊥
@@ -76,6 +78,7 @@ no_script name rows run none (job.Run image script cache) is = let bad : None �
 no_script name rows run none (job.Check image) is = apart (sym run ∙ is.0) (λ e. absurd (omega arith))
 no_script name rows run none (job.Upgrade old new) is = apart (sym run ∙ is.0) (λ e. absurd (omega arith))
 no_script name rows run none (job.Describe image) is = apart (sym run ∙ is.0) (λ e. absurd (omega arith))
+no_script name rows run none (job.Draw image) is = apart (sym run ∙ is.0) (λ e. absurd (omega arith))
 
 -- nor is a run with a capacity that is none
 pub no_capacity : (name : Text) (rows : List Row) → name ≡ codes "run" → IsNoCache rows → (x : Job) → IsJob name rows x → ⊥
@@ -84,6 +87,7 @@ no_capacity name rows run none (job.Run image script cache) is = none cache is.1
 no_capacity name rows run none (job.Check image) is = apart (sym run ∙ is.0) (λ e. absurd (omega arith))
 no_capacity name rows run none (job.Upgrade old new) is = apart (sym run ∙ is.0) (λ e. absurd (omega arith))
 no_capacity name rows run none (job.Describe image) is = apart (sym run ∙ is.0) (λ e. absurd (omega arith))
+no_capacity name rows run none (job.Draw image) is = apart (sym run ∙ is.0) (λ e. absurd (omega arith))
 
 -- nor is an upgrade whose two words are equal, if both are given
 no_upgrade : (rows : List Row) → ((old new : Text) → IsGiven rows (codes "OLD") old → IsGiven rows (codes "NEW") new → old ≡ new) → IsNoJob (codes "upgrade") rows
@@ -92,6 +96,7 @@ no_upgrade rows same (job.Run image script cache) is = apart is.0 (λ e. absurd 
 no_upgrade rows same (job.Check image) is = apart is.0 (λ e. absurd (omega arith))
 no_upgrade rows same (job.Upgrade old new) is = is.3 (same old.now new.now is.1 is.2)
 no_upgrade rows same (job.Describe image) is = apart is.0 (λ e. absurd (omega arith))
+no_upgrade rows same (job.Draw image) is = apart is.0 (λ e. absurd (omega arith))
 
 pub no_old : (rows : List Row) → first_of (codes "OLD") rows ≡ None → IsNoJob (codes "upgrade") rows
 no_old rows none = no_upgrade rows (λ old new old_is new_is. let bad : None ≡ Some old = sym none ∙ old_is in cc)

@@ -38,14 +38,19 @@ upgrade_app = with_rule (with_rule (new_app (codes "upgrade")) (file_rule (codes
 abbrev pub describe_app : App
 describe_app = with_rule (new_app (codes "describe")) (file_rule (codes "IMAGE"))
 
+-- eros draw IMAGE
+abbrev pub draw_app : App
+draw_app = with_rule (new_app (codes "draw")) (file_rule (codes "IMAGE"))
+
 -- the name alone, which wants a subcommand
 abbrev pub bare_app : App
 bare_app = record { top = record ((new_app (codes "eros")).top) { subcommand_required = true }; subs = [] }
 
--- the five subcommands, one of which has to be named
+-- the six subcommands, one of which has to be named
 abbrev pub eros_app : App
 eros_app =
-    with_subcommand (with_subcommand (with_subcommand (with_subcommand (with_subcommand bare_app build_app.top) run_app.top) check_app.top) upgrade_app.top) describe_app.top
+    with_subcommand (with_subcommand (with_subcommand (with_subcommand (with_subcommand (with_subcommand bare_app build_app.top) run_app.top) check_app.top) upgrade_app.top) describe_app.top)
+    draw_app.top
 
 -- a parse reads the command as this one, with no argument that holds for subcommands too
 abbrev pub IsCommand : App → Command → Type 0

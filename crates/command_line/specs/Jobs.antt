@@ -39,6 +39,7 @@ IsJob name rows (job.Check image) = (name ≡ codes "check") × IsGiven rows (co
 IsJob name rows (job.Upgrade old new) = (name ≡ codes "upgrade")
     × IsGiven rows (codes "OLD") old.now × IsGiven rows (codes "NEW") new.now × (old.now ≢ new.now)
 IsJob name rows (job.Describe image) = (name ≡ codes "describe") × IsGiven rows (codes "IMAGE") image.now
+IsJob name rows (job.Draw image) = (name ≡ codes "draw") × IsGiven rows (codes "IMAGE") image.now
 
 -- no job is the subcommand of this name with these arguments
 abbrev pub IsNoJob : Text → List Row → Type 0

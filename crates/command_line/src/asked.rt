@@ -50,6 +50,10 @@ pub enum Job<'a> {
     Describe {
         image: &'a str,
     },
+    /// What an image saves is to be drawn.
+    Draw {
+        image: &'a str,
+    },
 }
 
 // The script that a word names: a hyphen alone is standard input.
@@ -129,6 +133,9 @@ fn job_of<'a>(name: &str, inner: &ArgMatches<'a>) -> Option<Job<'a>>
     }
     if name == "describe" {
         return Some(Job::Describe { image });
+    }
+    if name == "draw" {
+        return Some(Job::Draw { image });
     }
     None
 }

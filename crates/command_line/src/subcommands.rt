@@ -1,7 +1,7 @@
 // The command that clap takes the words by.
 ghost use Rattle.std.specs.Prelude.{◌≡◌, IfOk, false};
 ghost use Rattle.clap.specs.Words.{app_of, rule_of};
-ghost use Rattle.command_line.specs.Commands.{IsCommand, bare_app, build_app, cache_rule, check_app, describe_app, eros_app, file_rule, run_app, upgrade_app};
+ghost use Rattle.command_line.specs.Commands.{IsCommand, bare_app, build_app, cache_rule, check_app, describe_app, draw_app, eros_app, file_rule, run_app, upgrade_app};
 
 use clap::builder::ValueParser;
 use clap::{Arg, Command};
@@ -109,6 +109,16 @@ fn describe<'a>(alloc: Global) -> Result<Command<'a>, AllocError>
         .arg(file(alloc, IMAGE, "The image, which isn't changed"))
 }
 
+fn draw<'a>(alloc: Global) -> Result<Command<'a>, AllocError>
+    ensures { IfOk result (IsCommand draw_app) }
+{
+    Command::new(alloc, "draw")
+        .about(
+            "Prints what an image saves as a graph, in DOT: who owns what, and who holds which capability",
+        )
+        .arg(file(alloc, IMAGE, "The image, which isn't changed"))
+}
+
 // The program, with no subcommand yet.
 fn bare<'a>(alloc: Global) -> Result<Command<'a>, AllocError>
     ensures { IfOk result (IsCommand bare_app) }
@@ -121,7 +131,8 @@ fn bare<'a>(alloc: Global) -> Result<Command<'a>, AllocError>
              eros run first.image examples/first-steps.eros      prints the answers, a line or more each\n  \
              eros check first.image                              prints: ok generation 1 age 3 entries 0\n  \
              eros upgrade first.image second.image               prints: upgraded 399 sectors\n  \
-             eros describe first.image                           prints the description of what it saves\n\n\
+             eros describe first.image                           prints the description of what it saves\n  \
+             eros draw first.image                               prints a graph of what it saves\n\n\
              The status is 0, whatever the answers are; 1 after a fault, of which one line is told on standard\n\
              error; and 2 where the command line isn't understood.",
         )
@@ -138,5 +149,6 @@ pub(crate) fn command<'a>(alloc: Global) -> Result<Command<'a>, AllocError>
         .subcommand(run(alloc)?)?
         .subcommand(check(alloc)?)?
         .subcommand(upgrade(alloc)?)?
-        .subcommand(describe(alloc)?)
+        .subcommand(describe(alloc)?)?
+        .subcommand(draw(alloc)?)
 }

@@ -1,7 +1,8 @@
 -- What the command that describes comes to, and what its text is built as.
-use Rattle.std.proofs.Common.{◌≡◌, ℕ, List, sym, ap, ◌∙◌, subst}
+use Rattle.std.proofs.Common.{◌≡◌, ℕ, List, Some, sym, ap, ◌∙◌, subst}
 use Rattle.std.proofs.lemmas.Option.{same_Some}
 use Rattle.toml.specs.Data.{Members}
+use Rattle.toml.specs.Parse.{parse_document}
 use Rattle.model.specs.declared.frame.Frame.{Frame}
 use Rattle.model.specs.declared.geometry.Geometry.{Geometry}
 use Rattle.model.specs.Keepable.{IsSoundFrames, world_at}
@@ -25,7 +26,7 @@ use Rattle.description.proofs.Once.{description_once}
 use Rattle.image_describer.proofs.Plain.{described_is_same}
 use Rattle.image_describer.proofs.SameTables.{same_described}
 use Rattle.object_cache.specs.PlainStore.{StoreState, parts_of, view_of}
-use Rattle.jobs.specs.Images.{IsTextOf, TellsWhole}
+use Rattle.jobs.specs.Images.{DescribesSaved, IsDescriptionOf, TellsWhole}
 use Rattle.jobs.specs.Laws.{DescribedIsDenoted}
 
 -- A store that was made of a device.
@@ -58,18 +59,42 @@ module _ {D : Type 0} (disk : D → Disk) (seen_left : (d : D) → (disk d).may_
       looks = looked;
     }
 
-    module _ (age : ℕ) (age_is : age ≡ state_of.header.age) (text : List ℕ) (whole : IsTextOf l.store.durable.books.plan age (frames_of (parts_of disk l.store)) text) where
-      pub tells : (Told : List ℕ → Type 0) → Told text → TellsWhole disk device back Told
-      tells Told told = record {
-        state = state_of;
-        encodes = encodes;
-        sound = sound;
-        text = text;
-        whole = subst (λ (n : ℕ). IsTextOf state_of.plan n state_of.frames text) age_is
-            (subst (λ (fs : List Frame). IsTextOf state_of.plan age fs text) wakes.frames whole);
-        told = told;
-        looks = looked;
-      }
+    pub saved : (age : ℕ) → age ≡ state_of.header.age → (d : Description) → IsDescriptionOf l.store.durable.books.plan age (frames_of (parts_of disk l.store)) d → DescribesSaved disk device back d
+    saved age age_is d whole = record {
+      state = state_of;
+      encodes = encodes;
+      sound = sound;
+      whole = subst (λ (n : ℕ). IsDescriptionOf state_of.plan n state_of.frames d) age_is
+          (subst (λ (fs : List Frame). IsDescriptionOf state_of.plan age fs d) wakes.frames whole);
+      failures = ap (λ (d : D). (disk d).failures) same ∙ wakes.failures;
+      looks = looked;
+    }
+
+-- A description of what is saved.
+module _ {D : Type 0} (disk : D → Disk) (device back : D) (d : Description) (saved : DescribesSaved disk device back d) where
+  pub nothing_left : RefusesToOpen disk device back opening.NoMemory
+  nothing_left = record { is_why = saved.failures; looks = saved.looks }
+
+  -- its text tells all
+  pub tells : (text : List ℕ) (table : Members) → parse_document text ≡ Some table → IsDescription table d → (Told : List ℕ → Type 0) → Told text → TellsWhole disk device back Told
+  tells text table read said Told told = record {
+    state = saved.state;
+    encodes = saved.encodes;
+    sound = saved.sound;
+    text = text;
+    whole = record {
+      table = table;
+      read = read;
+      description = d;
+      said = said;
+      describes = saved.whole.describes;
+      brief = saved.whole.brief;
+      ranges = saved.whole.ranges;
+      layout = saved.whole.layout;
+    };
+    told = told;
+    looks = saved.looks;
+  }
 
 -- What is built of the text denotes the world that it was told of.
 pub described_is_denoted : DescribedIsDenoted

@@ -13,6 +13,7 @@ use Rattle.layout.specs.Image.{Encodes, SavedState}
 use Rattle.layout.specs.Superblock.{Plan, version_number}
 use Rattle.layout.specs.declared.version.Version.TheVariants.{Two}
 use Rattle.checkpoint.specs.Opened.{Looks}
+use Rattle.checkpoint.specs.declared.open_fault.OpenFault.{OpenFault}
 use Rattle.image_writer.specs.Laid.{laid_again, numbers_of}
 use Rattle.capability.specs.Parts.{Parts}
 use Rattle.object_store.specs.Store.{View}
@@ -26,6 +27,7 @@ use Rattle.image_builder.specs.declared.fault.BuildFault.TheVariants as build
 use Rattle.image_builder.specs.declared.upgrade_fault.UpgradeFault.TheVariants as upgrade
 use Rattle.image_builder.specs.Built.{BuildsFrom, Refuses, plan_for}
 use Rattle.image_describer.specs.Describes.{Describes, IsBrief}
+use Rattle.image_drawer.specs.Graph.{graph_text}
 use Rattle.image_builder.specs.Upgraded.{IsNotUpgraded, Upgrades}
 use Rattle.runs.specs.KernelRuns.{RunsOver}
 use Rattle.script.specs.declared.fault.RunFault.{RunFault}
@@ -101,6 +103,28 @@ ChecksImage disk device back output output_left (Err fault.CannotWriteOutput) = 
 ChecksImage disk device back output output_left (Err (fault.Open why)) = RefusesToOpen disk device back why × (output_left ≡ output)
 ChecksImage disk device back output output_left (Err _) = ⊥
 
+-- A description tells each object that frames stand for as it is, at their age, and nothing else: nothing at its default,
+-- numbers in order, and the home ranges and the version of a plan.
+pub record IsDescriptionOf (p : Plan) (age : ℕ) (frames : List Frame) (description : Description) : Type 0 where
+  pub describes : Describes p.geometry (world_at age frames) description
+  pub brief : IsBrief description
+  pub ranges : description.ranges.items ≡ map numbers_of p.ranges
+  pub layout : description.layout ≡ version_number p.version
+
+-- a device was opened and nothing written to it, at no moment, and this is the description of all that is saved on it
+pub record DescribesSaved {D : Type 0} (disk : D → Disk) (device back : D) (description : Description) : Type 0 where
+  pub state : SavedState
+  pub encodes : Encodes (disk device).seen (disk device).sectors state
+  pub sound : IsSoundFrames state.plan.geometry state.header.age state.frames
+  pub whole : IsDescriptionOf state.plan state.header.age state.frames description
+  pub failures : (disk back).failures ≡ (disk device).failures
+  pub looks : Looks (disk device) (disk back)
+
+-- so it was; or the device wasn't opened, or memory ran out
+abbrev pub OpensAndDescribes : {D : Type 0} → (D → Disk) → D → D → Result Description OpenFault → Type 0
+OpensAndDescribes disk device back (Ok description) = DescribesSaved disk device back description
+OpensAndDescribes disk device back (Err why) = RefusesToOpen disk device back why
+
 -- A text is that of a description which tells each object that frames stand for as it is, at their age, and nothing else:
 -- nothing at its default, numbers in order, and the home ranges and the version of a plan.
 pub record IsTextOf (p : Plan) (age : ℕ) (frames : List Frame) (text : List ℕ) : Type 0 where
@@ -129,3 +153,16 @@ DescribesImage disk device back output output_left (Ok a) = TellsWhole disk devi
 DescribesImage disk device back output output_left (Err fault.CannotWriteOutput) = TellsWhole disk device back (AppendsFront output output_left)
 DescribesImage disk device back output output_left (Err (fault.Open why)) = RefusesToOpen disk device back why × (output_left ≡ output)
 DescribesImage disk device back output output_left (Err _) = ⊥
+
+-- the graph of what is saved on a device was told
+pub record TellsGraph {D : Type 0} (disk : D → Disk) (device back : D) (Told : List ℕ → Type 0) : Type 0 where
+  pub description : Description
+  pub saved : DescribesSaved disk device back description
+  pub told : Told (graph_text description)
+
+-- so it was; or that couldn't be written whole; or the device wasn't opened, or memory ran out
+abbrev pub DrawsImage : {D : Type 0} → (D → Disk) → D → D → Option (List ℕ) → Option (List ℕ) → Result (Unit {0}) Fault → Type 0
+DrawsImage disk device back output output_left (Ok a) = TellsGraph disk device back (Appends output output_left)
+DrawsImage disk device back output output_left (Err fault.CannotWriteOutput) = TellsGraph disk device back (AppendsFront output output_left)
+DrawsImage disk device back output output_left (Err (fault.Open why)) = RefusesToOpen disk device back why × (output_left ≡ output)
+DrawsImage disk device back output output_left (Err _) = ⊥

@@ -9,7 +9,7 @@ use command_line::{Job, JobFault, Script, job};
 use device::MAX_SECTORS;
 use file_device::{FileDevice, FileFault};
 use image_builder::{Blueprint, upgraded_sectors};
-use jobs::{Fault, build_image, check_image, describe_image, finish, run_image, upgrade_image};
+use jobs::{Fault, build_image, check_image, describe_image, draw_image, finish, run_image, upgrade_image};
 use object_cache::PlainStore;
 use object_store::ObjectStore;
 use std::fs::{self, File};
@@ -187,6 +187,17 @@ fn describe(rt: &HostRuntime, image: &str) -> Result<u8, Fault> {
     Ok(finish(&mut writer, done.status, &mut errors))
 }
 
+// Draws an image, and gives the status.
+fn draw(rt: &HostRuntime, image: &str) -> Result<u8, Fault> {
+    let device = FileDevice::open_to_read(rt, image).map_err(|fault| of_file(
+        fault,
+        Fault::CannotOpenImage,
+    ))?;
+    let (mut writer, mut errors) = (output(rt)?, rt.stderr());
+    let done = draw_image(rt.alloc(), device, &mut writer, &mut errors);
+    Ok(finish(&mut writer, done.status, &mut errors))
+}
+
 // Does a job, and gives the status.
 fn serve(rt: &HostRuntime, job: &Job<'_>) -> Result<u8, Fault> {
     match job {
@@ -208,6 +219,7 @@ fn serve(rt: &HostRuntime, job: &Job<'_>) -> Result<u8, Fault> {
         Job::Check { image } => check(rt, image),
         Job::Upgrade { old, new } => upgrade(rt, old, new),
         Job::Describe { image } => describe(rt, image),
+        Job::Draw { image } => draw(rt, image),
     }
 }
 

@@ -3,7 +3,7 @@ pub mod CapabilityWords
 mod Commands
 mod Digits
 mod FirstWords
-mod Fronts
+pub mod Fronts
 mod Numbers
 mod ShortInvocations
 mod ShortNumbers

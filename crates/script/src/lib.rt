@@ -20,4 +20,5 @@ pub use lines::LineBuffer;
 pub use named::{capability_of, state_of};
 pub use parse::parse_line;
 pub use print::{print_answer, print_bad_line};
+pub use shown::state_word;
 pub use writing::write_fully;

@@ -1,12 +1,14 @@
 // Lines that are put together before they are written.
 ghost use Rattle.std.specs.Prelude.{◌≡◌, ◌+◌, ◌*◌, ◌<◌, ◌≤◌, [], ◌∷◌, ◌++◌, length, decimal};
 ghost use Rattle.std.specs.List.{flat_map};
-ghost use Rattle.model.specs.Text.{line_of, spaced};
+ghost use Rattle.model.specs.Text.{access_text, capability_text, line_of, spaced};
 ghost use Rattle.script.specs.Writing.{Writes};
 
 use crate::fault::RunFault;
 use crate::writing::write_fully;
+use bitflags::Flags;
 use itoa::Buffer;
+use model::{Access, Capability};
 use std::io::Write;
 use std::marker::Model;
 
@@ -147,6 +149,64 @@ impl LineText {
         for number in numbers {
             self.number(*number);
         }
+    }
+
+    // Adds what a capability is restricted to, where it is.
+    fn access(&mut self, access: Access)
+        requires { length self.old ≤ 300 }
+        ensures text { self.new ≡ self.old ++ access_text access }
+        ensures short { length self.new ≤ length self.old + 5 }
+    {
+        if access == Access::READ_ONLY {
+            self.push(b" ro");
+        } else if !access.is_empty() {
+            self.push(b" weak");
+        }
+    }
+
+    /// Adds a space and the capability.
+    #[tactic(auto, using(std::proofs::Common::append_assoc), unfolding(model::specs::Text::capability_text))]
+    pub fn capability(&mut self, capability: Capability)
+        requires { length self.old ≤ 240 }
+        ensures text { self.new ≡ self.old ++ 32 ∷ capability_text capability }
+        ensures short { length self.new ≤ length self.old + 56 }
+    {
+        match capability {
+            Capability::Void => self.word(b"void"),
+            Capability::Number(number) => self.named(b"number", number),
+            Capability::Page { object, access } => {
+                self.named(b"page", object);
+                self.access(access);
+            }
+            Capability::Node { object, access } => {
+                self.named(b"node", object);
+                self.access(access);
+            }
+            Capability::Space {
+                object,
+                height,
+                access,
+            } => {
+                self.named(b"space", object);
+                self.number(u64::from(height));
+                self.access(access);
+            }
+            Capability::Process(process) => self.named(b"process", process),
+            Capability::Start { process, key } => {
+                self.named(b"start", process);
+                self.number(u64::from(key));
+            }
+            Capability::Resume(process) => self.named(b"resume", process),
+            Capability::Bank(bank) => self.named(b"bank", bank),
+            Capability::Discrim => self.word(b"discrim"),
+        }
+    }
+
+    /// The text so far.
+    pub fn as_bytes(&self) -> &[u8]
+        ensures { result.now ≡ self.now }
+    {
+        &self.bytes[..self.size]
     }
 
     /// Writes the line, and a newline. What it then holds isn't said.

@@ -1,12 +1,11 @@
 // The text of an object.
 ghost use Rattle.std.specs.Prelude.{◌≡◌, ◌+◌, ◌<◌, ◌≤◌, [], ◌∷◌, ◌++◌, map, length, codes, decimal};
-ghost use Rattle.model.specs.Text.{spaced, headed, access_text, capability_text, state_text, word_line, word_lines, capability_line, capability_lines, registers_of, object_text};
+ghost use Rattle.model.specs.Text.{spaced, headed, capability_text, state_text, word_line, word_lines, capability_line, capability_lines, registers_of, object_text};
 ghost use Rattle.script.specs.Writing.{Writes};
 
 use crate::fault::RunFault;
 use crate::line_text::LineText;
-use bitflags::Flags;
-use model::{Access, Capability, Content, Object, Root, Slots, State};
+use model::{Capability, Content, Object, Root, Slots, State};
 use std::io::Write;
 
 // Begins the line `NAME number owner OWNER`, as far as it is the same for all objects.
@@ -18,57 +17,6 @@ fn begin_heading(line: &mut LineText, name: &[u8], number: u64, owner: u64)
     line.begin(name);
     line.number(number);
     line.named(b"owner", owner);
-}
-
-// Adds what a capability is restricted to, where it is.
-fn push_access(line: &mut LineText, access: Access)
-    requires { length line.old ≤ 300 }
-    ensures text { line.new ≡ line.old ++ access_text access }
-    ensures short { length line.new ≤ length line.old + 5 }
-{
-    if access == Access::READ_ONLY {
-        line.push(b" ro");
-    } else if !access.is_empty() {
-        line.push(b" weak");
-    }
-}
-
-// Adds a space and the capability.
-#[tactic(auto, using(std::proofs::Common::append_assoc), unfolding(model::specs::Text::capability_text))]
-fn push_capability(line: &mut LineText, capability: Capability)
-    requires { length line.old ≤ 240 }
-    ensures text { line.new ≡ line.old ++ 32 ∷ capability_text capability }
-    ensures short { length line.new ≤ length line.old + 56 }
-{
-    match capability {
-        Capability::Void => line.word(b"void"),
-        Capability::Number(number) => line.named(b"number", number),
-        Capability::Page { object, access } => {
-            line.named(b"page", object);
-            push_access(line, access);
-        }
-        Capability::Node { object, access } => {
-            line.named(b"node", object);
-            push_access(line, access);
-        }
-        Capability::Space {
-            object,
-            height,
-            access,
-        } => {
-            line.named(b"space", object);
-            line.number(u64::from(height));
-            push_access(line, access);
-        }
-        Capability::Process(process) => line.named(b"process", process),
-        Capability::Start { process, key } => {
-            line.named(b"start", process);
-            line.number(u64::from(key));
-        }
-        Capability::Resume(process) => line.named(b"resume", process),
-        Capability::Bank(bank) => line.named(b"bank", bank),
-        Capability::Discrim => line.word(b"discrim"),
-    }
 }
 
 /// The word of a state.
@@ -98,7 +46,7 @@ fn begin_process(line: &mut LineText, number: u64, owner: u64, root: &Root<Capab
     line.word(b"words");
     line.numbers(&root.words);
     line.word(b"space");
-    push_capability(line, root.space);
+    line.capability(root.space);
 }
 
 // Begins the line of a bank.
@@ -158,7 +106,7 @@ fn print_capability<W: Write>(
     }
     line.begin(name);
     line.number(index as u64);
-    push_capability(line, capability);
+    line.capability(capability);
     line.print(writer)
 }
 

@@ -54,3 +54,9 @@ returns-then-eq-5-clause-named c = (
   search rules,
   given (found_of c.args.inner.now) (codes "IMAGE") c.get_str.result c.in_ok-image.image c.get_str.ensures (search rules),
 )
+
+pub returns-then-eq-6-clause-named : goal.returns-then-eq-6-clause-named
+returns-then-eq-6-clause-named c = (
+  search rules,
+  given (found_of c.args.inner.now) (codes "IMAGE") c.get_str.result c.in_ok-image.image c.get_str.ensures (search rules),
+)

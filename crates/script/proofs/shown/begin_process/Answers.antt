@@ -4,7 +4,7 @@ use Rattle.script.proofs.shown.begin_process.Goals as goal
 pub returns-clause-text : goal.returns-clause-text
 returns-clause-text c =
     rw (
-      c.push_capability.ensures.text,
+      c.capability.ensures.text,
       c.word-3.ensures,
       c.numbers.ensures.text,
       c.word-2.ensures,

@@ -1,18 +1,14 @@
-use Rattle.std.proofs.Common.{List, refl, ap, map, ◌∙◌, subst}
+use Rattle.std.proofs.Common.{ap, map, ◌∙◌}
 use Rattle.std.specs.Prelude.{Vec}
 use Rattle.std.specs.declared.alloc.Global.{Global}
 use Rattle.layout.specs.Superblock.{Plan, version_number}
 use Rattle.layout.specs.declared.version.Version.{Version}
 use Rattle.image_writer.specs.declared.number_range.NumberRange.{NumberRange}
 use Rattle.image_writer.specs.Laid.{numbers_of}
-use Rattle.jobs.proofs.describing.text_in.Goals as goal
+use Rattle.jobs.proofs.saved.description_in.Goals as goal
 
-pub returns-in_ok-text_of-in-Ok-clause-told : goal.returns-in_ok-text_of-in-Ok-clause-told
-returns-in_ok-text_of-in-Ok-clause-told g c = record {
-  table = c.in_ok-text_of-in-Ok.ensures.0;
-  read = c.in_ok-text_of-in-Ok.ensures.1;
-  description = c.in-Ok.description;
-  said = c.in_ok-text_of-in-Ok.ensures.2;
+pub returns-in-Ok-clause-told : goal.returns-in-Ok-clause-told
+returns-in-Ok-clause-told g c = record {
   describes = c.in-Ok.ensures.describes;
   brief = c.in-Ok.ensures.brief;
   ranges = ap (λ (v : Vec NumberRange Global). v.items) c.in-Ok.ensures.ranges ∙ c.in_ok-ranges.ensures.ranges ∙ ap (λ (p : Plan). map numbers_of p.ranges) c.superblock-2.ensures;

@@ -1,0 +1,5 @@
+pub mod Arrows
+pub mod Boxes
+pub mod Once
+pub mod Texts
+pub mod Told

@@ -1,0 +1,25 @@
+use Rattle.std.proofs.Common.{ap}
+use Rattle.model.specs.Capability.{access_bits}
+use Rattle.model.specs.Text.{capability_text, line_of}
+use Rattle.script.proofs.Fronts.{writes_same}
+use Rattle.image_drawer.specs.Graph.{arrow_line, place_text, style_text}
+use Rattle.image_drawer.proofs.Texts.{arrow_put}
+use Rattle.image_drawer.proofs.arrow.Arrow.draw.Goals as goal
+
+pub returns : goal.returns
+unfolding arrow_line
+returns g c = writes_same _ _ _ _ _
+    (rw (
+      c.push-2.ensures,
+      c.push_style.ensures.text,
+      c.access_of.ensures,
+      c.push.ensures,
+      c.capability.ensures.text,
+      c.push_place.ensures.text,
+      c.word-2.ensures,
+      c.number.ensures.text,
+      c.word.ensures,
+      c.begin-line.ensures.text,
+    )
+    (ap line_of (arrow_put c.args.self.holder c.args.self.target (place_text c.args.self.place) (capability_text c.args.self.capability) (style_text (access_bits c.args.self.capability)))))
+    c.print.ensures

@@ -1,0 +1,31 @@
+// Banks and what they own.
+ghost use Rattle.std.specs.List.{flat_map};
+ghost use Rattle.script.specs.Writing.{Writes};
+ghost use Rattle.image_drawer.specs.Graph.{joined, owner_line};
+
+use crate::lines::begin;
+use script::RunFault;
+use std::io::Write;
+
+// Writes the line of an owner and what it owns.
+fn draw_joined<W: Write>(owner: u64, number: u64, writer: &mut W) -> Result<(), RunFault>
+    ensures { Writes (W.contents writer.old) (W.contents writer.new) result (owner_line (owner, number)) }
+{
+    let mut line = begin(owner);
+    line.word(b"->");
+    line.number(number);
+    line.word(b"[color=gray arrowhead=none]");
+    line.print(writer)
+}
+
+/// Writes the line of an owner and what it owns, unless that is itself.
+pub(crate) fn draw_owner<W: Write>(owner: u64, number: u64, writer: &mut W) -> Result<(), RunFault>
+    ensures { Writes (W.contents writer.old) (W.contents writer.new) result
+        (flat_map owner_line (joined owner number)) }
+{
+    if owner == number {
+        Ok(())
+    } else {
+        draw_joined(owner, number, writer)
+    }
+}
