@@ -1,16 +1,15 @@
 -- Arrows are those of the world.
-use Rattle.std.proofs.Common.{◌≡◌, ℕ, Bool, true, false, inl, inr, List, [], ◌∷◌, ◌++◌, map, Option, None, Some, slice_index_or, unwrap_or, refl, sym, ap, ◌∙◌, subst}
+use Rattle.std.proofs.Common.{◌≡◌, ℕ, Bool, true, false, inl, inr, List, [], ◌++◌, map, Option, None, Some, slice_index_or, unwrap_or, refl, sym, ap, ◌∙◌, subst}
 use Rattle.std.specs.Prelude.{IsTrue}
-use Rattle.std.specs.List.{All, Contains, flat_map}
+use Rattle.std.specs.List.{Contains, flat_map}
 use Rattle.std.proofs.lemmas.List.Elements.{All-contains, Contains-append_cases, Contains-append_left, Contains-append_right}
 use Rattle.model.specs.declared.capability.Capability.{Capability}
 use Rattle.model.specs.declared.capability.Capability.TheVariants.{Void}
 use Rattle.model.specs.declared.geometry.Geometry.{Geometry}
-use Rattle.model.specs.declared.object.Content.{Content}
 use Rattle.model.specs.declared.object.Object.{Object}
 use Rattle.model.specs.Capability.{named}
 use Rattle.model.specs.Object.{is_node, is_root, root_in, slots_in}
-use Rattle.model.specs.World.{World, annex_at, content_at, is_process, object_at, register_at, root_at, slot_at}
+use Rattle.model.specs.World.{World, annex_at, content_at, is_process, register_at, root_at, slot_at}
 use Rattle.description.specs.declared.entry.Description.{Description}
 use Rattle.description.specs.declared.entry.NodeEntry.{NodeEntry}
 use Rattle.description.specs.declared.entry.ProcessEntry.{ProcessEntry}
@@ -26,7 +25,7 @@ use Rattle.image_drawer.specs.declared.arrow.Arrow.{Arrow}
 use Rattle.image_drawer.specs.declared.arrow.Place.{Place}
 use Rattle.image_drawer.specs.declared.arrow.Place.TheVariants as place
 use Rattle.image_drawer.proofs.Once.{contains_flat, distinct_left, distinct_right, flat_contains, once_append, once_distinct, once_flat}
-use Rattle.image_drawer.proofs.Told.{SaysSlots, annex_told, bank_told, free_told, node_told, page_told, root_told, said_slot, slot_said}
+use Rattle.image_drawer.proofs.Told.{annex_told, bank_told, free_told, node_told, page_told, root_told, said_slot, slot_said}
 
 not_both : (b : Bool) → IsTrue b → b ≡ false → ⊥
 not_both true is wrong = let never : true ≡ false = wrong in cc

@@ -1,5 +1,5 @@
 -- What the command that describes comes to, and what its text is built as.
-use Rattle.std.proofs.Common.{◌≡◌, ℕ, List, Some, sym, ap, ◌∙◌, subst}
+use Rattle.std.proofs.Common.{◌≡◌, ℕ, List, Some, Result, Ok, sym, ap, ◌∙◌, subst}
 use Rattle.std.proofs.lemmas.Option.{same_Some}
 use Rattle.toml.specs.Data.{Members}
 use Rattle.toml.specs.Parse.{parse_document}
@@ -11,14 +11,14 @@ use Rattle.model.specs.Machine.{Saved}
 use Rattle.device.specs.Disk.{Disk, Image}
 use Rattle.device.proofs.Images.{agrees_is}
 use Rattle.layout.specs.Image.{Encodes, SavedState}
-use Rattle.checkpoint.specs.declared.open_fault.OpenFault.TheVariants as opening
+use Rattle.checkpoint.specs.declared.open_fault.OpenFault.{OpenFault}
 use Rattle.checkpoint.specs.Opened.{Looks}
 use Rattle.checkpoint.specs.Saved.{Holds, SavedFrames}
 use Rattle.migrator.specs.Durable.{saved_state, seen_of}
 use Rattle.capability.specs.Parts.{frames_of}
 use Rattle.image_writer.specs.Written.{first_saved}
 use Rattle.kernel.specs.declared.power.Live.{Live}
-use Rattle.kernel.specs.Opening.{RefusesToOpen, Wakes}
+use Rattle.kernel.specs.Opening.{Wakes}
 use Rattle.description.specs.declared.entry.Description.{Description}
 use Rattle.description.specs.Reading.{IsDescription}
 use Rattle.description.specs.Laws.{IsSame}
@@ -26,7 +26,7 @@ use Rattle.description.proofs.Once.{description_once}
 use Rattle.image_describer.proofs.Plain.{described_is_same}
 use Rattle.image_describer.proofs.SameTables.{same_described}
 use Rattle.object_cache.specs.PlainStore.{StoreState, parts_of, view_of}
-use Rattle.jobs.specs.Images.{DescribesSaved, IsDescriptionOf, TellsWhole}
+use Rattle.jobs.specs.Images.{DescribesSaved, IsDescriptionOf, OpensAndDescribes, TellsWhole}
 use Rattle.jobs.specs.Laws.{DescribedIsDenoted}
 
 -- A store that was made of a device.
@@ -53,12 +53,6 @@ module _ {D : Type 0} (disk : D → Disk) (seen_left : (d : D) → (disk d).may_
     looked : Looks (disk device) (disk back)
     looked = subst (λ (d : D). Looks (disk device) (disk d)) (sym same) wakes.looks
 
-    pub no_memory : RefusesToOpen disk device back opening.NoMemory
-    no_memory = record {
-      is_why = ap (λ (d : D). (disk d).failures) same ∙ wakes.failures;
-      looks = looked;
-    }
-
     pub saved : (age : ℕ) → age ≡ state_of.header.age → (d : Description) → IsDescriptionOf l.store.durable.books.plan age (frames_of (parts_of disk l.store)) d → DescribesSaved disk device back d
     saved age age_is d whole = record {
       state = state_of;
@@ -70,11 +64,13 @@ module _ {D : Type 0} (disk : D → Disk) (seen_left : (d : D) → (disk d).may_
       looks = looked;
     }
 
+-- what was answered is the description of what is saved
+pub described : {D : Type 0} (disk : D → Disk) (device back : D) (answer : Result Description OpenFault) (d : Description) → answer ≡ Ok d → OpensAndDescribes disk device back answer
+    → DescribesSaved disk device back d
+described disk device back answer d is told = subst (λ (r : Result Description OpenFault). OpensAndDescribes disk device back r) is told
+
 -- A description of what is saved.
 module _ {D : Type 0} (disk : D → Disk) (device back : D) (d : Description) (saved : DescribesSaved disk device back d) where
-  pub nothing_left : RefusesToOpen disk device back opening.NoMemory
-  nothing_left = record { is_why = saved.failures; looks = saved.looks }
-
   -- its text tells all
   pub tells : (text : List ℕ) (table : Members) → parse_document text ≡ Some table → IsDescription table d → (Told : List ℕ → Type 0) → Told text → TellsWhole disk device back Told
   tells text table read said Told told = record {

@@ -1,4 +1,4 @@
-use Rattle.std.proofs.Common.{List, [], ◌∷◌, ◌++◌, ℕ, codes, decimal, ◌∙◌}
+use Rattle.std.proofs.Common.{[], ◌∷◌, codes, decimal}
 use Rattle.std.proofs.lemmas.Result.{err_from_is_err_and}
 use Rattle.model.specs.Text.{spaced}
 use Rattle.script.proofs.Fronts.{text_fails, writes_fail}
