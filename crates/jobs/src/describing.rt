@@ -1,5 +1,9 @@
 // The command that tells what an image holds.
-ghost use Rattle.std.specs.Prelude.{◌≡◌, Result};
+ghost use Rattle.std.specs.Prelude.{◌≡◌, Some, Result, IfOk, string_bytes};
+ghost use Rattle.toml.specs.Data.{Members};
+ghost use Rattle.toml.specs.Parse.{parse_document};
+ghost use Rattle.description.specs.Reading.{IsDescription};
+ghost use Rattle.described_world.specs.Described.{HasFields};
 ghost use Rattle.jobs.specs.Faults.{IsTold, status_of};
 ghost use Rattle.jobs.specs.Images.{DescribesImage};
 
@@ -7,11 +11,21 @@ use crate::done::Done;
 use crate::fault::{Fault, status};
 use crate::saved::describe_saved;
 use checkpoint::OpenFault;
+use description::Description;
 use device::Device;
 use image_describer::text_of;
 use script::write_fully;
-use std::alloc::Global;
+use std::alloc::{AllocError, Global};
 use std::io::Write;
+
+// The text of a description, which is let go.
+fn text_of_whole(alloc: Global, description: Description) -> Result<String, AllocError>
+    requires { HasFields description }
+    ensures { IfOk result (λ text. (table : Members) × (parse_document (string_bytes text) ≡ Some table)
+        × IsDescription table description) }
+{
+    text_of(alloc, &description)
+}
 
 // Opens a device, tells all that is saved on it, and gives it back.
 fn describe_and_tell<D: Device, W: Write>(
@@ -23,7 +37,7 @@ fn describe_and_tell<D: Device, W: Write>(
 {
     let (described, device) = describe_saved(alloc, device);
     match described {
-        Ok(description) => match text_of(alloc, &description) {
+        Ok(description) => match text_of_whole(alloc, description) {
             Ok(text) => match write_fully(writer, text.as_bytes()) {
                 Ok(()) => (Ok(()), device),
                 Err(_) => (Err(Fault::CannotWriteOutput), device),

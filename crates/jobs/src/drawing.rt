@@ -1,15 +1,27 @@
 // The command that draws what an image holds.
 ghost use Rattle.std.specs.Prelude.{◌≡◌, Result};
+ghost use Rattle.script.specs.Writing.{Writes};
+ghost use Rattle.image_drawer.specs.Graph.{graph_text};
 ghost use Rattle.jobs.specs.Faults.{IsTold, status_of};
 ghost use Rattle.jobs.specs.Images.{DrawsImage};
 
 use crate::done::Done;
 use crate::fault::{Fault, status};
 use crate::saved::describe_saved;
+use description::Description;
 use device::Device;
 use image_drawer::draw;
+use script::RunFault;
 use std::alloc::Global;
 use std::io::Write;
+
+// Draws a description, and lets it go.
+fn draw_whole<W: Write>(description: Description, writer: &mut W) -> Result<(), RunFault>
+    ensures { Writes (W.contents writer.old) (W.contents writer.new) result
+        (graph_text description) }
+{
+    draw(&description, writer)
+}
 
 // Opens a device, draws all that is saved on it, and gives it back.
 fn draw_and_tell<D: Device, W: Write>(
@@ -21,7 +33,7 @@ fn draw_and_tell<D: Device, W: Write>(
 {
     let (described, device) = describe_saved(alloc, device);
     match described {
-        Ok(description) => match draw(&description, writer) {
+        Ok(description) => match draw_whole(description, writer) {
             Ok(()) => (Ok(()), device),
             Err(_) => (Err(Fault::CannotWriteOutput), device),
         },

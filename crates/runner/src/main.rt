@@ -9,7 +9,9 @@ use command_line::{Job, JobFault, Script, job};
 use device::MAX_SECTORS;
 use file_device::{FileDevice, FileFault};
 use image_builder::{Blueprint, upgraded_sectors};
-use jobs::{Fault, build_image, check_image, describe_image, draw_image, finish, run_image, upgrade_image};
+use jobs::{
+    Fault, build_image, check_image, describe_image, draw_image, finish, run_image, upgrade_image,
+};
 use object_cache::PlainStore;
 use object_store::ObjectStore;
 use std::fs::{self, File};

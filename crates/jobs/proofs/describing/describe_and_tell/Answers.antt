@@ -8,14 +8,14 @@ pub returns-in-Ok-write_fully : goal.returns-in-Ok-write_fully
 returns-in-Ok-write_fully g c =
     tells g.D.Device.disk c.args.device c.describe_saved-described.result.1 c.in-Ok.description
     (described g.D.Device.disk c.args.device c.describe_saved-described.result.1 c.describe_saved-described.result.0 c.in-Ok.description c.in-Ok.is c.describe_saved-described.ensures)
-    (string_bytes c.in-Ok-text_of.text) c.in-Ok-text_of.ensures.0 c.in-Ok-text_of.ensures.1 c.in-Ok-text_of.ensures.2
+    (string_bytes c.in-Ok-text_of_whole.text) c.in-Ok-text_of_whole.ensures.0 c.in-Ok-text_of_whole.ensures.1 c.in-Ok-text_of_whole.ensures.2
     (Appends (g.W.Write.contents c.args.writer.now) (g.W.Write.contents c.write_fully.new.writer))
     (subst (λ (bytes : List ℕ). Appends (g.W.Write.contents c.args.writer.now) (g.W.Write.contents c.write_fully.new.writer) bytes) c.as_bytes.ensures.value c.in-Ok-write_fully.ensures)
 
-pub returns-in-Ok-text_of : goal.returns-in-Ok-text_of
-returns-in-Ok-text_of g c =
+pub returns-in-Ok-text_of_whole : goal.returns-in-Ok-text_of_whole
+returns-in-Ok-text_of_whole g c =
     tells g.D.Device.disk c.args.device c.describe_saved-described.result.1 c.in-Ok.description
     (described g.D.Device.disk c.args.device c.describe_saved-described.result.1 c.describe_saved-described.result.0 c.in-Ok.description c.in-Ok.is c.describe_saved-described.ensures)
-    (string_bytes c.in-Ok-text_of.text) c.in-Ok-text_of.ensures.0 c.in-Ok-text_of.ensures.1 c.in-Ok-text_of.ensures.2
+    (string_bytes c.in-Ok-text_of_whole.text) c.in-Ok-text_of_whole.ensures.0 c.in-Ok-text_of_whole.ensures.1 c.in-Ok-text_of_whole.ensures.2
     (AppendsFront (g.W.Write.contents c.args.writer.now) (g.W.Write.contents c.write_fully.new.writer))
     (subst (λ (bytes : List ℕ). AppendsFront (g.W.Write.contents c.args.writer.now) (g.W.Write.contents c.write_fully.new.writer) bytes) c.as_bytes.ensures.value c.in-Err-write_fully.ensures.1)
