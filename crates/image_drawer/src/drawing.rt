@@ -1,5 +1,4 @@
 // The graph of a description.
-ghost use Rattle.std.specs.Prelude.{ℕ, ◌++◌};
 ghost use Rattle.std.specs.List.{flat_map};
 ghost use Rattle.script.specs.Writing.{Writes};
 ghost use Rattle.image_drawer.specs.Graph.{arrow_line, arrow_lines, box_lines, graph_text, owner_line, owner_lines};

@@ -1,9 +1,9 @@
 // What each kind of entry is in the graph.
-ghost use Rattle.std.specs.Prelude.{◌≡◌, ℕ, ◌≤◌, ◌<◌, List, [], ◌∷◌, ◌++◌, codes, decimal, length};
+ghost use Rattle.std.specs.Prelude.{◌≡◌, ℕ, ◌≤◌, List, [], ◌∷◌, ◌++◌, codes, decimal, length};
 ghost use Rattle.std.specs.List.{flat_map};
 ghost use Rattle.model.specs.Text.{spaced};
 ghost use Rattle.script.specs.Writing.{Writes};
-ghost use Rattle.image_drawer.specs.Graph.{arrow_line, bank_box, joined, next_line, node_arrows, node_box, owner_line, page_box, place_text, process_arrows, process_box, word_of_state};
+ghost use Rattle.image_drawer.specs.Graph.{arrow_line, bank_box, joined, next_line, node_arrows, node_box, owner_line, page_box, process_arrows, process_box, word_of_state};
 ghost use Rattle.image_drawer.specs.declared.arrow.Arrow.{Arrow};
 
 use crate::arrow::{Place, draw_arrow};

@@ -1,5 +1,5 @@
 // Registers and slots.
-ghost use Rattle.std.specs.Prelude.{◌≡◌, ℕ, ◌≤◌, length, unwrap_or};
+ghost use Rattle.std.specs.Prelude.{◌≡◌, ◌≤◌, length, unwrap_or};
 ghost use Rattle.std.specs.List.{flat_map};
 ghost use Rattle.model.specs.declared.capability.Capability.TheVariants.{Void};
 ghost use Rattle.script.specs.Writing.{Writes};
