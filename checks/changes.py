@@ -173,7 +173,7 @@ def added(it):
     number = it.some(0)
     place = it.frames[number].place
     kind = 1 if number >= it.shape.nodes else it.chance.choice((2, 5))
-    it.data[place] = kind
+    it.put(place, kind, 1)
     it.put(place + 24, it.some(BANK))
     if kind == BANK:
         it.data[place + 32] = 1
