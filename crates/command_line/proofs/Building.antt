@@ -1,6 +1,7 @@
--- What a command is once a subcommand is added.
-use Rattle.std.proofs.Common.{◌∙◌, ◌||◌, ap, ap₂, IfOk, Result, Ok, Err}
-use Rattle.clap.specs.Words.{AddsSubcommand, App, with_subcommand}
+-- What a command is once a subcommand or an argument is added.
+use Rattle.std.proofs.Common.{◌≡◌, ◌∙◌, ◌||◌, false, ap, ap₂, IfOk, Result, Ok, Err}
+use Rattle.clap.specs.Words.{AddsArg, AddsSubcommand, App, Rule, rule_of, with_rule, with_subcommand}
+use Rattle.clap.specs.declared.builder.arg.Arg.{Arg}
 use Rattle.clap.specs.declared.builder.command.Command.{Command}
 use Rattle.command_line.specs.Commands.{IsCommand}
 
@@ -15,3 +16,13 @@ pub added_if : {E : Type 0} (a b : App) (old sub : Command) (r : Result Command 
     → IfOk r (IsCommand (with_subcommand a b.top))
 added_if a b old sub (Ok new) adds is_old is_sub = added a b old sub new adds is_old is_sub
 added_if a b old sub (Err e) adds is_old is_sub = tt
+
+-- and of an argument
+pub argued : (app : App) (old new : Command) (arg : Arg) (rule : Rule) → AddsArg old arg new → IsCommand app old → rule_of arg ≡ rule → arg.global ≡ false
+    → IsCommand (with_rule app rule) new
+argued app old new arg rule adds is_old ruled local = (adds.shape local ∙ ap₂ with_rule is_old.0 ruled, adds.globals ∙ ap₂ (λ x y. x || y) is_old.1 local)
+
+pub argued_if : {E : Type 0} (app : App) (old : Command) (arg : Arg) (rule : Rule) (r : Result Command E) → IfOk r (AddsArg old arg) → IsCommand app old
+    → rule_of arg ≡ rule → arg.global ≡ false → IfOk r (IsCommand (with_rule app rule))
+argued_if app old arg rule (Ok new) adds is_old ruled local = argued app old new arg rule adds is_old ruled local
+argued_if app old arg rule (Err e) adds is_old ruled local = tt

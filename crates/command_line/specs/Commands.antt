@@ -26,9 +26,13 @@ cache_rule = record (new_rule (codes "cache")) { long = Some (codes "cache"); va
 abbrev pub run_app : App
 run_app = with_rule (with_rule (with_rule (new_app (codes "run")) (file_rule (codes "IMAGE"))) (file_rule (codes "SCRIPT"))) cache_rule
 
+-- eros NAME IMAGE
+abbrev pub reading_app : Text → App
+reading_app name = with_rule (new_app name) (file_rule (codes "IMAGE"))
+
 -- eros check IMAGE
 abbrev pub check_app : App
-check_app = with_rule (new_app (codes "check")) (file_rule (codes "IMAGE"))
+check_app = reading_app (codes "check")
 
 -- eros upgrade OLD NEW
 abbrev pub upgrade_app : App
@@ -36,21 +40,23 @@ upgrade_app = with_rule (with_rule (new_app (codes "upgrade")) (file_rule (codes
 
 -- eros describe IMAGE
 abbrev pub describe_app : App
-describe_app = with_rule (new_app (codes "describe")) (file_rule (codes "IMAGE"))
+describe_app = reading_app (codes "describe")
 
 -- eros draw IMAGE
 abbrev pub draw_app : App
-draw_app = with_rule (new_app (codes "draw")) (file_rule (codes "IMAGE"))
+draw_app = reading_app (codes "draw")
 
 -- the name alone, which wants a subcommand
 abbrev pub bare_app : App
 bare_app = record { top = record ((new_app (codes "eros")).top) { subcommand_required = true }; subs = [] }
 
+-- the name and three subcommands
+abbrev pub basic_app : App
+basic_app = with_subcommand (with_subcommand (with_subcommand bare_app build_app.top) run_app.top) check_app.top
+
 -- the six subcommands, one of which has to be named
 abbrev pub eros_app : App
-eros_app =
-    with_subcommand (with_subcommand (with_subcommand (with_subcommand (with_subcommand (with_subcommand bare_app build_app.top) run_app.top) check_app.top) upgrade_app.top) describe_app.top)
-    draw_app.top
+eros_app = with_subcommand (with_subcommand (with_subcommand basic_app upgrade_app.top) describe_app.top) draw_app.top
 
 -- a parse reads the command as this one, with no argument that holds for subcommands too
 abbrev pub IsCommand : App → Command → Type 0

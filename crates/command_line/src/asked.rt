@@ -1,5 +1,5 @@
 // Which job the words name.
-ghost use Rattle.std.specs.Prelude.{◌≡◌, ◌⊎◌, IfErr, IfOk, IfSome, IsNone, codes, map, true};
+ghost use Rattle.std.specs.Prelude.{◌≡◌, ◌≢◌, ◌⊎◌, IfErr, IfOk, IfSome, IsNone, codes, map, true};
 ghost use Rattle.clap.specs.Words.{IsUnsignedIn, found_of, kind_of, rows_of, subcommand_of, subcommand_rows_of, takes};
 ghost use Rattle.clap.specs.declared.error.kind.ErrorKind.TheVariants.{OutOfMemory};
 ghost use Rattle.command_line.specs.Commands.{IsCommand, eros_app};
@@ -105,29 +105,40 @@ fn upgrade_of<'a>(inner: &ArgMatches<'a>) -> Option<Job<'a>>
     Some(Job::Upgrade { old, new })
 }
 
-// The job of a subcommand with its matches, or none.
-fn job_of<'a>(name: &str, inner: &ArgMatches<'a>) -> Option<Job<'a>>
-    ensures named { IfSome result (IsJob name.now (rows_of (found_of inner.now))) }
-    ensures none { IsNone result → IsNoJob name.now (rows_of (found_of inner.now)) }
+// The build that the matches name, or none where a word is missing.
+fn build_of<'a>(inner: &ArgMatches<'a>) -> Option<Job<'a>>
+    ensures named { IfSome result (IsJob (codes "build") (rows_of (found_of inner.now))) }
+    ensures none { IsNone result → IsNoJob (codes "build") (rows_of (found_of inner.now)) }
 {
-    if name == "upgrade" {
-        return upgrade_of(inner);
-    }
+    Some(Job::Build {
+        description: inner.get_str(DESCRIPTION)?,
+        image: inner.get_str(IMAGE)?,
+    })
+}
+
+// The run that the matches name, or none where a word is missing or the capacity is none.
+fn run_of<'a>(inner: &ArgMatches<'a>) -> Option<Job<'a>>
+    ensures named { IfSome result (IsJob (codes "run") (rows_of (found_of inner.now))) }
+    ensures none { IsNone result → IsNoJob (codes "run") (rows_of (found_of inner.now)) }
+{
     let image = inner.get_str(IMAGE)?;
-    if name == "build" {
-        let description = inner.get_str(DESCRIPTION)?;
-        return Some(Job::Build { description, image });
-    }
-    if name == "run" {
-        let word = inner.get_str(SCRIPT)?;
-        let script = script_of(word);
-        let cache = cache_of(inner)?;
-        return Some(Job::Run {
-            image,
-            script,
-            cache,
-        });
-    }
+    let word = inner.get_str(SCRIPT)?;
+    let script = script_of(word);
+    let cache = cache_of(inner)?;
+    Some(Job::Run {
+        image,
+        script,
+        cache,
+    })
+}
+
+// The job of one image that a subcommand with its matches names, or none.
+fn one_image_of<'a>(name: &str, inner: &ArgMatches<'a>) -> Option<Job<'a>>
+    ensures named { IfSome result (IsJob name.now (rows_of (found_of inner.now))) }
+    ensures none { IsNone result → name.now ≢ codes "build" → name.now ≢ codes "run"
+        → name.now ≢ codes "upgrade" → IsNoJob name.now (rows_of (found_of inner.now)) }
+{
+    let image = inner.get_str(IMAGE)?;
     if name == "check" {
         return Some(Job::Check { image });
     }
@@ -140,10 +151,26 @@ fn job_of<'a>(name: &str, inner: &ArgMatches<'a>) -> Option<Job<'a>>
     None
 }
 
+// The job of a subcommand with its matches, or none.
+fn job_of<'a>(name: &str, inner: &ArgMatches<'a>) -> Option<Job<'a>>
+    ensures named { IfSome result (IsJob name.now (rows_of (found_of inner.now))) }
+    ensures none { IsNone result → IsNoJob name.now (rows_of (found_of inner.now)) }
+{
+    if name == "build" {
+        build_of(inner)
+    } else if name == "run" {
+        run_of(inner)
+    } else if name == "upgrade" {
+        upgrade_of(inner)
+    } else {
+        one_image_of(name, inner)
+    }
+}
+
 // The job that the matches name, or none.
-fn asked<'a>(matches: &ArgMatches<'a>) -> Option<Job<'a>>
-    ensures named { IfSome result (NamesJob (subcommand_rows_of matches.now)) }
-    ensures none { IsNone result → NamesNone (subcommand_rows_of matches.now) }
+fn asked<'a>(matches: ArgMatches<'a>) -> Option<Job<'a>>
+    ensures named { IfSome result (NamesJob (subcommand_rows_of matches.entry)) }
+    ensures none { IsNone result → NamesNone (subcommand_rows_of matches.entry) }
 {
     let (name, inner) = matches.subcommand()?;
     job_of(name, inner)
@@ -152,16 +179,16 @@ fn asked<'a>(matches: &ArgMatches<'a>) -> Option<Job<'a>>
 // The job that the words name. Fails with what clap says of words that the command doesn't take, also where they ask for
 // help, where an upgrade has one word twice, and where memory runs out.
 pub(crate) fn read_job<'a, S: AsStr>(
-    mut command: Command<'a>,
+    command: &mut Command<'a>,
     words: &'a [S],
 ) -> Result<Job<'a>, Error>
-    requires { IsCommand eros_app command }
+    requires { IsCommand eros_app command.old }
     ensures named { IfOk result (NamesJob (subcommand_of eros_app (map S.text words.entry.now))) }
     ensures refused { IfErr result (λ e. takes eros_app (map S.text words.entry.now) ≡ true
         → (kind_of e ≡ OutOfMemory) ⊎ IsSameTwice (subcommand_of eros_app (map S.text words.entry.now))) }
 {
     let matches = command.try_get_matches_from_mut(words)?;
-    match asked(&matches) {
+    match asked(matches) {
         Some(job) => Ok(job),
         // Of the words that the command takes, only those of an upgrade of one word to itself come here.
         None => Err(command.error(ErrorKind::ValueValidation, "OLD and NEW are the same file")?),

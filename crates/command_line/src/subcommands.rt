@@ -1,7 +1,7 @@
 // The command that clap takes the words by.
 ghost use Rattle.std.specs.Prelude.{◌≡◌, IfOk, false};
-ghost use Rattle.clap.specs.Words.{app_of, rule_of};
-ghost use Rattle.command_line.specs.Commands.{IsCommand, bare_app, build_app, cache_rule, check_app, describe_app, draw_app, eros_app, file_rule, run_app, upgrade_app};
+ghost use Rattle.clap.specs.Words.{App, app_of, rule_of, with_subcommand};
+ghost use Rattle.command_line.specs.Commands.{IsCommand, bare_app, basic_app, build_app, cache_rule, check_app, describe_app, draw_app, eros_app, file_rule, reading_app, run_app, upgrade_app};
 
 use clap::builder::ValueParser;
 use clap::{Arg, Command};
@@ -78,14 +78,6 @@ fn run<'a>(alloc: Global) -> Result<Command<'a>, AllocError>
         .arg(cache(alloc))
 }
 
-fn check<'a>(alloc: Global) -> Result<Command<'a>, AllocError>
-    ensures { IfOk result (IsCommand check_app) }
-{
-    Command::new(alloc, "check")
-        .about("Checks an image, and prints the generation, age and entries of its checkpoint")
-        .arg(file(alloc, IMAGE, "The image, which isn't changed"))
-}
-
 fn upgrade<'a>(alloc: Global) -> Result<Command<'a>, AllocError>
     ensures { IfOk result (IsCommand upgrade_app) }
 {
@@ -101,22 +93,43 @@ fn upgrade<'a>(alloc: Global) -> Result<Command<'a>, AllocError>
         ))
 }
 
+// A subcommand that reads one image.
+fn reading<'a>(alloc: Global, name: &'a str, about: &'a str) -> Result<Command<'a>, AllocError>
+    ensures { IfOk result (IsCommand (reading_app name.entry.now)) }
+{
+    Command::new(alloc, name)
+        .about(about)
+        .arg(file(alloc, IMAGE, "The image, which isn't changed"))
+}
+
+fn check<'a>(alloc: Global) -> Result<Command<'a>, AllocError>
+    ensures { IfOk result (IsCommand check_app) }
+{
+    reading(
+        alloc,
+        "check",
+        "Checks an image, and prints the generation, age and entries of its checkpoint",
+    )
+}
+
 fn describe<'a>(alloc: Global) -> Result<Command<'a>, AllocError>
     ensures { IfOk result (IsCommand describe_app) }
 {
-    Command::new(alloc, "describe")
-        .about("Prints the description of what an image saves, in TOML")
-        .arg(file(alloc, IMAGE, "The image, which isn't changed"))
+    reading(
+        alloc,
+        "describe",
+        "Prints the description of what an image saves, in TOML",
+    )
 }
 
 fn draw<'a>(alloc: Global) -> Result<Command<'a>, AllocError>
     ensures { IfOk result (IsCommand draw_app) }
 {
-    Command::new(alloc, "draw")
-        .about(
-            "Prints what an image saves as a graph, in DOT: who owns what, and who holds which capability",
-        )
-        .arg(file(alloc, IMAGE, "The image, which isn't changed"))
+    reading(
+        alloc,
+        "draw",
+        "Prints what an image saves as a graph, in DOT: who owns what, and who holds which capability",
+    )
 }
 
 // The program, with no subcommand yet.
@@ -140,15 +153,31 @@ fn bare<'a>(alloc: Global) -> Result<Command<'a>, AllocError>
     Ok(command)
 }
 
+// The command with a subcommand more, where both were made.
+fn with<'a>(
+    command: Result<Command<'a>, AllocError>,
+    subcommand: Result<Command<'a>, AllocError>,
+) -> Result<Command<'a>, AllocError>
+    ensures { (app sub : App) → IfOk command.entry (IsCommand app) → IfOk subcommand.entry (IsCommand sub)
+        → IfOk result (IsCommand (with_subcommand app sub.top)) }
+{
+    command?.subcommand(subcommand?)
+}
+
+// The program with the subcommands that make, run and check an image.
+fn basic<'a>(alloc: Global) -> Result<Command<'a>, AllocError>
+    ensures { IfOk result (IsCommand basic_app) }
+{
+    let command = with(bare(alloc), build(alloc));
+    let command = with(command, run(alloc));
+    with(command, check(alloc))
+}
+
 /// The command line of `eros`. Fails where memory runs out.
 pub(crate) fn command<'a>(alloc: Global) -> Result<Command<'a>, AllocError>
     ensures { IfOk result (IsCommand eros_app) }
 {
-    bare(alloc)?
-        .subcommand(build(alloc)?)?
-        .subcommand(run(alloc)?)?
-        .subcommand(check(alloc)?)?
-        .subcommand(upgrade(alloc)?)?
-        .subcommand(describe(alloc)?)?
-        .subcommand(draw(alloc)?)
+    let command = with(basic(alloc), upgrade(alloc));
+    let command = with(command, describe(alloc));
+    with(command, draw(alloc))
 }

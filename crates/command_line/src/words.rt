@@ -19,7 +19,8 @@ pub fn job<'a, S: AsStr>(alloc: Global, words: &'a [S]) -> Result<Job<'a>, JobFa
     ensures named { IfOk result (NamesJob (subcommand_of eros_app (map S.text words.entry.now))) }
     ensures refused { IfErr result (IsRefused (map S.text words.entry.now)) }
 {
-    match read_job(command(alloc)?, words) {
+    let mut command = command(alloc)?;
+    match read_job(&mut command, words) {
         Ok(job) => Ok(job),
         Err(error) => Err(JobFault::of(error)),
     }
