@@ -5,6 +5,7 @@ mod Digits
 mod FirstWords
 pub mod Fronts
 mod Numbers
+mod NumbersFrom
 mod ShortInvocations
 mod ShortNumbers
 mod Spellings

@@ -1,9 +1,18 @@
 // The first words of commands.
-ghost use Rattle.std.specs.Prelude.{◌≡◌, ◌≢◌, IfSome, IfNone};
+ghost use Rattle.std.specs.Prelude.{◌≡◌, ◌≢◌, ◌+◌, ◌*◌, ◌<◌, ◌∷◌, IfSome, IfNone, length, drop, slice_index_or};
+ghost use Rattle.model.specs.Text.{operation_name};
 ghost use Rattle.script.specs.declared.keyword.Keyword.{Keyword};
 ghost use Rattle.script.specs.Keywords.{keyword_name};
+ghost use Rattle.script.specs.Reading.{words_of};
 
 use model::Operation;
+
+// The first four bytes of `call`, `send` and `return`.
+const CALL: u64 = 0x6c6c_6163;
+
+const SEND: u64 = 0x646e_6573;
+
+const RETURN: u64 = 0x7574_6572;
 
 /// What the first word of a command says.
 #[derive(Clone, Copy)]
@@ -22,26 +31,118 @@ pub enum Keyword {
     Cut,
 }
 
+impl Keyword {
+    // Every keyword, first those that only come here.
+    const ALL: [Keyword; 14] = [
+        Keyword::Show,
+        Keyword::Journal,
+        Keyword::Evict,
+        Keyword::Checkpoint,
+        Keyword::Stabilize,
+        Keyword::Commit,
+        Keyword::Migrate,
+        Keyword::Restart,
+        Keyword::Cut,
+        Keyword::Load,
+        Keyword::Store,
+        Keyword::Invoke(Operation::Call),
+        Keyword::Invoke(Operation::Return),
+        Keyword::Invoke(Operation::Send),
+    ];
+
+    // The word that says the keyword.
+    fn name(self) -> &'static [u8]
+        ensures { result.now ≡ keyword_name self }
+    {
+        match self {
+            Keyword::Invoke(operation) => operation_word(operation),
+            Keyword::Load => b"load",
+            Keyword::Store => b"store",
+            Keyword::Show => b"show",
+            Keyword::Evict => b"evict",
+            Keyword::Checkpoint => b"checkpoint",
+            Keyword::Stabilize => b"stabilize",
+            Keyword::Commit => b"commit",
+            Keyword::Migrate => b"migrate",
+            Keyword::Journal => b"journal",
+            Keyword::Restart => b"restart",
+            Keyword::Cut => b"cut",
+        }
+    }
+}
+
+// The word of an operation.
+fn operation_word(operation: Operation) -> &'static [u8]
+    ensures { result.now ≡ operation_name operation }
+{
+    match operation {
+        Operation::Call => b"call",
+        Operation::Return => b"return",
+        Operation::Send => b"send",
+    }
+}
+
 /// The keyword that is the word.
 pub fn keyword_of(word: &[u8]) -> Option<Keyword>
     ensures found { IfSome result (λ k. word.now ≡ keyword_name k) }
     ensures none { IfNone result ((k : Keyword) → word.now ≢ keyword_name k) }
 {
-    match word {
-        b"call" => Some(Keyword::Invoke(Operation::Call)),
-        b"return" => Some(Keyword::Invoke(Operation::Return)),
-        b"send" => Some(Keyword::Invoke(Operation::Send)),
-        b"load" => Some(Keyword::Load),
-        b"store" => Some(Keyword::Store),
-        b"show" => Some(Keyword::Show),
-        b"evict" => Some(Keyword::Evict),
-        b"checkpoint" => Some(Keyword::Checkpoint),
-        b"stabilize" => Some(Keyword::Stabilize),
-        b"commit" => Some(Keyword::Commit),
-        b"migrate" => Some(Keyword::Migrate),
-        b"journal" => Some(Keyword::Journal),
-        b"restart" => Some(Keyword::Restart),
-        b"cut" => Some(Keyword::Cut),
-        _ => None,
+    for keyword in Keyword::ALL {
+        if keyword.name() == word {
+            return Some(keyword);
+        }
     }
+    None
+}
+
+/// Four bytes of a text as one number, of which the first counts least.
+#[inline(always)]
+pub fn four_at(text: &[u8], at: usize) -> u64
+    requires { at + 3 < length text.now }
+    ensures { result ≡ slice_index_or text.now at 0 + slice_index_or text.now (at + 1) 0 * 256
+        + slice_index_or text.now (at + 2) 0 * 65536 + slice_index_or text.now (at + 3) 0 * 16777216 }
+{
+    u64::from(text[at])
+        + u64::from(text[at + 1]) * 0x100
+        + u64::from(text[at + 2]) * 0x1_0000
+        + u64::from(text[at + 3]) * 0x100_0000
+}
+
+/// An operation that a line names, and where the words behind its name begin.
+#[derive(Clone, Copy)]
+pub struct Named {
+    pub operation: Operation,
+    pub next: usize,
+}
+
+/// The operation that a line names first, where ten numbers can follow.
+#[inline(always)]
+pub fn operation_in(line: &[u8]) -> Option<Named>
+    ensures reads { IfSome result (λ n. words_of line.now
+        ≡ operation_name n.operation ∷ words_of (drop n.next line.now)) }
+    ensures room { IfSome result (λ n. n.next + 18 < length line.now) }
+{
+    if line.len() < 24 {
+        return None;
+    }
+    let name = four_at(line, 0);
+    if name == CALL && line[4] == b' ' {
+        return Some(Named {
+            operation: Operation::Call,
+            next: 5,
+        });
+    }
+    if name == SEND && line[4] == b' ' {
+        return Some(Named {
+            operation: Operation::Send,
+            next: 5,
+        });
+    }
+    if name == RETURN && line[4] == b'r' && line[5] == b'n' && line[6] == b' ' && line.len() > 25 {
+        return Some(Named {
+            operation: Operation::Return,
+            next: 7,
+        });
+    }
+    None
 }

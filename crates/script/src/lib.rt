@@ -5,6 +5,7 @@ mod fault;
 mod keyword;
 mod line_text;
 mod lines;
+mod loads;
 mod named;
 mod number;
 mod parse;

@@ -7,6 +7,7 @@ ghost use Rattle.model.specs.Text.{Says, Fits, IsSkipped, spelling, command_word
 ghost use Rattle.script.specs.Reading.{Gives, invocation_at, arguments_at, words_of};
 
 use crate::keyword::{Keyword, keyword_of};
+use crate::loads::load_or_store;
 use crate::short::short_invocation;
 use crate::words::Words;
 use model::{Command, Invocation, Line, Operation};
@@ -20,8 +21,8 @@ fn keyword(words: &mut Words<'_>) -> Option<Keyword>
     ensures found { IfSome result (λ k. words.old ≡ keyword_name k ∷ words.new) }
     ensures none { IfNone result ((k : Keyword) (rest : List (List ℕ)) → words.old ≢ keyword_name k ∷ rest) }
 {
-    if let Some(keyword) = words.common_keyword() {
-        return Some(keyword);
+    if let Some(operation) = words.operation() {
+        return Some(Keyword::Invoke(operation));
     }
     keyword_of(words.next()?)
 }
@@ -113,6 +114,9 @@ pub fn parse_line(line: &[u8]) -> Line
 {
     if let Some(invocation) = short_invocation(line) {
         return Line::Command(Command::Invoke(invocation));
+    }
+    if let Some(command) = load_or_store(line) {
+        return Line::Command(command);
     }
     if line.len() > LONGEST_LINE {
         return Line::Bad;

@@ -1,43 +1,24 @@
 // Short numbers, each read at a place of a line. They are what most invocations have; where `None`
 // is answered, the line may still say one.
-ghost use Rattle.std.specs.Prelude.{◌≡◌, ◌+◌, ◌*◌, ◌<◌, ◌≤◌, [], ◌∷◌, Some, IfSome, length, drop, slice_index_or};
+ghost use Rattle.std.specs.Prelude.{◌≡◌, ◌+◌, ◌<◌, ◌≤◌, [], Some, IfSome, length, drop};
 ghost use Rattle.model.specs.declared.command.Command.{Command};
-ghost use Rattle.model.specs.Text.{Fits, command_words, operation_name};
+ghost use Rattle.model.specs.Text.{Fits, command_words};
 ghost use Rattle.script.specs.Reading.{words_of, number_at, register_at, registers_at};
 
+use crate::keyword::{four_at, operation_in};
 use crate::words::register_of;
-use model::{Invocation, Operation, Register};
+use model::{Invocation, Register};
 
 // The first four bytes of `0 0 0 0`, and the last four.
 const VOID_BEGIN: u64 = 0x2030_2030;
 
 const VOID_END: u64 = 0x3020_3020;
 
-// The first four bytes of `call`, `send` and `return`.
-const CALL: u64 = 0x6c6c_6163;
-
-const SEND: u64 = 0x646e_6573;
-
-const RETURN: u64 = 0x7574_6572;
-
 // A number of a text, and where the word behind it begins.
 #[derive(Clone, Copy)]
 struct Short {
     number: u64,
     next: usize,
-}
-
-// Four bytes of a text as one number, of which the first counts least.
-#[inline(always)]
-fn four_at(text: &[u8], at: usize) -> u64
-    requires { at + 3 < length text.now }
-    ensures { result ≡ slice_index_or text.now at 0 + slice_index_or text.now (at + 1) 0 * 256
-        + slice_index_or text.now (at + 2) 0 * 65536 + slice_index_or text.now (at + 3) 0 * 16777216 }
-{
-    u64::from(text[at])
-        + u64::from(text[at + 1]) * 0x100
-        + u64::from(text[at + 2]) * 0x1_0000
-        + u64::from(text[at + 3]) * 0x100_0000
 }
 
 // The number at a place, where it has two or three digits and a space follows it.
@@ -170,45 +151,6 @@ fn last_registers(text: &[u8], at: usize) -> Option<[Register; 4]>
     let third = register_before(text, second.next, 2)?;
     let fourth = last_register(text, third.next)?;
     Some([first.register, second.register, third.register, fourth])
-}
-
-// An operation that a line names, and where the words behind its name begin.
-#[derive(Clone, Copy)]
-struct Named {
-    operation: Operation,
-    next: usize,
-}
-
-// The operation that a line names first, where ten numbers can follow.
-#[inline(always)]
-fn operation_in(line: &[u8]) -> Option<Named>
-    ensures reads { IfSome result (λ n. words_of line.now
-        ≡ operation_name n.operation ∷ words_of (drop n.next line.now)) }
-    ensures room { IfSome result (λ n. n.next + 18 < length line.now) }
-{
-    if line.len() < 24 {
-        return None;
-    }
-    let name = four_at(line, 0);
-    if name == CALL && line[4] == b' ' {
-        return Some(Named {
-            operation: Operation::Call,
-            next: 5,
-        });
-    }
-    if name == SEND && line[4] == b' ' {
-        return Some(Named {
-            operation: Operation::Send,
-            next: 5,
-        });
-    }
-    if name == RETURN && line[4] == b'r' && line[5] == b'n' && line[6] == b' ' && line.len() > 25 {
-        return Some(Named {
-            operation: Operation::Return,
-            next: 7,
-        });
-    }
-    None
 }
 
 /// The invocation that a line says, where its numbers are short.

@@ -1,10 +1,10 @@
 // The words of a line.
 ghost use Rattle.std.specs.Prelude.{◌≡◌, ◌==◌, [], ◌∷◌, MatchOption, IfSome, IfNone, IsSome, IsTrue, ◌↔◌, ◌<◌, option_map};
 ghost use Rattle.std.specs.List.{position};
-ghost use Rattle.script.specs.Keywords.{keyword_name};
+ghost use Rattle.model.specs.Text.{operation_name};
 ghost use Rattle.script.specs.Reading.{first_end, first_word, words_left, words_of, Gives, number_at, register_at, numbers_at, registers_at};
 
-use crate::keyword::Keyword;
+use crate::keyword::operation_in;
 use crate::number::number_in_front;
 use model::{Operation, Register};
 use std::marker::Model;
@@ -90,28 +90,16 @@ impl<'a> Words<'a> {
         }
     }
 
-    /// Takes one of the words that most lines begin with, where it is the next one and another
-    /// follows.
+    /// Takes the name of an operation, where it is the next word and ten numbers can follow.
     #[inline(always)]
-    pub fn common_keyword(&mut self) -> Option<Keyword>
-        ensures taken { IfSome result (λ k. self.old ≡ keyword_name k ∷ self.new) }
+    pub fn operation(&mut self) -> Option<Operation>
+        ensures taken { IfSome result (λ o. self.old ≡ operation_name o ∷ self.new) }
         ensures kept { IfNone result (self.new ≡ self.old) }
     {
-        match self.rest? {
-            [b'c', b'a', b'l', b'l', b' ', more @ ..] => {
-                self.rest = Some(more);
-                Some(Keyword::Invoke(Operation::Call))
-            }
-            [b'l', b'o', b'a', b'd', b' ', more @ ..] => {
-                self.rest = Some(more);
-                Some(Keyword::Load)
-            }
-            [b's', b't', b'o', b'r', b'e', b' ', more @ ..] => {
-                self.rest = Some(more);
-                Some(Keyword::Store)
-            }
-            _ => None,
-        }
+        let line = self.rest?;
+        let named = operation_in(line)?;
+        self.rest = Some(&line[named.next..]);
+        Some(named.operation)
     }
 
     /// Takes the next word as a number.

@@ -19,6 +19,15 @@ pub returns-in-Some-clause-reads : goal.returns-in-Some-clause-reads
 returns-in-Some-clause-reads c = λ d fits spelt.
     ap (λ e. line.Command e) (one_spelling c.args.line.now (command.Invoke c.in-Some.invocation) d c.in-Some.ensures.0 fits c.in-Some.ensures.1 spelt)
 
+pub returns-in-Some-load_or_store-clause-says : goal.returns-in-Some-load_or_store-clause-says
+returns-in-Some-load_or_store-clause-says c =
+    (c.in-Some-load_or_store.ensures.0, spelling_from_words c.args.line.now c.in-Some-load_or_store.command c.in-Some-load_or_store.ensures.1)
+
+pub returns-in-Some-load_or_store-clause-reads : goal.returns-in-Some-load_or_store-clause-reads
+returns-in-Some-load_or_store-clause-reads c = λ d fits spelt.
+    ap (λ e. line.Command e)
+    (one_spelling c.args.line.now c.in-Some-load_or_store.command d c.in-Some-load_or_store.ensures.0 fits c.in-Some-load_or_store.ensures.1 spelt)
+
 pub returns-in-Some-command_in-clause-says : goal.returns-in-Some-command_in-clause-says
 returns-in-Some-command_in-clause-says c =
     (c.in-Some-command_in.ensures.found.0, spelling_from_words c.args.line.now c.in-Some-command_in.command c.in-Some-command_in.ensures.found.1)
