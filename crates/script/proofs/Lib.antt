@@ -5,7 +5,6 @@ mod Digits
 mod FirstWords
 pub mod Fronts
 mod Numbers
-mod NumbersFrom
 mod ShortInvocations
 mod ShortNumbers
 mod Spellings

@@ -1,4 +1,4 @@
--- The invocation that numbers say which are read one after the other.
+-- The command that numbers say which are read one after the other.
 use Rattle.std.proofs.Common.{◌≡◌, ℕ, ◌<◌, ◌+◌, ◌*◌, List, [], ◌∷◌, Option, None, Some, length, get_or, drop, refl, ap, ◌∙◌, arith}
 use Rattle.std.specs.Prelude.{IfSome, IsSome}
 use Rattle.std.proofs.lemmas.Bool.{lt-ltb}
@@ -6,7 +6,9 @@ use Rattle.model.specs.declared.command.Command.{Command}
 use Rattle.model.specs.declared.command.Command.TheVariants as command
 use Rattle.model.specs.declared.command.Operation.{Operation}
 use Rattle.model.specs.Text.{Fits, command_words, operation_name}
+use Rattle.script.specs.declared.keyword.Keyword.{Keyword}
 use Rattle.script.specs.declared.keyword.Keyword.TheVariants as keyword
+use Rattle.script.specs.Keywords.{keyword_name}
 use Rattle.script.specs.Reading.{Words, arguments_at, invocation_at, number_at, numbers_at, register_at, registers_at, words_of}
 use Rattle.script.proofs.Commands.{command_found}
 use Rattle.script.proofs.ShortNumbers.{last_one, one_digit}
@@ -75,3 +77,9 @@ void_read text at whole bytes begins ends =
     let fourth = last_one text (at + 2 + 2 + 2) 0 (omega (arith, whole)) ((omega (arith, seventh), omega (arith, seventh)), omega (arith, seventh)) in
     registers_read _ _ _ _ 0 0 0 0 (register_reads _ _ 0 first (omega arith)) (register_reads _ _ 0 second (omega arith)) (register_reads _ _ 0 third (omega arith))
     (register_reads _ _ 0 fourth (omega arith))
+
+-- the command whose keyword and arguments were read
+pub said : (line : List ℕ) (rest : Words) (k : Keyword) (r : Option Command) → words_of line ≡ keyword_name k ∷ rest → IfSome r (λ c. arguments_at k rest ≡ Some (c, []))
+    → IfSome r (λ c. Fits c × (words_of line ≡ command_words c))
+said line rest k None named read = tt
+said line rest k (Some c) named read = command_found (words_of line) rest [] (keyword_name k) k c named refl read refl

@@ -44,19 +44,19 @@ digits_first text size n begins within space =
     (number_gives (Some n) (first_word text) (words_of text) (words_of (take (length text - (size + 1)) (drop (size + 1) text)))
     (word_and_more text size (sym ends) within) (begins.5, word_is text size n begins ends) tt)
 
-pub digits_alone : (text : List ℕ) (size n : ℕ) → Begins text size n → size ≡ length text → number_at (words_of text) ≡ Some (n, [])
+digits_alone : (text : List ℕ) (size n : ℕ) → Begins text size n → size ≡ length text → number_at (words_of text) ≡ Some (n, [])
 digits_alone text size n begins whole =
     let ends = word_ends text size n begins (λ lt. absurd (omega (arith, lt, whole))) in
     number_gives (Some n) (first_word text) (words_of text) [] (word_alone text size (sym ends) (omega (arith, whole))) (begins.5, word_is text size n begins ends) tt
 
 -- the value of the first digits behind a place
-abbrev pub Values : List ℕ → ℕ → ℕ → ℕ → Type 0
+abbrev Values : List ℕ → ℕ → ℕ → ℕ → Type 0
 Values text at size n = AllDigits 10 (take size (drop at text)) × (n ≡ digits_value 10 (take size (drop at text)))
 
-abbrev pub IsDigit : List ℕ → ℕ → ℕ → Type 0
+abbrev IsDigit : List ℕ → ℕ → ℕ → Type 0
 IsDigit text at digit = IsInRange 48 57 (get_or text at 0) × (digit ≡ get_or text at 0 - 48)
 
-pub digit_more : (text : List ℕ) (at size value digit : ℕ) → at + size < length text → Values text at size value → IsDigit text (at + size) digit
+digit_more : (text : List ℕ) (at size value digit : ℕ) → at + size < length text → Values text at size value → IsDigit text (at + size) digit
     → Values text at (size + 1) (value * 10 + digit)
 digit_more text at size value digit within so_far is =
     let same = get_or-drop at text size 0 in
@@ -78,7 +78,7 @@ values_three : (text : List ℕ) (at one two three : ℕ) → at + 2 < length te
 values_three text at one two three within first second third =
     digit_more text at 2 (one * 10 + two) three within (values_two text at one two (omega (arith, within)) first second) third
 
-pub begins_behind : (text : List ℕ) (at size n : ℕ) → at + size ≤ length text → 0 < size → Values text at size n → (get_or text at 0 ≡ 48 → size ≡ 1) → n < 2 ^ 64
+begins_behind : (text : List ℕ) (at size n : ℕ) → at + size ≤ length text → 0 < size → Values text at size n → (get_or text at 0 ≡ 48 → size ≡ 1) → n < 2 ^ 64
     → Begins (drop at text) size n
 begins_behind text at size n within some values first small = (
   some,
@@ -89,7 +89,7 @@ begins_behind text at size n within some values first small = (
   small,
 )
 
-pub number_read : (text : List ℕ) (at size next n : ℕ) → next ≡ at + size + 1 → at + size < length text → get_or text (at + size) 0 ≡ 32 → Begins (drop at text) size n
+number_read : (text : List ℕ) (at size next n : ℕ) → next ≡ at + size + 1 → at + size < length text → get_or text (at + size) 0 ≡ 32 → Begins (drop at text) size n
     → number_at (words_of (drop at text)) ≡ Some (n, words_of (drop next text))
 number_read text at size next n behind within space begins =
     let rest : drop (size + 1) (drop at text) ≡ drop next text = drop-drop (size + 1) at text ∙ ap (λ (k : ℕ). drop k text) (omega (arith, behind)) in
@@ -130,4 +130,13 @@ last_two text at one two n whole first some second is =
     rw is
     (digits_alone (drop at text) 2 (one * 10 + two)
     (begins_behind text at 2 (one * 10 + two) (omega (arith, whole)) (omega arith) (values_two text at one two (omega (arith, whole)) first second) (λ zero. absurd (some zero)) (omega (arith, first, second)))
+    (omega (arith, whole, length-drop at text)))
+
+pub last_three : (text : List ℕ) (at one two three n : ℕ) → length text ≡ at + 3 → IsDigit text at one → (get_or text at 0 ≡ 48 → ⊥) → IsDigit text (at + 1) two
+    → IsDigit text (at + 2) three → n ≡ (one * 10 + two) * 10 + three → number_at (words_of (drop at text)) ≡ Some (n, [])
+last_three text at one two three n whole first some second third is =
+    rw is
+    (digits_alone (drop at text) 3 ((one * 10 + two) * 10 + three)
+    (begins_behind text at 3 ((one * 10 + two) * 10 + three) (omega (arith, whole)) (omega arith) (values_three text at one two three (omega (arith, whole)) first second third)
+    (λ zero. absurd (some zero)) (omega (arith, first, second, third)))
     (omega (arith, whole, length-drop at text)))

@@ -1,5 +1,5 @@
 -- Reading the words of a line from left to right.
-use Rattle.std.specs.Prelude.{◌≡◌, ℕ, ◌==◌, ◌&&◌, ◌^◌, nat_le, nat_lt, if◌then◌else◌, Option, None, Some, List, [], ◌∷◌, length, decimal, drop, take}
+use Rattle.std.specs.Prelude.{◌≡◌, ℕ, ◌==◌, ◌&&◌, ◌^◌, nat_lt, if◌then◌else◌, Option, None, Some, List, [], ◌∷◌, decimal, take}
 use Rattle.std.specs.List.{slice_split, position_or_len}
 use Rattle.std.specs.Str.{bytes_eq}
 use Rattle.std.specs.Str.Parse.{digits_value}
@@ -31,10 +31,6 @@ first_end text = position_or_len (λ b. b == 32) text
 
 abbrev pub first_word : List ℕ → List ℕ
 first_word text = take (first_end text) text
-
--- the words that begin at a place, none behind the end
-abbrev pub words_from : List ℕ → ℕ → Words
-words_from text at = if nat_le at (length text) then words_of (drop at text) else []
 
 -- what a reader returned, and the words that it left, are what reading gives
 abbrev pub Gives : {A : Type 0} → Option A → Words → Option (A × Words) → Type 0

@@ -1,5 +1,5 @@
 // The first words of commands.
-ghost use Rattle.std.specs.Prelude.{◌≡◌, ◌≢◌, ◌+◌, ◌*◌, ◌<◌, ◌∷◌, IfSome, IfNone, length, drop, slice_index_or};
+ghost use Rattle.std.specs.Prelude.{◌≡◌, ◌≢◌, ◌+◌, ◌*◌, ◌<◌, ◌∷◌, IfSome, IfNone, IsTrue, codes, length, drop, slice_index_or};
 ghost use Rattle.model.specs.Text.{operation_name};
 ghost use Rattle.script.specs.declared.keyword.Keyword.{Keyword};
 ghost use Rattle.script.specs.Keywords.{keyword_name};
@@ -7,12 +7,19 @@ ghost use Rattle.script.specs.Reading.{words_of};
 
 use model::Operation;
 
-// The first four bytes of `call`, `send` and `return`.
+// The first four bytes of `load`, `store`, `call`, `send` and `return`.
+const LOAD: u64 = 0x6461_6f6c;
+
+const STORE: u64 = 0x726f_7473;
+
 const CALL: u64 = 0x6c6c_6163;
 
 const SEND: u64 = 0x646e_6573;
 
 const RETURN: u64 = 0x7574_6572;
+
+/// The length of the shortest line that says an invocation.
+pub const SHORTEST_INVOCATION: usize = 24;
 
 /// What the first word of a command says.
 #[derive(Clone, Copy)]
@@ -83,6 +90,7 @@ fn operation_word(operation: Operation) -> &'static [u8]
 }
 
 /// The keyword that is the word.
+#[inline(never)]
 pub fn keyword_of(word: &[u8]) -> Option<Keyword>
     ensures found { IfSome result (λ k. word.now ≡ keyword_name k) }
     ensures none { IfNone result ((k : Keyword) → word.now ≢ keyword_name k) }
@@ -108,6 +116,24 @@ pub fn four_at(text: &[u8], at: usize) -> u64
         + u64::from(text[at + 3]) * 0x100_0000
 }
 
+/// Whether a line begins with `load`, and two numbers can follow.
+#[inline(always)]
+pub fn is_load(line: &[u8]) -> bool
+    ensures named { IsTrue result → (words_of line.now ≡ codes "load" ∷ words_of (drop 5 line.now)) }
+    ensures room { IsTrue result → 7 < length line.now }
+{
+    line.len() >= 8 && four_at(line, 0) == LOAD && line[4] == b' '
+}
+
+/// Whether a line begins with `store`, and three numbers can follow.
+#[inline(always)]
+pub fn is_store(line: &[u8]) -> bool
+    ensures named { IsTrue result → (words_of line.now ≡ codes "store" ∷ words_of (drop 6 line.now)) }
+    ensures room { IsTrue result → 10 < length line.now }
+{
+    line.len() >= 11 && four_at(line, 0) == STORE && line[4] == b'e' && line[5] == b' '
+}
+
 /// An operation that a line names, and where the words behind its name begin.
 #[derive(Clone, Copy)]
 pub struct Named {
@@ -122,7 +148,7 @@ pub fn operation_in(line: &[u8]) -> Option<Named>
         ≡ operation_name n.operation ∷ words_of (drop n.next line.now)) }
     ensures room { IfSome result (λ n. n.next + 18 < length line.now) }
 {
-    if line.len() < 24 {
+    if line.len() < SHORTEST_INVOCATION {
         return None;
     }
     let name = four_at(line, 0);

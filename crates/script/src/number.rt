@@ -11,8 +11,8 @@ pub struct Front {
     pub size: usize,
 }
 
-/// To a number below this any digit can be added.
-pub const TENTH: u64 = u64::MAX / 10;
+// To a number below this any digit can be added.
+const TENTH: u64 = u64::MAX / 10;
 
 // The number with one digit more, where it is below 2^64.
 #[inline(always)]

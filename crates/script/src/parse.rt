@@ -6,7 +6,7 @@ ghost use Rattle.model.specs.declared.command.Command.{Command};
 ghost use Rattle.model.specs.Text.{Says, Fits, IsSkipped, spelling, command_words};
 ghost use Rattle.script.specs.Reading.{Gives, invocation_at, arguments_at, words_of};
 
-use crate::keyword::{Keyword, keyword_of};
+use crate::keyword::{Keyword, SHORTEST_INVOCATION, keyword_of};
 use crate::loads::load_or_store;
 use crate::short::short_invocation;
 use crate::words::Words;
@@ -21,8 +21,8 @@ fn keyword(words: &mut Words<'_>) -> Option<Keyword>
     ensures found { IfSome result (λ k. words.old ≡ keyword_name k ∷ words.new) }
     ensures none { IfNone result ((k : Keyword) (rest : List (List ℕ)) → words.old ≢ keyword_name k ∷ rest) }
 {
-    if let Some(operation) = words.operation() {
-        return Some(Keyword::Invoke(operation));
+    if let Some(keyword) = words.common_keyword() {
+        return Some(keyword);
     }
     keyword_of(words.next()?)
 }
@@ -112,11 +112,12 @@ pub fn parse_line(line: &[u8]) -> Line
     // A command's spelling is read as that command.
     ensures reads { (c : Command) → Fits c → line.now ≡ spelling c → result ≡ Line.Command c }
 {
-    if let Some(invocation) = short_invocation(line) {
+    if line.len() < SHORTEST_INVOCATION {
+        if let Some(command) = load_or_store(line) {
+            return Line::Command(command);
+        }
+    } else if let Some(invocation) = short_invocation(line) {
         return Line::Command(Command::Invoke(invocation));
-    }
-    if let Some(command) = load_or_store(line) {
-        return Line::Command(command);
     }
     if line.len() > LONGEST_LINE {
         return Line::Bad;

@@ -14,11 +14,11 @@ const VOID_BEGIN: u64 = 0x2030_2030;
 
 const VOID_END: u64 = 0x3020_3020;
 
-// A number of a text, and where the word behind it begins.
+/// A number of a text, and where the word behind it begins.
 #[derive(Clone, Copy)]
-struct Short {
-    number: u64,
-    next: usize,
+pub struct Short {
+    pub number: u64,
+    pub next: usize,
 }
 
 // The number at a place, where it has two or three digits and a space follows it.
@@ -57,10 +57,10 @@ fn longer_before(text: &[u8], at: usize, behind: usize) -> Option<Short>
     })
 }
 
-// The number at a place, where it has at most three digits and a space follows it. At least
-// `behind` bytes follow its first, and two fewer the first of the next word.
+/// The number at a place, where it has at most three digits and a space follows it. At least
+/// `behind` bytes follow its first, and two fewer the first of the next word.
 #[inline(always)]
-fn number_before(text: &[u8], at: usize, behind: usize) -> Option<Short>
+pub fn number_before(text: &[u8], at: usize, behind: usize) -> Option<Short>
     requires room { at + behind < length text.now }
     requires more { 2 ≤ behind }
     ensures reads { IfSome result (λ s. number_at (words_of (drop at text.now))
@@ -103,25 +103,42 @@ fn register_before(text: &[u8], at: usize, behind: usize) -> Option<ShortRegiste
     })
 }
 
-// The number at a place, where it has at most two digits and is the last word.
+// The number at a place, where it has two or three digits and is the last word.
 #[inline(always)]
-fn last_number(text: &[u8], at: usize) -> Option<u64>
-    requires { at < length text.now }
+fn last_longer(text: &[u8], at: usize) -> Option<u64>
+    requires { at + 1 < length text.now }
     ensures { IfSome result (λ n. number_at (words_of (drop at text.now)) ≡ Some (n, [])) }
 {
     let first = text[at];
-    if !first.is_ascii_digit() {
+    let second = text[at + 1];
+    if first < b'1' || b'9' < first || !second.is_ascii_digit() {
         return None;
     }
-    let number = u64::from(first - b'0');
-    if text.len() == at + 1 {
+    let number = u64::from(first - b'0') * 10 + u64::from(second - b'0');
+    if text.len() == at + 2 {
         return Some(number);
     }
-    let second = text[at + 1];
-    if text.len() != at + 2 || first == b'0' || !second.is_ascii_digit() {
+    let third = text[at + 2];
+    if text.len() != at + 3 || !third.is_ascii_digit() {
         return None;
     }
-    Some(number * 10 + u64::from(second - b'0'))
+    Some(number * 10 + u64::from(third - b'0'))
+}
+
+/// The number at a place, where it has at most three digits and is the last word.
+#[inline(always)]
+pub fn last_number(text: &[u8], at: usize) -> Option<u64>
+    requires { at < length text.now }
+    ensures { IfSome result (λ n. number_at (words_of (drop at text.now)) ≡ Some (n, [])) }
+{
+    if text.len() != at + 1 {
+        return last_longer(text, at);
+    }
+    let digit = text[at];
+    if !digit.is_ascii_digit() {
+        return None;
+    }
+    Some(u64::from(digit - b'0'))
 }
 
 // The register at a place, where it is the last word.

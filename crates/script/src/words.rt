@@ -1,12 +1,12 @@
 // The words of a line.
 ghost use Rattle.std.specs.Prelude.{◌≡◌, ◌==◌, [], ◌∷◌, MatchOption, IfSome, IfNone, IsSome, IsTrue, ◌↔◌, ◌<◌, option_map};
 ghost use Rattle.std.specs.List.{position};
-ghost use Rattle.model.specs.Text.{operation_name};
+ghost use Rattle.script.specs.Keywords.{keyword_name};
 ghost use Rattle.script.specs.Reading.{first_end, first_word, words_left, words_of, Gives, number_at, register_at, numbers_at, registers_at};
 
-use crate::keyword::operation_in;
+use crate::keyword::{Keyword, is_load, is_store, operation_in};
 use crate::number::number_in_front;
-use model::{Operation, Register};
+use model::Register;
 use std::marker::Model;
 
 // Where the first space is.
@@ -90,16 +90,25 @@ impl<'a> Words<'a> {
         }
     }
 
-    /// Takes the name of an operation, where it is the next word and ten numbers can follow.
+    /// Takes one of the words that most lines begin with, where it is the next one and its numbers
+    /// can follow.
     #[inline(always)]
-    pub fn operation(&mut self) -> Option<Operation>
-        ensures taken { IfSome result (λ o. self.old ≡ operation_name o ∷ self.new) }
+    pub fn common_keyword(&mut self) -> Option<Keyword>
+        ensures taken { IfSome result (λ k. self.old ≡ keyword_name k ∷ self.new) }
         ensures kept { IfNone result (self.new ≡ self.old) }
     {
         let line = self.rest?;
+        if is_load(line) {
+            self.rest = Some(&line[5..]);
+            return Some(Keyword::Load);
+        }
+        if is_store(line) {
+            self.rest = Some(&line[6..]);
+            return Some(Keyword::Store);
+        }
         let named = operation_in(line)?;
         self.rest = Some(&line[named.next..]);
-        Some(named.operation)
+        Some(Keyword::Invoke(named.operation))
     }
 
     /// Takes the next word as a number.
