@@ -122,6 +122,11 @@ opening_by false h old new is fits next written e = inl (keeps h old new next (g
 pub opening : (h : CheckpointHeader) (old new : Image) → h.sequence < 2 ^ 64 → Precedes old h → old (header_sector h) ≡ header_bytes h → Elsewhere (gate_sector h) 1 old new → IsOldOrNew h old new
 opening h old new fits next written e = opening_by (is_open (new (gate_sector h))) h old new refl fits next written e
 
+-- old or new, only the slot of h was touched
+pub either_elsewhere : (h : CheckpointHeader) (old new : Image) → IsOldOrNew h old new → Elsewhere (header_sector h) 2 old new
+either_elsewhere h old new (inl kept) = kept.elsewhere
+either_elsewhere h old new (inr next) = next.elsewhere
+
 -- the gate is written open
 pub opened_new : (h : CheckpointHeader) (old new : Image) → h.sequence < 2 ^ 64 → Precedes old h → old (header_sector h) ≡ header_bytes h
     → Elsewhere (gate_sector h) 1 old new → new (gate_sector h) ≡ gate_bytes Open → HasNew h old new

@@ -14,6 +14,7 @@ ghost use Rattle.gate.specs.Plan.{FitsCap};
 use crate::delivery::deliver;
 use crate::fault::InvokeFault;
 use crate::looking::{Asked, all_sent, look_at_process};
+use crate::written::Written;
 use capability::{PrepareFault, PresentFrames, objects, roots};
 use model::{Capability, Invocation, Message, Operation, State};
 use std::alloc::Global;
@@ -67,12 +68,8 @@ fn announce<F: PresentFrames>(
         (written_through invocation.now.operation invocation.now.process receiver annex) result }
 {
     let process = invocation.process;
-    let fetched = [process, receiver, annex];
-    match invocation.operation {
-        Operation::Send => store.prepare(alloc, &fetched, &[receiver, annex]),
-        Operation::Call => store.prepare(alloc, &fetched, &[receiver, annex, process]),
-        Operation::Return => store.prepare(alloc, &fetched, &[receiver, annex, process]),
-    }
+    let written = Written::through(invocation.operation, process, receiver, annex);
+    store.prepare(alloc, &[process, receiver, annex], written.as_slice())
 }
 
 // The state of the process that invokes changes: one that calls waits, and one that returns is

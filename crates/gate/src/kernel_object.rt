@@ -17,6 +17,7 @@ use crate::fault::InvokeFault;
 use crate::looking::{Asked, look_at_named, order_arguments};
 use crate::orders::plan;
 use crate::plan::{Change, OrderPlan};
+use crate::written::Written;
 use capability::{PrepareFault, PresentFrames, objects, roots};
 use model::{Capability, Invocation, Message, Operation, State};
 use std::alloc::Global;
@@ -42,20 +43,9 @@ fn announce<F: PresentFrames>(
     ensures prepares { Prepares F.parts F.LeadsTo store.old store.new
         (written_by operation process annex change) result }
 {
-    let target = change.target();
-    let fetched = [process, annex, target.unwrap_or(process)];
-    match (operation, target) {
-        (Operation::Call, None) => store.prepare(alloc, &fetched, &[process, annex]),
-        (Operation::Call, Some(written)) => {
-            store.prepare(alloc, &fetched, &[process, annex, written])
-        }
-        (Operation::Return, None) => store.prepare(alloc, &fetched, &[process]),
-        (Operation::Return, Some(written)) => {
-            store.prepare(alloc, &fetched, &[process, written])
-        }
-        (Operation::Send, None) => store.prepare(alloc, &fetched, &[]),
-        (Operation::Send, Some(written)) => store.prepare(alloc, &fetched, &[written]),
-    }
+    let fetched = [process, annex, change.target().unwrap_or(process)];
+    let written = Written::by(operation, process, annex, &change);
+    store.prepare(alloc, &fetched, written.as_slice())
 }
 
 /// Gives a process that called the reply, where it still runs.

@@ -14,6 +14,7 @@ mod orders;
 mod page;
 mod plan;
 mod process;
+mod written;
 
 pub use fault::InvokeFault;
 pub use invocation::invoke;

@@ -1,11 +1,34 @@
-use Rattle.std.proofs.Common.{[], ◌∷◌}
-use Rattle.gate.proofs.Listed.{first_in, on_ok, second_in}
+use Rattle.std.proofs.Common.{ℕ, List, ◌<◌, length, sym, subst, ◌∙◌}
+use Rattle.std.specs.List.{All, Contains}
+use Rattle.capability.specs.Parts.{Prepares}
+use Rattle.gate.proofs.Listed.{all_through, announced_through, on_ok}
 use Rattle.gate.proofs.gates.announce.Goals as goal
 
-pub returns-in-Send-clause-announced : goal.returns-in-Send-clause-announced
-returns-in-Send-clause-announced g c =
-    on_ok c.prepare.result (λ told. (
-      told c.args.receiver (first_in c.args.receiver (c.args.annex ∷ [])),
-      told c.args.annex (second_in c.args.receiver c.args.annex []),
-      λ other. absurd (other c.in-Send.is),
-    )) c.prepare.ensures.announced
+pub prepare-requires-clause-announced : goal.prepare-requires-clause-announced
+prepare-requires-clause-announced g c =
+    let count = length (g.F.PresentFrames.parts c.args.store.now).headers in
+    let i = c.args.invocation.now in
+    subst (λ (ns : List ℕ). All (λ n. n < count) ns) (sym (c.as_slice.ensures ∙ c.through-written.ensures))
+    (all_through (λ n. n < count) i.operation i.process c.args.receiver c.args.annex c.requires.process c.requires.receiver c.requires.annex)
+
+pub returns-clause-announced : goal.returns-clause-announced
+returns-clause-announced g c =
+    let i = c.args.invocation.now in
+    on_ok c.prepare.result (λ told. announced_through (g.F.PresentFrames.IsAnnounced c.prepare.new.self) i.operation i.process c.args.receiver c.args.annex
+    (λ n inside. told n (subst (λ (ns : List ℕ). Contains ns n) (sym (c.as_slice.ensures ∙ c.through-written.ensures)) inside))) c.prepare.ensures.announced
+
+pub returns-clause-prepares : goal.returns-clause-prepares
+returns-clause-prepares g c =
+    subst (λ (ns : List ℕ). Prepares g.F.PresentFrames.parts g.F.PresentFrames.LeadsTo c.args.store.now c.prepare.new.self ns c.prepare.result) (c.as_slice.ensures ∙ c.through-written.ensures)
+    (record {
+      touched = c.prepare.ensures.touched;
+      within = c.prepare.ensures.within;
+      headers = c.prepare.ensures.headers;
+      contents = c.prepare.ensures.contents;
+      geometry = c.prepare.ensures.geometry;
+      untouched = c.prepare.ensures.untouched;
+      full = c.prepare.ensures.full;
+      cause = c.prepare.ensures.cause;
+      later = c.prepare.ensures.later;
+      leads = c.prepare.ensures.leads;
+    })
