@@ -2,6 +2,7 @@
 use Rattle.std.proofs.Common.{◌≡◌, ℕ, ◌-◌, ◌^◌, ◌<◌, List, length, sym, ap, ◌∙◌, subst, arith}
 use Rattle.std.specs.Prelude.{IsTrue}
 use Rattle.model.specs.declared.access.Access.{Access}
+use Rattle.model.specs.declared.capability.Capability.{Capability}
 use Rattle.model.specs.declared.capability.Capability.TheVariants.{Space}
 use Rattle.model.specs.declared.frame.Frame.{Frame}
 use Rattle.model.specs.declared.frame.ObjectHeader.{ObjectHeader}
@@ -10,7 +11,7 @@ use Rattle.model.specs.Frame.{frames_in, objects_of}
 use Rattle.model.specs.Keepable.{AreKeepable, IsSoundFrames}
 use Rattle.model.specs.Object.{is_page}
 use Rattle.model.specs.Sound.{MayBeHeld}
-use Rattle.model.specs.World.{content_at}
+use Rattle.model.specs.World.{content_at, root_at}
 use Rattle.capability.specs.Parts.{Parts, frames_of, objects_in}
 use Rattle.capability.proofs.Frames.{known_used, node_used, page_used}
 use Rattle.capability.proofs.Keeping.{keepable_later}
@@ -29,6 +30,10 @@ sound_keepable g age fs sound = keepable_later g age (2 ^ 64 - 1) fs (omega (ari
 module _ (p q : Parts) (headers : q.headers ≡ p.headers) (contents : q.contents ≡ p.contents) where
   pub frames_same : frames_of q ≡ frames_of p
   frames_same = ap (λ (hs : List ObjectHeader). frames_in hs q.contents) headers ∙ ap (frames_in p.headers) contents
+
+  pub space_held : {g : Geometry} {age : ℕ} → IsSoundFrames g age (frames_of p) → (n : ℕ) (c : Capability) → c ≡ (root_at (objects_in q) n).space → MayBeHeld (objects_in p) c
+  space_held sound n c is =
+      subst (MayBeHeld (objects_in p)) (sym (is ∙ ap (λ (fs : List Frame). (root_at (objects_of fs) n).space) frames_same)) (sound.sound.spaces n).0
 
   pub page_still_known : (n : ℕ) → IsTrue (is_page (content_at (objects_in p) n)) → n < length q.headers
   page_still_known n is = page_known q n (ap (λ (fs : List Frame). is_page (content_at (objects_of fs) n)) frames_same ∙ is)
