@@ -9,6 +9,11 @@ use crate::keyword::{is_load, is_store};
 use crate::short::{last_number, number_before};
 use model::Command;
 
+// The lengths of a load and of a store whose numbers have three digits.
+const LONGEST_LOAD: usize = 12;
+
+const LONGEST_STORE: usize = 17;
+
 // The load whose numbers begin at the sixth byte.
 #[inline(always)]
 #[tactic(auto, unfolding(crate::specs::Reading::arguments_at))]
@@ -48,10 +53,10 @@ fn store_in(line: &[u8]) -> Option<Command>
 pub fn load_or_store(line: &[u8]) -> Option<Command>
     ensures { IfSome result (λ c. Fits c × (words_of line.now ≡ command_words c)) }
 {
-    if is_load(line) {
+    if line.len() <= LONGEST_LOAD && is_load(line) {
         return load_in(line);
     }
-    if is_store(line) {
+    if line.len() <= LONGEST_STORE && is_store(line) {
         return store_in(line);
     }
     None
