@@ -6,6 +6,7 @@ mod PlacesApart
 mod Gathering
 mod Mended
 mod Completing
+mod Counting
 pub mod Putting
 mod GoingOn
 mod Working

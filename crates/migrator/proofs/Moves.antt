@@ -62,6 +62,13 @@ stored_with s saved to_move = record { working = s.working; frozen = s.frozen; s
 move_left : (entries m count some : ℕ) → m ≤ entries → IsLesser some count (entries - m) → entries - (m + some) ≡ entries - m - count
 move_left entries m count some few lesser = ⊎_elim (λ e. omega (arith, e, few)) (λ e. omega (arith, e, few, lesser.0)) lesser.2
 
+-- a crash while some go home leaves what is saved
+pub part_moments : {D : Type 0} (disk : D → Disk) (old mid : DurableState D) (count k : ℕ) → MovedBy disk old mid k → is_sound disk old
+    → LeavesEither (disk old.beneath) (disk mid.beneath) (stored_of disk old).saved (moved_saved count (stored_of disk old))
+part_moments disk old mid count k so_far sound =
+    leaves_weaker {old = disk old.beneath} {new = disk mid.beneath} {P = λ c. Holds (disk old.beneath).sectors c (stored_of disk old).saved}
+    (λ c. Holds (disk old.beneath).sectors c (stored_of disk old).saved ⊎ Holds (disk old.beneath).sectors c (moved_saved count (stored_of disk old))) (λ c is. inl is) (so_far.goes_on.any_moment sound)
+
 module _ {D : Type 0} (disk : D → Disk) (old mid : DurableState D) (count some : ℕ) (few : old.books.moved ≤ old.books.header.entries)
     (lesser : IsLesser some count (old.books.header.entries - old.books.moved)) (so_far : MovedBy disk old mid some) where
   left_is : old.books.header.entries - (old.books.moved + some) ≡ old.books.header.entries - old.books.moved - count
@@ -84,9 +91,7 @@ module _ {D : Type 0} (disk : D → Disk) (old mid : DurableState D) (count some
   left_number = omega (arith, left_is)
 
   pub left_moments : is_sound disk old → LeavesEither (disk old.beneath) (disk mid.beneath) (stored_of disk old).saved (moved_saved count (stored_of disk old))
-  left_moments sound =
-      leaves_weaker {old = disk old.beneath} {new = disk mid.beneath} {P = λ c. Holds (disk old.beneath).sectors c (stored_of disk old).saved}
-      (λ c. Holds (disk old.beneath).sectors c (stored_of disk old).saved ⊎ Holds (disk old.beneath).sectors c (moved_saved count (stored_of disk old))) (λ c is. inl is) (so_far.goes_on.any_moment sound)
+  left_moments sound = part_moments disk old mid count some so_far sound
 
   pub left_few : old.books.header.entries - (old.books.moved + some) ≤ (stored_of disk old).to_move
   left_few = omega arith

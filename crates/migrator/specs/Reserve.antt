@@ -7,10 +7,10 @@ use Rattle.migrator.specs.declared.table.Place.TheVariants.{Nowhere}
 
 -- room for a directory and another, for the places of all objects, none of which has one, and for a cluster
 pub record IsTables (p : Plan) (r : Reserve) : Type 0 where
-  pub directory : length r.directory.items ≡ p.geometry.log
-  pub spare : length r.spare.items ≡ p.geometry.log
-  pub frozen : r.frozen ≡ replicate (count_of p) Nowhere
-  pub working : r.working ≡ replicate (count_of p) Nowhere
+  pub directory : length r.directories.saved.items ≡ p.geometry.log
+  pub spare : length r.directories.spare.items ≡ p.geometry.log
+  pub frozen : r.tables.frozen ≡ replicate (count_of p) Nowhere
+  pub working : r.tables.working ≡ replicate (count_of p) Nowhere
   pub buffer : r.buffer ≡ None
 
 -- and for the headers of all objects, of which none was read

@@ -88,9 +88,7 @@ fn blank_places(alloc: Global, count: usize) -> Result<Vec<Place>, AllocError>
     ensures { IfOk result (λ places. places.items ≡ replicate count Place.Nowhere) }
 {
     let mut places = Vec::with_capacity(alloc, count)?;
-    for _ in 0..count {
-        places.push(Place::Nowhere)?;
-    }
+    places.resize(count, Place::Nowhere)?;
     Ok(places)
 }
 

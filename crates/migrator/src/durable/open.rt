@@ -1,5 +1,5 @@
 // Opening a device.
-ghost use Rattle.std.specs.Prelude.{◌≡◌, ◌+◌, ◌≤◌, length, IfOk, IfErr, OnOk};
+ghost use Rattle.std.specs.Prelude.{◌≡◌, ◌+◌, ◌≤◌, length, replicate, IfOk, IfErr, OnOk};
 ghost use Rattle.device.specs.Calls.{Only};
 ghost use Rattle.layout.specs.Image.{HasPlan};
 ghost use Rattle.layout.specs.Superblock.{Plan};
@@ -27,13 +27,25 @@ pub struct Opened<D: Device> {
     pub headers: Vec<ObjectHeader>,
 }
 
+// Room for the saved directory, and for another.
+#[derive(Drop)]
+struct Directories {
+    saved: Vec<Entry>,
+    spare: Vec<Entry>,
+}
+
+// The places of the frozen frames, and of those put since.
+#[derive(Drop)]
+struct Tables {
+    frozen: Table,
+    working: Table,
+}
+
 // All the memory that a store takes, and that opening it takes.
 #[derive(Drop)]
 struct Reserve {
-    directory: Vec<Entry>,
-    spare: Vec<Entry>,
-    frozen: Table,
-    working: Table,
+    directories: Directories,
+    tables: Tables,
     buffer: ClusterBuffer,
     headers: Vec<ObjectHeader>,
 }
@@ -51,12 +63,33 @@ struct Parts {
 fn blank_entries(alloc: Global, count: u64) -> Result<Vec<Entry>, AllocError>
     ensures { IfOk result (λ entries. length entries.items ≡ count) }
 {
-    let blank = Entry { object: 0, slot: 0 };
     let mut entries = Vec::with_capacity(alloc, count as usize)?;
-    for _ in 0..count {
-        entries.push(blank)?;
-    }
+    entries.resize(count as usize, Entry { object: 0, slot: 0 })?;
     Ok(entries)
+}
+
+impl Directories {
+    fn new(alloc: Global, count: u64) -> Result<Directories, AllocError>
+        ensures saved { IfOk result (λ two. length two.saved.items ≡ count) }
+        ensures spare { IfOk result (λ two. length two.spare.items ≡ count) }
+    {
+        Ok(Directories {
+            saved: blank_entries(alloc, count)?,
+            spare: blank_entries(alloc, count)?,
+        })
+    }
+}
+
+impl Tables {
+    fn new(alloc: Global, count: usize) -> Result<Tables, AllocError>
+        ensures frozen { IfOk result (λ two. two.frozen ≡ replicate count Place.Nowhere) }
+        ensures working { IfOk result (λ two. two.working ≡ replicate count Place.Nowhere) }
+    {
+        Ok(Tables {
+            frozen: Table::new(alloc, count)?,
+            working: Table::new(alloc, count)?,
+        })
+    }
 }
 
 impl Reserve {
@@ -67,10 +100,8 @@ impl Reserve {
     {
         let count = (geometry.nodes + geometry.pages) as usize;
         Ok(Reserve {
-            directory: blank_entries(alloc, geometry.log)?,
-            spare: blank_entries(alloc, geometry.log)?,
-            frozen: Table::new(alloc, count)?,
-            working: Table::new(alloc, count)?,
+            directories: Directories::new(alloc, geometry.log)?,
+            tables: Tables::new(alloc, count)?,
             buffer: ClusterBuffer::new(alloc)?,
             headers: Vec::with_capacity(alloc, count)?,
         })
@@ -78,6 +109,35 @@ impl Reserve {
 }
 
 // Reads an image whole, of which the superblock was read, into memory that was reserved.
+fn read_reserved<D: Device>(
+    device: &mut D,
+    log: &Log,
+    home: &Home,
+    reserve: &mut Reserve,
+    room: &mut Room,
+) -> Result<CheckpointHeader, OpenFault>
+    requires same { home.now ≡ log.now }
+    requires plan { HasPlan (D.disk device.old).seen (D.disk device.old).sectors log.now }
+    requires reserved { IsReserve log.now reserve.old }
+    ensures read { IfOk result (λ header. IsRead (D.disk device.old).seen log.now header
+        reserve.new.directories.saved.items reserve.new.headers.items) }
+    ensures reserved { IsTables log.now reserve.new }
+    ensures refused { IfErr result (λ e.
+        IsBadFor (D.disk device.old).seen (D.disk device.old).sectors e) }
+    ensures reads { ReadsOnly (D.disk device.old) (D.disk device.new) }
+    ensures cause { CountsOpen (D.disk device.old) (D.disk device.new) result }
+{
+    read_image(
+        device,
+        log,
+        home,
+        &mut reserve.directories.saved,
+        room,
+        &mut reserve.headers,
+    )
+}
+
+// Does so, and takes the memory along.
 fn read_into<D: Device>(
     device: &mut D,
     superblock: &Superblock,
@@ -89,7 +149,7 @@ fn read_into<D: Device>(
     ensures plan { IfOk result (λ parts. parts.log ≡ superblock.now) }
     ensures home { IfOk result (λ parts. parts.home ≡ superblock.now) }
     ensures read { IfOk result (λ parts. IsRead (D.disk device.old).seen superblock.now
-        parts.header parts.reserve.directory.items parts.reserve.headers.items) }
+        parts.header parts.reserve.directories.saved.items parts.reserve.headers.items) }
     ensures reserved { IfOk result (λ parts. IsTables superblock.now parts.reserve) }
     ensures refused { IfErr result (λ e.
         IsBadFor (D.disk device.old).seen (D.disk device.old).sectors e) }
@@ -99,14 +159,7 @@ fn read_into<D: Device>(
     let log = Log::new(superblock);
     let home = Home::new(superblock);
     let mut reserve = reserve;
-    match read_image(
-        device,
-        &log,
-        &home,
-        &mut reserve.directory,
-        room,
-        &mut reserve.headers,
-    ) {
+    match read_reserved(device, &log, &home, &mut reserve, room) {
         Ok(header) => Ok(Parts {
             log,
             home,
@@ -117,13 +170,41 @@ fn read_into<D: Device>(
     }
 }
 
+// Does so with room that opening alone takes.
+fn read_with_room<D: Device>(
+    alloc: Global,
+    device: &mut D,
+    superblock: &Superblock,
+    reserve: Reserve,
+) -> Result<Parts, OpenFault>
+    requires plan { HasPlan (D.disk device.old).seen (D.disk device.old).sectors superblock.now }
+    requires reserved { IsReserve superblock.now reserve }
+    ensures plan { IfOk result (λ parts. parts.log ≡ superblock.now) }
+    ensures home { IfOk result (λ parts. parts.home ≡ superblock.now) }
+    ensures read { IfOk result (λ parts. IsRead (D.disk device.old).seen superblock.now
+        parts.header parts.reserve.directories.saved.items parts.reserve.headers.items) }
+    ensures reserved { IfOk result (λ parts. IsTables superblock.now parts.reserve) }
+    ensures refused { IfErr result (λ e.
+        IsBadFor (D.disk device.old).seen (D.disk device.old).sectors e) }
+    ensures reads { ReadsOnly (D.disk device.old) (D.disk device.new) }
+    ensures cause { CountsOpen (D.disk device.old) (D.disk device.new) result }
+{
+    match Room::new(alloc) {
+        Ok(room) => {
+            let mut room = room;
+            read_into(device, superblock, reserve, &mut room)
+        }
+        Err(_) => Err(OpenFault::NoMemory),
+    }
+}
+
 // Reads a device whole.
 fn read_parts<D: Device>(alloc: Global, device: &mut D) -> Result<Parts, OpenFault>
     ensures plan { IfOk result (λ parts.
         HasPlan (D.disk device.old).seen (D.disk device.old).sectors parts.log) }
     ensures home { IfOk result (λ parts. parts.home ≡ parts.log) }
     ensures read { IfOk result (λ parts. IsRead (D.disk device.old).seen parts.log parts.header
-        parts.reserve.directory.items parts.reserve.headers.items) }
+        parts.reserve.directories.saved.items parts.reserve.headers.items) }
     ensures reserved { IfOk result (λ parts. IsTables parts.log parts.reserve) }
     ensures durable { OnOk result (Only (D.disk device.new).seen (D.disk device.new)) }
     ensures refused { IfErr result (λ e.
@@ -133,13 +214,7 @@ fn read_parts<D: Device>(alloc: Global, device: &mut D) -> Result<Parts, OpenFau
 {
     match read_plan(device) {
         Ok(superblock) => match Reserve::new(alloc, superblock.geometry()) {
-            Ok(reserve) => match Room::new(alloc) {
-                Ok(room) => {
-                    let mut room = room;
-                    read_into(device, &superblock, reserve, &mut room)
-                }
-                Err(_) => Err(OpenFault::NoMemory),
-            },
+            Ok(reserve) => read_with_room(alloc, device, &superblock, reserve),
             Err(_) => Err(OpenFault::NoMemory),
         },
         Err(fault) => Err(fault),
@@ -167,10 +242,8 @@ impl<D: Device> Durable<D> {
                     reserve,
                 } = parts;
                 let Reserve {
-                    directory,
-                    spare,
-                    frozen,
-                    working,
+                    directories,
+                    tables,
                     buffer,
                     headers,
                 } = reserve;
@@ -179,12 +252,12 @@ impl<D: Device> Durable<D> {
                     log,
                     home,
                     header,
-                    directory,
-                    spare,
+                    directory: directories.saved,
+                    spare: directories.spare,
                     moved: 0,
-                    frozen,
+                    frozen: tables.frozen,
                     size: None,
-                    working,
+                    working: tables.working,
                     buffer,
                 };
                 Ok(Opened { store, headers })

@@ -1,4 +1,4 @@
-use Rattle.std.proofs.Common.{◌≡◌, ◌∙◌, ◌+◌, ◌<◌, ◌++◌, ◌∷◌, [], ap, subst, rules}
+use Rattle.std.proofs.Common.{◌≡◌, ◌≤◌, ℕ, refl, sym, arith, ◌∙◌, ◌+◌, ◌<◌, ◌++◌, ◌∷◌, [], ap, subst, rules}
 use Rattle.std.proofs.lemmas.Result.{err_from_is_err_and}
 use Rattle.model.specs.declared.geometry.Geometry.{Geometry}
 use Rattle.device.specs.Disk.{Image}
@@ -6,7 +6,7 @@ use Rattle.device.proofs.Images.{agrees_is}
 use Rattle.layout.specs.Spelt.{IsSpelt, frame_read}
 use Rattle.layout.specs.Superblock.{Plan}
 use Rattle.migrator.specs.Opened.{IsBadAt}
-use Rattle.migrator.proofs.Reading.{reads_more, headers_until, headers_more, headers_all, spelt_more}
+use Rattle.migrator.proofs.Reading.{reads_more, reads_none, headers_until, headers_more, headers_all, spelt_more}
 use Rattle.migrator.proofs.image.read_headers.Goals as goal
 
 pub returns-in_err-read_header-clause-refused : goal.returns-in_err-read_header-clause-refused
@@ -38,3 +38,22 @@ returns-clause-headers g c =
     let done = subst (λ (x : Geometry). c.loop-number.number ≡ x.nodes + x.pages) geometry end in
     c.loop-number.invariant.3 ∙ ap (headers_until (g.D.Device.disk c.args.device.now).seen c.args.log.now c.args.header.generation c.args.directory.now) done
     ∙ headers_all (g.D.Device.disk c.args.device.now).seen c.args.log.now c.args.header.generation c.args.directory.now
+
+pub loop-number-init : goal.loop-number-init
+loop-number-init g c = (reads_none (g.D.Device.disk c.args.device.now) (g.met.D.Device.only_now c.args.device.now), refl, (λ n lt. absurd (omega (arith, lt))), c.requires.none)
+
+pub read_header-requires-clause-inside : goal.read_header-requires-clause-inside
+read_header-requires-clause-inside g c = subst (λ (k : ℕ). c.args.log.now.total ≤ k) (sym c.loop-number.invariant.0.size) c.requires.inside
+
+pub returns-in_err-read_header-clause-reads : goal.returns-in_err-read_header-clause-reads
+returns-in_err-read_header-clause-reads g c = reads_more (g.D.Device.disk c.args.device.now) (g.D.Device.disk c.loop-number.device) (g.D.Device.disk c.read_header.new.device) c.loop-number.invariant.0 c.read_header.ensures.reads
+
+pub returns-clause-spelt : goal.returns-clause-spelt
+returns-clause-spelt g c =
+    let geometry = c.geometry-geometry.ensures.value ∙ ap (λ (p : Plan). p.geometry) c.requires.same in
+    let end : c.loop-number.number ≡ c.geometry-geometry.result.nodes + c.geometry-geometry.result.pages = search rules in
+    let done = subst (λ (x : Geometry). c.loop-number.number ≡ x.nodes + x.pages) geometry end in
+    subst (λ (k : ℕ). (n : ℕ) → n < k → IsSpelt (g.D.Device.disk c.args.device.now).seen c.args.log.now c.args.header.age c.args.header.generation c.args.directory.now n) done c.loop-number.invariant.2
+
+pub returns-clause-reads : goal.returns-clause-reads
+returns-clause-reads g c = c.loop-number.invariant.0

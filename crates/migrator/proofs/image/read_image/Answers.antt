@@ -1,10 +1,10 @@
-use Rattle.std.proofs.Common.{◌≡◌, take, subst}
+use Rattle.std.proofs.Common.{◌≡◌, ◌≤◌, ℕ, take, sym, subst}
 use Rattle.model.specs.Frame.{headers}
 use Rattle.device.specs.Disk.{Image}
 use Rattle.device.proofs.Images.{agrees_is}
 use Rattle.layout.specs.Spelt.{AreSpelt, frames_read}
 use Rattle.migrator.specs.Opened.{IsBadAt}
-use Rattle.migrator.proofs.Reading.{bad_frame}
+use Rattle.migrator.proofs.Reading.{bad_frame, reads_more}
 use Rattle.migrator.proofs.image.read_image.Goals as goal
 
 pub returns-in-Ok-read_headers-clause-found : goal.returns-in-Ok-read_headers-clause-found
@@ -23,3 +23,18 @@ returns-in-Err-clause-refused g c =
     let bad = subst (λ (i : Image). IsBadAt i c.args.log.now c.in-Ok.header (take c.in-Ok.header.entries c.find_committed.new.directory) c.in-Err.ensures.refused.0 c.in-Err.fault) seen c.in-Err.ensures.refused.2 in
     bad_frame (g.D.Device.disk c.args.device.now).seen (g.D.Device.disk c.args.device.now).sectors c.args.log.now c.in-Ok.header (take c.in-Ok.header.entries c.find_committed.new.directory) c.in-Err.ensures.refused.0 c.in-Err.fault
     c.requires.plan c.in-Ok.ensures.found.0 c.in-Ok.ensures.found.1 c.in-Err.ensures.refused.1 bad
+
+pub read_headers-requires-clause-same : goal.read_headers-requires-clause-same
+read_headers-requires-clause-same g c = c.requires.same
+
+pub read_headers-requires-clause-none : goal.read_headers-requires-clause-none
+read_headers-requires-clause-none g c = c.requires.none
+
+pub read_headers-requires-clause-inside : goal.read_headers-requires-clause-inside
+read_headers-requires-clause-inside g c = subst (λ (k : ℕ). c.args.log.now.total ≤ k) (sym c.find_committed.ensures.reads.size) c.requires.plan.whole
+
+pub returns-in-Ok-read_headers-clause-reads : goal.returns-in-Ok-read_headers-clause-reads
+returns-in-Ok-read_headers-clause-reads g c = reads_more (g.D.Device.disk c.args.device.now) (g.D.Device.disk c.find_committed.new.device) (g.D.Device.disk c.read_headers.new.device) c.find_committed.ensures.reads c.read_headers.ensures.reads
+
+pub returns-in-Err-clause-reads : goal.returns-in-Err-clause-reads
+returns-in-Err-clause-reads g c = reads_more (g.D.Device.disk c.args.device.now) (g.D.Device.disk c.find_committed.new.device) (g.D.Device.disk c.read_headers.new.device) c.find_committed.ensures.reads c.read_headers.ensures.reads

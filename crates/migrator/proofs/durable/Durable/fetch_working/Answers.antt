@@ -55,3 +55,37 @@ returns-in-Whole-clause-found g c =
     (λ read e. e ∙ ap (frame_from b.plan.geometry c.args.number) (sym raw)
     ∙ sym (ap (λ (place : Place). put_or (put_of (mended (g.D.Device.disk c.self.inside.device).seen c.self.inside.buffer) b.plan (working_generation b) c.args.number place)
     (put_or (put_of (mended (g.D.Device.disk c.self.inside.device).seen c.self.inside.buffer) b.plan (frozen_generation b) c.args.number (place_at b.frozen c.args.number)) (frame_at (stored_in (mended (g.D.Device.disk c.self.inside.device).seen c.self.inside.buffer) b).saved.frames c.args.number))) at)) found)
+
+pub fetch_frozen-requires : goal.fetch_frozen-requires
+fetch_frozen-requires g c = c.requires
+
+pub fetch_frozen-requires-in-Nowhere : goal.fetch_frozen-requires-in-Nowhere
+fetch_frozen-requires-in-Nowhere g c = c.requires
+
+pub returns-in-Torn-clause-found : goal.returns-in-Torn-clause-found
+returns-in-Torn-clause-found g c =
+    let s = c.args.self.now in
+    let at = sym (c.place.ensures ∙ ap (λ t. place_at t.books.working c.args.number) c.self.view_is) ∙ c.in-Torn.is in
+    ok_weaker c.fetch_frozen.result
+    (λ read e. e ∙ sym (ap (λ (place : Place). put_or (put_of (seen_of g.D.Device.disk s) s.books.plan (working_generation s.books) c.args.number place) (put_or (put_of (seen_of g.D.Device.disk s) s.books.plan (frozen_generation s.books) c.args.number (place_at s.books.frozen c.args.number)) (frame_at (stored_of g.D.Device.disk s).saved.frames c.args.number))) at))
+    c.fetch_frozen.ensures.found
+
+pub returns-in-Torn-clause-reads : goal.returns-in-Torn-clause-reads
+returns-in-Torn-clause-reads g c = c.fetch_frozen.ensures.reads
+
+pub returns-in-Torn-clause-cause : goal.returns-in-Torn-clause-cause
+returns-in-Torn-clause-cause g c = c.fetch_frozen.ensures.cause
+
+pub returns-in-Nowhere-clause-found : goal.returns-in-Nowhere-clause-found
+returns-in-Nowhere-clause-found g c =
+    let s = c.args.self.now in
+    let at = sym (c.place.ensures ∙ ap (λ t. place_at t.books.working c.args.number) c.self.view_is) ∙ c.in-Nowhere.is in
+    ok_weaker c.fetch_frozen-in-Nowhere.result
+    (λ read e. e ∙ sym (ap (λ (place : Place). put_or (put_of (seen_of g.D.Device.disk s) s.books.plan (working_generation s.books) c.args.number place) (put_or (put_of (seen_of g.D.Device.disk s) s.books.plan (frozen_generation s.books) c.args.number (place_at s.books.frozen c.args.number)) (frame_at (stored_of g.D.Device.disk s).saved.frames c.args.number))) at))
+    c.fetch_frozen-in-Nowhere.ensures.found
+
+pub returns-in-Nowhere-clause-reads : goal.returns-in-Nowhere-clause-reads
+returns-in-Nowhere-clause-reads g c = c.fetch_frozen-in-Nowhere.ensures.reads
+
+pub returns-in-Nowhere-clause-cause : goal.returns-in-Nowhere-clause-cause
+returns-in-Nowhere-clause-cause g c = c.fetch_frozen-in-Nowhere.ensures.cause

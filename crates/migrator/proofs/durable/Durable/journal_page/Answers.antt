@@ -1,6 +1,9 @@
-use Rattle.std.proofs.Common.{◌∙◌, arith}
-use Rattle.migrator.proofs.Saving.{ok_then}
-use Rattle.migrator.proofs.Journaling.{found, journaled_is, either_run}
+use Rattle.std.proofs.Common.{◌≡◌, ◌∙◌, ◌<◌, ap, sym, subst, arith}
+use Rattle.checkpoint.specs.Saved.{journaled_saved}
+use Rattle.device.proofs.Moments.{counted_ok, counts_on}
+use Rattle.migrator.specs.Durable.{Books, Stored, stored_of}
+use Rattle.migrator.proofs.Saving.{err_then, ok_then, on_err}
+use Rattle.migrator.proofs.Journaling.{either_first, either_run, found, journaled_is, object_is}
 use Rattle.migrator.proofs.durable.Durable.journal_page.Goals as goal
 
 pub save_first-requires-clause-spelt : goal.save_first-requires-clause-spelt
@@ -17,3 +20,52 @@ pub returns-clause-any_moment : goal.returns-clause-any_moment
 returns-clause-any_moment g c =
     let spelt = c.in_ok-put_page.ensures.spelt c.args.age (omega (arith, c.requires.may.later)) in
     either_run g.D.Device.disk c.args.self.now c.put_page.new.self c.args.number c.args.age c.args.words.now c.put_page.ensures.books c.put_page.ensures.stored spelt (g.D.Device.disk c.save_first.new.self.beneath) c.put_page.ensures.goes_on.size (c.put_page.ensures.goes_on.any_moment c.requires.sound) c.save_first.ensures.any_moment
+
+pub returns-in_err-put_page-clause-unchanged : goal.returns-in_err-put_page-clause-unchanged
+returns-in_err-put_page-clause-unchanged g c = on_err c.from_residual.result c.put_page.ensures.stored
+
+pub returns-in_err-put_page-clause-plan : goal.returns-in_err-put_page-clause-plan
+returns-in_err-put_page-clause-plan g c = c.put_page.ensures.goes_on.plan
+
+pub returns-in_err-put_page-clause-size : goal.returns-in_err-put_page-clause-size
+returns-in_err-put_page-clause-size g c = c.put_page.ensures.goes_on.size
+
+pub returns-in_err-put_page-clause-any_moment : goal.returns-in_err-put_page-clause-any_moment
+returns-in_err-put_page-clause-any_moment g c =
+    let saved = (stored_of g.D.Device.disk c.args.self.now).saved in
+    either_first (g.D.Device.disk c.args.self.now.beneath) (g.D.Device.disk c.put_page.new.self.beneath) saved (journaled_saved c.args.age c.args.number c.args.words.now saved) (c.put_page.ensures.goes_on.any_moment c.requires.sound)
+
+pub save_first-requires-clause-free : goal.save_first-requires-clause-free
+save_first-requires-clause-free g c = ap (λ (b : Books). b.size) c.put_page.ensures.books ∙ c.requires.free
+
+pub save_first-requires-clause-home : goal.save_first-requires-clause-home
+save_first-requires-clause-home g c = ap (λ (s : Stored). s.saved.entries) c.put_page.ensures.stored ∙ c.requires.home
+
+pub save_first-requires-clause-object : goal.save_first-requires-clause-object
+save_first-requires-clause-object g c =
+    let spelt = c.in_ok-put_page.ensures.spelt c.args.age (omega (arith, c.requires.may.later)) in
+    object_is g.D.Device.disk c.args.self.now c.put_page.new.self c.args.number c.args.age c.args.words.now c.put_page.ensures.books c.put_page.ensures.stored spelt
+
+pub save_first-requires-clause-sound : goal.save_first-requires-clause-sound
+save_first-requires-clause-sound g c = c.put_page.ensures.goes_on.sound c.requires.sound
+
+pub save_first-requires-clause-later : goal.save_first-requires-clause-later
+save_first-requires-clause-later g c = subst (λ (s : Stored). s.saved.age < c.args.age) (sym c.put_page.ensures.stored) c.requires.may.later
+
+pub save_first-requires-clause-most : goal.save_first-requires-clause-most
+save_first-requires-clause-most g c = c.requires.may.most
+
+pub returns-clause-unchanged : goal.returns-clause-unchanged
+returns-clause-unchanged g c = err_then c.save_first.result (λ same. same ∙ c.put_page.ensures.stored) c.save_first.ensures.unchanged
+
+pub returns-clause-plan : goal.returns-clause-plan
+returns-clause-plan g c = c.save_first.ensures.plan ∙ c.put_page.ensures.goes_on.plan
+
+pub returns-clause-sound : goal.returns-clause-sound
+returns-clause-sound g c = c.save_first.ensures.sound
+
+pub returns-clause-size : goal.returns-clause-size
+returns-clause-size g c = c.save_first.ensures.size ∙ c.put_page.ensures.goes_on.size
+
+pub returns-clause-cause : goal.returns-clause-cause
+returns-clause-cause g c = counts_on (counted_ok c.in_ok-put_page.ensures.cause) c.save_first.ensures.cause

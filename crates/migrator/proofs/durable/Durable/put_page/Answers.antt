@@ -11,6 +11,7 @@ use Rattle.migrator.specs.Mended.{mended}
 use Rattle.migrator.proofs.Buffered.{none_idle}
 use Rattle.migrator.proofs.GoingOn.{goes_seen}
 use Rattle.migrator.proofs.Mended.{mended_disk, unmended, writes_mended}
+use Rattle.device.proofs.Moments.{counted_ok, counts_on}
 use Rattle.migrator.proofs.Saving.{ok_then}
 use Rattle.migrator.proofs.Moving.{goes_trans}
 use Rattle.migrator.proofs.Journaling.{page_known, put_kept, put_stored, put_goes_on, put_spelt, words_fit}
@@ -87,3 +88,28 @@ returns-clause-goes_on g c =
     let first = subst (λ t. GoesOn g.D.Device.disk c.args.self.now t) (sym c.self-2.view_is) c.saved_header.ensures.reads.goes_on in
     goes_trans (g.D.Device.disk c.args.self.now.beneath) (g.D.Device.disk c.self-2.inside.device) (g.D.Device.disk c.write_page.new.device) c.args.self.now.books b b (ap (λ (s : Stored). s.saved) stored) first
     (goes_seen (g.D.Device.disk c.self-2.inside.device) (g.D.Device.disk c.write_page.new.device) b b (put_goes_on (mended_disk (g.D.Device.disk c.self-2.inside.device) c.self-2.inside.buffer) (mended_disk (g.D.Device.disk c.write_page.new.device) c.self-2.inside.buffer) b kept free home writes))
+
+pub saved_header-requires-clause-home : goal.saved_header-requires-clause-home
+saved_header-requires-clause-home g c = c.requires.home
+
+pub returns-in_err-header-clause-books : goal.returns-in_err-header-clause-books
+returns-in_err-header-clause-books g c = c.saved_header.ensures.reads.books
+
+pub returns-in_err-header-clause-stored : goal.returns-in_err-header-clause-stored
+returns-in_err-header-clause-stored g c = c.saved_header.ensures.reads.stored
+
+pub returns-in_err-header-clause-goes_on : goal.returns-in_err-header-clause-goes_on
+returns-in_err-header-clause-goes_on g c = c.saved_header.ensures.reads.goes_on
+
+pub write_page-requires-clause-words : goal.write_page-requires-clause-words
+write_page-requires-clause-words g c = c.requires.words
+
+pub write_page-requires-clause-inside : goal.write_page-requires-clause-inside
+write_page-requires-clause-inside g c = c.self-2.invariant.0.inside
+
+pub returns-clause-books : goal.returns-clause-books
+returns-clause-books g c = ap (λ t. t.books) c.self-2.view_is ∙ c.saved_header.ensures.reads.books
+
+pub returns-clause-cause : goal.returns-clause-cause
+returns-clause-cause g c =
+    counts_on (ap (λ t. (g.D.Device.disk t.beneath).failures) c.self-2.view_is ∙ counted_ok c.in_ok-header.ensures.cause) c.write_page.ensures.cause

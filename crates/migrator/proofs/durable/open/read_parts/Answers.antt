@@ -7,21 +7,21 @@ use Rattle.checkpoint.specs.Opened.{IsBadFor}
 use Rattle.migrator.proofs.Reading.{if_both, err_weaker}
 use Rattle.migrator.proofs.durable.open.read_parts.Goals as goal
 
-pub read_into-requires-clause-reserved : goal.read_into-requires-clause-reserved
-read_into-requires-clause-reserved g c = c.in-Ok-new.ensures c.in-Ok.superblock (sym c.geometry.ensures.value)
+pub read_with_room-requires-clause-reserved : goal.read_with_room-requires-clause-reserved
+read_with_room-requires-clause-reserved g c = c.in-Ok-new.ensures c.in-Ok.superblock (sym c.geometry.ensures.value)
 
-pub returns-in-Ok-new-2-clause-read : goal.returns-in-Ok-new-2-clause-read
-returns-in-Ok-new-2-clause-read g c =
+pub returns-in-Ok-new-clause-read : goal.returns-in-Ok-new-clause-read
+returns-in-Ok-new-clause-read g c =
     let seen = agrees_is (g.D.Device.disk c.read_plan.new.device).seen (g.D.Device.disk c.args.device.now).seen c.read_plan.ensures.looks.seen in
-    if_both c.read_into.result
-    (λ parts plan read. subst (λ (i : Image). IsRead i parts.log parts.header parts.reserve.directory.items parts.reserve.headers.items) seen
-    (subst (λ (p : Plan). IsRead (g.D.Device.disk c.read_plan.new.device).seen p parts.header parts.reserve.directory.items parts.reserve.headers.items) (sym plan) read))
-    c.read_into.ensures.plan c.read_into.ensures.read
+    if_both c.read_with_room.result
+    (λ parts plan read. subst (λ (i : Image). IsRead i parts.log parts.header parts.reserve.directories.saved.items parts.reserve.headers.items) seen
+    (subst (λ (p : Plan). IsRead (g.D.Device.disk c.read_plan.new.device).seen p parts.header parts.reserve.directories.saved.items parts.reserve.headers.items) (sym plan) read))
+    c.read_with_room.ensures.plan c.read_with_room.ensures.read
 
-pub returns-in-Ok-new-2-clause-refused : goal.returns-in-Ok-new-2-clause-refused
-returns-in-Ok-new-2-clause-refused g c =
+pub returns-in-Ok-new-clause-refused : goal.returns-in-Ok-new-clause-refused
+returns-in-Ok-new-clause-refused g c =
     let seen = agrees_is (g.D.Device.disk c.read_plan.new.device).seen (g.D.Device.disk c.args.device.now).seen c.read_plan.ensures.looks.seen in
-    err_weaker c.read_into.result
+    err_weaker c.read_with_room.result
     (λ e bad. subst (λ (i : Image). IsBadFor i (g.D.Device.disk c.args.device.now).sectors e) seen
     (subst (λ (k : ℕ). IsBadFor (g.D.Device.disk c.read_plan.new.device).seen k e) c.read_plan.ensures.looks.size bad))
-    c.read_into.ensures.refused
+    c.read_with_room.ensures.refused
