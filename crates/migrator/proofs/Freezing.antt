@@ -14,7 +14,7 @@ use Rattle.migrator.specs.Put.{Put, Absent, held_slot, sum_of, put_of, puts_in, 
 use Rattle.migrator.specs.Durable.{Books, frozen_generation, working_generation, generation_after, Stored, stored_in, IsRunning, IsKept, freezing}
 use Rattle.migrator.proofs.Putting.{held_taken}
 
-length_puts : (image : Image) (p : Plan) (generation : ℕ) (ps : List Place) → length (puts_in image p generation ps) ≡ count_of p
+pub length_puts : (image : Image) (p : Plan) (generation : ℕ) (ps : List Place) → length (puts_in image p generation ps) ≡ count_of p
 unfolding puts_in
 length_puts image p generation ps = length-map-range_with_len (λ n. put_of image p generation n (place_at ps n)) 0 (count_of p)
 

@@ -12,6 +12,7 @@ mod GoingOn
 mod Working
 mod FrozenFrames
 mod Freezing
+mod Tearing
 pub mod Saving
 mod Committing
 pub mod Moving

@@ -1,4 +1,4 @@
-use Rattle.std.proofs.Common.{◌∙◌, Some, Option, refl, sym, ap, subst, arith}
+use Rattle.std.proofs.Common.{◌≡◌, ◌∙◌, ◌<◌, ◌-◌, Some, Option, refl, sym, ap, subst, arith}
 use Rattle.device.specs.Disk.{Image}
 use Rattle.device.proofs.Images.{agrees_is}
 use Rattle.layout.specs.Image.{slot_sector}
@@ -8,11 +8,12 @@ use Rattle.migrator.proofs.Spared.{reads_touch}
 use Rattle.migrator.proofs.Tables.{rewritten}
 use Rattle.layout.specs.Superblock.{Plan, IsPlan}
 use Rattle.layout.specs.Directory.{entry_at}
-use Rattle.layout.specs.Homes.{shape_of}
+use Rattle.layout.specs.Homes.{home_place, shape_of}
+use Rattle.migrator.proofs.Counting.{ok_counts}
 use Rattle.home_ranges.proofs.Shared.{own_of}
 use Rattle.migrator.specs.Completed.{KeepsOne}
 use Rattle.migrator.specs.Mended.{Unwritten, mended}
-use Rattle.migrator.proofs.Completing.{either_of, kept_one, one_complete, own_complete, keeps_one_none}
+use Rattle.migrator.proofs.Completing.{either_of, kept_one, one_complete, own_complete, keeps_one_none, later_complete}
 use Rattle.migrator.proofs.cluster_buffer.ClusterBuffer.complete_one.Goals as goal
 
 pub returns-in_default : goal.returns-in_default
@@ -56,3 +57,22 @@ returns-clause-keeps g c =
     let kept = rw (c.slot_sector.ensures.value, bytes) at c.write.ensures.kept in
     let either = either_of c.write.result c.write.ensures.written kept in
     kept_one (g.D.Device.disk c.args.device.now) c.args.log.now c.args.generation c.args.entries.now c.args.index c.in-Packed.rank plan c.requires.directory c.requires.within packed c.fill.new.cluster c.fill.ensures.size c.in_ok-fill.ensures.filled (g.D.Device.disk c.write.new.device) c.write.new.self seen touches either
+
+pub returns-then-not-is_first-clause-none : goal.returns-then-not-is_first-clause-none
+returns-then-not-is_first-clause-none g c = c.requires.none
+
+pub returns-then-not-is_first-clause-complete : goal.returns-then-not-is_first-clause-complete
+returns-then-not-is_first-clause-complete g c =
+    let seen : Image = (g.D.Device.disk c.args.device.now).seen in
+    let plan = subst IsPlan c.requires.same c.shape.ensures.plan in
+    let follows = subst (λ (p : Plan). (0 < c.args.index) × (home_place p (entry_at c.args.entries.now (c.args.index - 1)).object ≡ home_place p (entry_at c.args.entries.now c.args.index).object)) c.requires.same
+    (c.is_first.ensures.no c.if-not-is_first.true) in
+    later_complete seen seen c.args.log.now c.args.generation c.args.entries.now c.args.index plan c.requires.directory c.requires.within follows
+
+pub returns-then-not-is_first-clause-keeps : goal.returns-then-not-is_first-clause-keeps
+returns-then-not-is_first-clause-keeps g c =
+    subst (λ (o : Option Unwritten). KeepsOne c.args.log.now c.args.generation c.args.entries.now c.args.index (g.D.Device.disk c.args.device.now) (g.D.Device.disk c.args.device.now) o) (sym c.requires.none)
+    (keeps_one_none c.args.log.now c.args.generation c.args.entries.now c.args.index (g.D.Device.disk c.args.device.now) (g.met.D.Device.only_now c.args.device.now))
+
+pub returns-then-not-is_first-clause-cause : goal.returns-then-not-is_first-clause-cause
+returns-then-not-is_first-clause-cause g c = ok_counts refl

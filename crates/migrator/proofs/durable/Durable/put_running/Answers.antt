@@ -1,10 +1,16 @@
-use Rattle.std.proofs.Common.{◌∙◌, ap}
+use Rattle.std.proofs.Common.{◌∙◌, ap, sym, subst}
+use Rattle.device.proofs.Moments.{counted_ok, counts_on}
 use Rattle.migrator.specs.Put.{Broken, Kept}
 use Rattle.migrator.specs.Durable.{Stored, stored_of, with_frozen}
 use Rattle.model.specs.declared.frame.Frame.{Frame}
 use Rattle.migrator.proofs.FrozenFrames.{put_twice}
 use Rattle.migrator.proofs.Moving.{goes_trans}
-use Rattle.migrator.proofs.Saving.{err_then, ok_then}
+use Rattle.migrator.proofs.Saving.{err_then, ok_then, on_err}
+use Rattle.migrator.proofs.Tearing.{torn_room}
+use Rattle.layout.specs.Superblock.{Plan}
+use Rattle.frame_io.specs.Frames.{IsObject}
+use Rattle.model.specs.Keepable.{IsKeepable}
+use Rattle.checkpoint.specs.Saved.{most}
 use Rattle.migrator.proofs.durable.Durable.put_running.Goals as goal
 
 pub returns-clause-put : goal.returns-clause-put
@@ -20,3 +26,29 @@ pub returns-clause-goes_on : goal.returns-clause-goes_on
 returns-clause-goes_on g c =
     goes_trans (g.D.Device.disk c.args.self.now.beneath) (g.D.Device.disk c.tear.new.self.beneath) (g.D.Device.disk c.put_written.new.self.beneath) c.args.self.now.books c.tear.new.self.books c.put_written.new.self.books
     (ap (λ (s : Stored). s.saved) c.tear.ensures.torn) c.tear.ensures.goes_on c.put_written.ensures.goes_on
+
+pub returns-in_err-tear-clause-broken : goal.returns-in_err-tear-clause-broken
+returns-in_err-tear-clause-broken g c = on_err c.from_residual.result c.tear.ensures.torn
+
+pub returns-in_err-tear-clause-goes_on : goal.returns-in_err-tear-clause-goes_on
+returns-in_err-tear-clause-goes_on g c = c.tear.ensures.goes_on
+
+pub put_written-requires-clause-running : goal.put_written-requires-clause-running
+put_written-requires-clause-running g c = c.tear.ensures.size
+
+pub put_written-requires-clause-written : goal.put_written-requires-clause-written
+put_written-requires-clause-written g c = c.in_ok-tear.ensures.written
+
+pub put_written-requires-clause-object : goal.put_written-requires-clause-object
+put_written-requires-clause-object g c = subst (λ (p : Plan). IsObject p.geometry c.args.number) (sym c.tear.ensures.goes_on.plan) c.requires.object
+
+pub put_written-requires-clause-keepable : goal.put_written-requires-clause-keepable
+put_written-requires-clause-keepable g c =
+    subst (λ (p : Plan). IsKeepable p.geometry most c.args.number (record { header = c.args.header; content = c.args.content.now })) (sym c.tear.ensures.goes_on.plan) c.requires.keepable
+
+pub put_written-requires-clause-room : goal.put_written-requires-clause-room
+put_written-requires-clause-room g c =
+    torn_room g.D.Device.disk c.args.self.now c.tear.new.self c.args.size c.args.number c.requires.running c.tear.ensures.size c.tear.ensures.torn c.requires.object
+
+pub returns-clause-cause : goal.returns-clause-cause
+returns-clause-cause g c = counts_on (counted_ok c.in_ok-tear.ensures.cause) c.put_written.ensures.cause
