@@ -114,6 +114,19 @@ module _ {D : Type 0} where
   pub rest_on : (s t u : CacheState D) → t ≡ on_device_with s t → u ≡ on_device_with t u → u ≡ on_device_with s u
   rest_on s t u first second = second ∙ ap (λ (x : CacheState D). on_device_with x u) first
 
+  pub rest_read : (s t u : CacheState D) → t ≡ on_device_with s t → u ≡ record t { durable = u.durable } → u ≡ on_device_with s u
+  rest_read s t u first is =
+      is ∙ ap (λ (x : CacheState D). record x { durable = u.durable }) first
+      ∙ ap (λ (x : CacheState D). record (on_device_with s x) { durable = u.durable }) (sym is)
+
+  pub seat_rest : {T E : Type 0} (r : Result T E) (s t : CacheState D) (n : ℕ) → OnOk r (t ≡ with_seat n s) → OnErr r (t ≡ s) → t ≡ on_device_with s t
+  seat_rest (Ok x) s t n ok err = ok ∙ ap (on_device_with s) (sym ok)
+  seat_rest (Err e) s t n ok err = err ∙ ap (on_device_with s) (sym err)
+
+  pub seat_hand : {T E : Type 0} (r : Result T E) (s t : CacheState D) (n : ℕ) → OnOk r (t ≡ with_seat n s) → OnErr r (t ≡ s) → t.hand ≡ s.hand
+  seat_hand (Ok x) s t n ok err = ap (λ (x : CacheState D). x.hand) ok
+  seat_hand (Err e) s t n ok err = ap (λ (x : CacheState D). x.hand) err
+
   pub seat_first : (s t : CacheState D) (n k : ℕ) → t ≡ with_seat n s → IsFetchedIn t n → 0 < k → IsRecentIn t k n
   seat_first s t n k is there some = (there, ap (λ (x : CacheState D). is_member (take k x.order) n) is ∙ front_first n k s.order some)
 

@@ -14,6 +14,8 @@ mod Marks
 mod Freezing
 mod Reserving
 mod Owing
+mod Paying
+mod Preparing
 mod Copying
 mod Settling
 mod Taking

@@ -17,16 +17,60 @@ use model::ObjectHeader;
 use number_set::NumberSet;
 use std::alloc::{AllocError, Global};
 
+// Which numbers were written since the last checkpoint began, are to be put, and are pending: none.
+#[derive(Drop)]
+struct Marks {
+    touched: NumberSet,
+    dirty: NumberSet,
+    pending: NumberSet,
+}
+
+impl Marks {
+    fn new(alloc: Global, count: usize) -> Result<Marks, AllocError>
+        ensures touched { IfOk result (λ marks. marks.touched ≡ replicate count false) }
+        ensures dirty { IfOk result (λ marks. marks.dirty ≡ replicate count false) }
+        ensures pending { IfOk result (λ marks. marks.pending ≡ replicate count false) }
+    {
+        Ok(Marks {
+            touched: NumberSet::new(alloc, count)?,
+            dirty: NumberSet::new(alloc, count)?,
+            pending: NumberSet::new(alloc, count)?,
+        })
+    }
+}
+
+// Where bodies are to be held: no entries, an empty hand, and room for what is read.
+#[derive(Drop)]
+struct Bodies {
+    entries: Entries,
+    hand: Hand,
+    room: Room,
+}
+
+impl Bodies {
+    fn new(alloc: Global, capacity: Capacity, count: usize) -> Result<Bodies, AllocError>
+        ensures entries { IfOk result (λ bodies. bodies.entries ≡ record {
+          at = replicate count None;
+          order = [];
+          most = capacity;
+        }) }
+        ensures hand { IfOk result (λ bodies. bodies.hand ≡ None) }
+        ensures least { OnOk result (8 ≤ capacity) }
+    {
+        Ok(Bodies {
+            entries: Entries::new(alloc, capacity, count)?,
+            hand: Hand::new(alloc)?,
+            room: Room::new(alloc)?,
+        })
+    }
+}
+
 // All the memory that a store takes, but for the headers of all objects and what entries hold.
 #[derive(Drop)]
 struct Reserve {
     frozen_headers: Headers,
-    touched: NumberSet,
-    dirty: NumberSet,
-    pending: NumberSet,
-    entries: Entries,
-    hand: Hand,
-    room: Room,
+    marks: Marks,
+    bodies: Bodies,
 }
 
 impl Reserve {
@@ -37,28 +81,24 @@ impl Reserve {
     ) -> Result<Reserve, AllocError>
         ensures headers { IfOk result (λ reserve. reserve.frozen_headers ≡ headers.now) }
         ensures touched { IfOk result (λ reserve.
-            reserve.touched ≡ replicate (length headers.now) false) }
+            reserve.marks.touched ≡ replicate (length headers.now) false) }
         ensures dirty { IfOk result (λ reserve.
-            reserve.dirty ≡ replicate (length headers.now) false) }
+            reserve.marks.dirty ≡ replicate (length headers.now) false) }
         ensures pending { IfOk result (λ reserve.
-            reserve.pending ≡ replicate (length headers.now) false) }
-        ensures entries { IfOk result (λ reserve. reserve.entries ≡ record {
+            reserve.marks.pending ≡ replicate (length headers.now) false) }
+        ensures entries { IfOk result (λ reserve. reserve.bodies.entries ≡ record {
           at = replicate (length headers.now) None;
           order = [];
           most = capacity;
         }) }
-        ensures hand { IfOk result (λ reserve. reserve.hand ≡ None) }
+        ensures hand { IfOk result (λ reserve. reserve.bodies.hand ≡ None) }
         ensures least { OnOk result (8 ≤ capacity) }
     {
         let count = headers.len();
         Ok(Reserve {
             frozen_headers: Headers::new(alloc, headers)?,
-            touched: NumberSet::new(alloc, count)?,
-            dirty: NumberSet::new(alloc, count)?,
-            pending: NumberSet::new(alloc, count)?,
-            entries: Entries::new(alloc, capacity, count)?,
-            hand: Hand::new(alloc)?,
-            room: Room::new(alloc)?,
+            marks: Marks::new(alloc, count)?,
+            bodies: Bodies::new(alloc, capacity, count)?,
         })
     }
 }
@@ -78,19 +118,26 @@ impl<D: Device> BoundedCache<D> {
             Ok(opened) => {
                 let Opened { store, headers } = opened;
                 match Reserve::new(alloc, capacity, &headers) {
-                    Ok(reserve) => Ok(BoundedCache {
-                        durable: store,
-                        table: ObjectTable::new(headers),
-                        touched: reserve.touched,
-                        count: 0,
-                        dirty: reserve.dirty,
-                        entries: reserve.entries,
-                        pending: reserve.pending,
-                        frozen_headers: reserve.frozen_headers,
-                        left: 0,
-                        hand: reserve.hand,
-                        room: reserve.room,
-                    }),
+                    Ok(reserve) => {
+                        let Reserve {
+                            frozen_headers,
+                            marks,
+                            bodies,
+                        } = reserve;
+                        Ok(BoundedCache {
+                            durable: store,
+                            table: ObjectTable::new(headers),
+                            touched: marks.touched,
+                            count: 0,
+                            dirty: marks.dirty,
+                            entries: bodies.entries,
+                            pending: marks.pending,
+                            frozen_headers,
+                            left: 0,
+                            hand: bodies.hand,
+                            room: bodies.room,
+                        })
+                    }
                     Err(_) => Err(OpenRefused {
                         fault: OpenFault::NoMemory,
                         device: store.into_device(),

@@ -13,14 +13,22 @@ ghost use Rattle.bounded_cache.specs.Cache.{parts_of, view_of};
 use crate::cache::BoundedCache;
 use checkpoint::{Checkpoint, CheckpointFault};
 use device::{Device, Failed};
+use migrator::Durable;
 use std::mem;
 
 impl<D: Device> BoundedCache<D> {
+    // Gives the durable store back, and nothing of what is in memory.
+    fn into_durable(self) -> Durable<D>
+        ensures { result ≡ self.durable }
+    {
+        self.durable
+    }
+
     /// Gives the device back, and makes no call of it.
     pub fn into_device(self) -> D
         ensures { result ≡ self.durable.beneath }
     {
-        self.durable.into_device()
+        self.into_durable().into_device()
     }
 
     /// What is told of the committed checkpoint.

@@ -1,4 +1,4 @@
-use Rattle.std.proofs.Common.{Err, subst, ℕ}
+use Rattle.std.proofs.Common.{subst, ℕ}
 use Rattle.std.specs.Prelude.{IfErr}
 use Rattle.device.specs.Disk.{Image}
 use Rattle.device.proofs.Images.{agrees_is}

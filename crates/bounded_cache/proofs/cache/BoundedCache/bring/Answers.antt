@@ -1,4 +1,7 @@
-use Rattle.bounded_cache.proofs.Bringing.{read_recent, seat_first, seat_recent, seat_leads}
+use Rattle.std.proofs.Common.{◌≡◌, ◌∙◌, ◌<◌, ◌≤◌, None, length, sym, ap, subst}
+use Rattle.model.specs.Frame.{held_at}
+use Rattle.bounded_cache.specs.Cache.{CacheState, seat_at}
+use Rattle.bounded_cache.proofs.Bringing.{read_recent, rest_on, rest_read, seat_first, seat_hand, seat_leads, seat_recent, seat_rest}
 use Rattle.bounded_cache.specs.CacheLaws.{goes_on_twice}
 use Rattle.bounded_cache.proofs.Outcomes.{ok_then, ok_both}
 use Rattle.bounded_cache.proofs.cache.BoundedCache.bring.Goals as goal
@@ -23,3 +26,52 @@ returns-clause-leads g c =
     goes_on_twice g.D.Device.disk g.met.D.Device.counts_now c.args.self.now c.read.new.self c.take_in.new.self
     (goes_on_twice g.D.Device.disk g.met.D.Device.counts_now c.args.self.now c.make_place.new.self c.read.new.self c.make_place.ensures.leads c.read.ensures.leads)
     (seat_leads g.D.Device.disk g.met.D.Device.only_now c.take_in.result c.read.new.self c.take_in.new.self c.args.number c.take_in.ensures.seated c.take_in.ensures.unchanged)
+
+pub make_place-requires : goal.make_place-requires
+make_place-requires g c = record { keepable = c.requires.keepable }
+
+pub returns-in_err-make_place-clause-rest : goal.returns-in_err-make_place-clause-rest
+returns-in_err-make_place-clause-rest g c = c.make_place.ensures.rest
+
+pub returns-in_err-make_place-clause-empty : goal.returns-in_err-make_place-clause-empty
+returns-in_err-make_place-clause-empty g c = c.make_place.ensures.empty c.requires.empty
+
+pub returns-in_err-make_place-clause-leads : goal.returns-in_err-make_place-clause-leads
+returns-in_err-make_place-clause-leads g c = c.make_place.ensures.leads
+
+pub read-requires-clause-known : goal.read-requires-clause-known
+read-requires-clause-known g c = subst (λ (t : CacheState g.row.D.Denot). c.args.number < length t.headers) (sym c.make_place.ensures.rest) c.requires.known
+
+pub read-requires-clause-unseated : goal.read-requires-clause-unseated
+read-requires-clause-unseated g c = c.make_place.ensures.unseated c.args.number c.requires.unseated
+
+pub read-requires-clause-empty : goal.read-requires-clause-empty
+read-requires-clause-empty g c = c.make_place.ensures.empty c.requires.empty
+
+pub returns-in_err-content-clause-rest : goal.returns-in_err-content-clause-rest
+returns-in_err-content-clause-rest g c = (rest_read c.args.self.now c.make_place.new.self c.read.new.self c.make_place.ensures.rest c.read.ensures.rest)
+
+pub returns-in_err-content-clause-empty : goal.returns-in_err-content-clause-empty
+returns-in_err-content-clause-empty g c = ap (λ (t : CacheState g.row.D.Denot). t.hand) c.read.ensures.rest ∙ c.make_place.ensures.empty c.requires.empty
+
+pub take_in-requires-clause-known : goal.take_in-requires-clause-known
+take_in-requires-clause-known g c = subst (λ (t : CacheState g.row.D.Denot). c.args.number < length t.headers) (sym (rest_read c.args.self.now c.make_place.new.self c.read.new.self c.make_place.ensures.rest c.read.ensures.rest)) c.requires.known
+
+pub take_in-requires-clause-unseated : goal.take_in-requires-clause-unseated
+take_in-requires-clause-unseated g c = ap (λ (t : CacheState g.row.D.Denot). seat_at t.seats c.args.number) c.read.ensures.rest ∙ c.make_place.ensures.unseated c.args.number c.requires.unseated
+
+pub take_in-requires-clause-room : goal.take_in-requires-clause-room
+take_in-requires-clause-room g c = subst (λ (t : CacheState g.row.D.Denot). length t.order < t.most) (sym c.read.ensures.rest) c.in_ok-make_place.ensures.room
+
+pub take_in-requires-clause-read : goal.take_in-requires-clause-read
+take_in-requires-clause-read g c = c.in_ok-content.ensures.content ∙ ap (λ (t : CacheState g.row.D.Denot). held_at t.contents c.args.number) (sym c.read.ensures.rest)
+
+pub returns-clause-rest : goal.returns-clause-rest
+returns-clause-rest g c =
+    rest_on c.args.self.now c.read.new.self c.take_in.new.self (rest_read c.args.self.now c.make_place.new.self c.read.new.self c.make_place.ensures.rest c.read.ensures.rest)
+    (seat_rest c.take_in.result c.read.new.self c.take_in.new.self c.args.number c.take_in.ensures.seated c.take_in.ensures.unchanged)
+
+pub returns-clause-empty : goal.returns-clause-empty
+returns-clause-empty g c =
+    seat_hand c.take_in.result c.read.new.self c.take_in.new.self c.args.number c.take_in.ensures.seated c.take_in.ensures.unchanged
+    ∙ ap (λ (t : CacheState g.row.D.Denot). t.hand) c.read.ensures.rest ∙ c.make_place.ensures.empty c.requires.empty

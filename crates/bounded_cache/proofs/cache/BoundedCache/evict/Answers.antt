@@ -1,10 +1,12 @@
-use Rattle.std.proofs.Common.{sym, ap, ◌∙◌}
+use Rattle.std.proofs.Common.{refl, sym, ap, ◌∙◌}
 use Rattle.checkpoint.specs.Saved.{most}
 use Rattle.migrator.specs.Durable.{stored_of}
 use Rattle.capability.proofs.Keeping.{keepable_at}
 use Rattle.bounded_cache.specs.Cache.{CacheState, parts_of, seat_at}
 use Rattle.bounded_cache.proofs.Outcomes.{ok_then}
 use Rattle.bounded_cache.proofs.Owing.{fetched_by, unseated_by, seat_gone}
+use Rattle.bounded_cache.proofs.Paying.{away_rest, ok_counts}
+use Rattle.bounded_cache.specs.CacheLaws.{goes_on_same}
 use Rattle.bounded_cache.specs.Memory.{memory_of}
 use Rattle.bounded_cache.proofs.cache.BoundedCache.evict.Goals as goal
 
@@ -31,3 +33,21 @@ returns-clause-gone g c =
     let i = c.self.inside in
     let m = memory_of i.table i.frozen_headers i.touched i.dirty i.pending i.entries.at i.hand in
     unseated_by g.D.Device.disk i.durable m i.left i.count i.entries.order i.entries.most c.args.self.now c.self.view_is c.self.invariant.0 c.args.number (sym c.holds.ensures ∙ c.if-holds.false)
+
+pub returns-then-holds-clause-rest : goal.returns-then-holds-clause-rest
+returns-then-holds-clause-rest g c = away_rest c.put_away.result c.args.self.now c.put_away.new.self c.args.number c.put_away.ensures.away c.put_away.ensures.stays
+
+pub returns-then-holds-clause-leads : goal.returns-then-holds-clause-leads
+returns-then-holds-clause-leads g c = c.put_away.ensures.leads
+
+pub returns-then-holds-clause-cause : goal.returns-then-holds-clause-cause
+returns-then-holds-clause-cause g c = c.put_away.ensures.cause
+
+pub returns-clause-rest : goal.returns-clause-rest
+returns-clause-rest g c = refl
+
+pub returns-clause-leads : goal.returns-clause-leads
+returns-clause-leads g c = goes_on_same g.D.Device.disk g.met.D.Device.only_now c.args.self.now
+
+pub returns-clause-cause : goal.returns-clause-cause
+returns-clause-cause g c = ok_counts refl

@@ -1,7 +1,7 @@
-use Rattle.std.proofs.Common.{◌∙◌, arith}
+use Rattle.std.proofs.Common.{◌∙◌, refl, arith}
 use Rattle.bounded_cache.specs.Cache.{IsFetchedIn}
-use Rattle.bounded_cache.proofs.Bringing.{rest_on, no_failure, all_listed, recent_on}
-use Rattle.bounded_cache.specs.CacheLaws.{goes_on_twice}
+use Rattle.bounded_cache.proofs.Bringing.{keepable_on, rest_on, no_failure, all_listed, recent_on}
+use Rattle.bounded_cache.specs.CacheLaws.{goes_on_same, goes_on_twice}
 use Rattle.bounded_cache.proofs.cache.BoundedCache.fetch_all.Goals as goal
 
 pub returns-in_err-fetch_one-clause-leads : goal.returns-in_err-fetch_one-clause-leads
@@ -27,3 +27,19 @@ pub returns-clause-fetched : goal.returns-clause-fetched
 returns-clause-fetched g c =
     all_listed (IsFetchedIn c.loop-number.self) c.args.fetched.now c.loop-number.number-index (omega (arith, c.loop-number-test.false))
     (λ k below. (c.loop-number.invariant.0 k below).0)
+
+pub loop-number-init : goal.loop-number-init
+loop-number-init g c =
+    ((λ k below. absurd (omega (arith, below))), refl, c.requires.empty, goes_on_same g.D.Device.disk g.met.D.Device.only_now c.args.self.now, refl)
+
+pub fetch_one-requires-clause-empty : goal.fetch_one-requires-clause-empty
+fetch_one-requires-clause-empty g c = c.loop-number.invariant.2
+
+pub fetch_one-requires-clause-keepable : goal.fetch_one-requires-clause-keepable
+fetch_one-requires-clause-keepable g c = keepable_on g.D.Device.disk c.args.self.now c.loop-number.self c.loop-number.invariant.1 c.loop-number.invariant.3 c.requires.keepable
+
+pub returns-clause-rest : goal.returns-clause-rest
+returns-clause-rest g c = c.loop-number.invariant.1
+
+pub returns-clause-leads : goal.returns-clause-leads
+returns-clause-leads g c = c.loop-number.invariant.3

@@ -1,7 +1,11 @@
-use Rattle.std.proofs.Common.{sym, ap, ◌∙◌}
+use Rattle.std.proofs.Common.{◌<◌, sym, ap, ◌∙◌, arith}
+use Rattle.std.proofs.lemmas.Option.{none-some}
+use Rattle.device.proofs.Moments.{counted_ok}
 use Rattle.std.specs.Prelude.{option_copied}
-use Rattle.bounded_cache.proofs.Settling.{held_frozen, held_owed, held_room, held_keepable, settled_fewer, settled_stands, settled_put, settled_leads, unsettled_stands, unsettled_put, unsettled_leads}
+use Rattle.bounded_cache.proofs.Settling.{held_frozen, held_known, held_running, held_owed, held_room, held_keepable, settled_fewer, settled_stands, settled_put, settled_leads, unsettled_stands, unsettled_put, unsettled_leads}
 use Rattle.bounded_cache.specs.Memory.{memory_of}
+use Rattle.bounded_cache.specs.Cache.{CacheState}
+use Rattle.bounded_cache.proofs.Paying.{ok_counts}
 use Rattle.bounded_cache.proofs.cache.BoundedCache.put_held.Goals as goal
 
 pub header-header-requires : goal.header-header-requires
@@ -63,3 +67,27 @@ returns-clause-fewer g c =
     let i = c.self.inside in
     let m = memory_of i.table i.frozen_headers i.touched i.dirty i.pending i.entries.at i.hand in
     rw c.set.ensures (settled_fewer g.D.Device.disk i.durable m i.left i.count i.entries.order i.entries.most c.args.self.now c.self.view_is c.self.invariant.0 c.in-Some.held.now (sym c.get.ensures ∙ ap option_copied c.in-Some.is))
+
+pub unreachable-requires : goal.unreachable-requires
+unreachable-requires g c =
+    none-some c.requires.0 (sym (sym c.get.ensures ∙ ap option_copied c.in_default.is) ∙ ap (λ (t : CacheState g.row.D.Denot). t.hand) c.self.view_is ∙ c.requires.1)
+
+pub put_body-requires-clause-running : goal.put_body-requires-clause-running
+put_body-requires-clause-running g c =
+    let i = c.self.inside in
+    let m = memory_of i.table i.frozen_headers i.touched i.dirty i.pending i.entries.at i.hand in
+    held_running g.D.Device.disk i.durable m i.left i.count i.entries.order i.entries.most c.args.self.now c.self.view_is c.self.invariant.0 c.in-Some.held.now (sym c.get.ensures ∙ ap option_copied c.in-Some.is) (held_owed g.D.Device.disk i.durable m i.left i.count i.entries.order i.entries.most c.args.self.now c.self.view_is c.self.invariant.0 c.in-Some.held.now (sym c.get.ensures ∙ ap option_copied c.in-Some.is) c.requires) c.header-header.result c.header-header.ensures
+
+pub put_body-requires-clause-object : goal.put_body-requires-clause-object
+put_body-requires-clause-object g c =
+    let i = c.self.inside in
+    let m = memory_of i.table i.frozen_headers i.touched i.dirty i.pending i.entries.at i.hand in
+    let known = held_known g.D.Device.disk i.durable m i.left i.count i.entries.order i.entries.most c.args.self.now c.self.view_is c.self.invariant.0 c.in-Some.held.now (sym c.get.ensures ∙ ap option_copied c.in-Some.is) (held_owed g.D.Device.disk i.durable m i.left i.count i.entries.order i.entries.most c.args.self.now c.self.view_is c.self.invariant.0 c.in-Some.held.now (sym c.get.ensures ∙ ap option_copied c.in-Some.is) c.requires) c.header-header.result c.header-header.ensures in
+    omega (arith, known, c.self.invariant.0.headers)
+
+pub returns-clause-empty : goal.returns-clause-empty
+returns-clause-empty g c = c.let_go.ensures
+
+pub returns-clause-cause : goal.returns-clause-cause
+returns-clause-cause g c =
+    ok_counts (counted_ok c.in_ok-put_body.ensures.cause ∙ ap (λ (t : CacheState g.row.D.Denot). (g.D.Device.disk t.durable.beneath).failures) c.self.view_is)

@@ -6,7 +6,9 @@ use Rattle.checkpoint.specs.Saved.{most}
 use Rattle.migrator.specs.Durable.{stored_of}
 use Rattle.capability.proofs.Keeping.{keepable_at}
 use Rattle.cache_entries.specs.Order.{EntriesState}
-use Rattle.bounded_cache.specs.Cache.{CacheState, IsFetchedIn, cache_of, on_device, parts_of, seat_at, without_seat}
+use Rattle.device.specs.Calls.{Counts}
+use Rattle.bounded_cache.proofs.Paying.{away_rest}
+use Rattle.bounded_cache.specs.Cache.{CacheState, GoesOnIn, IsFetchedIn, cache_of, on_device, parts_of, seat_at, without_seat}
 use Rattle.bounded_cache.proofs.Outcomes.{ok_then, either_way}
 use Rattle.bounded_cache.proofs.Owing.{some_least, least_known, least_fetched, least_room, least_order, least_others, still_unseated}
 use Rattle.bounded_cache.specs.Memory.{memory_of}
@@ -79,3 +81,33 @@ returns-clause-unseated g c =
     λ k none. either_way r (λ (t : CacheState g.row.D.Denot). seat_at t.seats k ≡ None)
     u (without_seat c.in-Some.number (on_device c.args.self.now u)) (on_device c.args.self.now u) away stays
     (still_unseated c.args.self.now.seats c.in-Some.number k none) none
+
+pub returns-clause-rest : goal.returns-clause-rest
+returns-clause-rest g c =
+    let i = c.self.inside in
+    let seen = ap (λ (e : EntriesState). cache_of g.D.Device.disk i.durable (memory_of i.table i.frozen_headers i.touched i.dirty i.pending e.at i.hand) i.left e.order e.most) c.least.ensures.same ∙ c.self.view_is in
+    let u = c.put_away.new.self in
+    let e = c.least.new.self in
+    let t = cache_of g.D.Device.disk i.durable (memory_of i.table i.frozen_headers i.touched i.dirty i.pending e.at i.hand) i.left e.order e.most in
+    subst (λ (t : CacheState g.row.D.Denot). u ≡ record (on_device t u) { seats = u.seats; order = u.order }) seen (away_rest c.put_away.result t u c.in-Some.number c.put_away.ensures.away c.put_away.ensures.stays)
+
+pub returns-clause-empty : goal.returns-clause-empty
+returns-clause-empty g c =
+    let i = c.self.inside in
+    let seen = ap (λ (e : EntriesState). cache_of g.D.Device.disk i.durable (memory_of i.table i.frozen_headers i.touched i.dirty i.pending e.at i.hand) i.left e.order e.most) c.least.ensures.same ∙ c.self.view_is in
+    let u = c.put_away.new.self in
+    subst (λ (t : CacheState g.row.D.Denot). t.hand ≡ None → u.hand ≡ None) seen c.put_away.ensures.empty
+
+pub returns-clause-leads : goal.returns-clause-leads
+returns-clause-leads g c =
+    let i = c.self.inside in
+    let seen = ap (λ (e : EntriesState). cache_of g.D.Device.disk i.durable (memory_of i.table i.frozen_headers i.touched i.dirty i.pending e.at i.hand) i.left e.order e.most) c.least.ensures.same ∙ c.self.view_is in
+    let u = c.put_away.new.self in
+    subst (λ (t : CacheState g.row.D.Denot). GoesOnIn g.D.Device.disk t u) seen c.put_away.ensures.leads
+
+pub returns-clause-cause : goal.returns-clause-cause
+returns-clause-cause g c =
+    let i = c.self.inside in
+    let seen = ap (λ (e : EntriesState). cache_of g.D.Device.disk i.durable (memory_of i.table i.frozen_headers i.touched i.dirty i.pending e.at i.hand) i.left e.order e.most) c.least.ensures.same ∙ c.self.view_is in
+    let u = c.put_away.new.self in
+    subst (λ (t : CacheState g.row.D.Denot). Counts (g.D.Device.disk t.durable.beneath) (g.D.Device.disk u.durable.beneath) c.put_away.result) seen c.put_away.ensures.cause

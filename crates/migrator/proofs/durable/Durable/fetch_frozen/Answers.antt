@@ -1,4 +1,4 @@
-use Rattle.std.proofs.Common.{◌≡◌, ◌∙◌, sym, ap}
+use Rattle.std.proofs.Common.{◌∙◌, sym, ap}
 use Rattle.model.specs.Frame.{frame_at}
 use Rattle.migrator.specs.declared.table.Place.{Place}
 use Rattle.migrator.specs.Table.{place_at}

@@ -1,4 +1,4 @@
-use Rattle.std.proofs.Common.{◌≡◌, ◌∙◌, ◌<◌, ap, sym, subst, arith}
+use Rattle.std.proofs.Common.{◌∙◌, ◌<◌, ap, sym, subst, arith}
 use Rattle.checkpoint.specs.Saved.{journaled_saved}
 use Rattle.device.proofs.Moments.{counted_ok, counts_on}
 use Rattle.migrator.specs.Durable.{Books, Stored, stored_of}

@@ -1,4 +1,4 @@
-use Rattle.std.proofs.Common.{◌≡◌, ◌⊎◌, ◌∙◌, ◌<◌, ◌+◌, ◌-◌, ap, subst, arith}
+use Rattle.std.proofs.Common.{◌≡◌, ◌⊎◌, ◌∙◌, ◌<◌, ◌+◌, ◌-◌, subst, arith}
 use Rattle.device.proofs.Moments.{counted_ok}
 use Rattle.migrator.specs.Durable.{Books}
 use Rattle.migrator.proofs.Counting.{ok_counts}
