@@ -1,5 +1,5 @@
 -- What an entry owes is paid, its body is put, and it is dropped: what that comes to, call by call.
-use Rattle.std.proofs.Common.{◌≡◌, ◌∙◌, inl, inr, ℕ, ◌≤◌, ◌<◌, Bool, false, cond, List, Result, Ok, Err, Option, Some, None, length, set, refl, sym, ap, subst, arith, length-set}
+use Rattle.std.proofs.Common.{◌≡◌, ◌∙◌, inl, inr, ℕ, Bool, false, cond, List, Result, Ok, Err, Some, None, length, set, refl, sym, ap, subst, arith, length-set}
 use Rattle.std.specs.Prelude.{OnOk, OnErr}
 use Rattle.std.proofs.lemmas.Bool.{cases_lt, eq-eqb}
 use Rattle.std.proofs.lemmas.List.{get_or_past, get_or-set_same}
@@ -14,7 +14,7 @@ use Rattle.bounded_cache.specs.declared.held.Held.{Held}
 use Rattle.bounded_cache.specs.Memory.{Owed, Nothing, let_go, mark_at, masked}
 use Rattle.bounded_cache.specs.Cache.{CacheState, GoesOnIn, IsFetchedIn, on_device, owed_at, without_seat}
 use Rattle.bounded_cache.proofs.Freezing.{masked_same}
-use Rattle.bounded_cache.proofs.Leading.{same_put, put_on, geometry_stays}
+use Rattle.bounded_cache.proofs.Leading.{same_put, geometry_stays}
 
 owed_paid : (os : List Owed) (n : ℕ) → owed_at (set os n Nothing) n ≡ Nothing
 owed_paid os n = elim (cases_lt n (length os)) [

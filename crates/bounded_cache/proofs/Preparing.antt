@@ -1,5 +1,5 @@
 -- The parts of preparing, one after the other.
-use Rattle.std.proofs.Common.{◌≡◌, ◌∙◌, inl, inr, ℕ, ◌+◌, ◌<◌, ◌≤◌, Bool, List, Result, Ok, Err, Option, length, refl, sym, ap, subst, arith}
+use Rattle.std.proofs.Common.{◌≡◌, ◌∙◌, inl, inr, ℕ, ◌+◌, ◌<◌, ◌≤◌, Bool, List, Result, Ok, Err, sym, ap, subst, arith}
 use Rattle.std.specs.Prelude.{OnOk, OnErr, slice_index_or}
 use Rattle.std.proofs.lemmas.Bool.{cases_lt}
 use Rattle.model.specs.Machine.{touched_count}
@@ -38,6 +38,17 @@ module _ {D : Type 0} where
 
   pub seats_on : (s t u : CacheState D) → t ≡ record s { seats = t.seats } → u ≡ record t { seats = u.seats } → u ≡ record s { seats = u.seats }
   seats_on s t u first is = is ∙ ap (λ (x : CacheState D). record x { seats = u.seats }) first
+
+  pub owed_on : (s t u : CacheState D) → t ≡ record s { owed = t.owed } → u ≡ record t { owed = u.owed } → u ≡ record s { owed = u.owed }
+  owed_on s t u first is = is ∙ ap (λ (x : CacheState D). record x { owed = u.owed }) first
+
+  -- what was used again is only in another order
+  pub rest_used : (s t : CacheState D) → t ≡ record s { order = t.order } → t ≡ record (on_device_with s t) { touched = t.touched }
+  rest_used s t is = is ∙ ap (λ (x : CacheState D). record (on_device_with s x) { touched = x.touched }) (sym is)
+
+  -- and then was prepared
+  pub rest_anew : (s t u : CacheState D) → t ≡ record s { order = t.order } → u ≡ record (on_device_with t u) { touched = u.touched } → u ≡ record (on_device_with s u) { touched = u.touched }
+  rest_anew s t u first is = is ∙ ap (λ (x : CacheState D). record (on_device_with x u) { touched = u.touched }) first
 
 module _ {D : Type 0} (disk : D → Disk) where
   pub within_on : (s t : CacheState D) → t ≡ on_device_with s t → GoesOnIn disk s t

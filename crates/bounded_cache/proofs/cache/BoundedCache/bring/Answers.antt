@@ -1,4 +1,4 @@
-use Rattle.std.proofs.Common.{◌≡◌, ◌∙◌, ◌<◌, ◌≤◌, None, length, sym, ap, subst}
+use Rattle.std.proofs.Common.{◌∙◌, ◌<◌, length, sym, ap, subst}
 use Rattle.model.specs.Frame.{held_at}
 use Rattle.bounded_cache.specs.Cache.{CacheState, seat_at}
 use Rattle.bounded_cache.proofs.Bringing.{read_recent, rest_on, rest_read, seat_first, seat_hand, seat_leads, seat_recent, seat_rest}
