@@ -5,6 +5,7 @@ mod Looking
 mod Members
 mod Naming
 pub mod Plain
+mod Putting
 mod Rising
 pub mod SameTables
 mod Said

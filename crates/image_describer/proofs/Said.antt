@@ -4,6 +4,7 @@ use Rattle.std.specs.Prelude.{IsTrue}
 use Rattle.model.specs.declared.capability.Capability.TheVariants.{Void}
 use Rattle.model.specs.declared.object.State.{State}
 use Rattle.toml.specs.Data.{Data, Members, depth, get_member, members_depth, no_members}
+use Rattle.description.specs.declared.entry.BankEntry.{BankEntry}
 use Rattle.description.specs.declared.entry.Description.{Description}
 use Rattle.description.specs.declared.entry.NodeEntry.{NodeEntry}
 use Rattle.description.specs.declared.entry.PageEntry.{PageEntry}
@@ -34,6 +35,30 @@ module _ (ms : Members) (empty : ms ≡ no_members) where
 
   none_deep : (n : ℕ) → members_depth ms ≤ n
   none_deep n = subst (λ (ns : Members). members_depth ns ≤ n) (sym empty) (omega arith)
+
+-- that of a bank
+pub bank_says : (b : BankEntry) (d_number : Data) (d_owner : Data) (d_limit : Data) (m0 m1 m2 m3 : Members) → m0 ≡ no_members
+    → Says (IsNumber) 0 (b.number) d_number
+    → Says (IsNumber) 0 (b.owner) d_owner
+    → Says (IsNumber) 0 (b.limit) d_limit
+    → Puts (codes "number") (Some d_number) m0 m1
+    → Puts (codes "owner") (Some d_owner) m1 m2
+    → Puts (codes "limit") (Some d_limit) m2 m3
+    → SaysTable IsBank b m3
+bank_says b d_number d_owner d_limit m0 m1 m2 m3 empty s_number s_owner s_limit p_number p_owner p_limit =
+    let ps : List Pair = (codes "number", Some d_number) ∷ (codes "owner", Some d_owner) ∷ (codes "limit", Some d_limit) ∷ [] in
+    let chain : Chain ps m0 m3 = (m1, p_number, (m2, p_owner, (m3, p_limit, refl))) in
+    let a_number : get_member (codes "number") m3 ≡ Some d_number = chain_at ps 0 (codes "", None) m0 m3 chain refl (omega arith) (none_at m0 empty (codes "number")) in
+    let a_owner : get_member (codes "owner") m3 ≡ Some d_owner = chain_at ps 1 (codes "", None) m0 m3 chain refl (omega arith) (none_at m0 empty (codes "owner")) in
+    let a_limit : get_member (codes "limit") m3 ≡ Some d_limit = chain_at ps 2 (codes "", None) m0 m3 chain refl (omega arith) (none_at m0 empty (codes "limit")) in (
+      record {
+        known = chain_only ps (codes "number" ∷ codes "owner" ∷ codes "limit" ∷ []) m0 m3 chain refl (none_known m0 empty (codes "number" ∷ codes "owner" ∷ codes "limit" ∷ []));
+        number = said_at (IsNumber) 0 (get_member (codes "number") m3) d_number (b.number) a_number s_number;
+        owner = said_at (IsNumber) 0 (get_member (codes "owner") m3) d_owner (b.owner) a_owner s_owner;
+        limit = said_at (IsNumber) 0 (get_member (codes "limit") m3) d_limit (b.limit) a_limit s_limit;
+      },
+      chain_deep ps 4 m0 m3 chain (omega (arith, s_number.1), (omega (arith, s_owner.1), (omega (arith, s_limit.1), tt))) (none_deep m0 empty 4),
+    )
 
 -- that of a node
 pub node_says : (n : NodeEntry) (d_number : Data) (d_owner : Data) (d_slots : Option Data) (m0 m1 m2 m3 : Members) → m0 ≡ no_members

@@ -1,14 +1,16 @@
 -- Objects that are told one by one.
-use Rattle.std.specs.Prelude.{◌≡◌, ◌≢◌, ℕ, List, map, Option, None, Some}
+use Rattle.std.specs.Prelude.{◌≡◌, ◌≢◌, ℕ, List, [], map, Option, None, Some}
 use Rattle.std.specs.List.{All, Contains}
 use Rattle.model.specs.declared.capability.Capability.{Capability}
 use Rattle.model.specs.declared.object.Content.TheVariants as content
 use Rattle.model.specs.declared.object.Object.{Object}
 use Rattle.model.specs.declared.object.Role.{Role}
+use Rattle.model.specs.declared.object.Role.TheVariants as role
 use Rattle.model.specs.declared.object.State.{State}
 use Rattle.model.specs.Object.{role_of}
 use Rattle.model.specs.World.{content_at, object_at}
 use Rattle.description.specs.declared.entry.BankEntry.{BankEntry}
+use Rattle.description.specs.declared.entry.Description.{Description}
 use Rattle.description.specs.declared.entry.NodeEntry.{NodeEntry}
 use Rattle.description.specs.declared.entry.PageEntry.{PageEntry}
 use Rattle.description.specs.declared.entry.ProcessEntry.{ProcessEntry}
@@ -54,3 +56,24 @@ pub record TellAll {E : Type 0} (number : E → ℕ) (Tells : E → Type 0) (kin
   pub each : All Tells es
   pub whole : (n : ℕ) → role_of (content_at os n) ≡ kind → Contains (map number es) n
   pub rising : AreRising (map number es)
+
+-- a description has no objects yet
+pub record HasNoObjects (d : Description) : Type 0 where
+  pub banks : d.banks.items ≡ []
+  pub processes : d.processes.items ≡ []
+  pub nodes : d.nodes.items ≡ []
+  pub pages : d.pages.items ≡ []
+
+-- it tells all of these
+pub record TellsObjects (os : List Object) (d : Description) : Type 0 where
+  pub banks : TellAll (λ b. b.number) (TellsBank os) role.Bank os d.banks.items
+  pub processes : TellAll (λ p. p.root) (TellsProcess os) role.Root os d.processes.items
+  pub nodes : TellAll (λ n. n.number) (TellsNode os) role.Node os d.nodes.items
+  pub pages : TellAll (λ p. p.number) (TellsPage os) role.Page os d.pages.items
+
+-- and what it says beside them is the same
+pub record IsSameBeside (old new : Description) : Type 0 where
+  pub geometry : new.geometry ≡ old.geometry
+  pub layout : new.layout ≡ old.layout
+  pub age : new.age ≡ old.age
+  pub ranges : new.ranges ≡ old.ranges

@@ -1,87 +1,57 @@
 // The description of all objects.
-ghost use Rattle.std.specs.Prelude.{◌≡◌, IfOk};
+ghost use Rattle.std.specs.Prelude.{◌≡◌, [], IfOk, OnOk};
 ghost use Rattle.layout.specs.Superblock.{version_number};
 ghost use Rattle.model.specs.Keepable.{IsSoundFrames, world_at};
 ghost use Rattle.capability.specs.Parts.{AreSound, Looks, frames_of, objects_in};
 ghost use Rattle.image_describer.specs.Describes.{Describes, IsBrief};
-ghost use Rattle.image_describer.specs.Told.{TellAll, TellsBank, TellsNode, TellsPage, TellsProcess};
+ghost use Rattle.image_describer.specs.Told.{HasNoObjects, IsSameBeside, TellAll, TellsObjects};
 
 use crate::adding::add;
-use crate::objects::{bank, node, page, process};
+use crate::objects::Told;
 use capability::{PrepareFault, PresentFrames};
-use description::{BankEntry, Description, NodeEntry, PageEntry, ProcessEntry};
+use description::Description;
 use image_writer::NumberRange;
 use layout::Version;
-use model::Role;
 use std::alloc::Global;
 
-// All banks, in order. It is `Failed` exactly where the device failed, and else no fault but
-// `NoMemory`; so of those below.
-fn banks<F: PresentFrames>(alloc: Global, store: &mut F) -> Result<Vec<BankEntry>, PrepareFault>
-    requires { AreSound (F.parts store.old) }
-    ensures told { let objects = objects_in (F.parts store.old) in IfOk result (λ banks.
-        TellAll (λ b. b.number) (TellsBank objects) Role.Bank objects banks.items) }
-    ensures looks { Looks F.parts F.LeadsTo store.old store.new result }
-{
-    let mut banks = Vec::new(alloc);
-    for number in 0..store.table().count() {
-        let bank = bank(alloc, store, number)?;
-        if add(&mut banks, bank).is_err() {
-            return Err(PrepareFault::NoMemory);
-        }
-    }
-    Ok(banks)
-}
-
-fn processes<F: PresentFrames>(
+// Tells all objects of a kind, in order. It is `Failed` exactly where the device failed, and else no
+// fault but `NoMemory`; so is the one below.
+fn tell_all<F: PresentFrames, E: Told>(
     alloc: Global,
     store: &mut F,
-) -> Result<Vec<ProcessEntry>, PrepareFault>
-    requires { AreSound (F.parts store.old) }
-    ensures told { let objects = objects_in (F.parts store.old) in IfOk result (λ processes.
-        TellAll (λ p. p.root) (TellsProcess objects) Role.Root objects processes.items) }
+    entries: &mut Vec<E>,
+) -> Result<(), PrepareFault>
+    requires sound { AreSound (F.parts store.old) }
+    requires none { entries.old.items ≡ [] }
+    ensures told { let objects = objects_in (F.parts store.old) in
+        OnOk result (TellAll E.number_of (E.Tells objects) E.kind objects entries.new.items) }
     ensures looks { Looks F.parts F.LeadsTo store.old store.new result }
 {
-    let mut processes = Vec::new(alloc);
     for number in 0..store.table().count() {
-        let process = process(alloc, store, number)?;
-        if add(&mut processes, process).is_err() {
+        let entry = E::told(alloc, store, number)?;
+        if add(entries, entry).is_err() {
             return Err(PrepareFault::NoMemory);
         }
     }
-    Ok(processes)
+    Ok(())
 }
 
-fn nodes<F: PresentFrames>(alloc: Global, store: &mut F) -> Result<Vec<NodeEntry>, PrepareFault>
-    requires { AreSound (F.parts store.old) }
-    ensures told { let objects = objects_in (F.parts store.old) in IfOk result (λ nodes.
-        TellAll (λ n. n.number) (TellsNode objects) Role.Node objects nodes.items) }
+// Tells all objects in a description that has none yet.
+fn tell_objects<F: PresentFrames>(
+    alloc: Global,
+    store: &mut F,
+    description: &mut Description,
+) -> Result<(), PrepareFault>
+    requires sound { AreSound (F.parts store.old) }
+    requires none { HasNoObjects description.old }
+    ensures told { OnOk result (TellsObjects (objects_in (F.parts store.old)) description.new) }
+    ensures same { IsSameBeside description.old description.new }
     ensures looks { Looks F.parts F.LeadsTo store.old store.new result }
 {
-    let mut nodes = Vec::new(alloc);
-    for number in 0..store.table().count() {
-        let node = node(alloc, store, number)?;
-        if add(&mut nodes, node).is_err() {
-            return Err(PrepareFault::NoMemory);
-        }
-    }
-    Ok(nodes)
-}
-
-fn pages<F: PresentFrames>(alloc: Global, store: &mut F) -> Result<Vec<PageEntry>, PrepareFault>
-    requires { AreSound (F.parts store.old) }
-    ensures told { let objects = objects_in (F.parts store.old) in IfOk result (λ pages.
-        TellAll (λ p. p.number) (TellsPage objects) Role.Page objects pages.items) }
-    ensures looks { Looks F.parts F.LeadsTo store.old store.new result }
-{
-    let mut pages = Vec::new(alloc);
-    for number in 0..store.table().count() {
-        let page = page(alloc, store, number)?;
-        if add(&mut pages, page).is_err() {
-            return Err(PrepareFault::NoMemory);
-        }
-    }
-    Ok(pages)
+    tell_all(alloc, store, &mut description.banks)?;
+    tell_all(alloc, store, &mut description.processes)?;
+    tell_all(alloc, store, &mut description.nodes)?;
+    tell_all(alloc, store, &mut description.pages)
 }
 
 /// The description of the objects of a store, which are sound at an age, with these home ranges and
@@ -106,21 +76,18 @@ pub fn describe<F: PresentFrames>(
     ensures brief { IfOk result IsBrief }
     ensures looks { Looks F.parts F.LeadsTo store.old store.new result }
 {
-    let geometry = store.geometry();
-    let banks = banks(alloc, store)?;
-    let processes = processes(alloc, store)?;
-    let nodes = nodes(alloc, store)?;
-    match pages(alloc, store) {
-        Ok(pages) => Ok(Description {
-            geometry,
-            layout: version.number(),
-            age,
-            ranges,
-            banks,
-            processes,
-            nodes,
-            pages,
-        }),
+    let mut description = Description {
+        geometry: store.geometry(),
+        layout: version.number(),
+        age,
+        ranges,
+        banks: Vec::new(alloc),
+        processes: Vec::new(alloc),
+        nodes: Vec::new(alloc),
+        pages: Vec::new(alloc),
+    };
+    match tell_objects(alloc, store, &mut description) {
+        Ok(()) => Ok(description),
         Err(fault) => Err(fault),
     }
 }

@@ -1,5 +1,9 @@
 // One object after another, as a description names it.
-ghost use Rattle.std.specs.Prelude.{◌≡◌, ◌↔◌, ◌<◌, length, IfOk, IsTrue};
+ghost use Rattle.std.specs.Prelude.{◌≡◌, ◌≢◌, ◌↔◌, ℕ, ◌<◌, List, length, IfOk, IsTrue};
+ghost use Rattle.std.proofs.Common.{rules};
+ghost use Rattle.model.specs.declared.object.Object.{Object};
+ghost use Rattle.model.specs.declared.object.Role.{Role};
+ghost use Rattle.model.specs.declared.object.Role.TheVariants as role;
 ghost use Rattle.model.specs.Object.{is_annex, role_of, slots_in};
 ghost use Rattle.model.specs.World.{content_at, object_at};
 ghost use Rattle.capability.specs.Parts.{AreSound, HaveTheirRoles, Looks, frames_of, objects_in};
@@ -63,120 +67,159 @@ fn registers<F: PresentFrames>(
     }
 }
 
-/// The bank at a number, or nothing where none is there. It is `Failed` exactly where the device
-/// failed, and else no fault but `NoMemory`; so of those below.
-pub(crate) fn bank<F: PresentFrames>(
-    alloc: Global,
-    store: &mut F,
-    number: u64,
-) -> Result<Option<BankEntry>, PrepareFault>
-    requires sound { AreSound (F.parts store.old) }
-    requires known { number < length (F.parts store.old).headers }
-    ensures told { let objects = objects_in (F.parts store.old) in
-        IfOk result (MayTell (λ b. b.number) (TellsBank objects) Role.Bank objects number) }
-    ensures looks { Looks F.parts F.LeadsTo store.old store.new result }
-{
-    if !has_role(store, number, Role::Bank) {
-        return Ok(None);
-    }
-    let Object { owner, content } = object(alloc, store, number)?;
-    let Content::Bank { limit } = content else {
-        unreachable!()
-    };
-    Ok(Some(BankEntry {
-        number,
-        owner,
-        limit,
-    }))
+/// An entry that tells an object of a kind.
+pub(crate) trait Told: Drop {
+    /// The number of the object.
+    ghost number_of: { Self → ℕ };
+
+    /// It is what the entry says, of these.
+    ghost Tells: { List Object → Self → Type 0 };
+
+    ghost kind: { Role };
+
+    /// The entry for a number, or nothing where no object of this kind is there. It is `Failed`
+    /// exactly where the device failed, and else no fault but `NoMemory`.
+    fn told<F: PresentFrames>(
+        alloc: Global,
+        store: &mut F,
+        number: u64,
+    ) -> Result<Option<Self>, PrepareFault>
+        requires sound { AreSound (F.parts store.old) }
+        requires known { number < length (F.parts store.old).headers }
+        ensures told { let objects = objects_in (F.parts store.old) in
+            IfOk result (MayTell number_of (Tells objects) kind objects number) }
+        ensures looks { Looks F.parts F.LeadsTo store.old store.new result };
+
+    /// What is free isn't told.
+    ghost is_kept: { kind ≢ role.Free };
 }
 
-/// The process whose root is at a number, with the registers in its annex.
-pub(crate) fn process<F: PresentFrames>(
-    alloc: Global,
-    store: &mut F,
-    number: u64,
-) -> Result<Option<ProcessEntry>, PrepareFault>
-    requires sound { AreSound (F.parts store.old) }
-    requires known { number < length (F.parts store.old).headers }
-    ensures told { let objects = objects_in (F.parts store.old) in
-        IfOk result (MayTell (λ p. p.root) (TellsProcess objects) Role.Root objects number) }
-    ensures looks { Looks F.parts F.LeadsTo store.old store.new result }
-{
-    if !has_role(store, number, Role::Root) {
-        return Ok(None);
-    }
-    let Object { owner, content } = object(alloc, store, number)?;
-    let Content::Root(root) = content else {
-        unreachable!()
-    };
-    let registers = registers(alloc, store, root.annex)?;
-    let words = root.words;
-    Ok(Some(ProcessEntry {
-        root: number,
-        annex: root.annex,
-        owner,
-        state: Some(root.state),
-        key: u64::from(root.key),
-        words,
-        space: Some(root.space),
-        registers,
-    }))
-}
+impl Told for BankEntry {
+    ghost number_of = { λ b. b.number };
 
-/// The node at a number.
-pub(crate) fn node<F: PresentFrames>(
-    alloc: Global,
-    store: &mut F,
-    number: u64,
-) -> Result<Option<NodeEntry>, PrepareFault>
-    requires sound { AreSound (F.parts store.old) }
-    requires known { number < length (F.parts store.old).headers }
-    ensures told { let objects = objects_in (F.parts store.old) in
-        IfOk result (MayTell (λ n. n.number) (TellsNode objects) Role.Node objects number) }
-    ensures looks { Looks F.parts F.LeadsTo store.old store.new result }
-{
-    if !has_role(store, number, Role::Node) {
-        return Ok(None);
-    }
-    let Object { owner, content } = object(alloc, store, number)?;
-    let Content::Node(slots) = content else {
-        unreachable!()
-    };
-    match slot_entries(alloc, slots.as_slice()) {
-        Ok(slots) => Ok(Some(NodeEntry {
+    ghost Tells = { TellsBank };
+
+    ghost kind = { role.Bank };
+
+    ghost is_kept = { Prim.search rules };
+
+    fn told<F: PresentFrames>(
+        alloc: Global,
+        store: &mut F,
+        number: u64,
+    ) -> Result<Option<BankEntry>, PrepareFault> {
+        if !has_role(store, number, Role::Bank) {
+            return Ok(None);
+        }
+        let Object { owner, content } = object(alloc, store, number)?;
+        let Content::Bank { limit } = content else {
+            unreachable!()
+        };
+        Ok(Some(BankEntry {
             number,
             owner,
-            slots,
-        })),
-        Err(_) => Err(PrepareFault::NoMemory),
+            limit,
+        }))
     }
 }
 
-/// The page at a number.
-pub(crate) fn page<F: PresentFrames>(
-    alloc: Global,
-    store: &mut F,
-    number: u64,
-) -> Result<Option<PageEntry>, PrepareFault>
-    requires sound { AreSound (F.parts store.old) }
-    requires known { number < length (F.parts store.old).headers }
-    ensures told { let objects = objects_in (F.parts store.old) in
-        IfOk result (MayTell (λ p. p.number) (TellsPage objects) Role.Page objects number) }
-    ensures looks { Looks F.parts F.LeadsTo store.old store.new result }
-{
-    if !has_role(store, number, Role::Page) {
-        return Ok(None);
-    }
-    let Object { owner, content } = object(alloc, store, number)?;
-    let Content::Page(words) = content else {
-        unreachable!()
-    };
-    match word_entries(alloc, words.as_slice()) {
-        Ok(words) => Ok(Some(PageEntry {
-            number,
+// A process is told by its root, with the registers in its annex.
+impl Told for ProcessEntry {
+    ghost number_of = { λ p. p.root };
+
+    ghost Tells = { TellsProcess };
+
+    ghost kind = { role.Root };
+
+    ghost is_kept = { Prim.search rules };
+
+    fn told<F: PresentFrames>(
+        alloc: Global,
+        store: &mut F,
+        number: u64,
+    ) -> Result<Option<ProcessEntry>, PrepareFault> {
+        if !has_role(store, number, Role::Root) {
+            return Ok(None);
+        }
+        let Object { owner, content } = object(alloc, store, number)?;
+        let Content::Root(root) = content else {
+            unreachable!()
+        };
+        let registers = registers(alloc, store, root.annex)?;
+        let words = root.words;
+        Ok(Some(ProcessEntry {
+            root: number,
+            annex: root.annex,
             owner,
+            state: Some(root.state),
+            key: u64::from(root.key),
             words,
-        })),
-        Err(_) => Err(PrepareFault::NoMemory),
+            space: Some(root.space),
+            registers,
+        }))
+    }
+}
+
+impl Told for NodeEntry {
+    ghost number_of = { λ n. n.number };
+
+    ghost Tells = { TellsNode };
+
+    ghost kind = { role.Node };
+
+    ghost is_kept = { Prim.search rules };
+
+    fn told<F: PresentFrames>(
+        alloc: Global,
+        store: &mut F,
+        number: u64,
+    ) -> Result<Option<NodeEntry>, PrepareFault> {
+        if !has_role(store, number, Role::Node) {
+            return Ok(None);
+        }
+        let Object { owner, content } = object(alloc, store, number)?;
+        let Content::Node(slots) = content else {
+            unreachable!()
+        };
+        match slot_entries(alloc, slots.as_slice()) {
+            Ok(slots) => Ok(Some(NodeEntry {
+                number,
+                owner,
+                slots,
+            })),
+            Err(_) => Err(PrepareFault::NoMemory),
+        }
+    }
+}
+
+impl Told for PageEntry {
+    ghost number_of = { λ p. p.number };
+
+    ghost Tells = { TellsPage };
+
+    ghost kind = { role.Page };
+
+    ghost is_kept = { Prim.search rules };
+
+    fn told<F: PresentFrames>(
+        alloc: Global,
+        store: &mut F,
+        number: u64,
+    ) -> Result<Option<PageEntry>, PrepareFault> {
+        if !has_role(store, number, Role::Page) {
+            return Ok(None);
+        }
+        let Object { owner, content } = object(alloc, store, number)?;
+        let Content::Page(words) = content else {
+            unreachable!()
+        };
+        match word_entries(alloc, words.as_slice()) {
+            Ok(words) => Ok(Some(PageEntry {
+                number,
+                owner,
+                words,
+            })),
+            Err(_) => Err(PrepareFault::NoMemory),
+        }
     }
 }

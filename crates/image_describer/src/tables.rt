@@ -2,11 +2,11 @@
 ghost use Rattle.std.specs.Prelude.{◌≡◌, ◌≤◌, suc, ◌∷◌, [], Some, IfOk, IsTrue, OnOk, option_map};
 ghost use Rattle.std.specs.List.{All};
 ghost use Rattle.model.specs.declared.capability.Capability.TheVariants.{Void};
-ghost use Rattle.toml.specs.Data.{members_depth};
+ghost use Rattle.toml.specs.Data.{members_depth, no_members};
 ghost use Rattle.toml.specs.View.{table_view, view};
 ghost use Rattle.description.specs.Reading.{AreFour, IsBank, IsCapability, IsDescription, IsList, IsNode, IsNumber, IsPage, IsProcess, IsRange, IsTable, whole_ranges};
 ghost use Rattle.described_world.specs.Described.{AreSlots, HasFields, IsProcessEntry, IsSpaceEntry};
-ghost use Rattle.image_describer.specs.Tables.{Puts, SaysTable, SaysUnless};
+ghost use Rattle.image_describer.specs.Tables.{Puts, PutsSaid, PutsUnless, SaysTable, SaysUnless};
 
 use crate::values::{ToValue, capability_value, list_value, number_value, state_value};
 use description::{BankEntry, Description, NodeEntry, PageEntry, ProcessEntry};
@@ -76,71 +76,93 @@ fn list_unless_empty<T: ToValue>(alloc: Global, items: &[T]) -> Result<Option<Va
     Ok(Some(list_value(alloc, items)?))
 }
 
-fn bank_table(alloc: Global, bank: &BankEntry) -> Result<Table, AllocError>
-    ensures { IfOk result (λ table. SaysTable IsBank bank.now (table_view table)) }
+// Puts a number at a key.
+fn put_number(alloc: Global, table: &mut Table, key: &str, number: u64) -> Result<(), AllocError>
+    ensures { OnOk result (PutsSaid IsNumber 0 key.now number (table_view table.old) (table_view table.new)) }
 {
-    let number = number_value(alloc, bank.number)?;
-    let owner = number_value(alloc, bank.owner)?;
-    let limit = number_value(alloc, bank.limit)?;
-    let mut table = Table::new(alloc);
-    put(alloc, &mut table, "number", Some(number))?;
-    put(alloc, &mut table, "owner", Some(owner))?;
-    put(alloc, &mut table, "limit", Some(limit))?;
-    Ok(table)
+    let value = number_value(alloc, number)?;
+    put(alloc, table, key, Some(value))
 }
 
-fn process_table(alloc: Global, process: &ProcessEntry) -> Result<Table, AllocError>
-    requires { IsProcessEntry process.now }
-    ensures { IfOk result (λ table. SaysTable IsProcess process.now (table_view table)) }
+// Puts a number at a key, unless it is that which is read where none is said.
+fn put_number_unless(
+    alloc: Global,
+    table: &mut Table,
+    key: &str,
+    default: u64,
+    number: u64,
+) -> Result<(), AllocError>
+    ensures { OnOk result (PutsUnless default IsNumber 0 key.now number (table_view table.old) (table_view table.new)) }
+{
+    let value = number_unless(alloc, default, number)?;
+    put(alloc, table, key, value)
+}
+
+// Puts a list at a key, unless it is empty.
+fn put_list<T: ToValue>(
+    alloc: Global,
+    table: &mut Table,
+    key: &str,
+    items: &[T],
+) -> Result<(), AllocError>
+    requires { All T.MayBeSaid items.now }
+    ensures { OnOk result (PutsUnless [] (IsList T.IsSaid) (suc T.levels) key.now items.now (table_view table.old) (table_view table.new)) }
+{
+    let value = list_unless_empty(alloc, items)?;
+    put(alloc, table, key, value)
+}
+
+fn put_bank(alloc: Global, table: &mut Table, bank: &BankEntry) -> Result<(), AllocError>
+    requires { table_view table.old ≡ no_members }
+    ensures { OnOk result (SaysTable IsBank bank.now (table_view table.new)) }
+{
+    put_number(alloc, table, "number", bank.number)?;
+    put_number(alloc, table, "owner", bank.owner)?;
+    put_number(alloc, table, "limit", bank.limit)?;
+    Ok(())
+}
+
+fn put_process(alloc: Global, table: &mut Table, process: &ProcessEntry) -> Result<(), AllocError>
+    requires entry { IsProcessEntry process.now }
+    requires empty { table_view table.old ≡ no_members }
+    ensures { OnOk result (SaysTable IsProcess process.now (table_view table.new)) }
 {
     let Some(state) = process.state else {
         unreachable!()
     };
-    let root = number_value(alloc, process.root)?;
-    let annex = number_value(alloc, process.annex)?;
-    let owner = number_value(alloc, process.owner)?;
+    put_number(alloc, table, "root", process.root)?;
+    put_number(alloc, table, "annex", process.annex)?;
+    put_number(alloc, table, "owner", process.owner)?;
     let state = state_value(alloc, state)?;
-    let key = number_unless(alloc, 0, process.key)?;
+    put(alloc, table, "state", Some(state))?;
+    put_number_unless(alloc, table, "key", 0, process.key)?;
     let words = words_unless_zeros(alloc, &process.words)?;
+    put(alloc, table, "words", words)?;
     let space = space_unless_void(alloc, process.space)?;
-    let registers = list_unless_empty(alloc, &process.registers)?;
-    let mut table = Table::new(alloc);
-    put(alloc, &mut table, "root", Some(root))?;
-    put(alloc, &mut table, "annex", Some(annex))?;
-    put(alloc, &mut table, "owner", Some(owner))?;
-    put(alloc, &mut table, "state", Some(state))?;
-    put(alloc, &mut table, "key", key)?;
-    put(alloc, &mut table, "words", words)?;
-    put(alloc, &mut table, "space", space)?;
-    put(alloc, &mut table, "registers", registers)?;
-    Ok(table)
+    put(alloc, table, "space", space)?;
+    put_list(alloc, table, "registers", &process.registers)?;
+    Ok(())
 }
 
-fn node_table(alloc: Global, node: &NodeEntry) -> Result<Table, AllocError>
-    requires { AreSlots 0 node.now.slots.items }
-    ensures { IfOk result (λ table. SaysTable IsNode node.now (table_view table)) }
+fn put_node(alloc: Global, table: &mut Table, node: &NodeEntry) -> Result<(), AllocError>
+    requires slots { AreSlots 0 node.now.slots.items }
+    requires empty { table_view table.old ≡ no_members }
+    ensures { OnOk result (SaysTable IsNode node.now (table_view table.new)) }
 {
-    let number = number_value(alloc, node.number)?;
-    let owner = number_value(alloc, node.owner)?;
-    let slots = list_unless_empty(alloc, &node.slots)?;
-    let mut table = Table::new(alloc);
-    put(alloc, &mut table, "number", Some(number))?;
-    put(alloc, &mut table, "owner", Some(owner))?;
-    put(alloc, &mut table, "slots", slots)?;
-    Ok(table)
+    put_number(alloc, table, "number", node.number)?;
+    put_number(alloc, table, "owner", node.owner)?;
+    put_list(alloc, table, "slots", &node.slots)?;
+    Ok(())
 }
 
-fn page_table(alloc: Global, page: &PageEntry) -> Result<Table, AllocError>
-    ensures { IfOk result (λ table. SaysTable IsPage page.now (table_view table)) }
+fn put_page(alloc: Global, table: &mut Table, page: &PageEntry) -> Result<(), AllocError>
+    requires { table_view table.old ≡ no_members }
+    ensures { OnOk result (SaysTable IsPage page.now (table_view table.new)) }
 {
-    let number = number_value(alloc, page.number)?;
-    let owner = number_value(alloc, page.owner)?;
-    let words = list_unless_empty(alloc, &page.words)?;
-    let mut table = Table::new(alloc);
-    put(alloc, &mut table, "number", Some(number))?;
-    put(alloc, &mut table, "owner", Some(owner))?;
-    put(alloc, &mut table, "words", words)?;
-    Ok(table)
+    put_number(alloc, table, "number", page.number)?;
+    put_number(alloc, table, "owner", page.owner)?;
+    put_list(alloc, table, "words", &page.words)?;
+    Ok(())
 }
 
 impl ToValue for BankEntry {
@@ -151,7 +173,9 @@ impl ToValue for BankEntry {
     ghost levels = { 5 };
 
     fn to_value(&self, alloc: Global) -> Result<Value, AllocError> {
-        Ok(Value::Table(bank_table(alloc, self)?))
+        let mut table = Table::new(alloc);
+        put_bank(alloc, &mut table, self)?;
+        Ok(Value::Table(table))
     }
 }
 
@@ -163,7 +187,9 @@ impl ToValue for ProcessEntry {
     ghost levels = { 5 };
 
     fn to_value(&self, alloc: Global) -> Result<Value, AllocError> {
-        Ok(Value::Table(process_table(alloc, self)?))
+        let mut table = Table::new(alloc);
+        put_process(alloc, &mut table, self)?;
+        Ok(Value::Table(table))
     }
 }
 
@@ -175,7 +201,9 @@ impl ToValue for NodeEntry {
     ghost levels = { 5 };
 
     fn to_value(&self, alloc: Global) -> Result<Value, AllocError> {
-        Ok(Value::Table(node_table(alloc, self)?))
+        let mut table = Table::new(alloc);
+        put_node(alloc, &mut table, self)?;
+        Ok(Value::Table(table))
     }
 }
 
@@ -187,7 +215,9 @@ impl ToValue for PageEntry {
     ghost levels = { 5 };
 
     fn to_value(&self, alloc: Global) -> Result<Value, AllocError> {
-        Ok(Value::Table(page_table(alloc, self)?))
+        let mut table = Table::new(alloc);
+        put_page(alloc, &mut table, self)?;
+        Ok(Value::Table(table))
     }
 }
 
@@ -221,6 +251,32 @@ fn ranges_unless_whole(
     Ok(Some(list_value(alloc, ranges)?))
 }
 
+// What a whole description says.
+fn put_description(
+    alloc: Global,
+    table: &mut Table,
+    description: &Description,
+) -> Result<(), AllocError>
+    requires fields { HasFields description.now }
+    requires empty { table_view table.old ≡ no_members }
+    ensures { OnOk result (IsDescription (table_view table.new) description.now
+        × (members_depth (table_view table.new) ≤ 6)) }
+{
+    let geometry = description.geometry;
+    put_number(alloc, table, "nodes", geometry.nodes)?;
+    put_number(alloc, table, "pages", geometry.pages)?;
+    put_number(alloc, table, "log", geometry.log)?;
+    put_number_unless(alloc, table, "layout", 1, description.layout)?;
+    put_number_unless(alloc, table, "age", 0, description.age)?;
+    let ranges = ranges_unless_whole(alloc, geometry, &description.ranges)?;
+    put(alloc, table, "ranges", ranges)?;
+    put_list(alloc, table, "bank", &description.banks)?;
+    put_list(alloc, table, "process", &description.processes)?;
+    put_list(alloc, table, "node", &description.nodes)?;
+    put_list(alloc, table, "page", &description.pages)?;
+    Ok(())
+}
+
 /// The table of a description.
 pub(crate) fn description_table(
     alloc: Global,
@@ -230,27 +286,7 @@ pub(crate) fn description_table(
     ensures said { IfOk result (λ table. IsDescription (table_view table) description.now) }
     ensures depth { IfOk result (λ table. members_depth (table_view table) ≤ 6) }
 {
-    let geometry = description.geometry;
-    let nodes = number_value(alloc, geometry.nodes)?;
-    let pages = number_value(alloc, geometry.pages)?;
-    let log = number_value(alloc, geometry.log)?;
-    let layout = number_unless(alloc, 1, description.layout)?;
-    let age = number_unless(alloc, 0, description.age)?;
-    let ranges = ranges_unless_whole(alloc, geometry, &description.ranges)?;
-    let bank = list_unless_empty(alloc, &description.banks)?;
-    let process = list_unless_empty(alloc, &description.processes)?;
-    let node = list_unless_empty(alloc, &description.nodes)?;
-    let page = list_unless_empty(alloc, &description.pages)?;
     let mut table = Table::new(alloc);
-    put(alloc, &mut table, "nodes", Some(nodes))?;
-    put(alloc, &mut table, "pages", Some(pages))?;
-    put(alloc, &mut table, "log", Some(log))?;
-    put(alloc, &mut table, "layout", layout)?;
-    put(alloc, &mut table, "age", age)?;
-    put(alloc, &mut table, "ranges", ranges)?;
-    put(alloc, &mut table, "bank", bank)?;
-    put(alloc, &mut table, "process", process)?;
-    put(alloc, &mut table, "node", node)?;
-    put(alloc, &mut table, "page", page)?;
+    put_description(alloc, &mut table, description)?;
     Ok(table)
 }

@@ -1,10 +1,13 @@
-use Rattle.std.proofs.Common.{ap, option_map, rules}
-use Rattle.toml.specs.View.{members_view, table_view, view}
+use Rattle.std.proofs.Common.{rules}
+use Rattle.toml.specs.View.{table_view}
 use Rattle.image_describer.proofs.Said.{page_says}
-use Rattle.image_describer.proofs.tables.page_table.Goals as goal
+use Rattle.image_describer.proofs.tables.put_page.Goals as goal
 
 pub returns : goal.returns
 returns c =
-    page_says c.args.page.now (view c.in_ok-number.number) (view c.in_ok-owner.owner) (option_map view c.in_ok-words.words)
-    (table_view c.new-table.result) (table_view c.put.new.table) (table_view c.put-2.new.table) (table_view c.put-3.new.table) (ap members_view c.new-table.ensures.empty)
-    c.in_ok-number.ensures c.in_ok-owner.ensures (search rules) c.in_ok-put.ensures c.in_ok-put-2.ensures c.in_ok-put-3.ensures
+    let number = c.in_ok-put_number.ensures in
+    let owner = c.in_ok-put_number-2.ensures in
+    let words = c.in_ok-put_list.ensures in
+    page_says c.args.page.now number.value owner.value words.value
+    (table_view c.args.table.now) (table_view c.put_number.new.table) (table_view c.put_number-2.new.table) (table_view c.put_list.new.table) c.requires
+    number.says owner.says (search rules) number.puts owner.puts words.puts
