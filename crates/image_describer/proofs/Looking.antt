@@ -61,6 +61,11 @@ module _ {S T : Type 0} (parts : S → Parts) (Leads : S → S → Type 0) (twic
     ];
   }
 
+module _ {S T : Type 0} (parts : S → Parts) (Leads : S → S → Type 0) (twice : (s t u : S) → Leads s t → Leads t u → Leads s u) where
+  -- one that answers didn't
+  pub looked_ok : (s t u : S) (x : T) → HasLooked parts Leads s t → Looks parts Leads t u (let r : Result T PrepareFault = Ok x in r) → HasLooked parts Leads s u
+  looked_ok s t u x looked looks = looked_on parts Leads twice s t u looked looks (λ wrong. cc)
+
 -- a look behind others that didn't fail
 module _ {S T : Type 0} (parts : S → Parts) (Leads : S → S → Type 0) (twice : (s t u : S) → Leads s t → Leads t u → Leads s u) where
   pub looks_behind : {r : Result T PrepareFault} (s t u : S) → HasLooked parts Leads s t → Looks parts Leads t u r → Looks parts Leads s u r
@@ -73,7 +78,7 @@ module _ {S T : Type 0} (parts : S → Parts) (Leads : S → S → Type 0) (twic
 
 module _ {S T : Type 0} (parts : S → Parts) (Leads : S → S → Type 0) where
   -- a look that didn't fail
-  pub looks_fine : {r : Result T PrepareFault} (s t : S) → Looks parts Leads s t r → (IsErrOf r prepare.Failed → ⊥) → HasLooked parts Leads s t
+  looks_fine : {r : Result T PrepareFault} (s t : S) → Looks parts Leads s t r → (IsErrOf r prepare.Failed → ⊥) → HasLooked parts Leads s t
   looks_fine s t looks fine = record {
     aside = looks.aside;
     failures = elim (cases_lt (parts s).failures (parts t).failures) [
@@ -81,6 +86,10 @@ module _ {S T : Type 0} (parts : S → Parts) (Leads : S → S → Type 0) where
       | inr same ↦ omega (arith, same, looks.later)
     ];
   }
+
+module _ {S T : Type 0} (parts : S → Parts) (Leads : S → S → Type 0) where
+  pub looks_first : (s t : S) (x : T) → Looks parts Leads s t (let r : Result T PrepareFault = Ok x in r) → HasLooked parts Leads s t
+  looks_first s t x looks = looks_fine parts Leads s t looks (λ wrong. cc)
 
 module _ {S T U : Type 0} (parts : S → Parts) (Leads : S → S → Type 0) where
   -- a call that answers is as any other that does, and so is one that tells a fault

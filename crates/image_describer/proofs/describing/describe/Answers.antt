@@ -1,21 +1,21 @@
-use Rattle.image_describer.proofs.Looking.{looks_err, looks_ok}
-use Rattle.std.proofs.Common.{rules}
+use Rattle.std.proofs.Common.{◌∙◌}
 use Rattle.model.specs.Keepable.{world_at}
 use Rattle.capability.specs.Parts.{frames_of}
 use Rattle.image_describer.proofs.Assembled.{brief, described}
+use Rattle.image_describer.proofs.Looking.{looks_err, looks_ok}
 use Rattle.image_describer.proofs.describing.describe.Goals as goal
 
 pub returns-in-Ok-clause-describes : goal.returns-in-Ok-clause-describes
 returns-in-Ok-clause-describes g c =
     let p = g.F.PresentFrames.parts c.args.store.now in
     let told = c.in-Ok.ensures.told in
-    described p.geometry (world_at c.args.age (frames_of p)) c.requires.sound c.tell_objects.new.description (search rules) (search rules) told.banks told.processes told.nodes told.pages
+    described p.geometry (world_at c.args.age (frames_of p)) c.requires.sound c.tell_objects.new.description (c.in-Ok.ensures.same.geometry ∙ c.geometry.ensures.geometry) c.in-Ok.ensures.same.age told.banks told.processes told.nodes told.pages
 
 pub returns-in-Ok-clause-brief : goal.returns-in-Ok-clause-brief
 returns-in-Ok-clause-brief g c =
     let p = g.F.PresentFrames.parts c.args.store.now in
     let told = c.in-Ok.ensures.told in
-    brief p.geometry (world_at c.args.age (frames_of p)) c.requires.sound c.tell_objects.new.description (search rules) (search rules) told.banks told.processes told.nodes told.pages
+    brief p.geometry (world_at c.args.age (frames_of p)) c.requires.sound c.tell_objects.new.description (c.in-Ok.ensures.same.geometry ∙ c.geometry.ensures.geometry) c.in-Ok.ensures.same.age told.banks told.processes told.nodes told.pages
 
 pub returns-in-Ok-clause-looks : goal.returns-in-Ok-clause-looks
 returns-in-Ok-clause-looks g c =

@@ -2,7 +2,7 @@ use Rattle.std.proofs.Common.{List, arith, rules, subst, sym}
 use Rattle.model.specs.declared.object.Object.{Object}
 use Rattle.capability.specs.Parts.{objects_in}
 use Rattle.image_describer.specs.Told.{MayTell}
-use Rattle.image_describer.proofs.Looking.{looked_objects, looked_on, looked_sound}
+use Rattle.image_describer.proofs.Looking.{looked_objects, looked_ok, looked_sound}
 use Rattle.image_describer.proofs.Telling.{TellBelow, role_past, tell_all, tell_next, tell_none}
 use Rattle.image_describer.proofs.describing.tell_all.Goals as goal
 
@@ -25,7 +25,7 @@ loop-number-preserved g c =
       told = tell_next g.E.Told.number_of (g.E.Told.Tells os) g.E.Told.kind os c.loop-number.number c.loop-number.entries.items c.add.new.entries.items c.in_ok-entry.entry c.loop-number.invariant.told
           (subst (λ (us : List Object). MayTell g.E.Told.number_of (g.E.Told.Tells us) g.E.Told.kind us c.loop-number.number c.in_ok-entry.entry) (looked_objects looked.aside) c.in_ok-entry.ensures.told)
           (search rules);
-      looked = looked_on g.F.PresentFrames.parts g.F.PresentFrames.LeadsTo g.met.F.PresentFrames.leads_twice c.args.store.now c.loop-number.store c.told.new.store looked c.in_ok-entry.ensures.looks (λ wrong. cc);
+      looked = looked_ok g.F.PresentFrames.parts g.F.PresentFrames.LeadsTo g.met.F.PresentFrames.leads_twice c.args.store.now c.loop-number.store c.told.new.store c.in_ok-entry.entry looked c.in_ok-entry.ensures.looks;
     }
 
 pub returns-clause-told : goal.returns-clause-told
