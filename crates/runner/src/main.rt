@@ -15,7 +15,7 @@ use jobs::{
 use object_cache::PlainStore;
 use object_store::ObjectStore;
 use std::fs::{self, File};
-use std::io::{self, BufWriter, ErrorKind, Read, Stdout};
+use std::io::{self, BufWriter, ErrorKind, Read, Stderr, Stdout};
 use std::os::unix::fs::MetadataExt;
 use std::process::ExitCode;
 use toml::Table;
@@ -87,19 +87,33 @@ fn output(rt: &HostRuntime) -> Result<BufWriter<Stdout>, Fault> {
     BufWriter::new(rt.alloc(), rt.stdout()).map_err(|_| Fault::NoMemory)
 }
 
+// The device of an image that is there.
+fn open(rt: &HostRuntime, image: &str) -> Result<FileDevice, Fault> {
+    match FileDevice::open(rt, image) {
+        Ok(device) => Ok(device),
+        Err(fault) => Err(of_file(fault, Fault::CannotOpenImage)),
+    }
+}
+
+// The same, which nothing is written to.
+fn open_to_read(rt: &HostRuntime, image: &str) -> Result<FileDevice, Fault> {
+    match FileDevice::open_to_read(rt, image) {
+        Ok(device) => Ok(device),
+        Err(fault) => Err(of_file(fault, Fault::CannotOpenImage)),
+    }
+}
+
 // Builds an image, and gives the status.
-fn build(rt: &HostRuntime, description: &str, image: &str) -> Result<u8, Fault> {
+fn build(
+    rt: &HostRuntime,
+    description: &str,
+    image: &str,
+    writer: &mut BufWriter<Stdout>,
+    errors: &mut Stderr,
+) -> Result<u8, Fault> {
     let blueprint = read_blueprint(rt, description)?;
     let mut device = create(rt, blueprint.sectors(), description, image)?;
-    let (mut writer, mut errors) = (output(rt)?, rt.stderr());
-    let status = build_image(
-        rt.alloc(),
-        &blueprint,
-        &mut device,
-        &mut writer,
-        &mut errors,
-    );
-    Ok(finish(&mut writer, status, &mut errors))
+    Ok(build_image(rt.alloc(), &blueprint, &mut device, writer, errors))
 }
 
 // Runs a script over the image on a device, by a store of this kind, and gives the status.
@@ -108,17 +122,18 @@ fn run_by<S: ObjectStore<FileDevice>, R: Read>(
     device: FileDevice,
     setting: S::Setting,
     script: &mut R,
-) -> Result<u8, Fault> {
-    let (mut writer, mut errors) = (output(rt)?, rt.stderr());
+    writer: &mut BufWriter<Stdout>,
+    errors: &mut Stderr,
+) -> u8 {
     let done = run_image::<FileDevice, S, _, _, _>(
         rt.alloc(),
         device,
         setting,
         script,
-        &mut writer,
-        &mut errors,
+        writer,
+        errors,
     );
-    Ok(finish(&mut writer, done.status, &mut errors))
+    done.status
 }
 
 // Runs a script over the image on a device, with a bounded cache where it has a capacity, and gives the status.
@@ -127,10 +142,14 @@ fn run_on<R: Read>(
     device: FileDevice,
     cache: Option<Capacity>,
     script: &mut R,
-) -> Result<u8, Fault> {
+    writer: &mut BufWriter<Stdout>,
+    errors: &mut Stderr,
+) -> u8 {
     match cache {
-        Some(capacity) => run_by::<BoundedCache<FileDevice>, R>(rt, device, capacity, script),
-        None => run_by::<PlainStore<FileDevice>, R>(rt, device, (), script),
+        Some(capacity) => run_by::<BoundedCache<FileDevice>, R>(
+            rt, device, capacity, script, writer, errors,
+        ),
+        None => run_by::<PlainStore<FileDevice>, R>(rt, device, (), script, writer, errors),
     }
 }
 
@@ -140,88 +159,105 @@ fn run(
     image: &str,
     script: &Script<'_>,
     cache: Option<Capacity>,
+    writer: &mut BufWriter<Stdout>,
+    errors: &mut Stderr,
 ) -> Result<u8, Fault> {
-    let device = FileDevice::open(rt, image).map_err(|fault| of_file(
-        fault,
-        Fault::CannotOpenImage,
-    ))?;
+    let device = open(rt, image)?;
     match script {
-        Script::Input => run_on(rt, device, cache, &mut rt.stdin()),
+        Script::Input => Ok(run_on(rt, device, cache, &mut rt.stdin(), writer, errors)),
         Script::File(path) => match File::open(rt, *path) {
-            Ok(mut file) => run_on(rt, device, cache, &mut file),
+            Ok(mut file) => Ok(run_on(rt, device, cache, &mut file, writer, errors)),
             Err(error) => Err(of_io(&error, Fault::CannotReadScript)),
         },
     }
 }
 
 // Checks an image, and gives the status.
-fn check(rt: &HostRuntime, image: &str) -> Result<u8, Fault> {
-    let device = FileDevice::open_to_read(rt, image).map_err(|fault| of_file(
-        fault,
-        Fault::CannotOpenImage,
-    ))?;
-    let (mut writer, mut errors) = (output(rt)?, rt.stderr());
-    let done = check_image(rt.alloc(), device, &mut writer, &mut errors);
-    Ok(finish(&mut writer, done.status, &mut errors))
+fn check(
+    rt: &HostRuntime,
+    image: &str,
+    writer: &mut BufWriter<Stdout>,
+    errors: &mut Stderr,
+) -> Result<u8, Fault> {
+    let device = open_to_read(rt, image)?;
+    let done = check_image(rt.alloc(), device, writer, errors);
+    Ok(done.status)
 }
 
 // Writes what an image saves to a new one by version 2 of the layout, and gives the status.
-fn upgrade(rt: &HostRuntime, old: &str, new: &str) -> Result<u8, Fault> {
-    let mut device = FileDevice::open_to_read(rt, old).map_err(|fault| of_file(
-        fault,
-        Fault::CannotOpenImage,
-    ))?;
+fn upgrade(
+    rt: &HostRuntime,
+    old: &str,
+    new: &str,
+    writer: &mut BufWriter<Stdout>,
+    errors: &mut Stderr,
+) -> Result<u8, Fault> {
+    let mut device = open_to_read(rt, old)?;
     let sectors = upgraded_sectors(&mut device).map_err(Fault::Open)?;
     let mut upgraded = create(rt, sectors, old, new)?;
-    let (mut writer, mut errors) = (output(rt)?, rt.stderr());
-    let status = upgrade_image(rt.alloc(), device, &mut upgraded, &mut writer, &mut errors);
-    Ok(finish(&mut writer, status, &mut errors))
+    Ok(upgrade_image(rt.alloc(), device, &mut upgraded, writer, errors))
 }
 
 // Describes an image, and gives the status.
-fn describe(rt: &HostRuntime, image: &str) -> Result<u8, Fault> {
-    let device = FileDevice::open_to_read(rt, image).map_err(|fault| of_file(
-        fault,
-        Fault::CannotOpenImage,
-    ))?;
-    let (mut writer, mut errors) = (output(rt)?, rt.stderr());
-    let done = describe_image(rt.alloc(), device, &mut writer, &mut errors);
-    Ok(finish(&mut writer, done.status, &mut errors))
+fn describe(
+    rt: &HostRuntime,
+    image: &str,
+    writer: &mut BufWriter<Stdout>,
+    errors: &mut Stderr,
+) -> Result<u8, Fault> {
+    let device = open_to_read(rt, image)?;
+    let done = describe_image(rt.alloc(), device, writer, errors);
+    Ok(done.status)
 }
 
 // Draws an image, and gives the status.
-fn draw(rt: &HostRuntime, image: &str) -> Result<u8, Fault> {
-    let device = FileDevice::open_to_read(rt, image).map_err(|fault| of_file(
-        fault,
-        Fault::CannotOpenImage,
-    ))?;
-    let (mut writer, mut errors) = (output(rt)?, rt.stderr());
-    let done = draw_image(rt.alloc(), device, &mut writer, &mut errors);
-    Ok(finish(&mut writer, done.status, &mut errors))
+fn draw(
+    rt: &HostRuntime,
+    image: &str,
+    writer: &mut BufWriter<Stdout>,
+    errors: &mut Stderr,
+) -> Result<u8, Fault> {
+    let device = open_to_read(rt, image)?;
+    let done = draw_image(rt.alloc(), device, writer, errors);
+    Ok(done.status)
 }
 
 // Does a job, and gives the status.
-fn serve(rt: &HostRuntime, job: &Job<'_>) -> Result<u8, Fault> {
+fn serve(
+    rt: &HostRuntime,
+    job: &Job<'_>,
+    writer: &mut BufWriter<Stdout>,
+    errors: &mut Stderr,
+) -> Result<u8, Fault> {
     match job {
-        Job::Build { description, image } => build(rt, description, image),
+        Job::Build { description, image } => build(rt, description, image, writer, errors),
         Job::Run {
             image,
             script,
             cache: None,
-        } => run(rt, image, script, None),
+        } => run(rt, image, script, None, writer, errors),
         Job::Run {
             image,
             script,
             cache: Some(count),
         } => match Capacity::new(*count) {
-            Some(capacity) => run(rt, image, script, Some(capacity)),
+            Some(capacity) => run(rt, image, script, Some(capacity), writer, errors),
             // A bad command line, of which no job comes.
             None => Ok(2),
         },
-        Job::Check { image } => check(rt, image),
-        Job::Upgrade { old, new } => upgrade(rt, old, new),
-        Job::Describe { image } => describe(rt, image),
-        Job::Draw { image } => draw(rt, image),
+        Job::Check { image } => check(rt, image, writer, errors),
+        Job::Upgrade { old, new } => upgrade(rt, old, new, writer, errors),
+        Job::Describe { image } => describe(rt, image, writer, errors),
+        Job::Draw { image } => draw(rt, image, writer, errors),
+    }
+}
+
+// Does a job, passes on what it wrote, and gives the status.
+fn serve_whole(rt: &HostRuntime, job: &Job<'_>) -> Result<u8, Fault> {
+    let (mut writer, mut errors) = (output(rt)?, rt.stderr());
+    match serve(rt, job, &mut writer, &mut errors) {
+        Ok(status) => Ok(finish(&mut writer, status, &mut errors)),
+        Err(fault) => Err(fault),
     }
 }
 
@@ -245,14 +281,18 @@ fn refuse(rt: &HostRuntime, fault: &JobFault) -> Result<u8, Fault> {
     }
 }
 
+// Does what words ask, and gives the status.
+fn work_by(rt: &HostRuntime, words: &[String]) -> Result<u8, Fault> {
+    match job(rt.alloc(), words) {
+        Ok(job) => serve_whole(rt, &job),
+        Err(fault) => refuse(rt, &fault),
+    }
+}
+
 // Does what the command line asks, and gives the status.
 fn work(rt: &HostRuntime) -> Result<u8, Fault> {
-    let words = match words(rt) {
-        Ok(words) => words,
-        Err(fault) => return refuse(rt, &fault),
-    };
-    match job(rt.alloc(), words.as_slice()) {
-        Ok(job) => serve(rt, &job),
+    match words(rt) {
+        Ok(words) => work_by(rt, words.as_slice()),
         Err(fault) => refuse(rt, &fault),
     }
 }
