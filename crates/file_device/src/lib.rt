@@ -10,8 +10,6 @@ mod host_file;
 mod open;
 mod raw_file;
 mod sector_file;
-#[cfg(test)]
-mod tests;
 
 pub use fault::FileFault;
 pub use file_device::{CopiedFile, FileDevice};

@@ -25,6 +25,21 @@ const NODE: u64 = 15;
 
 const PAGE: u64 = 16;
 
+// Places and the bytes that are put there.
+type Puts = &'static [(usize, u8)];
+
+// What is put over what was put before, whether that is taken then, and what it is.
+type Row = (Puts, bool, &'static str);
+
+fn put(rt: &impl Abort, bytes: &mut [u8], puts: &[(usize, u8)])
+    ensures { length bytes.new ≡ length bytes.old }
+{
+    for (place, byte) in puts {
+        assert!(rt; *place < bytes.len(), "byte {place}");
+        bytes[*place] = *byte;
+    }
+}
+
 fn is_node_frame(alloc: Global, bytes: &[u8]) -> Result<bool, AllocError>
     requires { length bytes.now ≡ 1024 }
 {
@@ -39,56 +54,110 @@ fn is_page_frame(alloc: Global, bytes: &[u8]) -> Result<bool, AllocError>
     Ok(decode_frame(bytes, GEOMETRY, PAGE, AGE, &mut room).is_ok())
 }
 
-// A frame with a node's number is taken, or is refused: a word for why.
-fn judge_node(
-    rt: &impl Abort,
-    alloc: Global,
-    bytes: &[u8],
-    is_taken: bool,
-    why: &str,
-) -> Result<(), Fail>
-    requires { length bytes.now ≡ 1024 }
-{
-    assert_eq!(rt; is_node_frame(alloc, bytes)?, is_taken, "{why}");
+// The tag of slot 0 of a node is byte 32 of its frame, its access byte 33, and its number begins at
+// byte 40. Those of each next slot come 24 bytes later.
+const FREE_NODES: &[Row] = &[
+    (&[], true, "a free frame"),
+    (&[(8, 10)], true, "a free frame may have counts"),
+    (&[(8, 11)], false, "a count is above the age"),
+    (&[(8, 0), (24, 1)], false, "a free frame has an owner"),
+    (&[(24, 0), (776, 9)], false, "a free frame has a slot"),
+];
+
+const NODES: &[Row] = &[
+    (&[(0, 2), (32, 9), (776, 3), (784, 2)], true, "a node"),
+    (&[(777, 2)], false, "no access is 2"),
+    (&[(777, 3)], true, "access 3"),
+    (&[(1023, 1)], false, "zeros follow the slots"),
+    (&[(1023, 0), (1, 1)], false, "zeros follow the role"),
+    (&[(1, 0), (0, 1)], false, "a page has another number"),
+    (&[(0, 6)], false, "there is no role 6"),
+];
+
+// A root: annex 4, running, words 1 to 4, the greatest key, no address space.
+const ROOT: Puts = &[
+    (0, 3),
+    (32, 1),
+    (40, 4),
+    (56, 1),
+    (64, 1),
+    (80, 1),
+    (88, 1),
+    (104, 1),
+    (112, 2),
+    (128, 1),
+    (136, 3),
+    (152, 1),
+    (160, 4),
+    (176, 1),
+    (184, 255),
+    (185, 255),
+];
+
+const ROOTS: &[Row] = &[
+    (ROOT, true, "a root"),
+    (&[(64, 3)], false, "there is no state 3"),
+    (&[(64, 2)], true, "state 2"),
+    (&[(186, 1)], false, "the key is above 65535"),
+    (
+        &[(186, 0), (200, 3), (208, 2)],
+        false,
+        "a node is no address space",
+    ),
+    (&[(200, 2), (208, 17)], true, "an address space"),
+    (&[(224, 9)], false, "slot 8 of a root is void"),
+    (
+        &[(224, 0), (152, 0), (160, 0)],
+        false,
+        "slot 5 of a root is a number",
+    ),
+];
+
+const ANNEXES: &[Row] = &[
+    (&[(0, 4), (56, 8)], true, "an annex"),
+    (&[(32, 9)], false, "register 0 is void"),
+];
+
+const BANKS: &[Row] = &[
+    (&[(0, 5)], false, "a bank has a limit"),
+    (&[(32, 1), (40, 200)], true, "a limit"),
+    (&[(56, 9)], false, "slot 1 of a bank is void"),
+];
+
+const PAGES: &[Row] = &[
+    (&[], true, "a free frame"),
+    (&[(4607, 255)], false, "a free frame has a word"),
+    (&[(0, 1)], true, "a page"),
+    (&[(511, 1)], false, "zeros go before the words"),
+    (&[(511, 0), (0, 2)], false, "a node has another number"),
+];
+
+// Frames with a node's number.
+fn judge_nodes(rt: &impl Abort, alloc: Global, rows: &[Row]) -> Result<(), Fail> {
+    let mut bytes = [0; 1024];
+    for (puts, is_taken, what) in rows {
+        put(rt, &mut bytes, puts);
+        assert!(rt; is_node_frame(alloc, &bytes)? == *is_taken, "{what}");
+    }
     Ok(())
 }
 
-// The same of a frame with a page's number.
-fn judge_page(
-    rt: &impl Abort,
-    alloc: Global,
-    bytes: &[u8],
-    is_taken: bool,
-    why: &str,
-) -> Result<(), Fail>
-    requires { length bytes.now ≡ 4608 }
-{
-    assert_eq!(rt; is_page_frame(alloc, bytes)?, is_taken, "{why}");
+#[test]
+fn frames_of_nodes(rt: HostRuntime) -> Result<(), Fail> {
+    for rows in [FREE_NODES, NODES, ROOTS, ANNEXES, BANKS] {
+        judge_nodes(&rt, rt.alloc(), rows)?;
+    }
     Ok(())
 }
 
-// The slots of a root: annex 4, running, words 1 to 4, the greatest key, no address space.
-fn put_root(bytes: &mut [u8])
-    requires { length bytes.old ≡ 1024 }
-{
-    bytes[0] = 3;
-    put_slot(bytes, 0, 1, 4);
-    put_slot(bytes, 1, 1, 1);
-    put_slot(bytes, 2, 1, 1);
-    put_slot(bytes, 3, 1, 2);
-    put_slot(bytes, 4, 1, 3);
-    put_slot(bytes, 5, 1, 4);
-    put_slot(bytes, 6, 1, 255);
-    bytes[185] = 255;
-}
-
-// A capability with a tag and the lowest byte of a number.
-fn put_slot(bytes: &mut [u8], slot: usize, tag: u8, number: u8)
-    requires size { length bytes.old ≡ 1024 }
-    requires slot { slot < 32 }
-{
-    bytes[32 + 24 * slot] = tag;
-    bytes[40 + 24 * slot] = number;
+#[test]
+fn frames_of_pages(rt: HostRuntime) -> Result<(), Fail> {
+    let mut bytes = [0; 4608];
+    for (puts, is_taken, what) in PAGES {
+        put(&rt, &mut bytes, puts);
+        assert!(rt; is_page_frame(rt.alloc(), &bytes)? == *is_taken, "{what}");
+    }
+    Ok(())
 }
 
 #[test]
@@ -106,176 +175,56 @@ fn capability_of_a_start(rt: HostRuntime) {
     assert_eq!(rt; decode_capability(&spelt, GEOMETRY, AGE), Ok(cap));
 }
 
+const CAPABILITIES: &[Row] = &[
+    (&[], true, "a void one"),
+    (&[(8, 1)], false, "a void one of an object"),
+    (&[(0, 5)], true, "a process"),
+    (&[(8, 16)], false, "a process that is no node"),
+    (&[(0, 2)], true, "a page"),
+    (&[(1, 2)], false, "no access is 2"),
+    (&[(1, 3)], true, "access 3"),
+    (&[(16, 11)], false, "a count is above the age"),
+];
+
 #[test]
 fn capabilities_with_a_field_too_many(rt: HostRuntime) {
     let mut bytes = [0; 24];
-    assert!(rt; decode_capability(&bytes, GEOMETRY, AGE).is_ok());
-    bytes[8] = 1;
-    assert!(rt; decode_capability(&bytes, GEOMETRY, AGE).is_err());
-    bytes[0] = 5;
-    assert!(rt; decode_capability(&bytes, GEOMETRY, AGE).is_ok());
-    bytes[8] = 16;
-    assert!(rt; decode_capability(&bytes, GEOMETRY, AGE).is_err());
-    bytes[0] = 2;
-    assert!(rt; decode_capability(&bytes, GEOMETRY, AGE).is_ok());
-    bytes[1] = 2;
-    assert!(rt; decode_capability(&bytes, GEOMETRY, AGE).is_err());
-    bytes[1] = 3;
-    assert!(rt; decode_capability(&bytes, GEOMETRY, AGE).is_ok());
-    bytes[16] = 11;
-    assert!(rt; decode_capability(&bytes, GEOMETRY, AGE).is_err());
-}
-
-#[test]
-fn free_node_frames(rt: HostRuntime) -> Result<(), Fail> {
-    let mut bytes = [0; 1024];
-    judge_node(&rt, rt.alloc(), &bytes, true, "a free frame")?;
-    bytes[8] = 10;
-    judge_node(
-        &rt,
-        rt.alloc(),
-        &bytes,
-        true,
-        "a free frame may have counts",
-    )?;
-    bytes[8] = 11;
-    judge_node(&rt, rt.alloc(), &bytes, false, "a count is above the age")?;
-    bytes[8] = 0;
-    bytes[24] = 1;
-    judge_node(&rt, rt.alloc(), &bytes, false, "a free frame has an owner")?;
-    bytes[24] = 0;
-    put_slot(&mut bytes, 31, 9, 0);
-    judge_node(&rt, rt.alloc(), &bytes, false, "a free frame has a slot")?;
-    Ok(())
-}
-
-#[test]
-fn node_frames(rt: HostRuntime) -> Result<(), Fail> {
-    let mut bytes = [0; 1024];
-    bytes[0] = 2;
-    put_slot(&mut bytes, 0, 9, 0);
-    put_slot(&mut bytes, 31, 3, 2);
-    judge_node(&rt, rt.alloc(), &bytes, true, "a node")?;
-    bytes[777] = 2;
-    judge_node(&rt, rt.alloc(), &bytes, false, "no access is 2")?;
-    bytes[777] = 3;
-    judge_node(&rt, rt.alloc(), &bytes, true, "access 3")?;
-    bytes[1023] = 1;
-    judge_node(&rt, rt.alloc(), &bytes, false, "zeros follow the slots")?;
-    bytes[1023] = 0;
-    bytes[1] = 1;
-    judge_node(&rt, rt.alloc(), &bytes, false, "zeros follow the role")?;
-    bytes[1] = 0;
-    bytes[0] = 1;
-    judge_node(&rt, rt.alloc(), &bytes, false, "a page has another number")?;
-    bytes[0] = 6;
-    judge_node(&rt, rt.alloc(), &bytes, false, "there is no role 6")?;
-    Ok(())
-}
-
-// The root that a frame is.
-fn root_of(alloc: Global, bytes: &[u8]) -> Result<Root<Cap>, Fail>
-    requires { length bytes.now ≡ 1024 }
-{
-    let mut room = Room::new(alloc)?;
-    let (header, body) = decode_frame(bytes, GEOMETRY, NODE, AGE, &mut room)
-        .ok()
-        .ok_or("a root")?;
-    match body {
-        Body::Root(root) if header.role == Role::Root => Ok(root),
-        _ => Err("another role".into()),
+    for (puts, is_taken, what) in CAPABILITIES {
+        put(&rt, &mut bytes, puts);
+        let is_capability = decode_capability(&bytes, GEOMETRY, AGE).is_ok();
+        assert!(rt; is_capability == *is_taken, "{what}");
     }
 }
 
 #[test]
 fn root_frames(rt: HostRuntime) -> Result<(), Fail> {
     let mut bytes = [0; 1024];
-    put_root(&mut bytes);
-    let root = root_of(rt.alloc(), &bytes)?;
-    assert_eq!(rt; root.annex, 4);
-    assert_eq!(rt; root.state, State::Running);
+    put(&rt, &mut bytes, ROOT);
+    let mut room = Room::new(rt.alloc())?;
+    match decode_frame(&bytes, GEOMETRY, NODE, AGE, &mut room) {
+        Ok((header, Body::Root(root))) if header.role == Role::Root => is_root(&rt, &root),
+        _ => panic!(rt; "another role"),
+    }
+    Ok(())
+}
+
+fn is_root(rt: &impl Abort, root: &Root<Cap>) {
+    assert_eq!(rt;
+        (root.annex, root.state, root.key),
+        (4, State::Running, 65535)
+    );
     assert!(rt; root.words == [1, 2, 3, 4]);
-    assert_eq!(rt; root.key, 65535);
     assert_eq!(rt; root.space, Cap::void());
-    Ok(())
 }
 
 #[test]
-fn other_root_frames(rt: HostRuntime) -> Result<(), Fail> {
-    let mut bytes = [0; 1024];
-    put_root(&mut bytes);
-    put_slot(&mut bytes, 1, 1, 3);
-    judge_node(&rt, rt.alloc(), &bytes, false, "there is no state 3")?;
-    put_slot(&mut bytes, 1, 1, 2);
-    judge_node(&rt, rt.alloc(), &bytes, true, "state 2")?;
-    bytes[186] = 1;
-    judge_node(&rt, rt.alloc(), &bytes, false, "the key is above 65535")?;
-    bytes[186] = 0;
-    put_slot(&mut bytes, 7, 3, 2);
-    judge_node(&rt, rt.alloc(), &bytes, false, "a node is no address space")?;
-    put_slot(&mut bytes, 7, 2, 17);
-    judge_node(&rt, rt.alloc(), &bytes, true, "an address space")?;
-    put_slot(&mut bytes, 8, 9, 0);
-    judge_node(&rt, rt.alloc(), &bytes, false, "slot 8 of a root is void")?;
-    put_slot(&mut bytes, 8, 0, 0);
-    put_slot(&mut bytes, 5, 0, 0);
-    judge_node(
-        &rt,
-        rt.alloc(),
-        &bytes,
-        false,
-        "slot 5 of a root is a number",
-    )?;
-    Ok(())
-}
-
-#[test]
-fn annex_frames(rt: HostRuntime) -> Result<(), Fail> {
-    let mut bytes = [0; 1024];
-    bytes[0] = 4;
-    put_slot(&mut bytes, 1, 8, 0);
-    judge_node(&rt, rt.alloc(), &bytes, true, "an annex")?;
-    put_slot(&mut bytes, 0, 9, 0);
-    judge_node(&rt, rt.alloc(), &bytes, false, "register 0 is void")?;
-    Ok(())
-}
-
-#[test]
-fn bank_frames(rt: HostRuntime) -> Result<(), Fail> {
-    let mut bytes = [0; 1024];
-    bytes[0] = 5;
-    judge_node(&rt, rt.alloc(), &bytes, false, "a bank has a limit")?;
-    put_slot(&mut bytes, 0, 1, 200);
-    judge_node(&rt, rt.alloc(), &bytes, true, "a limit")?;
-    put_slot(&mut bytes, 1, 9, 0);
-    judge_node(&rt, rt.alloc(), &bytes, false, "slot 1 of a bank is void")?;
-    Ok(())
-}
-
-#[test]
-fn page_frames(rt: HostRuntime) -> Result<(), Fail> {
-    let mut bytes = [0; 4608];
-    judge_page(&rt, rt.alloc(), &bytes, true, "a free frame")?;
-    bytes[4607] = 255;
-    judge_page(&rt, rt.alloc(), &bytes, false, "a free frame has a word")?;
-    bytes[0] = 1;
-    judge_page(&rt, rt.alloc(), &bytes, true, "a page")?;
-    bytes[511] = 1;
-    judge_page(&rt, rt.alloc(), &bytes, false, "zeros go before the words")?;
-    bytes[511] = 0;
-    bytes[0] = 2;
-    judge_page(&rt, rt.alloc(), &bytes, false, "a node has another number")?;
-    Ok(())
-}
-
-#[test]
-fn written_node_frame(rt: HostRuntime) -> Result<(), Fail> {
+fn written_node_frame(rt: HostRuntime) {
     let mut spelt = [0; 1024];
-    spelt[0] = 5;
-    spelt[8] = 1;
-    spelt[16] = 2;
-    spelt[24] = 3;
-    put_slot(&mut spelt, 0, 1, 200);
+    put(
+        &rt,
+        &mut spelt,
+        &[(0, 5), (8, 1), (16, 2), (24, 3), (32, 1), (40, 200)],
+    );
     let header = ObjectHeader {
         role: Role::Bank,
         allocations: 1,
@@ -283,34 +232,32 @@ fn written_node_frame(rt: HostRuntime) -> Result<(), Fail> {
         owner: 3,
     };
     let mut bytes = [255; 1024];
-    encode_frame(
-        GEOMETRY,
-        NODE,
-        header,
-        &Content::Bank { limit: 200 },
-        &mut bytes,
-    );
+    let content = Content::Bank { limit: 200 };
+    encode_frame(GEOMETRY, NODE, header, &content, &mut bytes);
     assert!(rt; bytes[..] == spelt[..]);
-    Ok(())
 }
+
+const PAGE_HEADER: ObjectHeader = ObjectHeader {
+    role: Role::Page,
+    allocations: 1,
+    calls: 0,
+    owner: 3,
+};
 
 #[test]
 fn written_page_frame(rt: HostRuntime) -> Result<(), Fail> {
     let mut spelt = [0; 4608];
-    spelt[0] = 1;
-    spelt[8] = 1;
-    spelt[24] = 3;
-    spelt[4600] = 99;
-    let header = ObjectHeader {
-        role: Role::Page,
-        allocations: 1,
-        calls: 0,
-        owner: 3,
-    };
+    put(&rt, &mut spelt, &[(0, 1), (8, 1), (24, 3), (4600, 99)]);
     let mut words = Words::new(rt.alloc())?;
     words.set(511, 99);
     let mut bytes = [255; 4608];
-    encode_frame(GEOMETRY, PAGE, header, &Content::Page(words), &mut bytes);
+    encode_frame(
+        GEOMETRY,
+        PAGE,
+        PAGE_HEADER,
+        &Content::Page(words),
+        &mut bytes,
+    );
     assert!(rt; bytes[..] == spelt[..]);
     read_page(&rt, rt.alloc(), &bytes)
 }
@@ -320,16 +267,12 @@ fn read_page(rt: &impl Abort, alloc: Global, spelt: &[u8]) -> Result<(), Fail>
     requires { length spelt.now ≡ 4608 }
 {
     let mut room = Room::new(alloc)?;
-    let (header, body) = decode_frame(spelt, GEOMETRY, PAGE, AGE, &mut room)
-        .ok()
-        .ok_or("a page")?;
-    assert_eq!(rt; header.role, Role::Page);
-    assert_eq!(rt; header.allocations, 1);
-    assert_eq!(rt; header.calls, 0);
-    assert_eq!(rt; header.owner, 3);
-    assert!(rt; matches!(body, Body::Page));
-    assert_eq!(rt; room.words.get(510), 0);
-    assert_eq!(rt; room.words.get(511), 99);
+    let header = match decode_frame(spelt, GEOMETRY, PAGE, AGE, &mut room) {
+        Ok((header, Body::Page)) => header,
+        _ => panic!(rt; "another role"),
+    };
+    assert_eq!(rt; header, PAGE_HEADER);
+    assert!(rt; (room.words.get(510), room.words.get(511)) == (0, 99));
     Ok(())
 }
 
@@ -344,11 +287,17 @@ fn gates(rt: HostRuntime) {
         "the other bytes don't matter"
     );
     encode_gate(Gate::Open, &mut bytes);
-    assert_eq!(rt; bytes[0], 1);
-    assert_eq!(rt; bytes[511], 0);
+    assert!(rt; (bytes[0], bytes[511]) == (1, 0));
 }
 
 // The header 20 of generation 19, with 16 entries, at age 10.
+const HEADER: CheckpointHeader = CheckpointHeader {
+    sequence: 20,
+    generation: 19,
+    entries: 16,
+    age: 10,
+};
+
 fn put_header(bytes: &mut [u8])
     requires { length bytes.old ≡ 512 }
     ensures { length bytes.new ≡ 512 }
@@ -364,98 +313,83 @@ fn put_header(bytes: &mut [u8])
 fn headers(rt: HostRuntime) {
     let mut spelt = [0; 512];
     put_header(&mut spelt);
-    let header = CheckpointHeader {
-        sequence: 20,
-        generation: 19,
-        entries: 16,
-        age: 10,
-    };
-    assert_eq!(rt; decode_header(&spelt, 16), Ok(header));
+    assert_eq!(rt; decode_header(&spelt, 16), Ok(HEADER));
     let mut bytes = [255; 512];
-    encode_header(header, &mut bytes);
+    encode_header(HEADER, &mut bytes);
     assert!(rt; bytes[..] == spelt[..]);
-    assert!(rt;
-        decode_header(&spelt, 15).is_err(),
-        "there are more entries than slots"
-    );
 }
+
+// Headers by this number of slots.
+const HEADERS: &[(u64, Row)] = &[
+    (15, (&[], false, "there are more entries than slots")),
+    (
+        16,
+        (
+            &[(8, 21)],
+            false,
+            "the sequence number is above twice the age",
+        ),
+    ),
+    (16, (&[(24, 0)], true, "it may be one more without entries")),
+    (16, (&[(511, 1)], false, "zeros follow the age")),
+];
 
 #[test]
 fn other_headers(rt: HostRuntime) {
-    let mut spelt = [0; 512];
-    put_header(&mut spelt);
-    spelt[8] = 21;
-    assert!(rt;
-        decode_header(&spelt, 16).is_err(),
-        "the sequence number is above twice the age"
-    );
-    spelt[24] = 0;
-    assert!(rt;
-        decode_header(&spelt, 16).is_ok(),
-        "it may be one more without entries"
-    );
-    spelt[511] = 1;
-    assert!(rt; decode_header(&spelt, 16).is_err(), "zeros follow the age");
+    let mut bytes = [0; 512];
+    put_header(&mut bytes);
+    for (slots, (puts, is_taken, what)) in HEADERS {
+        put(&rt, &mut bytes, puts);
+        let is_header = decode_header(&bytes, *slots).is_ok();
+        assert!(rt; is_header == *is_taken, "{what}");
+    }
 }
+
+// The two entries of a directory.
+fn entries_of(bytes: &[u8]) -> Option<[Entry; 2]>
+    requires { length bytes.now ≡ 32 }
+{
+    let mut entries = [Entry { object: 9, slot: 9 }; 2];
+    decode_directory(bytes, GEOMETRY, &mut entries).ok()?;
+    Some(entries)
+}
+
+const DIRECTORIES: &[Row] = &[
+    (&[(8, 15), (16, 23)], true, "two entries"),
+    (&[(24, 15)], false, "a slot comes twice"),
+    (&[(24, 16)], false, "there is no slot 16"),
+    (&[(24, 1), (16, 24)], false, "there is no object 24"),
+    (&[(16, 0)], false, "the numbers don't rise"),
+];
+
+const ENTRIES: [Entry; 2] = [
+    Entry {
+        object: 0,
+        slot: 15,
+    },
+    Entry {
+        object: 23,
+        slot: 0,
+    },
+];
 
 #[test]
 fn directories(rt: HostRuntime) {
     let mut bytes = [0; 32];
-    bytes[8] = 15;
-    bytes[16] = 23;
-    let mut entries = [Entry { object: 9, slot: 9 }; 2];
-    assert!(rt; decode_directory(&bytes, GEOMETRY, &mut entries).is_ok());
-    assert_eq!(rt;
-        entries[0],
-        Entry {
-            object: 0,
-            slot: 15
-        }
-    );
-    assert_eq!(rt;
-        entries[1],
-        Entry {
-            object: 23,
-            slot: 0
-        }
-    );
-}
-
-#[test]
-fn other_directories(rt: HostRuntime) {
-    let mut bytes = [0; 32];
-    bytes[8] = 15;
-    bytes[16] = 23;
-    let mut entries = [Entry { object: 9, slot: 9 }; 2];
-    bytes[24] = 15;
-    assert!(rt;
-        decode_directory(&bytes, GEOMETRY, &mut entries).is_err(),
-        "a slot comes twice"
-    );
-    bytes[24] = 16;
-    assert!(rt;
-        decode_directory(&bytes, GEOMETRY, &mut entries).is_err(),
-        "there is no slot 16"
-    );
-    bytes[24] = 1;
-    bytes[16] = 24;
-    assert!(rt;
-        decode_directory(&bytes, GEOMETRY, &mut entries).is_err(),
-        "there is no object 24"
-    );
-    bytes[16] = 0;
-    assert!(rt;
-        decode_directory(&bytes, GEOMETRY, &mut entries).is_err(),
-        "the numbers don't rise"
-    );
+    for (puts, is_taken, what) in DIRECTORIES {
+        put(&rt, &mut bytes, puts);
+        let told = if *is_taken { Some(ENTRIES) } else { None };
+        assert!(rt; entries_of(&bytes) == told, "{what}");
+    }
 }
 
 // The superblock of 16 nodes, 8 pages and 16 slots, with all nodes first and then all pages.
-fn put_superblock(bytes: &mut [u8])
+fn put_superblock(bytes: &mut [u8], version: u8)
     requires { length bytes.old ≡ 512 }
+    ensures { length bytes.new ≡ 512 }
 {
     bytes[..8].copy_from_slice(b"EROSCKPT");
-    bytes[8] = 1;
+    bytes[8] = version;
     bytes[12] = 2;
     bytes[16] = 16;
     bytes[24] = 8;
@@ -484,91 +418,90 @@ const RANGES: [HomeRange; 2] = [
     },
 ];
 
-#[test]
-fn superblocks(rt: HostRuntime) -> Result<(), Fail> {
-    let mut spelt = [0; 512];
-    put_superblock(&mut spelt);
-    let made = Superblock::new(Version::One, GEOMETRY, &RANGES, 109, 254, 399).ok_or(
-        "within the limits",
-    )?;
-    assert!(rt; made.shape(15) == Shape::Node);
-    assert!(rt; made.shape(16) == Shape::Page);
+// A superblock says this, where objects 4, 15 and 16 have these shapes.
+fn says(rt: &impl Abort, superblock: &Superblock, version: Version, shapes: [Shape; 3]) {
+    assert_eq!(rt;
+        (superblock.version(), superblock.geometry()),
+        (version, GEOMETRY)
+    );
+    assert!(rt; superblock.ranges() == RANGES.as_slice());
+    assert!(rt;
+        [
+            superblock.shape(4),
+            superblock.shape(15),
+            superblock.shape(16)
+        ] == shapes
+    );
+    let sectors = [
+        superblock.half(Half::First),
+        superblock.half(Half::Second),
+        superblock.half(Half::of(2)),
+        superblock.half(Half::of(3)),
+        superblock.total(),
+    ];
+    assert!(rt; sectors == [109, 254, 109, 254, 399]);
+}
+
+// Such a superblock is written as these bytes.
+fn is_written(rt: &impl Abort, version: Version, shapes: [Shape; 3], spelt: &[u8]) {
+    let Some(made) = Superblock::new(version, GEOMETRY, &RANGES, 109, 254, 399) else {
+        panic!(rt; "within the limits");
+    };
+    says(rt, &made, version, shapes);
     let mut bytes = [255; 512];
     encode_superblock(&made, &mut bytes);
-    assert!(rt; bytes[..] == spelt[..]);
-    read_superblock(&rt, Version::One, &spelt)
+    assert!(rt; bytes.as_slice() == spelt);
+}
+
+// It is read from them.
+fn is_read(rt: &impl Abort, version: Version, shapes: [Shape; 3], spelt: &[u8])
+    requires { length spelt.now ≡ 512 }
+{
+    let Ok(read) = decode_superblock(spelt) else {
+        panic!(rt; "a superblock");
+    };
+    says(rt, &read, version, shapes);
+    assert!(rt; total_in(spelt) == 399);
 }
 
 // By version 2 sixteen nodes take four clusters, and so as many sectors.
 #[test]
-fn superblocks_of_version_2(rt: HostRuntime) -> Result<(), Fail> {
+fn superblocks(rt: HostRuntime) {
     let mut spelt = [0; 512];
-    put_superblock(&mut spelt);
-    spelt[8] = 2;
-    let made = Superblock::new(Version::Two, GEOMETRY, &RANGES, 109, 254, 399).ok_or(
-        "within the limits",
-    )?;
-    assert!(rt; made.shape(4) == Shape::Packed(4));
-    assert!(rt; made.shape(15) == Shape::Packed(0));
-    assert!(rt; made.shape(16) == Shape::Page);
-    let mut bytes = [255; 512];
-    encode_superblock(&made, &mut bytes);
-    assert!(rt; bytes[..] == spelt[..]);
-    read_superblock(&rt, Version::Two, &spelt)
+    for (number, version, shapes) in [
+        (1, Version::One, [Shape::Node, Shape::Node, Shape::Page]),
+        (
+            2,
+            Version::Two,
+            [Shape::Packed(4), Shape::Packed(0), Shape::Page],
+        ),
+    ] {
+        put_superblock(&mut spelt, number);
+        is_written(&rt, version, shapes, &spelt);
+        is_read(&rt, version, shapes, &spelt);
+    }
 }
 
-// What such bytes are read as.
-fn read_superblock(rt: &impl Abort, version: Version, spelt: &[u8]) -> Result<(), Fail>
-    requires { length spelt.now ≡ 512 }
-{
-    let read = decode_superblock(spelt).ok().ok_or("a superblock")?;
-    assert!(rt; read.version() == version);
-    assert_eq!(rt; read.geometry(), GEOMETRY);
-    assert!(rt; read.ranges() == RANGES.as_slice());
-    assert_eq!(rt; read.half(Half::First), 109);
-    assert_eq!(rt; read.half(Half::Second), 254);
-    assert_eq!(rt; read.half(Half::of(2)), 109);
-    assert_eq!(rt; read.half(Half::of(3)), 254);
-    assert_eq!(rt; read.total(), 399);
-    assert_eq!(rt; total_in(spelt), 399);
-    Ok(())
-}
+// A place, the byte that is put there, and why that is refused.
+const REFUSED: &[(usize, u8, BadImage)] = &[
+    (8, 0, BadImage::NotASuperblock),
+    (8, 3, BadImage::NotASuperblock),
+    (256, 1, BadImage::NotASuperblock),
+    // An overlap, a hole, and a range that isn't used.
+    (104, 36, BadImage::BadGeometry),
+    (88, 17, BadImage::BadGeometry),
+    (112, 1, BadImage::BadGeometry),
+];
 
 #[test]
 fn refused_superblocks(rt: HostRuntime) {
-    let mut bytes = [0; 512];
-    put_superblock(&mut bytes);
-    for version in [0, 3] {
-        bytes[8] = version;
-        assert!(rt;
-            matches!(decode_superblock(&bytes), Err(BadImage::NotASuperblock)),
-            "version {version}"
-        );
+    for (place, byte, reason) in REFUSED {
+        let mut bytes = [0; 512];
+        put_superblock(&mut bytes, 1);
+        put(&rt, &mut bytes, &[(*place, *byte)]);
+        let told = decode_superblock(&bytes).err();
+        assert!(rt; told == Some(*reason), "byte {place}");
     }
-    bytes[8] = 1;
-    bytes[256] = 1;
-    assert!(rt;
-        matches!(decode_superblock(&bytes), Err(BadImage::NotASuperblock)),
-        "byte 256"
-    );
-    bytes[256] = 0;
-    bytes[104] = 36;
-    assert!(rt;
-        matches!(decode_superblock(&bytes), Err(BadImage::BadGeometry)),
-        "an overlap"
-    );
-    bytes[104] = 37;
-    bytes[88] = 17;
-    assert!(rt;
-        matches!(decode_superblock(&bytes), Err(BadImage::BadGeometry)),
-        "a hole"
-    );
-    bytes[88] = 16;
-    bytes[112] = 1;
-    assert!(rt;
-        matches!(decode_superblock(&bytes), Err(BadImage::BadGeometry)),
-        "an unused range"
-    );
 }
 
 // How many sectors so many nodes take by each version.
@@ -586,8 +519,11 @@ fn sectors_of_ranges(rt: HostRuntime) {
             count,
             sector: 5,
         };
-        assert_eq!(rt; range_extent(Version::One, GEOMETRY, range).length, one);
-        assert_eq!(rt; range_extent(Version::Two, GEOMETRY, range).length, two);
+        let lengths = (
+            range_extent(Version::One, GEOMETRY, range).length,
+            range_extent(Version::Two, GEOMETRY, range).length,
+        );
+        assert!(rt; lengths == (one, two), "of {count}");
     }
 }
 

@@ -1,0 +1,5 @@
+//! The tests of `file_device`, through its public functions.
+#![tactic(auto)]
+
+#[cfg(test)]
+mod files;
