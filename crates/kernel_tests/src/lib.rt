@@ -6,8 +6,6 @@
 mod images;
 mod kernels;
 #[cfg(test)]
-mod layouts;
-#[cfg(test)]
 mod stops;
 mod worlds;
 

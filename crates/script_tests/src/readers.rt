@@ -3,7 +3,7 @@ ghost use Rattle.model.specs.Keepable.{AreKeepable};
 ghost use Rattle.capability.specs.Parts.{frames_of};
 ghost use Rattle.capability.specs.Plain.{parts_of};
 
-use crate::worlds::{device_of, run_over};
+use crate::worlds::{device_of, rewritten, run_over};
 use capability::Plain;
 use kernel_tests::{first_world, second_world};
 use script::RunFault;
@@ -117,39 +117,54 @@ fn repeated(alloc: Global, texts: &[&[u8]], times: usize) -> Result<Vec<u8>, All
     Ok(whole)
 }
 
+// The parts of a script, those of what is answered, and how often they come, one after another.
+type Parts = (&'static [&'static [u8]], &'static [&'static [u8]], usize);
+
 // Long lines are taken whole, and the lines of the last script end at all kinds of places.
+const SCRIPTS: &[Parts] = &[
+    (&[], &[], 1),
+    (
+        &[b"show 5\n\n#\nshow 01\ncut\nshow 5"],
+        &[b"node 5 owner 0\nend\nbad line\nat 0 0\nnode 5 owner 0\nend\n"],
+        1,
+    ),
+    (
+        &[
+            &[b'#'; 256],
+            b"\n",
+            &[b'#'; 257],
+            b"\n",
+            &[b'a'; 600],
+            b"\n",
+            &[b'#'; 9000],
+            b"\nshow 5\n",
+            &[b'a'; 257],
+        ],
+        &[b"bad line\nbad line\nbad line\nnode 5 owner 0\nend\nbad line\n"],
+        1,
+    ),
+    (
+        &[&[b'#'; 250], b"\nshow 5\n"],
+        &[b"node 5 owner 0\nend\n"],
+        40,
+    ),
+];
+
+// A script of parts over a world is answered so.
+fn are_answered(rt: &impl Abort, alloc: Global, plain: &Plain, parts: Parts) -> Result<(), Fail>
+    requires { AreKeepable plain.now.geometry 0 (frames_of (parts_of plain.now)) }
+{
+    let (script, expected, times) = parts;
+    let script = repeated(alloc, script, times)?;
+    let expected = repeated(alloc, expected, times)?;
+    is_answered_in_pieces(rt, alloc, plain, &script, &expected)
+}
+
 #[test]
 fn lines_are_taken_in_turn(rt: HostRuntime) -> Result<(), Fail> {
-    let alloc = rt.alloc();
-    let long: [&[u8]; 9] = [
-        &[b'#'; 256],
-        b"\n",
-        &[b'#'; 257],
-        b"\n",
-        &[b'a'; 600],
-        b"\n",
-        &[b'#'; 9000],
-        b"\nshow 5\n",
-        &[b'a'; 257],
-    ];
-    let long = repeated(alloc, &long, 1)?;
-    let many = repeated(alloc, &[&[b'#'; 250], b"\nshow 5\n"], 40)?;
-    let shown = repeated(alloc, &[b"node 5 owner 0\nend\n"], 40)?;
-    let rows: [(&[u8], &[u8]); 4] = [
-        (b"", b""),
-        (
-            b"show 5\n\n#\nshow 01\ncut\nshow 5",
-            b"node 5 owner 0\nend\nbad line\nat 0 0\nnode 5 owner 0\nend\n",
-        ),
-        (
-            long.as_slice(),
-            b"bad line\nbad line\nbad line\nnode 5 owner 0\nend\nbad line\n",
-        ),
-        (many.as_slice(), shown.as_slice()),
-    ];
-    let plain = first_world(alloc)?;
-    for (script, expected) in rows {
-        is_answered_in_pieces(&rt, alloc, &plain, script, expected)?;
+    let plain = first_world(rt.alloc())?;
+    for parts in SCRIPTS {
+        are_answered(&rt, rt.alloc(), &plain, *parts)?;
     }
     Ok(())
 }
@@ -209,25 +224,53 @@ left 2\nleft 0\nfrozen 0\ncommitted 2\nat 2 4\n";
     may_be_cut_anywhere(&rt, rt.alloc(), script, expected)
 }
 
+// Where the reader fails behind a script, the lines that end are answered so.
+fn is_answered_before_the_end(
+    rt: &impl Abort,
+    alloc: Global,
+    plain: &Plain,
+    script: &[u8],
+    expected: &[u8],
+) -> Result<(), Fail>
+    requires { AreKeepable plain.now.geometry 0 (frames_of (parts_of plain.now)) }
+{
+    for width in WIDTHS {
+        let mut reader = Pieces {
+            at_end: Some(ErrorKind::BrokenPipe),
+            ..Pieces::new(script, width, true)
+        };
+        let ends = Err(RunFault::Read);
+        is_answered(rt, alloc, plain, &mut reader, expected, ends)?;
+    }
+    Ok(())
+}
+
+const SHOWN: &[u8] = b"node 5 owner 0\nend\n";
+
+const FAILING: &[(&[u8], &[u8])] = &[
+    (b"show 5\nsho", SHOWN),
+    (b"show 5\nshow 5", SHOWN),
+    (b"show 5\n", SHOWN),
+    (b"", b""),
+];
+
 #[test]
 fn a_failing_reader_ends_the_run(rt: HostRuntime) -> Result<(), Fail> {
-    let shown = b"node 5 owner 0\nend\n";
-    let rows: [(&[u8], &[u8]); 4] = [
-        (b"show 5\nsho", shown),
-        (b"show 5\nshow 5", shown),
-        (b"show 5\n", shown),
-        (b"", b""),
-    ];
     let plain = first_world(rt.alloc())?;
-    for (script, expected) in rows {
-        for width in WIDTHS {
-            let mut reader = Pieces {
-                at_end: Some(ErrorKind::BrokenPipe),
-                ..Pieces::new(script, width, true)
-            };
-            let ends = Err(RunFault::Read);
-            is_answered(&rt, rt.alloc(), &plain, &mut reader, expected, ends)?;
-        }
+    for (script, expected) in FAILING {
+        is_answered_before_the_end(&rt, rt.alloc(), &plain, script, expected)?;
     }
+    Ok(())
+}
+
+#[test]
+fn an_image_takes_the_place_of_one_of_a_greater_age(rt: HostRuntime) -> Result<(), Fail> {
+    let device = rewritten(rt.alloc(), &second_world(rt.alloc())?)?;
+    let (mut reader, mut answers) = (b"cut\nshow 5\n".as_slice(), Vec::new(rt.alloc()));
+    assert_eq!(rt;
+        run_over(rt.alloc(), device, &mut reader, &mut answers)?,
+        Ok(())
+    );
+    assert_eq!(rt; answers.as_slice(), b"at 0 0\nfree 5\nend\n".as_slice());
     Ok(())
 }

@@ -1,11 +1,14 @@
-// Lines, answers and faults of which no script over an image shows all.
+// Lines, answers, faults and sizes of which no script over an image shows all.
 use capability::{ObjectTable, PrepareFault};
 use gate::InvokeFault;
+use image_writer::{NumberRange, lay_out};
+use layout::Version;
 use model::{
-    Access, Answer, Capability, Command, Content, Description, Invocation, Line, Object,
+    Access, Answer, Capability, Command, Content, Description, Geometry, Invocation, Line, Object,
     ObjectHeader, Operation, Refusal, Register, Role, Root, Shown, State,
 };
 use script::{RunFault, parse_line, print_answer};
+use std::alloc::Global;
 use std::process::Abort;
 use std::test::Fail;
 
@@ -17,8 +20,13 @@ fn register(rt: &impl Abort, number: u8) -> Register {
     }
 }
 
+// A line says this command and no other.
+fn says(rt: &impl Abort, line: &[u8], command: Command) {
+    assert_eq!(rt; parse_line(line), Line::Command(command));
+}
+
 #[test]
-fn lines_say_one_thing(rt: HostRuntime) {
+fn a_call_says_one_thing(rt: HostRuntime) {
     let called = Invocation {
         operation: Operation::Call,
         process: 1,
@@ -31,24 +39,31 @@ fn lines_say_one_thing(rt: HostRuntime) {
             register(&rt, 31),
         ],
     };
-    let rows: [(&[u8], Command); 4] = [
-        (b"call 1 2 3 4 5 6 7 8 9 31", Command::Invoke(called)),
-        (
-            b"stabilize 18446744073709551615",
-            Command::Stabilize { count: u64::MAX },
-        ),
-        (b"restart", Command::Restart),
-        (b"cut", Command::Cut),
-    ];
-    for (line, command) in rows {
-        assert_eq!(rt; parse_line(line), Line::Command(command));
-    }
+    says(&rt, b"call 1 2 3 4 5 6 7 8 9 31", Command::Invoke(called));
 }
 
-// The longest line, and what is answered where memory runs out or the device fails.
 #[test]
-fn answers_have_texts(rt: HostRuntime) -> Result<(), Fail> {
-    let root = Description {
+fn lines_say_one_thing(rt: HostRuntime) {
+    let count = u64::MAX;
+    says(
+        &rt,
+        b"stabilize 18446744073709551615",
+        Command::Stabilize { count },
+    );
+    says(&rt, b"restart", Command::Restart);
+    says(&rt, b"cut", Command::Cut);
+}
+
+// An answer has this text.
+fn has_text(rt: &impl Abort, alloc: Global, answer: &Answer, expected: &[u8]) {
+    let mut text = Vec::new(alloc);
+    assert_eq!(rt; print_answer(answer, &mut text), Ok(()));
+    assert_eq!(rt; text.as_slice(), expected);
+}
+
+// A process of which all is as long as it can be.
+fn longest_root() -> Description {
+    Description {
         number: u64::MAX,
         object: Object {
             owner: u64::MAX,
@@ -66,28 +81,37 @@ fn answers_have_texts(rt: HostRuntime) -> Result<(), Fail> {
         },
         registers: None,
         used: 0,
-    };
-    let rows: [(Answer, &[u8]); 4] = [
-        (
-            Answer::Shown(Shown::new(rt.alloc(), root)?),
-            b"process 18446744073709551615 owner 18446744073709551615 annex 18446744073709551615 \
-available key 65535 words 18446744073709551615 18446744073709551615 18446744073709551615 \
-18446744073709551615 space space 18446744073709551615 4 weak\nend\n",
-        ),
-        (Answer::Refused(Refusal::Down), b"down\n"),
-        (Answer::Refused(Refusal::NoMemory), b"no memory\n"),
-        (Answer::Refused(Refusal::Fault), b"fault\n"),
-    ];
-    for (answer, expected) in rows {
-        let mut text = Vec::new(rt.alloc());
-        print_answer(&answer, &mut text)?;
-        assert_eq!(rt; text.as_slice(), expected);
     }
+}
+
+const LONGEST: &[u8] =
+    b"process 18446744073709551615 owner 18446744073709551615 annex 18446744073709551615 \
+available key 65535 words 18446744073709551615 18446744073709551615 18446744073709551615 \
+18446744073709551615 space space 18446744073709551615 4 weak\nend\n";
+
+#[test]
+fn the_longest_line_is_printed(rt: HostRuntime) -> Result<(), Fail> {
+    let shown = Answer::Shown(Shown::new(rt.alloc(), longest_root())?);
+    has_text(&rt, rt.alloc(), &shown, LONGEST);
     Ok(())
 }
 
+// What is answered where memory runs out or the device fails.
+const REFUSALS: &[(Refusal, &[u8])] = &[
+    (Refusal::Down, b"down\n"),
+    (Refusal::NoMemory, b"no memory\n"),
+    (Refusal::Fault, b"fault\n"),
+];
+
 #[test]
-fn faults_are_told_apart(rt: HostRuntime) -> Result<(), Fail> {
+fn refusals_have_texts(rt: HostRuntime) {
+    for (refusal, expected) in REFUSALS {
+        has_text(&rt, rt.alloc(), &Answer::Refused(*refusal), expected);
+    }
+}
+
+#[test]
+fn faults_of_a_store_are_told_apart(rt: HostRuntime) {
     for (of_store, of_invocation) in [
         (PrepareFault::NoMemory, InvokeFault::NoMemory),
         (PrepareFault::LogFull, InvokeFault::LogFull),
@@ -95,6 +119,10 @@ fn faults_are_told_apart(rt: HostRuntime) -> Result<(), Fail> {
     ] {
         assert_eq!(rt; InvokeFault::from(of_store), of_invocation);
     }
+}
+
+#[test]
+fn faults_of_runs_have_texts(rt: HostRuntime) -> Result<(), Fail> {
     for (fault, text) in [
         (RunFault::Read, "cannot read script"),
         (RunFault::Write, "cannot write output"),
@@ -115,5 +143,23 @@ fn a_number_of_no_object_is_free(rt: HostRuntime) -> Result<(), Fail> {
     let table = ObjectTable::new(vec![in rt.alloc(); unused; 4]?);
     assert_eq!(rt; table.count(), 4);
     assert_eq!(rt; table.header(4), unused);
+    Ok(())
+}
+
+fn range(first: u64, count: u64) -> NumberRange {
+    NumberRange { first, count }
+}
+
+// 9 times the slots, and the number behind the pages, would be small again if they wrapped.
+#[test]
+fn numbers_of_64_bits_are_not_laid_out(rt: HostRuntime) -> Result<(), Fail> {
+    let (nodes, pages) = (16, 8);
+    for (log, count) in [(u64::MAX, pages), (16, u64::MAX)] {
+        let geometry = Geometry { nodes, pages, log };
+        for version in [Version::One, Version::Two] {
+            let laid = lay_out(version, geometry, &[range(0, nodes), range(nodes, count)]);
+            assert!(rt; laid.is_err(), "at {log} {count}");
+        }
+    }
     Ok(())
 }

@@ -20,6 +20,15 @@ pub fn device_of(alloc: Global, plain: &Plain) -> Result<Memory, Fail>
     written(alloc, device, plain, 0)
 }
 
+/// One on which it is written over an image of a greater age.
+pub fn rewritten(alloc: Global, plain: &Plain) -> Result<Memory, Fail>
+    requires { AreKeepable plain.now.geometry 0 (frames_of (parts_of plain.now)) }
+{
+    let device = Memory::new(alloc, 399, 4000, Outcome::Drop)?;
+    let device = written(alloc, device, plain, 9)?;
+    written(alloc, device, plain, 0)
+}
+
 /// How a run over a device ends.
 pub fn run_over<D: Device, R: Script, W: Output>(
     alloc: Global,
