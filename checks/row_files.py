@@ -11,6 +11,8 @@ ROW, IMAGE, BYTES = b"# Row: ", b"# Image: ", b"# Bytes: "
 # What names bytes of the image; and what ends a run, and how the image is changed or looked at then.
 PLACED = (b"# Poke: ", b"# Length: ", BYTES)
 ENDS = (*PLACED, b"# Check", b"# Again", b"# Fresh")
+# How many calls of the device the next line makes where all objects are in memory, for `checks/stops`.
+CALLS = b"# Calls: "
 # A key of a description, which stands before its tables.
 LAYOUT = b"layout = "
 
@@ -33,6 +35,14 @@ def rows_of(file):
 def names_places(lines):
     """Whether lines name bytes of an image, which lie elsewhere by another version of the layout."""
     return any(it.startswith((*PLACED, LAYOUT)) for it in lines)
+
+
+def calls_of(lines):
+    """How many calls of the device each line of a run makes, or None where it isn't said of any. One of which it isn't said makes
+    none."""
+    if not any(it.startswith(CALLS) for it in lines):
+        return None
+    return [int(before[len(CALLS) :]) if before.startswith(CALLS) else 0 for before in [b"", *lines[:-1]]]
 
 
 def description_of(file, begin):

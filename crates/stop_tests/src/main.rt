@@ -3,92 +3,102 @@
 //! image so. It expects nothing: `checks/stops` and `checks/upgrades` do.
 #![tactic(auto)]
 
+mod deeds;
 mod devices;
 mod stops;
 mod task;
 mod upgrades;
 
-use bounded_cache::{BoundedCache, Capacity};
-use memory_device::{Fuse, Memory};
-use object_cache::PlainStore;
-use std::alloc::Global;
+use bounded_cache::Capacity;
+use deeds::{do_whole, stop_at_each, try_outcomes};
+use memory_device::Outcome;
 use std::fs;
-use std::io::{BufWriter, Stdout, Write};
-use stops::run_task;
-use task::{Task, Texts};
-use upgrades::run_upgrades;
+use std::io::Write;
+use task::{Deed, Task};
 
 const USAGE: &str =
     "usage: stop_tests IMAGE SCRIPT TAIL LAST CAPACITY [OUTCOME ..], or upgrade OLD NEW LAST [OUTCOME ..]";
 
 const UPGRADE: &str = "upgrade";
 
-// Runs a task with the store that has this capacity, or with the one that holds all where it is 0.
-fn run_by(
-    alloc: Global,
-    task: &Task<'_>,
-    capacity: u64,
-    writer: &mut BufWriter<Stdout>,
-) -> anyhow::Result<()> {
-    match Capacity::new(capacity) {
-        Some(capacity) => {
-            run_task::<BoundedCache<Fuse<Memory>>, _>(alloc, task, capacity, writer)
-        }
-        None => run_task::<PlainStore<Fuse<Memory>>, _>(alloc, task, (), writer),
+// What these files have.
+fn read_all(rt: &HostRuntime, files: &[String]) -> anyhow::Result<Vec<Vec<u8>>> {
+    let mut texts = Vec::new(rt.alloc());
+    for file in files {
+        texts.push(fs::read(rt, file.as_str())?)?;
     }
+    Ok(texts)
 }
 
-// The files that these words name, in their order.
-fn read_texts(rt: &HostRuntime, files: &[String]) -> anyhow::Result<Texts> {
-    match files {
-        [image, script, tail, last] => Ok(Texts {
-            image: fs::read(rt, image.as_str())?,
-            script: fs::read(rt, script.as_str())?,
-            tail: fs::read(rt, tail.as_str())?,
-            last: fs::read(rt, last.as_str())?,
+// The task that these files are, of a script or of an upgrade.
+fn task_of(texts: &[Vec<u8>]) -> anyhow::Result<Task<'_>> {
+    match texts {
+        [image, script, tail, last] => Ok(Task {
+            image,
+            script,
+            tail,
+            last,
         }),
-        [old, new, last] => Ok(Texts {
-            image: fs::read(rt, old.as_str())?,
-            script: fs::read(rt, new.as_str())?,
-            tail: Vec::new(rt.alloc()),
-            last: fs::read(rt, last.as_str())?,
+        [image, script, last] => Ok(Task {
+            image,
+            script,
+            tail: b"",
+            last,
         }),
         _ => anyhow::bail!(USAGE),
     }
 }
 
-// Runs the task that words name.
-fn work(rt: &HostRuntime, files: &[String], settings: &[String]) -> anyhow::Result<()> {
-    let texts = read_texts(rt, files)?;
+// Runs the script that words name, with each outcome, or whole where there is none.
+fn run_script<W: Write>(
+    rt: &HostRuntime,
+    files: &[String],
+    settings: &[String],
+    writer: &mut W,
+) -> anyhow::Result<()> {
     let Some((capacity, outcomes)) = settings.split_first() else {
         anyhow::bail!(USAGE);
     };
-    let capacity = capacity.as_str().parse::<u64>()?;
-    let mut writer = BufWriter::new(rt.alloc(), rt.stdout())?;
-    run_by(rt.alloc(), &texts.task(outcomes), capacity, &mut writer)?;
-    writer.flush()?;
-    Ok(())
+    let deed = Deed::Run(Capacity::new(capacity.as_str().parse::<u64>()?));
+    let texts = read_all(rt, files)?;
+    let task = task_of(&texts)?;
+    if outcomes.is_empty() {
+        return do_whole(rt.alloc(), &deed, &task, writer);
+    }
+    try_outcomes(rt.alloc(), &deed, outcomes, &task, writer)
 }
 
-// Upgrades the image that words name.
-fn work_upgrade(rt: &HostRuntime, files: &[String], outcomes: &[String]) -> anyhow::Result<()> {
-    let texts = read_texts(rt, files)?;
-    let mut writer = BufWriter::new(rt.alloc(), rt.stdout())?;
-    run_upgrades(rt.alloc(), &texts.task(outcomes), &mut writer)?;
-    writer.flush()?;
-    Ok(())
+// Upgrades the image that words name, with a stop at each call of the old device, and with each
+// outcome at each of the new one.
+fn run_upgrades<W: Write>(
+    rt: &HostRuntime,
+    files: &[String],
+    outcomes: &[String],
+    writer: &mut W,
+) -> anyhow::Result<()> {
+    let texts = read_all(rt, files)?;
+    let task = task_of(&texts)?;
+    writeln!(writer, "= old")?;
+    stop_at_each(rt.alloc(), &Deed::StopOld, Outcome::Drop, &task, writer)?;
+    try_outcomes(rt.alloc(), &Deed::StopNew, outcomes, &task, writer)
+}
+
+// Does what words ask, of which the first four may be files.
+fn work(rt: &HostRuntime, files: &[String], settings: &[String]) -> anyhow::Result<()> {
+    let mut writer = rt.stdout();
+    match files.split_first() {
+        Some((first, others)) if first.as_str() == UPGRADE => {
+            run_upgrades(rt, others, settings, &mut writer)
+        }
+        _ => run_script(rt, files, settings, &mut writer),
+    }
 }
 
 // Does what the words ask. With too few it tells which are wanted.
 fn main(rt: HostRuntime) -> anyhow::Result<()> {
     let words: Vec<String> = std::env::args(&rt)?.collect(rt.alloc())?;
     match (words.get(1..5), words.get(5..)) {
-        (Some(files), Some(settings)) => match files.split_first() {
-            Some((first, others)) if first.as_str() == UPGRADE => {
-                work_upgrade(&rt, others, settings)
-            }
-            _ => work(&rt, files, settings),
-        },
+        (Some(files), Some(settings)) => work(&rt, files, settings),
         _ => {
             println!(rt; "{USAGE}")?;
             Ok(())

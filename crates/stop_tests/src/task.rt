@@ -1,47 +1,39 @@
 // What a run of the program is to do.
+use bounded_cache::Capacity;
 use memory_device::Outcome;
 
-/// The files of a task.
-#[derive(Drop)]
-pub(crate) struct Texts {
-    pub(crate) image: Vec<u8>,
-    pub(crate) script: Vec<u8>,
-    pub(crate) tail: Vec<u8>,
-    pub(crate) last: Vec<u8>,
+/// What is done over a device that stops after some calls.
+#[derive(Clone, Copy)]
+pub(crate) enum Deed {
+    /// The script is run, with all objects in memory or with a cache.
+    Run(Option<Capacity>),
+    /// The image is upgraded, and the old device stops.
+    StopOld,
+    /// It is upgraded, and the new device stops.
+    StopNew,
 }
 
-/// What is to be run.
+/// What it is done with.
 #[derive(Clone, Copy)]
 pub(crate) struct Task<'a> {
     /// The sectors that the device has at first.
     pub(crate) image: &'a [u8],
-    /// The script that the device stops in.
+    /// The script that the device stops in, or the sectors that the new device of an upgrade has.
     pub(crate) script: &'a [u8],
     /// What the same kernel is asked after the stop.
     pub(crate) tail: &'a [u8],
     /// What a kernel is asked that opens what is left after all that, and holds all objects.
     pub(crate) last: &'a [u8],
-    /// What power cuts leave, in words. None where the script is to be run whole.
-    pub(crate) outcomes: &'a [String],
-}
-
-impl Texts {
-    pub(crate) fn task<'a>(&'a self, outcomes: &'a [String]) -> Task<'a> {
-        Task {
-            image: &self.image,
-            script: &self.script,
-            tail: &self.tail,
-            last: &self.last,
-            outcomes,
-        }
-    }
 }
 
 /// What a word says that a power cut leaves: `keep`, `drop`, or a byte.
-pub(crate) fn outcome_of(word: &str) -> anyhow::Result<Outcome> {
+pub(crate) fn outcome_of(word: &str) -> Option<Outcome> {
     match word {
-        "keep" => Ok(Outcome::Keep),
-        "drop" => Ok(Outcome::Drop),
-        byte => Ok(Outcome::Fill(byte.parse::<u8>()?)),
+        "keep" => Some(Outcome::Keep),
+        "drop" => Some(Outcome::Drop),
+        byte => match byte.parse::<u8>() {
+            Ok(byte) => Some(Outcome::Fill(byte)),
+            Err(_) => None,
+        },
     }
 }
