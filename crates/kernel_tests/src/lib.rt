@@ -1,12 +1,10 @@
-//! The tests of `kernel` and `runs` that need a device which stops or loses power, and what tests
-//! of scripts are written with: worlds on a device in memory. The rows of checks/rows try what no
+//! What tests of `kernel` and `runs` are written with: worlds on a device, and kernels over them.
+//! `checks/stops` tries devices that stop or lose power, and the rows of checks/rows all that no
 //! such device is needed for.
 #![tactic(auto)]
 
 mod images;
 mod kernels;
-#[cfg(test)]
-mod stops;
 mod worlds;
 
 pub use images::{first_world, second_world, written};
