@@ -1,5 +1,10 @@
 // A bounded cache is an object store.
-ghost use Rattle.bounded_cache.specs.Cache.{view_of};
+ghost use Rattle.std.specs.Prelude.{◌≡◌, ◌<◌, None, length, OnOk};
+ghost use Rattle.capability.specs.Parts.{frames_of};
+ghost use Rattle.checkpoint.specs.Saved.{most};
+ghost use Rattle.device.specs.Calls.{Counts};
+ghost use Rattle.model.specs.Keepable.{AreKeepable};
+ghost use Rattle.bounded_cache.specs.Cache.{GoesOnIn, on_device, parts_of, seat_at, view_of};
 
 use crate::cache::BoundedCache;
 use cache_entries::Capacity;
@@ -31,7 +36,20 @@ impl<D: Device> ObjectStore<D> for BoundedCache<D> {
         self.left()
     }
 
-    fn evict(&mut self, number: u64) -> Result<(), Failed> {
+    /// Puts what an object holds out of memory, where it is there. Fails exactly where the device
+    /// does.
+    fn evict(&mut self, number: u64) -> Result<(), Failed>
+        requires known { number < length self.old.headers }
+        requires keepable { AreKeepable (parts_of D.disk self.old).geometry most
+            (frames_of (parts_of D.disk self.old)) }
+        ensures gone { OnOk result (seat_at self.new.seats number ≡ None) }
+        ensures rest { self.new ≡ record (on_device self.old self.new) {
+          seats = self.new.seats;
+          order = self.new.order;
+        } }
+        ensures leads { GoesOnIn D.disk self.old self.new }
+        ensures cause { Counts (D.disk self.old.durable.beneath) (D.disk self.new.durable.beneath) result }
+    {
         self.evict(number)
     }
 
