@@ -198,7 +198,7 @@ def superblock(it):
         it.put(72, cut)
         for at, number in enumerate((first + cut, count - cut, sector + length_of(it.shape.version, True, cut))):
             it.put(88 + 8 * at, number)
-        it.data[12] += it.chance.choice((1, 1, 1, 0))
+        it.put(12, it.data[12] + it.chance.choice((1, 1, 1, 0)), 1)
     else:
         one, two = (64 + 24 * it.chance.randrange(8) for _ in range(2))
         it.data[one : one + 24], it.data[two : two + 24] = it.data[two : two + 24], it.data[one : one + 24]
@@ -220,7 +220,9 @@ CHANGES = [
 def by_chance(bases, seed, number):
     chance = random.Random(f"{seed} {number}")
     changed = Changed(*chance.choice(bases), chance)
+    whole = len(changed.data)
     for _ in range(chance.choice((1, 1, 2, 3))):
-        if len(changed.data) >= SECTOR * (changed.number_at(56) if len(changed.data) > 64 else 1):
+        # The parts of an image that was cut aren't where they were told.
+        if len(changed.data) >= whole:
             chance.choice(CHANGES)(changed)
     return bytes(changed.data), chance
