@@ -205,7 +205,7 @@ def superblock(it):
 
 
 def length(it):
-    total = it.number_at(56) * SECTOR
+    total = min(it.number_at(56) * SECTOR, len(it.data))
     size = it.chance.choice((0, 511, 512, 2559, 2560, total - 1, total, total + 1, total + SECTOR, it.chance.randrange(max(1, total))))
     if it.chance.random() < 0.5:
         it.data = it.data[:size].ljust(size, b"\0")
