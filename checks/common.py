@@ -43,8 +43,7 @@ ANSWERS = {
 def program():
     if "EROS" in os.environ:
         return Path(os.environ["EROS"]).resolve()
-    subprocess.run([ROOT / "eros", "--help"], stdout=subprocess.DEVNULL, check=True)
-    return ROOT / "crates" / "runner" / "out" / "runner"
+    return Path(subprocess.run([ROOT / "tools" / "program"], stdout=subprocess.PIPE, text=True, check=True).stdout.strip())
 
 
 def stopper():
