@@ -1,18 +1,14 @@
 -- Which job the getters of the matches give.
-use Rattle.std.proofs.Common.{◌≡◌, ◌∙◌, ap, arith, slice_index, subst, sym, Option, Some, None, List, codes, option_map, true}
+use Rattle.std.proofs.Common.{◌≡◌, ◌∙◌, ap, arith, slice_index, subst, sym, Option, Some, None, List, codes, option_map}
 use Rattle.std.specs.Borrow.{Bor}
 use Rattle.std.specs.Prelude.{Box, IfSome, unwrap_or}
 use Rattle.std.specs.Box.{box_value}
-use Rattle.clap.specs.Words.{IsUnsignedIn, app_of, kind_of, takes, Row, Text, first_of, first_value, rows_of, subcommand_name_of, subcommand_rows, subcommand_rows_of}
+use Rattle.clap.specs.Words.{IsUnsignedIn, Row, Text, first_of, first_value, rows_of, subcommand_name_of, subcommand_rows, subcommand_rows_of}
 use Rattle.clap.specs.declared.parser.matches.ArgMatches.{ArgMatches}
 use Rattle.clap.specs.declared.parser.matches.SubCommand.{SubCommand}
 use Rattle.clap.specs.declared.parser.matches.ArgMatches.TheViews.{out-ArgMatches, out-SubCommand}
 use Rattle.clap.specs.declared.parser.matches.Found.{Found}
 use Rattle.clap.proofs.WalkLemmas.{first_value-rows}
-use Rattle.clap.specs.declared.builder.command.Command.{Command}
-use Rattle.clap.specs.declared.error.Error.{Error}
-use Rattle.clap.specs.declared.error.kind.ErrorKind.TheVariants.{OutOfMemory}
-use Rattle.command_line.specs.Commands.{eros_app}
 use Rattle.command_line.specs.Jobs.{IsGiven, IsJob, IsNoCache, IsNoJob}
 use Rattle.command_line.specs.declared.asked.Job.{Job}
 use Rattle.command_line.specs.declared.asked.Job.TheVariants as job
@@ -110,8 +106,3 @@ no_difference rows one other one_is other_is same = no_upgrade rows (λ old new 
   where
     given_text : (a b : Text) → Some a ≡ Some b → a ≡ b
     given_text a b is = ap (λ (o : Option Text). unwrap_or o a) is
-
--- what the parse says of its error holds of the error that is passed on
-pub passed_on : (words : List Text) (command : Command) (why : Error) → app_of command ≡ eros_app
-    → (takes (app_of command) words ≡ true → kind_of why ≡ OutOfMemory) → takes eros_app words ≡ true → kind_of why ≡ OutOfMemory
-passed_on words command why is passes taken = passes (ap (λ a. takes a words) is ∙ taken)

@@ -1,19 +1,45 @@
 -- What the error of a parse comes to.
-use Rattle.std.proofs.Common.{◌≡◌, ◌⊎◌, inl, inr, refl, subst, Bool, true, false, List}
-use Rattle.clap.specs.Words.{Text, kind_of, subcommand_of, takes}
+use Rattle.std.proofs.Common.{◌≡◌, ◌⊎◌, inl, inr, refl, subst, sym, Bool, true, false, List}
+use Rattle.clap.specs.Words.{App, HasKind, Text, app_of, fault_of, is_simple_and_free, kind_of, subcommand_of, takes}
+use Rattle.clap.specs.declared.builder.command.Command.{Command}
 use Rattle.clap.specs.declared.error.Error.{Error}
-use Rattle.clap.specs.declared.error.kind.ErrorKind.TheVariants.{OutOfMemory}
+use Rattle.clap.specs.declared.error.kind.ErrorKind.TheVariants.{OutOfMemory, ValueValidation}
 use Rattle.command_line.specs.Commands.{eros_app}
-use Rattle.command_line.specs.Refusals.{IsFaultOf, IsRefused, IsSameTwice}
+use Rattle.command_line.specs.Refusals.{Explains, IsFaultOf, IsRefused, IsSameTwice}
 use Rattle.command_line.specs.declared.fault.JobFault.{JobFault}
 use Rattle.command_line.specs.declared.fault.JobFault.TheVariants as fault
 
--- words are refused as bad ones where the command doesn't take them, or where an upgrade has one word twice
-pub refused : (words : List Text) (e : Error) (f : JobFault) → IsFaultOf e f
-    → (takes eros_app words ≡ true → (kind_of e ≡ OutOfMemory) ⊎ IsSameTwice (subcommand_of eros_app words)) → IsRefused words f
+-- words are refused as bad ones by an error that explains it
+pub refused : (words : List Text) (e : Error) (f : JobFault) → IsFaultOf e f → (kind_of e ≡ OutOfMemory) ⊎ Explains words e → IsRefused words f
 refused words e fault.NoMemory is told = tt
-refused words e (fault.BadWords why) is told = (go (takes eros_app words) refl, λ memory. is.1 (subst (λ (x : Error). kind_of x ≡ OutOfMemory) is.0 memory))
+refused words e (fault.BadWords why) is told = elim told [
+  | inl memory ↦ absurd (is.1 memory)
+  | inr explains ↦ (subst (λ (x : Error). Explains words x) (sym is.0) explains, λ memory. is.1 (subst (λ (x : Error). kind_of x ≡ OutOfMemory) is.0 memory))
+]
+
+-- an error of the parse explains why the command doesn't take the words
+parse_explains : (words : List Text) (e : Error) → (takes eros_app words ≡ true → kind_of e ≡ OutOfMemory) → HasKind (fault_of eros_app words) e
+    → (kind_of e ≡ OutOfMemory) ⊎ Explains words e
+unfolding Explains
+parse_explains words e passes kinds = go (takes eros_app words) refl
   where
-    go : (b : Bool) → takes eros_app words ≡ b → (takes eros_app words ≡ false) ⊎ IsSameTwice (subcommand_of eros_app words)
-    go true taken = elim (told taken) [ inl memory ↦ absurd (is.1 memory) | inr same ↦ inr same ]
-    go false not_taken = inl not_taken
+    go : (b : Bool) → takes eros_app words ≡ b → (kind_of e ≡ OutOfMemory) ⊎ Explains words e
+    go true taken = inl (passes taken)
+    go false not_taken = elim kinds [ inl memory ↦ inl memory | inr among ↦ inr (inl (not_taken, inr among)) ]
+
+-- and so it does where the parse is of a command that is read as that of `eros`
+pub parse_refused : (words : List Text) (command : Command) (e : Error) → app_of command ≡ eros_app → (takes (app_of command) words ≡ true → kind_of e ≡ OutOfMemory)
+    → (is_simple_and_free (app_of command) ≡ true → HasKind (fault_of (app_of command) words) e) → (kind_of e ≡ OutOfMemory) ⊎ Explains words e
+parse_refused words command e is passes kinds =
+    parse_explains words e (subst (λ (a : App). takes a words ≡ true → kind_of e ≡ OutOfMemory) is passes)
+    (subst (λ (a : App). is_simple_and_free a ≡ true → HasKind (fault_of a words) e) is kinds refl)
+
+-- a bad value explains why words name no job that the command takes, where these are an upgrade of one word to itself
+pub value_refused : (words : List Text) (e : Error) → kind_of e ≡ ValueValidation → (takes eros_app words ≡ true → IsSameTwice (subcommand_of eros_app words))
+    → (kind_of e ≡ OutOfMemory) ⊎ Explains words e
+unfolding Explains
+value_refused words e kind same = inr (go (takes eros_app words) refl)
+  where
+    go : (b : Bool) → takes eros_app words ≡ b → Explains words e
+    go true taken = inr (same taken, kind)
+    go false not_taken = inl (not_taken, inl kind)

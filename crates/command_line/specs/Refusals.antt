@@ -1,9 +1,9 @@
 -- Why words name no job.
-use Rattle.std.specs.Prelude.{◌≡◌, ◌≢◌, ◌⊎◌, List, Option, Some, None, codes, false}
-use Rattle.clap.specs.Words.{Row, Text, kind_of, subcommand_of, takes}
+use Rattle.std.specs.Prelude.{◌≡◌, ◌≢◌, ◌⊎◌, List, ◌∷◌, Option, Some, None, codes, false}
+use Rattle.clap.specs.Words.{IsAmong, Row, Text, fault_of, kind_of, subcommand_of, takes}
 use Rattle.clap.specs.declared.error.Error.{Error}
 use Rattle.clap.specs.declared.error.kind.ErrorKind.{ErrorKind}
-use Rattle.clap.specs.declared.error.kind.ErrorKind.TheVariants.{OutOfMemory}
+use Rattle.clap.specs.declared.error.kind.ErrorKind.TheVariants.{OutOfMemory, ValueValidation}
 use Rattle.command_line.specs.Commands.{eros_app}
 use Rattle.command_line.specs.Jobs.{IsGiven}
 use Rattle.command_line.specs.declared.fault.JobFault.{JobFault}
@@ -19,10 +19,16 @@ abbrev pub IsSameTwice : Option (Text × List Row) → Type 0
 IsSameTwice None = ⊥
 IsSameTwice (Some met) = (met.0 ≡ codes "upgrade") × (word : Text) × IsGiven met.1 (codes "OLD") word × IsGiven met.1 (codes "NEW") word
 
--- words are refused as bad ones only where the command doesn't take them, or where they ask for an upgrade of one word to
--- itself, and never for want of memory
+-- The kind of an error that refuses words. Where the command doesn't take them, it is one that clap gives for them, or
+-- that of a bad value. Where they ask for an upgrade of one word to itself, it is that of a bad value.
+unfoldable pub Explains : List Text → Error → Type 0
+Explains words e =
+    ((takes eros_app words ≡ false) × IsAmong (kind_of e) (ValueValidation ∷ fault_of eros_app words))
+    ⊎ (IsSameTwice (subcommand_of eros_app words) × (kind_of e ≡ ValueValidation))
+
+-- words are refused as bad ones by an error that explains it, and never for want of memory
 abbrev pub IsRefused : List Text → JobFault → Type 0
-IsRefused words (fault.BadWords why) = ((takes eros_app words ≡ false) ⊎ IsSameTwice (subcommand_of eros_app words)) × (kind_of why ≢ OutOfMemory)
+IsRefused words (fault.BadWords why) = Explains words why × (kind_of why ≢ OutOfMemory)
 IsRefused words fault.NoMemory = Unit {0}
 
 -- words are refused as bad ones for this reason

@@ -1,10 +1,10 @@
 // Which job the words name.
-ghost use Rattle.std.specs.Prelude.{◌≡◌, ◌≢◌, ◌⊎◌, IfErr, IfOk, IfSome, IsNone, codes, map, true};
-ghost use Rattle.clap.specs.Words.{IsUnsignedIn, found_of, kind_of, rows_of, subcommand_of, subcommand_rows_of, takes};
+ghost use Rattle.std.specs.Prelude.{◌≡◌, ◌≢◌, ◌⊎◌, IfErr, IfOk, IfSome, IsNone, codes, map};
+ghost use Rattle.clap.specs.Words.{IsUnsignedIn, found_of, kind_of, rows_of, subcommand_of, subcommand_rows_of};
 ghost use Rattle.clap.specs.declared.error.kind.ErrorKind.TheVariants.{OutOfMemory};
 ghost use Rattle.command_line.specs.Commands.{IsCommand, eros_app};
 ghost use Rattle.command_line.specs.Jobs.{IsCache, IsCapacity, IsJob, IsNoCache, IsNoJob, IsScript, NamesJob, NamesNone};
-ghost use Rattle.command_line.specs.Refusals.{IsSameTwice};
+ghost use Rattle.command_line.specs.Refusals.{Explains};
 
 use crate::subcommands::{
     CACHE, DESCRIPTION, GREATEST_CAPACITY, IMAGE, LEAST_CAPACITY, NEW, OLD, SCRIPT,
@@ -177,15 +177,15 @@ fn asked<'a>(matches: ArgMatches<'a>) -> Option<Job<'a>>
 }
 
 // The job that the words name. Fails with what clap says of words that the command doesn't take, also where they ask for
-// help, where an upgrade has one word twice, and where memory runs out.
+// help, with a `ValueValidation` where an upgrade has one word twice, and with `OutOfMemory` where memory runs out.
 pub(crate) fn read_job<'a, S: AsStr>(
     command: &mut Command<'a>,
     words: &'a [S],
 ) -> Result<Job<'a>, Error>
     requires { IsCommand eros_app command.old }
     ensures named { IfOk result (NamesJob (subcommand_of eros_app (map S.text words.entry.now))) }
-    ensures refused { IfErr result (λ e. takes eros_app (map S.text words.entry.now) ≡ true
-        → (kind_of e ≡ OutOfMemory) ⊎ IsSameTwice (subcommand_of eros_app (map S.text words.entry.now))) }
+    ensures refused { IfErr result (λ e. (kind_of e ≡ OutOfMemory)
+        ⊎ Explains (map S.text words.entry.now) e) }
 {
     let matches = command.try_get_matches_from_mut(words)?;
     match asked(matches) {

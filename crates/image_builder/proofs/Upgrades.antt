@@ -1,5 +1,5 @@
 -- What a device saves, written to another.
-use Rattle.std.proofs.Common.{◌≡◌, ◌⊎◌, ℕ, ◌+◌, ◌<◌, ◌≤◌, List, length, ap, inl, inr, refl, subst, sym, ◌∙◌, arith}
+use Rattle.std.proofs.Common.{◌≡◌, ℕ, ◌<◌, ◌≤◌, List, length, ap, inl, inr, refl, subst, sym, ◌∙◌, arith}
 use Rattle.std.specs.Prelude.{◌≢◌, Result, Ok, Err, IfErr, IfOk, IsErrOf, OnOk}
 use Rattle.model.specs.declared.frame.Frame.{Frame}
 use Rattle.device.specs.Disk.{Disk, Image}
@@ -14,14 +14,17 @@ use Rattle.layout.specs.Header.{IsHeader}
 use Rattle.layout.specs.Image.{Encodes, SavedState}
 use Rattle.layout.specs.Superblock.{Plan}
 use Rattle.checkpoint.specs.declared.open_fault.OpenFault.{OpenFault}
-use Rattle.checkpoint.specs.Saved.{Holds, SavedFrames, kept_of}
+use Rattle.checkpoint.specs.declared.open_fault.OpenFault.TheVariants as opening
+use Rattle.checkpoint.specs.Opened.{Looks}
+use Rattle.checkpoint.specs.Saved.{kept_of}
 use Rattle.image_writer.specs.Laid.{laid_again}
 use Rattle.image_writer.specs.Written.{IsLeftWriting, state_of}
 use Rattle.image_writer.proofs.OldImages.{kept_holds_the_same, none_is_held}
 use Rattle.kernel.specs.Denotes.{IsSoundSaved}
+use Rattle.kernel.specs.Opening.{RefusesToOpen}
 use Rattle.image_builder.specs.declared.upgrade_fault.UpgradeFault.{UpgradeFault}
 use Rattle.image_builder.specs.declared.upgrade_fault.UpgradeFault.TheVariants as fault
-use Rattle.image_builder.specs.Upgraded.{IsLeftUpgrading, IsNotUpgraded, Upgrades, numbered, upgraded}
+use Rattle.image_builder.specs.Upgraded.{IsLeftUpgrading, IsNotUpgraded, IsOnlyRead, Upgrades, numbered, upgraded}
 use Rattle.image_builder.proofs.Images.{holds_one}
 use Rattle.image_builder.proofs.Numbered.{directory_numbered, length_numbered}
 
@@ -60,13 +63,41 @@ counted (Ok total) old before new s was sound told encodes crash elsewhere = (re
 counted (Err fault) old before new s was sound told encodes crash elsewhere = tt
 
 -- and of why it isn't written
-pub not_upgraded : {D : Type 0} (result : Result ℕ UpgradeFault) (disk : D → Disk) (old : D) (sectors : ℕ) (s : SavedState) → Encodes (disk old).seen (disk old).sectors s → (IsErrOf result fault.Small → sectors < (laid_again Two s.plan).total)
-    → IfErr result (λ why. (opening : OpenFault) → why ≢ fault.Old opening) → IfErr result (λ why. IsNotUpgraded disk old sectors why)
-not_upgraded (Ok total) disk old sectors s was small opened = tt
-not_upgraded (Err (fault.Old why)) disk old sectors s was small opened = absurd (opened why refl)
-not_upgraded (Err fault.Small) disk old sectors s was small opened = (s, was, small refl)
-not_upgraded (Err fault.Failed) disk old sectors s was small opened = tt
-not_upgraded (Err fault.NoMemory) disk old sectors s was small opened = tt
+pub not_upgraded : {D : Type 0} (result : Result ℕ UpgradeFault) (disk : D → Disk) (old : D) (sectors : ℕ) (s : SavedState) → Encodes (disk old).seen (disk old).sectors s → IsSoundSaved s.plan.geometry (kept_of s)
+    → (IsErrOf result fault.Small → sectors < (laid_again Two s.plan).total) → IfErr result (λ why. (opening : OpenFault) → why ≢ fault.Old opening) → IfErr result (λ why. IsNotUpgraded disk old sectors why)
+not_upgraded (Ok total) disk old sectors s was sound small opened = tt
+not_upgraded (Err (fault.Old why)) disk old sectors s was sound small opened = absurd (opened why refl)
+not_upgraded (Err fault.Small) disk old sectors s was sound small opened = (s, was, sound, small refl)
+not_upgraded (Err fault.Failed) disk old sectors s was sound small opened = tt
+not_upgraded (Err fault.NoMemory) disk old sectors s was sound small opened = tt
+
+-- ---- what is done to the old device
+
+-- it was opened, and no call of it failed
+pub read_where_opened : (result : Result ℕ UpgradeFault) (old new : Disk) → IfErr result (λ why. (opening : OpenFault) → why ≢ fault.Old opening) → Looks old new → new.failures ≡ old.failures
+    → IsOnlyRead old new (IsErrOf result (fault.Old opening.Failed))
+read_where_opened result old new opened looks same = record {
+  looks = looks;
+  later = omega (arith, same);
+  cause = (λ told. absurd (never result opened told), λ rose. absurd (omega (arith, same, rose)));
+}
+  where
+    never : (r : Result ℕ UpgradeFault) → IfErr r (λ why. (opening : OpenFault) → why ≢ fault.Old opening) → IsErrOf r (fault.Old opening.Failed) → ⊥
+    never (Ok total) other told = cc
+    never (Err why) other told = let is : why ≡ fault.Old opening.Failed = cc in other opening.Failed is
+
+-- it was refused: the failure is told where there was one
+pub read_where_refused : {D : Type 0} (disk : D → Disk) (old back : D) (why : OpenFault) (told : UpgradeFault) → (why ≡ opening.NoMemory → told ≡ fault.NoMemory) → (why ≢ opening.NoMemory → told ≡ fault.Old why)
+    → RefusesToOpen disk old back why → (let result : Result ℕ UpgradeFault = Err told in IsOnlyRead (disk old) (disk back) (IsErrOf result (fault.Old opening.Failed)))
+read_where_refused disk old back opening.Failed told memory other refuses =
+    let is : told ≡ fault.Old opening.Failed = other (λ same. cc) in
+    record { looks = refuses.looks; later = omega (arith, refuses.is_why); cause = (λ _. refuses.is_why, λ _. ap (λ (f : UpgradeFault). Err f) is) }
+read_where_refused disk old back opening.NoMemory told memory other refuses =
+    let is : told ≡ fault.NoMemory = memory refl in
+    record { looks = refuses.looks; later = omega (arith, refuses.is_why); cause = (λ same. cc, λ rose. absurd (omega (arith, refuses.is_why, rose))) }
+read_where_refused disk old back (opening.Bad reason) told memory other refuses =
+    let is : told ≡ fault.Old (opening.Bad reason) = other (λ same. cc) in
+    record { looks = refuses.looks; later = omega (arith, refuses.is_why.0); cause = (λ same. cc, λ rose. absurd (omega (arith, refuses.is_why.0, rose))) }
 
 -- ---- what a crash leaves
 

@@ -1,12 +1,13 @@
 -- What `upgrade` writes, and why it doesn't.
-use Rattle.std.specs.Prelude.{◌≡◌, ◌⊎◌, ℕ, ◌+◌, ◌<◌, List, [], ◌∷◌}
+use Rattle.std.specs.Prelude.{◌⊎◌, ◌↔◌, ℕ, ◌+◌, ◌<◌, ◌≤◌, List, [], ◌∷◌}
 use Rattle.device.specs.Disk.{Disk, Image}
 use Rattle.device.specs.Calls.{Elsewhere}
 use Rattle.layout.specs.declared.directory.Entry.{Entry}
 use Rattle.layout.specs.declared.version.Version.TheVariants.{Two}
-use Rattle.layout.specs.Image.{Encodes, HasPlan, SavedState}
+use Rattle.layout.specs.Image.{Encodes, SavedState}
 use Rattle.checkpoint.specs.declared.open_fault.OpenFault.{OpenFault}
 use Rattle.checkpoint.specs.declared.open_fault.OpenFault.TheVariants as opening
+use Rattle.checkpoint.specs.Opened.{Looks}
 use Rattle.checkpoint.specs.Saved.{Holds, SavedFrames, kept_of}
 use Rattle.image_writer.specs.Laid.{laid_again}
 use Rattle.kernel.specs.Denotes.{IsSoundSaved}
@@ -37,11 +38,13 @@ abbrev pub IsNotOpened : {D : Type 0} → (D → Disk) → D → OpenFault → T
 IsNotOpened disk old opening.NoMemory = ⊥
 IsNotOpened {D} disk old why = (back : D) × RefusesToOpen disk old back why
 
--- an old device saves what needs more sectors
+-- an old device saves what stands for a sound world, and needs more sectors
 abbrev pub NeedsMore : Disk → ℕ → Type 0
-NeedsMore old sectors = (state : SavedState) × Encodes old.seen old.sectors state × (sectors < (laid_again Two state.plan).total)
+NeedsMore old sectors =
+    (state : SavedState) × Encodes old.seen old.sectors state × IsSoundSaved state.plan.geometry (kept_of state)
+    × (sectors < (laid_again Two state.plan).total)
 
--- why nothing is upgraded, on a new device of so many sectors; the last two for what isn't the images' own
+-- why nothing is upgraded, on a new device with this count of sectors; the last two aren't faults of the images
 abbrev pub IsNotUpgraded : {D : Type 0} → (D → Disk) → D → ℕ → UpgradeFault → Type 0
 IsNotUpgraded disk old sectors (fault.Old why) = IsNotOpened disk old why
 IsNotUpgraded disk old sectors fault.Small = NeedsMore (disk old) sectors
@@ -53,3 +56,14 @@ IsNotUpgraded disk old sectors fault.NoMemory = Unit {0}
 abbrev pub IsLeftUpgrading : Disk → Disk → Image → Type 0
 IsLeftUpgrading old before c = (saved : SavedFrames) → Holds before.sectors c saved →
     ((d : Image) × before.may_leave d × Holds before.sectors d saved) ⊎ Holds old.sectors old.seen saved
+
+-- Nothing was written to a device from one state to another, at no moment. It failed in between exactly where that is told.
+pub record IsOnlyRead (old new : Disk) (failure_told : Type 0) : Type 0 where
+  pub looks : Looks old new
+  pub later : old.failures ≤ new.failures
+  pub cause : failure_told ↔ (old.failures < new.failures)
+
+-- a device was closed in a state up to which it was only read
+abbrev pub ReadsAndCloses : {D : Type 0} → (D → Disk) → (D → Type 0) → D → Type 0 → Type 0
+ReadsAndCloses {D} disk was_closed old failure_told =
+    (last : D) × was_closed last × IsOnlyRead (disk old) (disk last) failure_told

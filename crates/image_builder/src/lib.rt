@@ -5,6 +5,7 @@
 
 mod blueprint;
 mod building;
+mod closable;
 mod fault;
 pub mod laws;
 mod reading;
@@ -15,6 +16,7 @@ mod writing;
 
 pub use blueprint::Blueprint;
 pub use building::{build, sectors_needed};
+pub use closable::ClosableDevice;
 pub use fault::BuildFault;
 pub use upgrade_fault::UpgradeFault;
 pub use upgrading::{upgrade, upgrade_and_count, upgraded_sectors};

@@ -17,8 +17,9 @@ ghost use Rattle.migrator.specs.Durable.{saved_state, seen_of};
 ghost use Rattle.model.specs.Frame.{frames_in};
 ghost use Rattle.object_cache.specs.PlainStore.{parts_of, saved_by};
 ghost use Rattle.capability.specs.Parts.{frames_of};
-ghost use Rattle.image_builder.specs.Upgraded.{IsLeftUpgrading, IsNotOpened, IsNotUpgraded, Upgrades, numbered, upgraded};
+ghost use Rattle.image_builder.specs.Upgraded.{IsLeftUpgrading, IsNotOpened, IsNotUpgraded, IsOnlyRead, ReadsAndCloses, Upgrades, numbered, upgraded};
 
+use crate::closable::ClosableDevice;
 use crate::upgrade_fault::UpgradeFault;
 use checkpoint::OpenFault;
 use device::Device;
@@ -118,41 +119,45 @@ fn write_over<D: Device, E: Device>(
     }
 }
 
-// Writes what a store has of its device's checkpoint, which is all in memory, and answers how many
-// sectors the image has.
+// Writes what a store has of its device's checkpoint, which is all in memory; answers how many sectors the image has, and
+// gives the store's device back.
 fn write_store<D: Device, E: Device>(
     alloc: Global,
     store: PlainStore<D>,
     new: &mut E,
-) -> Result<u64, UpgradeFault>
+) -> (Result<u64, UpgradeFault>, D)
     requires encoded { (image : Image) × (size : ℕ) × Encodes image size (saved_by D.disk store) }
     requires sound { IsSoundSaved (saved_by D.disk store).plan.geometry
         (kept_of (saved_by D.disk store)) }
     requires frames { frames_of (parts_of D.disk store) ≡ (saved_by D.disk store).frames }
-    ensures total { IfOk result (λ total.
+    ensures total { IfOk result.0 (λ total.
         total ≡ (laid_again Two (saved_by D.disk store).plan).total) }
-    ensures encodes { OnOk result (Encodes (E.disk new.new).seen (E.disk new.new).sectors
+    ensures encodes { OnOk result.0 (Encodes (E.disk new.new).seen (E.disk new.new).sectors
         (upgraded (saved_by D.disk store))) }
-    ensures crash { OnOk result ((c : Image) → (E.disk new.new).may_leave c
+    ensures crash { OnOk result.0 ((c : Image) → (E.disk new.new).may_leave c
         → Encodes c (E.disk new.new).sectors (upgraded (saved_by D.disk store))) }
-    ensures elsewhere { OnOk result (Elsewhere 0 (laid_again Two (saved_by D.disk store).plan).total
+    ensures elsewhere { OnOk result.0 (Elsewhere 0 (laid_again Two (saved_by D.disk store).plan).total
         (E.disk new.old).seen (E.disk new.new).seen) }
-    ensures small { IsErrOf result UpgradeFault.Small
+    ensures small { IsErrOf result.0 UpgradeFault.Small
         → (E.disk new.old).sectors < (laid_again Two (saved_by D.disk store).plan).total }
-    ensures opened { IfErr result (λ fault. (why : OpenFault) → fault ≢ UpgradeFault.Old why) }
-    ensures untouched { IfErr result (λ fault. fault ≢ UpgradeFault.Failed → new.new ≡ new.old) }
+    ensures opened { IfErr result.0 (λ fault. (why : OpenFault) → fault ≢ UpgradeFault.Old why) }
+    ensures untouched { IfErr result.0 (λ fault. fault ≢ UpgradeFault.Failed → new.new ≡ new.old) }
     ensures any_moment { LeavesOnly (E.disk new.old) (E.disk new.new) (λ c. IsLeftWriting
         (E.disk new.old) (kept_of (saved_by D.disk store)) c) }
     ensures size { (E.disk new.new).sectors ≡ (E.disk new.old).sectors }
     ensures later { (E.disk new.old).failures ≤ (E.disk new.new).failures }
-    ensures cause { IsErrOf result UpgradeFault.Failed
+    ensures cause { IsErrOf result.0 UpgradeFault.Failed
         ↔ ((E.disk new.old).failures < (E.disk new.new).failures) }
+    ensures device { result.1 ≡ store.durable.beneath }
 {
     let (saved, present) = store.into_parts();
     let (headers, contents) = present.into_parts();
     match in_order(alloc, saved.directory()) {
-        Ok(entries) => write_over(&saved, &entries, &headers, &contents, new),
-        Err(_) => Err(UpgradeFault::NoMemory),
+        Ok(entries) => {
+            let written = write_over(&saved, &entries, &headers, &contents, new);
+            (written, saved.into_device())
+        }
+        Err(_) => (Err(UpgradeFault::NoMemory), saved.into_device()),
     }
 }
 
@@ -167,10 +172,41 @@ fn of_old(why: OpenFault) -> UpgradeFault
     }
 }
 
+// Opens an old device as a kernel does, and writes what its image saves over whatever a new one holds, by version 2 of
+// the layout; answers how many sectors the new image has, and gives the old device back.
+fn open_and_write<D: Device, E: Device>(
+    alloc: Global,
+    old: D,
+    new: &mut E,
+) -> (Result<u64, UpgradeFault>, D)
+    ensures upgraded { IfOk result.0 (λ total.
+        (done : Upgrades (D.disk old) (E.disk new.old) (E.disk new.new))
+        × (total ≡ (laid_again Two done.state.plan).total)) }
+    ensures refused { IfErr result.0 (λ fault.
+        IsNotUpgraded D.disk old (E.disk new.old).sectors fault) }
+    ensures untouched { IfErr result.0 (λ fault. fault ≢ UpgradeFault.Failed → new.new ≡ new.old) }
+    ensures any_moment { LeavesOnly (E.disk new.old) (E.disk new.new)
+        (λ c. IsLeftUpgrading (D.disk old) (E.disk new.old) c) }
+    ensures size { (E.disk new.new).sectors ≡ (E.disk new.old).sectors }
+    ensures later { (E.disk new.old).failures ≤ (E.disk new.new).failures }
+    ensures cause { IsErrOf result.0 UpgradeFault.Failed
+        ↔ ((E.disk new.old).failures < (E.disk new.new).failures) }
+    ensures reads { IsOnlyRead (D.disk old) (D.disk result.1)
+        (IsErrOf result.0 (UpgradeFault.Old OpenFault.Failed)) }
+{
+    match wake::<D, PlainStore<D>>(alloc, old, ()) {
+        Ok(live) => {
+            let Live { store, .. } = live;
+            write_store(alloc, store, new)
+        }
+        Err(refused) => (Err(of_old(refused.fault)), refused.device),
+    }
+}
+
 /// Opens an old device as a kernel does, and writes what its image saves over whatever a new one
 /// holds, by version 2 of the layout; answers how many sectors the new image has. Apart from that it
 /// is `upgrade`.
-pub fn upgrade_and_count<D: Device, E: Device>(
+pub fn upgrade_and_count<D: ClosableDevice, E: Device>(
     alloc: Global,
     old: D,
     new: &mut E,
@@ -187,14 +223,12 @@ pub fn upgrade_and_count<D: Device, E: Device>(
     ensures later { (E.disk new.old).failures ≤ (E.disk new.new).failures }
     ensures cause { IsErrOf result UpgradeFault.Failed
         ↔ ((E.disk new.old).failures < (E.disk new.new).failures) }
+    ensures reads { ReadsAndCloses D.disk D.was_closed old
+        (IsErrOf result (UpgradeFault.Old OpenFault.Failed)) }
 {
-    match wake::<D, PlainStore<D>>(alloc, old, ()) {
-        Ok(live) => {
-            let Live { store, .. } = live;
-            write_store(alloc, store, new)
-        }
-        Err(refused) => Err(of_old(refused.fault)),
-    }
+    let (outcome, old) = open_and_write(alloc, old, new);
+    old.close();
+    outcome
 }
 
 /// Opens an old device as a kernel does, and writes what its image saves over whatever a new one
@@ -209,8 +243,13 @@ pub fn upgrade_and_count<D: Device, E: Device>(
 ///
 /// A crash of the new device at any moment leaves the image that it could have left before; or
 /// nothing that can be opened, as no header is committed; or the new image, whole. So it is after
-/// `Failed` too. The old device isn't given back.
-pub fn upgrade<D: Device, E: Device>(alloc: Global, old: D, new: &mut E) -> Result<(), UpgradeFault>
+/// `Failed` too. Nothing is written to the old device, at no moment. It isn't given back: it is
+/// closed in the end.
+pub fn upgrade<D: ClosableDevice, E: Device>(
+    alloc: Global,
+    old: D,
+    new: &mut E,
+) -> Result<(), UpgradeFault>
     ensures upgraded { OnOk result (Upgrades (D.disk old) (E.disk new.old) (E.disk new.new)) }
     ensures refused { IfErr result (λ fault.
         IsNotUpgraded D.disk old (E.disk new.old).sectors fault) }
@@ -221,6 +260,8 @@ pub fn upgrade<D: Device, E: Device>(alloc: Global, old: D, new: &mut E) -> Resu
     ensures later { (E.disk new.old).failures ≤ (E.disk new.new).failures }
     ensures cause { IsErrOf result UpgradeFault.Failed
         ↔ ((E.disk new.old).failures < (E.disk new.new).failures) }
+    ensures reads { ReadsAndCloses D.disk D.was_closed old
+        (IsErrOf result (UpgradeFault.Old OpenFault.Failed)) }
 {
     match upgrade_and_count(alloc, old, new) {
         Ok(_total) => Ok(()),

@@ -89,6 +89,7 @@ module _ {D : Type 0} (disk : D → Disk) (device back : D) (d : Description) (s
       layout = saved.whole.layout;
     };
     told = told;
+    failures = saved.failures;
     looks = saved.looks;
   }
 

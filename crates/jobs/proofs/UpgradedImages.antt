@@ -5,15 +5,17 @@ use Rattle.std.specs.Io.KnownBytes.{Appends}
 use Rattle.model.specs.Text.{line_of}
 use Rattle.device.specs.Disk.{Disk}
 use Rattle.layout.specs.declared.version.Version.TheVariants.{Two}
+use Rattle.checkpoint.specs.declared.open_fault.OpenFault.TheVariants as opening
 use Rattle.image_writer.specs.Laid.{laid_again}
 use Rattle.image_builder.specs.declared.upgrade_fault.UpgradeFault.{UpgradeFault}
-use Rattle.image_builder.specs.declared.upgrade_fault.UpgradeFault.TheVariants.{Failed}
-use Rattle.image_builder.specs.Upgraded.{Upgrades}
+use Rattle.image_builder.specs.declared.upgrade_fault.UpgradeFault.TheVariants as upgrade
+use Rattle.image_builder.specs.Upgraded.{ReadsAndCloses, Upgrades}
 use Rattle.script.specs.Writing.{AppendsFront}
+use Rattle.jobs.specs.declared.fault.Fault.{Fault}
 use Rattle.jobs.specs.declared.fault.Fault.TheVariants as fault
-use Rattle.jobs.specs.Images.{UpgradesImage, upgraded_text}
+use Rattle.jobs.specs.Images.{UpgradesImage, old_failed, upgraded_text}
 
-pub upgrade_cause : (why : UpgradeFault) (P : Type 0) → ((let r : Result ℕ UpgradeFault = Err why in IsErrOf r Failed) ↔ P) → (why ≡ Failed) ↔ P
+pub upgrade_cause : (why : UpgradeFault) (P : Type 0) → ((let r : Result ℕ UpgradeFault = Err why in IsErrOf r upgrade.Failed) ↔ P) → (why ≡ upgrade.Failed) ↔ P
 upgrade_cause why P caused = (λ is. caused.0 (ap (λ (f : UpgradeFault). Err f) is), λ rose. let is = caused.1 rose in cc)
 
 module _ {D E : Type 0} (disk : D → Disk) (new_disk : E → Disk) (old : D) (before new : E) (output output_left : Option (List ℕ)) (total : ℕ)
@@ -23,3 +25,23 @@ module _ {D E : Type 0} (disk : D → Disk) (new_disk : E → Disk) (old : D) (b
 
   pub upgraded_untold : AppendsFront output output_left (line_of (upgraded_text total)) → UpgradesImage disk new_disk old before new output output_left (Err fault.CannotWriteOutput)
   upgraded_untold told = (done.0, subst (λ (n : ℕ). AppendsFront output output_left (line_of (upgraded_text n))) done.1 told)
+
+-- what was only read was so whichever way its failure is told
+pub read_told : {D : Type 0} (disk : D → Disk) (was_closed : D → Type 0) (old : D) (told other : Type 0) → (other → told) → (told → other) → ReadsAndCloses disk was_closed old told → ReadsAndCloses disk was_closed old other
+read_told disk was_closed old told other back on read =
+    (read.0, read.1, record { looks = read.2.looks; later = read.2.later; cause = (λ is. read.2.cause.0 (back is), λ rose. on (read.2.cause.1 rose)) })
+
+-- its failure isn't told of an upgrade
+pub read_upgraded : {D : Type 0} (disk : D → Disk) (was_closed : D → Type 0) (old : D) (total : ℕ) → (let r : Result ℕ UpgradeFault = Ok total in ReadsAndCloses disk was_closed old (IsErrOf r (upgrade.Old opening.Failed)))
+    → (told : Result (Unit {0}) Fault) → (IsErrOf told old_failed → ⊥) → ReadsAndCloses disk was_closed old (IsErrOf told old_failed)
+read_upgraded disk was_closed old total read told never =
+    let r : Result ℕ UpgradeFault = Ok total in
+    read_told disk was_closed old (IsErrOf r (upgrade.Old opening.Failed)) (IsErrOf told old_failed) (λ is. absurd (never is)) (λ is. cc) read
+
+-- of none it is
+pub read_refused : {D : Type 0} (disk : D → Disk) (was_closed : D → Type 0) (old : D) (why : UpgradeFault) → (let r : Result ℕ UpgradeFault = Err why in ReadsAndCloses disk was_closed old (IsErrOf r (upgrade.Old opening.Failed)))
+    → (let told : Result (Unit {0}) Fault = Err (fault.Upgrade why) in ReadsAndCloses disk was_closed old (IsErrOf told old_failed))
+read_refused disk was_closed old why read =
+    let r : Result ℕ UpgradeFault = Err why in
+    let told : Result (Unit {0}) Fault = Err (fault.Upgrade why) in
+    read_told disk was_closed old (IsErrOf r (upgrade.Old opening.Failed)) (IsErrOf told old_failed) (λ is. cc) (λ is. cc) read

@@ -14,6 +14,7 @@ use Rattle.layout.specs.Superblock.{Plan, version_number}
 use Rattle.layout.specs.declared.version.Version.TheVariants.{Two}
 use Rattle.checkpoint.specs.Opened.{Looks}
 use Rattle.checkpoint.specs.declared.open_fault.OpenFault.{OpenFault}
+use Rattle.checkpoint.specs.declared.open_fault.OpenFault.TheVariants as opening
 use Rattle.image_writer.specs.Laid.{laid_again, numbers_of}
 use Rattle.capability.specs.Parts.{Parts}
 use Rattle.object_store.specs.Store.{View}
@@ -73,6 +74,10 @@ UpgradesImage disk new_disk old before new output output_left (Err (fault.Upgrad
     × ((why ≡ upgrade.Failed) ↔ ((new_disk before).failures < (new_disk new).failures)) × (output_left ≡ output)
 UpgradesImage disk new_disk old before new output output_left (Err _) = ⊥
 
+-- what is told where the old device failed
+abbrev pub old_failed : Fault
+old_failed = fault.Upgrade (upgrade.Old opening.Failed)
+
 -- The parameters are ghost members of a device and of an object store.
 module _ {D S : Type 0} (disk : D → Disk) (view : S → View D) (parts : S → Parts) where
   -- a kernel was opened, and a script run over it with this outcome; the device that is given back is that of the
@@ -90,11 +95,11 @@ module _ {D S : Type 0} (disk : D → Disk) (view : S → View D) (parts : S →
   RunsImage device back input input_left output output_left (Err (fault.Open why)) = RefusesToOpen disk device back why × (input_left ≡ input) × (output_left ≡ output)
   RunsImage device back input input_left output output_left (Err _) = ⊥
 
--- a device was opened and nothing written to it, at no moment, and what is saved on it told
+-- a device was opened with no failure, nothing was written to it, at no moment, and what is saved on it was told
 abbrev pub TellsSaved : {D : Type 0} → (D → Disk) → D → D → (List ℕ → Type 0) → Type 0
 TellsSaved disk device back Told =
     (geometry : Geometry) × (saved : Saved) × Denotes geometry (disk device).sectors (disk device).seen saved × Told (line_of (checked_text saved.generation saved.world.age saved.entries))
-    × Looks (disk device) (disk back)
+    × Looks (disk device) (disk back) × ((disk back).failures ≡ (disk device).failures)
 
 -- so it was; or that couldn't be written whole; or the device wasn't opened
 abbrev pub ChecksImage : {D : Type 0} → (D → Disk) → D → D → Option (List ℕ) → Option (List ℕ) → Result (Unit {0}) Fault → Type 0
@@ -111,7 +116,8 @@ pub record IsDescriptionOf (p : Plan) (age : ℕ) (frames : List Frame) (descrip
   pub ranges : description.ranges.items ≡ map numbers_of p.ranges
   pub layout : description.layout ≡ version_number p.version
 
--- a device was opened and nothing written to it, at no moment, and this is the description of all that is saved on it
+-- a device was opened with no failure, nothing was written to it, at no moment, and this is the description of all that is
+-- saved on it
 pub record DescribesSaved {D : Type 0} (disk : D → Disk) (device back : D) (description : Description) : Type 0 where
   pub state : SavedState
   pub encodes : Encodes (disk device).seen (disk device).sectors state
@@ -137,7 +143,7 @@ pub record IsTextOf (p : Plan) (age : ℕ) (frames : List Frame) (text : List �
   pub ranges : description.ranges.items ≡ map numbers_of p.ranges
   pub layout : description.layout ≡ version_number p.version
 
--- a device was opened and nothing written to it, at no moment, and all that is saved on it told
+-- a device was opened with no failure, nothing was written to it, at no moment, and all that is saved on it was told
 pub record TellsWhole {D : Type 0} (disk : D → Disk) (device back : D) (Told : List ℕ → Type 0) : Type 0 where
   pub state : SavedState
   pub encodes : Encodes (disk device).seen (disk device).sectors state
@@ -145,6 +151,7 @@ pub record TellsWhole {D : Type 0} (disk : D → Disk) (device back : D) (Told :
   pub text : List ℕ
   pub whole : IsTextOf state.plan state.header.age state.frames text
   pub told : Told text
+  pub failures : (disk back).failures ≡ (disk device).failures
   pub looks : Looks (disk device) (disk back)
 
 -- so it was; or that couldn't be written whole; or the device wasn't opened, or memory ran out
@@ -154,7 +161,7 @@ DescribesImage disk device back output output_left (Err fault.CannotWriteOutput)
 DescribesImage disk device back output output_left (Err (fault.Open why)) = RefusesToOpen disk device back why × (output_left ≡ output)
 DescribesImage disk device back output output_left (Err _) = ⊥
 
--- the graph of what is saved on a device was told
+-- so it was, and the graph of what is saved on it was told
 pub record TellsGraph {D : Type 0} (disk : D → Disk) (device back : D) (Told : List ℕ → Type 0) : Type 0 where
   pub description : Description
   pub saved : DescribesSaved disk device back description

@@ -1,19 +1,19 @@
 // The command that upgrades an image.
-ghost use Rattle.std.specs.Prelude.{◌≡◌, Result};
+ghost use Rattle.std.specs.Prelude.{◌≡◌, IsErrOf, Result};
 ghost use Rattle.device.specs.Moments.{LeavesOnly};
-ghost use Rattle.image_builder.specs.Upgraded.{IsLeftUpgrading};
+ghost use Rattle.image_builder.specs.Upgraded.{IsLeftUpgrading, ReadsAndCloses};
 ghost use Rattle.jobs.specs.Faults.{IsTold, status_of};
-ghost use Rattle.jobs.specs.Images.{UpgradesImage};
+ghost use Rattle.jobs.specs.Images.{UpgradesImage, old_failed};
 
 use crate::fault::{Fault, status};
 use device::Device;
-use image_builder::upgrade_and_count;
+use image_builder::{ClosableDevice, upgrade_and_count};
 use script::LineText;
 use std::alloc::Global;
 use std::io::Write;
 
 // Upgrades an image, and tells how many sectors the new one has.
-fn upgrade_and_tell<D: Device, E: Device, W: Write>(
+fn upgrade_and_tell<D: ClosableDevice, E: Device, W: Write>(
     alloc: Global,
     old: D,
     new: &mut E,
@@ -23,6 +23,7 @@ fn upgrade_and_tell<D: Device, E: Device, W: Write>(
         (W.contents writer.old) (W.contents writer.new) result }
     ensures any_moment { LeavesOnly (E.disk new.old) (E.disk new.new)
         (λ c. IsLeftUpgrading (D.disk old) (E.disk new.old) c) }
+    ensures reads { ReadsAndCloses D.disk D.was_closed old (IsErrOf result old_failed) }
 {
     let total = match upgrade_and_count(alloc, old, new) {
         Ok(total) => total,
@@ -43,8 +44,8 @@ fn upgrade_and_tell<D: Device, E: Device, W: Write>(
 /// memory`, or, with the new image written, `cannot write output` where the writer fails.
 ///
 /// A crash of the new device at any moment leaves the image that was there, as it was; or nothing
-/// that can be opened; or the new image, whole.
-pub fn upgrade_image<D: Device, E: Device, W: Write, V: Write>(
+/// that can be opened; or the new image, whole. Nothing is written to the old device, at no moment.
+pub fn upgrade_image<D: ClosableDevice, E: Device, W: Write, V: Write>(
     alloc: Global,
     old: D,
     new: &mut E,
@@ -54,7 +55,8 @@ pub fn upgrade_image<D: Device, E: Device, W: Write, V: Write>(
     ensures upgraded { (outcome : Result (Unit {0}) Fault) × (result ≡ status_of outcome)
         × IsTold outcome (V.contents errors.old) (V.contents errors.new)
         × UpgradesImage D.disk E.disk old new.old new.new
-        (W.contents writer.old) (W.contents writer.new) outcome }
+        (W.contents writer.old) (W.contents writer.new) outcome
+        × ReadsAndCloses D.disk D.was_closed old (IsErrOf outcome old_failed) }
     ensures any_moment { LeavesOnly (E.disk new.old) (E.disk new.new)
         (λ c. IsLeftUpgrading (D.disk old) (E.disk new.old) c) }
 {

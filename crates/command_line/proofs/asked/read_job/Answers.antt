@@ -1,14 +1,14 @@
-use Rattle.std.proofs.Common.{inl, inr, rules, map}
+use Rattle.std.proofs.Common.{rules, map}
 use Rattle.std.proofs.lemmas.Result.{err_from_is_err_and}
 use Rattle.command_line.proofs.Answered.{unnamed}
-use Rattle.command_line.proofs.Naming.{passed_on}
+use Rattle.command_line.proofs.Refused.{parse_refused, value_refused}
 use Rattle.command_line.proofs.asked.read_job.Goals as goal
 
 pub returns-in_err-matches-clause-refused : goal.returns-in_err-matches-clause-refused
 returns-in_err-matches-clause-refused g c =
     let p = err_from_is_err_and c.from_residual.result c.from_residual.ensures.1 in
-    rw (p.1, p.2) (λ taken. inl (passed_on (map g.S.AsStr.text c.args.words.now) c.args.command.now c.in_err-matches.field-0.0 c.requires.0 c.in_err-matches.ensures.passes taken))
+    rw (p.1, p.2) (parse_refused (map g.S.AsStr.text c.args.words.now) c.args.command.now c.in_err-matches.field-0.0 c.requires.0 c.in_err-matches.ensures.passes c.in_err-matches.ensures.kinds)
 
 pub returns-in_ok-error-in-None-clause-refused : goal.returns-in_ok-error-in-None-clause-refused
-returns-in_ok-error-in-None-clause-refused g c taken = inr (unnamed (map g.S.AsStr.text c.args.words.now) c.args.command.now c.in_ok-matches.matches c.requires.0 c.in_ok-matches.ensures.ok.2
-    (c.asked.ensures.none (search rules)) taken)
+returns-in_ok-error-in-None-clause-refused g c = value_refused (map g.S.AsStr.text c.args.words.now) c.in_ok-error-in-None.field-0 c.in_ok-error-in-None.ensures.kind
+    (unnamed (map g.S.AsStr.text c.args.words.now) c.args.command.now c.in_ok-matches.matches c.requires.0 c.in_ok-matches.ensures.ok.2 (c.asked.ensures.none (search rules)))

@@ -1,4 +1,4 @@
-use Rattle.std.proofs.Common.{◌≡◌, ◌<◌, ℕ, IfOk, subst}
+use Rattle.std.proofs.Common.{◌≡◌, ◌<◌, IfOk, subst}
 use Rattle.std.specs.Prelude.{IsErrOf, OnOk}
 use Rattle.device.specs.Calls.{Elsewhere}
 use Rattle.device.specs.Disk.{Image}
@@ -15,46 +15,46 @@ use Rattle.image_builder.proofs.upgrading.write_store.Goals as goal
 
 pub returns-in-Ok-clause-total : goal.returns-in-Ok-clause-total
 returns-in-Ok-clause-total g c =
-    subst (λ (s : DurableState _). IfOk c.write_over.result (λ total. total ≡ (laid_again Two s.books.plan).total))
-    c.into_parts-saved.ensures.durable c.write_over.ensures.total
+    subst (λ (s : DurableState _). IfOk c.write_over-written.result (λ total. total ≡ (laid_again Two s.books.plan).total))
+    c.into_parts-saved.ensures.durable c.write_over-written.ensures.total
 
 pub returns-in-Ok-clause-encodes : goal.returns-in-Ok-clause-encodes
 returns-in-Ok-clause-encodes g c =
-    subst (λ (s : DurableState _). OnOk c.write_over.result (Encodes (g.E.Device.disk c.write_over.new.new).seen (g.E.Device.disk c.write_over.new.new).sectors (upgraded (saved_state (seen_of g.D.Device.disk s) s.books))))
-    c.into_parts-saved.ensures.durable c.write_over.ensures.encodes
+    subst (λ (s : DurableState _). OnOk c.write_over-written.result (Encodes (g.E.Device.disk c.write_over-written.new.new).seen (g.E.Device.disk c.write_over-written.new.new).sectors (upgraded (saved_state (seen_of g.D.Device.disk s) s.books))))
+    c.into_parts-saved.ensures.durable c.write_over-written.ensures.encodes
 
 pub returns-in-Ok-clause-crash : goal.returns-in-Ok-clause-crash
 returns-in-Ok-clause-crash g c =
-    subst (λ (s : DurableState _). OnOk c.write_over.result ((x : Image) → (g.E.Device.disk c.write_over.new.new).may_leave x → Encodes x (g.E.Device.disk c.write_over.new.new).sectors (upgraded (saved_state (seen_of g.D.Device.disk s) s.books))))
-    c.into_parts-saved.ensures.durable c.write_over.ensures.crash
+    subst (λ (s : DurableState _). OnOk c.write_over-written.result ((x : Image) → (g.E.Device.disk c.write_over-written.new.new).may_leave x → Encodes x (g.E.Device.disk c.write_over-written.new.new).sectors (upgraded (saved_state (seen_of g.D.Device.disk s) s.books))))
+    c.into_parts-saved.ensures.durable c.write_over-written.ensures.crash
 
 pub returns-in-Ok-clause-elsewhere : goal.returns-in-Ok-clause-elsewhere
 returns-in-Ok-clause-elsewhere g c =
-    subst (λ (s : DurableState _). OnOk c.write_over.result (Elsewhere 0 (laid_again Two s.books.plan).total (g.E.Device.disk c.args.new.now).seen (g.E.Device.disk c.write_over.new.new).seen))
-    c.into_parts-saved.ensures.durable c.write_over.ensures.elsewhere
+    subst (λ (s : DurableState _). OnOk c.write_over-written.result (Elsewhere 0 (laid_again Two s.books.plan).total (g.E.Device.disk c.args.new.now).seen (g.E.Device.disk c.write_over-written.new.new).seen))
+    c.into_parts-saved.ensures.durable c.write_over-written.ensures.elsewhere
 
 pub returns-in-Ok-clause-small : goal.returns-in-Ok-clause-small
 returns-in-Ok-clause-small g c =
-    subst (λ (s : DurableState _). IsErrOf c.write_over.result fault.Small → (g.E.Device.disk c.args.new.now).sectors < (laid_again Two s.books.plan).total)
-    c.into_parts-saved.ensures.durable c.write_over.ensures.small
+    subst (λ (s : DurableState _). IsErrOf c.write_over-written.result fault.Small → (g.E.Device.disk c.args.new.now).sectors < (laid_again Two s.books.plan).total)
+    c.into_parts-saved.ensures.durable c.write_over-written.ensures.small
 
 pub returns-in-Ok-clause-opened : goal.returns-in-Ok-clause-opened
-returns-in-Ok-clause-opened g c = c.write_over.ensures.opened
+returns-in-Ok-clause-opened g c = c.write_over-written.ensures.opened
 
 pub returns-in-Ok-clause-untouched : goal.returns-in-Ok-clause-untouched
-returns-in-Ok-clause-untouched g c = c.write_over.ensures.untouched
+returns-in-Ok-clause-untouched g c = c.write_over-written.ensures.untouched
 
 pub returns-in-Ok-clause-any_moment : goal.returns-in-Ok-clause-any_moment
 returns-in-Ok-clause-any_moment g c =
-    subst (λ (s : DurableState _). LeavesOnly (g.E.Device.disk c.args.new.now) (g.E.Device.disk c.write_over.new.new)
+    subst (λ (s : DurableState _). LeavesOnly (g.E.Device.disk c.args.new.now) (g.E.Device.disk c.write_over-written.new.new)
     (λ x. IsLeftWriting (g.E.Device.disk c.args.new.now) (kept_of (saved_state (seen_of g.D.Device.disk s) s.books)) x))
-    c.into_parts-saved.ensures.durable c.write_over.ensures.any_moment
+    c.into_parts-saved.ensures.durable c.write_over-written.ensures.any_moment
 
 pub returns-in-Ok-clause-size : goal.returns-in-Ok-clause-size
-returns-in-Ok-clause-size g c = c.write_over.ensures.size
+returns-in-Ok-clause-size g c = c.write_over-written.ensures.size
 
 pub returns-in-Ok-clause-later : goal.returns-in-Ok-clause-later
-returns-in-Ok-clause-later g c = c.write_over.ensures.later
+returns-in-Ok-clause-later g c = c.write_over-written.ensures.later
 
 pub returns-in-Ok-clause-cause : goal.returns-in-Ok-clause-cause
-returns-in-Ok-clause-cause g c = c.write_over.ensures.cause
+returns-in-Ok-clause-cause g c = c.write_over-written.ensures.cause
