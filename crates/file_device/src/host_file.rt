@@ -61,11 +61,12 @@ fn sync_all<F: RawFile>(file: &mut F) -> Result<(), Failed>
 
 impl<F: RawFile> HostFile<F> {
     /// A file that holds these bytes, on which nothing has been done.
-    pub(crate) fn new(file: F, bytes: &[u8]) -> HostFile<F>
+    pub fn new(file: F, bytes: &[u8]) -> HostFile<F>
         requires { IfSome (F.calls file) (λ calls. calls ≡ []) }
         ensures first { result.history.first ≡ bytes.now }
         ensures events { result.history.events ≡ [] }
         ensures failures { result.history.failures ≡ 0 }
+        ensures file { result.file ≡ file }
     {
         HostFile {
             file,
