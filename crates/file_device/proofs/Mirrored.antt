@@ -1,5 +1,5 @@
 -- A device has the sectors of its file.
-use Rattle.std.proofs.Common.{◌≡◌, ◌<◌, ◌≤◌, ℕ, ◌+◌, ◌*◌, ◌/◌, List, [], ◌∷◌, ◌++◌, Option, None, Some, IfSome, length, take, drop, replicate, refl, sym, ap, ◌∙◌, subst, arith, length-append}
+use Rattle.std.proofs.Common.{◌≡◌, ◌<◌, ℕ, ◌+◌, ◌*◌, ◌/◌, List, [], ◌∷◌, ◌++◌, Option, None, Some, IfSome, length, take, drop, replicate, refl, sym, ap, ◌∙◌, subst, arith, length-append}
 use Rattle.std.proofs.Math.Seq.{take-add}
 use Rattle.std.proofs.lemmas.List.{drop-drop, length-replicate, take-replicate}
 use Rattle.std.specs.List.{concat}
@@ -19,10 +19,10 @@ reads_true first now byte (piece ∷ pieces) answers =
     let size : length (concat (piece ∷ pieces)) ≡ length piece + length (concat pieces) = length-append piece (concat pieces) in (
       rest.0,
       ap (λ (l : List ℕ). l ++ concat pieces) answers.0
-      ∙ ap (λ (l : List ℕ). take (length piece) (drop byte first) ++ l)
-      (rest.1 ∙ ap (λ (l : List ℕ). take (length (concat pieces)) l) (ap (λ (n : ℕ). drop n first) (omega arith) ∙ sym (drop-drop (length piece) byte first)))
-      ∙ sym (take-add (length piece) (length (concat pieces)) (drop byte first))
-      ∙ ap (λ (n : ℕ). take n (drop byte first)) (sym size),
+          ∙ ap (λ (l : List ℕ). take (length piece) (drop byte first) ++ l)
+          (rest.1 ∙ ap (λ (l : List ℕ). take (length (concat pieces)) l) (ap (λ (n : ℕ). drop n first) (omega arith) ∙ sym (drop-drop (length piece) byte first)))
+          ∙ sym (take-add (length piece) (length (concat pieces)) (drop byte first))
+          ∙ ap (λ (n : ℕ). take n (drop byte first)) (sym size),
     )
 
 module _ (disk : Disk) where
@@ -34,8 +34,8 @@ module _ (disk : Disk) where
       let got : concat is.pieces ≡ take (length (concat is.pieces)) (drop 0 now) = subst (λ (l : List ℕ). concat is.pieces ≡ take (length (concat is.pieces)) (drop 0 l)) (sym read.0) read.1 in (
         is.size ∙ ap (λ (n : ℕ). n / 512) length_is,
         λ i lt. is.seen i
-        ∙ got_inside now (concat is.pieces) 0 0 (length (concat is.pieces)) got (omega arith) refl (omega (arith, is.whole)) (omega (arith, is.whole, length_is)) i (omega (arith, is.whole, is.size, lt))
-        ∙ ap (λ (n : ℕ). image_of now n) (omega arith),
+            ∙ got_inside now (concat is.pieces) 0 0 (length (concat is.pieces)) got (omega arith) refl (omega (arith, is.whole)) (omega (arith, is.whole, length_is)) i (omega (arith, is.whole, is.size, lt))
+            ∙ ap (λ (n : ℕ). image_of now n) (omega arith),
       )
 
   made_calls : (path : List ℕ) (sectors : ℕ) (calls : List OpeningCall) → disk.sectors ≡ sectors → ((i : ℕ) → i < sectors → disk.seen i ≡ replicate 512 0)

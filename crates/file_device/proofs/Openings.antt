@@ -1,5 +1,5 @@
 -- The calls that open or make a device, one after another.
-use Rattle.std.proofs.Common.{◌≡◌, ◌≢◌, ℕ, ◌+◌, ◌-◌, ◌*◌, ◌/◌, ◌≤◌, List, [], ◌∷◌, ◌++◌, Option, None, Some, IfSome, length, take, drop, refl, sym, ap, ◌∙◌, subst, append-nil, arith, length-append, length-take, length-take-le, drop_at}
+use Rattle.std.proofs.Common.{◌≡◌, ℕ, ◌+◌, ◌*◌, ◌/◌, ◌≤◌, List, [], ◌∷◌, ◌++◌, Option, None, Some, IfSome, length, take, refl, sym, ap, ◌∙◌, subst, append-nil, arith, length-append, length-take-le, drop_at}
 use Rattle.std.proofs.Math.Seq.{take-add}
 use Rattle.std.proofs.lemmas.List.{take-append-le}
 use Rattle.std.proofs.lemmas.List.Folds.{concat-append}
@@ -72,7 +72,7 @@ loads_locked lock a b c d copy takes syncs loads = (
   loads.2,
   loads.3,
   adds_more a b d (locked lock takes.0 ∷ []) (synced ∷ measured loads.0 ∷ reads 0 loads.1) takes.2
-  (adds_more b c d (synced ∷ []) (measured loads.0 ∷ reads 0 loads.1) syncs loads.4),
+      (adds_more b c d (synced ∷ []) (measured loads.0 ∷ reads 0 loads.1) syncs loads.4),
 )
 
 pub makes_zeros : (path : List ℕ) (n : ℕ) (a b c d e f : Calls) → TakesLock Exclusive a b → Adds b c (resized 0 ∷ []) → Adds c d (resized n ∷ []) → Adds d e (synced ∷ []) → Adds e f (listed path ∷ [])
@@ -81,9 +81,9 @@ makes_zeros path n a b c d e f takes empties fills syncs lists = (
   takes.0,
   takes.1,
   adds_more a b f (locked Exclusive takes.0 ∷ []) (resized 0 ∷ resized n ∷ synced ∷ listed path ∷ []) takes.2
-  (adds_more b c f (resized 0 ∷ []) (resized n ∷ synced ∷ listed path ∷ []) empties
-  (adds_more c d f (resized n ∷ []) (synced ∷ listed path ∷ []) fills
-  (adds_more d e f (synced ∷ []) (listed path ∷ []) syncs lists))),
+      (adds_more b c f (resized 0 ∷ []) (resized n ∷ synced ∷ listed path ∷ []) empties
+      (adds_more c d f (resized n ∷ []) (synced ∷ listed path ∷ []) fills
+      (adds_more d e f (synced ∷ []) (listed path ∷ []) syncs lists))),
 )
 
 -- a file that was just opened, and then loaded

@@ -1,5 +1,5 @@
 -- The calls that open or make a device in a file, and what they say of the file.
-use Rattle.std.specs.Prelude.{◌≡◌, ◌≢◌, ℕ, ◌+◌, ◌*◌, ◌/◌, ◌<◌, ◌≤◌, List, [], ◌∷◌, ◌++◌, length, take, drop, replicate, Option, IfSome, ⊤}
+use Rattle.std.specs.Prelude.{◌≡◌, ◌≢◌, ℕ, ◌+◌, ◌*◌, ◌/◌, ◌<◌, List, [], ◌∷◌, ◌++◌, length, take, drop, replicate, Option, ⊤}
 use Rattle.std.specs.List.{concat}
 use Rattle.device.specs.Disk.{Disk}
 use Rattle.device.specs.Calls.{Agrees, image_of}

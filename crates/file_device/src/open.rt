@@ -2,7 +2,7 @@
 ghost use Rattle.std.specs.Prelude.{◌≡◌, ◌≢◌, ◌<◌, ◌≤◌, ◌*◌, ◌/◌, ◌%◌, ℕ, [], ◌∷◌, length, replicate, nat_lt, if◌then◌else◌, IfErr, IfOk, IfSome, IsErrOf, OnOk, OnErr, Ok, Err};
 ghost use Rattle.device.specs.Calls.{Agrees, Only, sectors_of, image_of};
 ghost use Rattle.file_device.specs.FileDevice.{file_disk, raw_file};
-ghost use Rattle.file_device.specs.OpeningCalls.{locked, measured, Gets, Loads, LoadsLocked, TakesLock, MakesZeros, IsOpened, IsMade, Mirrors};
+ghost use Rattle.file_device.specs.OpeningCalls.{locked, measured, synced, Gets, Loads, LoadsLocked, TakesLock, MakesZeros, IsOpened, IsMade, Mirrors};
 ghost use Rattle.file_device.specs.RawCalls.{Adds};
 
 use crate::fault::FileFault;
@@ -66,11 +66,12 @@ fn load<F: Openable>(alloc: Global, file: &mut F) -> Result<Vec<u8>, FileFault>
 // Takes a lock on the file. A file of a system without locks goes without one.
 fn take_lock<F: Openable>(file: &mut F, lock: Lock) -> Result<(), FileFault>
     ensures ok { OnOk result (TakesLock lock (F.opening file.old) (F.opening file.new)) }
-    ensures held { OnErr result (Adds (F.opening file.old) (F.opening file.new) (locked lock LockAnswer.Held ∷ [])) }
-    ensures fault { IfErr result (λ fault. fault ≡ FileFault.Held) }
+    ensures held { IsErrOf result FileFault.Held
+        → Adds (F.opening file.old) (F.opening file.new) (locked lock LockAnswer.Held ∷ []) }
+    ensures fault { IfErr result (λ fault. fault ≢ FileFault.Long) }
     ensures calls { F.calls file.new ≡ F.calls file.old }
 {
-    match file.lock(lock) {
+    match file.lock(lock)? {
         LockAnswer::Held => Err(FileFault::Held),
         LockAnswer::Granted | LockAnswer::Unavailable => Ok(()),
     }
@@ -82,6 +83,8 @@ fn load_locked<F: Openable>(alloc: Global, file: &mut F, lock: Lock) -> Result<V
     ensures few { IfOk result (λ copy. sectors_of copy.items ≤ 131072) }
     ensures held { IsErrOf result FileFault.Held
         → Adds (F.opening file.old) (F.opening file.new) (locked lock LockAnswer.Held ∷ []) }
+    ensures long { IsErrOf result FileFault.Long → (answer : LockAnswer) × (n : ℕ) × (67108864 < n)
+        × Adds (F.opening file.old) (F.opening file.new) (locked lock answer ∷ synced ∷ measured n ∷ []) }
     ensures calls { F.calls file.new ≡ F.calls file.old }
 {
     take_lock(file, lock)?;

@@ -55,8 +55,9 @@ pub trait Openable: RawFile {
         ensures fresh { IfOk result (λ file. IfSome (Self.calls file) (λ calls. calls ≡ [])) };
 
     /// Asks for a lock, and doesn't wait.
-    fn lock(&mut self, lock: Lock) -> LockAnswer
-        ensures opening { Adds (opening self.old) (opening self.new) (locked lock result ∷ []) }
+    fn lock(&mut self, lock: Lock) -> io::Result<LockAnswer>
+        ensures ok { IfOk result (λ answer. Adds (opening self.old) (opening self.new) (locked lock answer ∷ [])) }
+        ensures err { OnErr result (opening self.new ≡ opening self.old) }
         ensures calls { Self.calls self.new ≡ Self.calls self.old };
 
     /// Makes durable all that was done to the file.
@@ -117,11 +118,11 @@ impl Openable for File {
             .open(rt, path)
     }
 
-    fn lock(&mut self, lock: Lock) -> LockAnswer {
-        match lock {
-            Lock::Exclusive => answer_of(self.try_lock()),
-            Lock::Shared => answer_of(self.try_lock_shared()),
-        }
+    fn lock(&mut self, lock: Lock) -> io::Result<LockAnswer> {
+        Ok(answer_of(match lock {
+            Lock::Exclusive => self.try_lock(),
+            Lock::Shared => self.try_lock_shared(),
+        }))
     }
 
     fn sync(&mut self) -> io::Result<()> {

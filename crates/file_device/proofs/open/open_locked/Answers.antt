@@ -1,6 +1,4 @@
-use Rattle.std.proofs.Common.{sym, subst, IfSome}
 use Rattle.file_device.specs.FileDevice.{file_disk}
-use Rattle.file_device.specs.OpeningCalls.{IsOpened}
 use Rattle.file_device.proofs.Mirrored.{opened_mirrors}
 use Rattle.file_device.proofs.Openings.{opens}
 use Rattle.file_device.proofs.open.open_locked.Goals as goal
