@@ -74,6 +74,13 @@ impl<F: RawFile> HostFile<F> {
             history: History::new(bytes),
         }
     }
+
+    /// The file beneath.
+    pub fn file(&self) -> &F
+        ensures { result.now ≡ self.now.file }
+    {
+        &self.file
+    }
 }
 
 impl<F: RawFile> SectorFile for HostFile<F> {

@@ -1,5 +1,5 @@
 // Opening and making a device in a file.
-ghost use Rattle.std.specs.Prelude.{◌≡◌, ◌≢◌, ◌<◌, ◌≤◌, ◌*◌, ◌/◌, ◌%◌, ℕ, [], ◌∷◌, length, replicate, nat_lt, if◌then◌else◌, IfErr, IfOk, IfSome, IsErrOf, OnOk, OnErr, Ok, Err};
+ghost use Rattle.std.specs.Prelude.{◌≡◌, ◌≢◌, ◌⊎◌, ◌<◌, ◌≤◌, ◌*◌, ◌/◌, ◌%◌, ℕ, [], ◌∷◌, length, replicate, nat_lt, if◌then◌else◌, IfErr, IfOk, IfSome, IsErrOf, OnOk, OnErr, Ok, Err};
 ghost use Rattle.device.specs.Calls.{Agrees, Only, sectors_of, image_of};
 ghost use Rattle.file_device.specs.FileDevice.{file_disk, raw_file};
 ghost use Rattle.file_device.specs.OpeningCalls.{locked, measured, synced, Gets, Loads, LoadsLocked, TakesLock, MakesZeros, IsOpened, IsMade, Mirrors};
@@ -68,7 +68,7 @@ fn take_lock<F: Openable>(file: &mut F, lock: Lock) -> Result<(), FileFault>
     ensures ok { OnOk result (TakesLock lock (F.opening file.old) (F.opening file.new)) }
     ensures held { IsErrOf result FileFault.Held
         → Adds (F.opening file.old) (F.opening file.new) (locked lock LockAnswer.Held ∷ []) }
-    ensures fault { IfErr result (λ fault. fault ≢ FileFault.Long) }
+    ensures fault { IfErr result (λ fault. (fault ≡ FileFault.Io) ⊎ (fault ≡ FileFault.Held)) }
     ensures calls { F.calls file.new ≡ F.calls file.old }
 {
     match file.lock(lock)? {
@@ -102,6 +102,7 @@ fn make_zeros<F: Openable>(
     ensures made { OnOk result (MakesZeros path.now bytes (F.opening file.old) (F.opening file.new)) }
     ensures held { IsErrOf result FileFault.Held
         → Adds (F.opening file.old) (F.opening file.new) (locked Lock.Exclusive LockAnswer.Held ∷ []) }
+    ensures fault { IfErr result (λ fault. (fault ≡ FileFault.Io) ⊎ (fault ≡ FileFault.Held)) }
     ensures calls { F.calls file.new ≡ F.calls file.old }
 {
     take_lock(file, Lock::Exclusive)?;
@@ -176,6 +177,7 @@ impl<F: Openable> CopiedFile<HostFile<F>> {
         requires { sectors ≤ MAX_SECTORS }
         ensures opening { IfOk result (λ d. IfSome (F.opening (raw_file d))
             (λ calls. IsMade path.now sectors calls)) }
+        ensures fault { IfErr result (λ fault. fault ≢ FileFault.Long) }
         ensures mirror { IfOk result (λ d. IfSome (F.opening (raw_file d)) (λ calls. Mirrors calls (file_disk d))) }
         ensures size { IfOk result (λ d. (file_disk d).sectors ≡ sectors) }
         ensures zeros { IfOk result (λ d. (i : ℕ) → i < sectors → (file_disk d).seen i ≡ replicate 512 0) }
