@@ -1,5 +1,5 @@
 -- The calls that open or make a device, one after another.
-use Rattle.std.proofs.Common.{◌≡◌, ℕ, ◌+◌, ◌*◌, ◌/◌, ◌≤◌, List, [], ◌∷◌, ◌++◌, Option, None, Some, IfSome, length, take, refl, sym, ap, ◌∙◌, subst, append-nil, arith, length-append, length-take-le, drop_at}
+use Rattle.std.proofs.Common.{◌≡◌, ℕ, ◌+◌, ◌*◌, ◌≤◌, List, [], ◌∷◌, ◌++◌, Option, None, Some, IfSome, length, take, refl, sym, ap, ◌∙◌, subst, append-nil, arith, length-append, length-take-le, drop_at}
 use Rattle.std.proofs.Math.Seq.{take-add}
 use Rattle.std.proofs.lemmas.List.{take-append-le}
 use Rattle.std.proofs.lemmas.List.Folds.{concat-append}
@@ -12,7 +12,7 @@ use Rattle.file_device.specs.declared.openable.Access.{Access}
 use Rattle.file_device.specs.declared.openable.Access.TheVariants.{Create}
 use Rattle.file_device.specs.declared.openable.Lock.{Lock}
 use Rattle.file_device.specs.declared.openable.Lock.TheVariants.{Exclusive}
-use Rattle.file_device.specs.OpeningCalls.{OpeningCall, opened, locked, synced, measured, got, resized, listed, reads, Gets, Loads, TakesLock, LoadsLocked, MakesZeros, IsOpened, IsMade}
+use Rattle.file_device.specs.OpeningCalls.{OpeningCall, opened, locked, synced, measured, got, resized, listed, reads, Gets, LoadsLocked, MakesZeros, IsOpened, IsMade}
 use Rattle.file_device.specs.RawCalls.{Adds}
 use Rattle.file_device.proofs.Deeds.{adds_none, adds_more}
 
@@ -45,50 +45,30 @@ front_more : (i k n : ℕ) (into part : List ℕ) → i ≤ length into → n �
 front_more i k n into part within fits =
     let after = post_of i k into in
     ap (λ (l : List ℕ). l ++ take n part) (sym (take-put_mid_below i k into part i (omega arith) within))
-    ∙ ap (λ (l : List ℕ). take i (put_mid i k into part) ++ l) (sym (ap (take n) (drop_at (take i into) (part ++ after) i (length-take-le i into within)) ∙ take-append-le n part after fits))
+    ∙ ap (λ (l : List ℕ). take i (put_mid i k into part) ++ l)
+    (sym (ap (take n) (drop_at (take i into) (part ++ after) i (length-take-le i into within)) ∙ take-append-le n part after fits))
     ∙ sym (take-add i n (put_mid i k into part))
 
 -- a call got n bytes into the rest of a buffer
-pub gets_on : (a b c : Calls) (into part : List ℕ) (i k n : ℕ) → i ≤ length into → n ≤ length part → Gets a b (take i into) → Adds b c (got i (take n part) ∷ [])
-    → Gets a c (take (i + n) (put_mid i k into part))
+pub gets_on : (a b c : Calls) (into part : List ℕ) (i k n : ℕ) → i ≤ length into → n ≤ length part
+    → Gets a b (take i into) → Adds b c (got i (take n part) ∷ []) → Gets a c (take (i + n) (put_mid i k into part))
 gets_on a b c into part i k n within fits gets adds =
     let there : i ≡ length (take i into) = sym (length-take-le i into within) in
     subst (Gets a c) (front_more i k n into part within fits)
     (gets_more a b c (take i into) (take n part) gets (subst (λ (m : ℕ). Adds b c (got m (take n part) ∷ [])) there adds))
 
 -- a call that got nothing
-pub gets_kept : (a b c : Calls) (into part : List ℕ) (i k : ℕ) → i ≤ length into → Gets a b (take i into) → c ≡ b → Gets a c (take i (put_mid i k into part))
-gets_kept a b c into part i k within gets same = subst (Gets a c) (sym (take-put_mid_below i k into part i (omega arith) within)) (subst (λ (d : Calls). Gets a d (take i into)) (sym same) gets)
-
-pub loads : (a b c : Calls) (n : ℕ) (copy : List ℕ) → Adds a b (measured n ∷ []) → Gets b c copy → length copy ≡ 512 * (n / 512) → Loads a c copy
-loads a b c n copy measures gets size = (n, gets.0, gets.1, size, adds_more a b c (measured n ∷ []) (reads 0 gets.0) measures gets.2)
-
-pub loads_locked : (lock : Lock) (a b c d : Calls) (copy : List ℕ) → TakesLock lock a b → Adds b c (synced ∷ []) → Loads c d copy → LoadsLocked lock a d copy
-loads_locked lock a b c d copy takes syncs loads = (
-  takes.0,
-  loads.0,
-  loads.1,
-  takes.1,
-  loads.2,
-  loads.3,
-  adds_more a b d (locked lock takes.0 ∷ []) (synced ∷ measured loads.0 ∷ reads 0 loads.1) takes.2
-      (adds_more b c d (synced ∷ []) (measured loads.0 ∷ reads 0 loads.1) syncs loads.4),
-)
-
-pub makes_zeros : (path : List ℕ) (n : ℕ) (a b c d e f : Calls) → TakesLock Exclusive a b → Adds b c (resized 0 ∷ []) → Adds c d (resized n ∷ []) → Adds d e (synced ∷ []) → Adds e f (listed path ∷ [])
-    → MakesZeros path n a f
-makes_zeros path n a b c d e f takes empties fills syncs lists = (
-  takes.0,
-  takes.1,
-  adds_more a b f (locked Exclusive takes.0 ∷ []) (resized 0 ∷ resized n ∷ synced ∷ listed path ∷ []) takes.2
-      (adds_more b c f (resized 0 ∷ []) (resized n ∷ synced ∷ listed path ∷ []) empties
-      (adds_more c d f (resized n ∷ []) (synced ∷ listed path ∷ []) fills
-      (adds_more d e f (synced ∷ []) (listed path ∷ []) syncs lists))),
-)
+pub gets_kept : (a b c : Calls) (into part : List ℕ) (i k : ℕ) → i ≤ length into → Gets a b (take i into) → c ≡ b
+    → Gets a c (take i (put_mid i k into part))
+gets_kept a b c into part i k within gets same =
+    subst (Gets a c) (sym (take-put_mid_below i k into part i (omega arith) within))
+    (subst (λ (d : Calls). Gets a d (take i into)) (sym same) gets)
 
 -- a file that was just opened, and then loaded
-pub opens : (path : List ℕ) (access : Access) (lock : Lock) (a b : Calls) (copy : List ℕ) (disk : Disk) → IfSome a (λ calls. calls ≡ opened path access ∷ [])
-    → LoadsLocked lock a b copy → disk.sectors ≡ sectors_of copy → Agrees disk.seen (image_of copy) → IfSome b (λ calls. IsOpened path access lock calls disk)
+pub opens : (path : List ℕ) (access : Access) (lock : Lock) (a b : Calls) (copy : List ℕ) (disk : Disk)
+    → IfSome a (λ calls. calls ≡ opened path access ∷ []) → LoadsLocked lock a b copy
+    → disk.sectors ≡ sectors_of copy → Agrees disk.seen (image_of copy)
+    → IfSome b (λ calls. IsOpened path access lock calls disk)
 opens path access lock None None copy disk is loads size seen = tt
 opens path access lock None (Some now) copy disk is loads size seen = let none : Some now ≡ None = loads.6 in cc
 opens path access lock (Some calls) None copy disk is loads size seen = absurd loads.6

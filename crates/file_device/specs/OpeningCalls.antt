@@ -1,4 +1,4 @@
--- The calls that open or make a device in a file, and what they say of the file.
+-- The calls that open or make a device in a file.
 use Rattle.std.specs.Prelude.{◌≡◌, ◌≢◌, ℕ, ◌+◌, ◌*◌, ◌/◌, ◌<◌, List, [], ◌∷◌, ◌++◌, length, take, drop, replicate, Option, ⊤}
 use Rattle.std.specs.List.{concat}
 use Rattle.device.specs.Disk.{Disk}
@@ -11,48 +11,51 @@ use Rattle.file_device.specs.declared.openable.LockAnswer.{LockAnswer}
 use Rattle.file_device.specs.declared.openable.LockAnswer.TheVariants.{Held}
 use Rattle.file_device.specs.RawCalls.{Adds}
 
--- a call with its answer; but for a lock, a call that went well
+-- a call that went well, with its answer
 pub data OpeningCall : Type 0 where
-  opened : List ℕ → Access → OpeningCall  -- the file at this path was opened
-  locked : Lock → LockAnswer → OpeningCall  -- a lock was asked for
-  synced : OpeningCall  -- all that was done to the file was made durable
-  measured : ℕ → OpeningCall  -- the file has so many bytes
-  got : ℕ → List ℕ → OpeningCall  -- it has these bytes from a byte on
-  resized : ℕ → OpeningCall  -- it was cut to so many bytes, or filled up with zeros
-  listed : List ℕ → OpeningCall  -- the folder of this path was made durable
+  opened : List ℕ → Access → OpeningCall  -- open the file at this path
+  locked : Lock → LockAnswer → OpeningCall  -- ask for a lock
+  synced : OpeningCall  -- make the file durable
+  measured : ℕ → OpeningCall  -- ask for the number of bytes in the file
+  got : ℕ → List ℕ → OpeningCall  -- read these bytes, from a byte on
+  resized : ℕ → OpeningCall  -- cut the file to this number of bytes, or add zeros up to it
+  listed : List ℕ → OpeningCall  -- make the folder of this path durable
 
--- pieces are got one behind the other from a byte on
+-- reads that give these pieces, one behind the other, from a byte on
 abbrev pub reads : ℕ → List (List ℕ) → List OpeningCall
 reads byte [] = []
 reads byte (piece ∷ pieces) = got byte piece ∷ reads (byte + length piece) pieces
 
--- these bytes were got from byte 0 on
+-- reads from byte 0 on gave these bytes
 abbrev pub Gets : Option (List OpeningCall) → Option (List OpeningCall) → List ℕ → Type 0
 Gets old new bytes = (pieces : List (List ℕ)) × (concat pieces ≡ bytes) × Adds old new (reads 0 pieces)
 
--- the file was measured, and its whole sectors were read
+-- the file was measured, and reads gave all of its whole sectors
 abbrev pub Loads : Option (List OpeningCall) → Option (List OpeningCall) → List ℕ → Type 0
 Loads old new copy =
-    (n : ℕ) × (pieces : List (List ℕ)) × (concat pieces ≡ copy) × (length copy ≡ 512 * (n / 512)) × Adds old new (measured n ∷ reads 0 pieces)
+    (n : ℕ) × (pieces : List (List ℕ)) × (concat pieces ≡ copy) × (length copy ≡ 512 * (n / 512))
+    × Adds old new (measured n ∷ reads 0 pieces)
 
--- a lock was asked for, and no other file holds it
+-- a lock was asked for, and no other open file excludes it
 abbrev pub TakesLock : Lock → Option (List OpeningCall) → Option (List OpeningCall) → Type 0
 TakesLock lock old new = (answer : LockAnswer) × (answer ≢ Held) × Adds old new (locked lock answer ∷ [])
 
--- the file was locked and made durable first
+-- the file was locked, synced, measured and read
 abbrev pub LoadsLocked : Lock → Option (List OpeningCall) → Option (List OpeningCall) → List ℕ → Type 0
 LoadsLocked lock old new copy =
-    (answer : LockAnswer) × (n : ℕ) × (pieces : List (List ℕ)) × (answer ≢ Held) × (concat pieces ≡ copy) × (length copy ≡ 512 * (n / 512))
+    (answer : LockAnswer) × (n : ℕ) × (pieces : List (List ℕ)) × (answer ≢ Held) × (concat pieces ≡ copy)
+    × (length copy ≡ 512 * (n / 512))
     × Adds old new (locked lock answer ∷ synced ∷ measured n ∷ reads 0 pieces)
 
--- the file was locked, emptied, filled with so many zeros and made durable, and then its folder
+-- the file was locked, emptied, extended to this number of bytes and synced, and then its folder was synced
 abbrev pub MakesZeros : List ℕ → ℕ → Option (List OpeningCall) → Option (List OpeningCall) → Type 0
 MakesZeros path bytes old new =
-    (answer : LockAnswer) × (answer ≢ Held) × Adds old new (locked Exclusive answer ∷ resized 0 ∷ resized bytes ∷ synced ∷ listed path ∷ [])
+    (answer : LockAnswer) × (answer ≢ Held)
+    × Adds old new (locked Exclusive answer ∷ resized 0 ∷ resized bytes ∷ synced ∷ listed path ∷ [])
 
--- The calls that opened a device: the file was opened, locked, made durable, measured and read. The device has the whole
--- sectors that were read.
-pub record IsOpened (path : List ℕ) (access : Access) (lock : Lock) (calls : List OpeningCall) (disk : Disk) : Type 0 where
+-- These calls and no others opened a device. It has the whole sectors that were read.
+pub record IsOpened (path : List ℕ) (access : Access) (lock : Lock) (calls : List OpeningCall) (disk : Disk)
+    : Type 0 where
   pub answer : LockAnswer
   pub bytes : ℕ
   pub pieces : List (List ℕ)
@@ -62,14 +65,14 @@ pub record IsOpened (path : List ℕ) (access : Access) (lock : Lock) (calls : L
   pub whole : length (concat pieces) ≡ 512 * (bytes / 512)
   pub seen : Agrees disk.seen (image_of (concat pieces))
 
--- The calls that made a device of so many sectors: the file was opened, locked, emptied, filled with zeros and made
--- durable, and then its folder.
+-- These calls and no others made the file of a device of `sectors` sectors.
 pub record IsMade (path : List ℕ) (sectors : ℕ) (calls : List OpeningCall) : Type 0 where
   pub answer : LockAnswer
-  pub made : calls ≡ opened path Create ∷ locked Exclusive answer ∷ resized 0 ∷ resized (512 * sectors) ∷ synced ∷ listed path ∷ []
+  pub made : calls ≡ opened path Create ∷ locked Exclusive answer
+      ∷ resized 0 ∷ resized (512 * sectors) ∷ synced ∷ listed path ∷ []
   pub free : answer ≢ Held
 
--- what a file of these bytes holds after a call
+-- the bytes of a file after a call
 abbrev pub bytes_after : List ℕ → OpeningCall → List ℕ
 bytes_after bytes (opened path access) = bytes
 bytes_after bytes (locked lock answer) = bytes
@@ -79,7 +82,7 @@ bytes_after bytes (got at piece) = bytes
 bytes_after bytes (resized n) = take n (bytes ++ replicate n 0)
 bytes_after bytes (listed path) = bytes
 
--- what a call says of a file of these bytes is true
+-- what a call says of a file with these bytes is true
 abbrev pub IsTrueOf : List ℕ → OpeningCall → Type 0
 IsTrueOf bytes (opened path access) = ⊤
 IsTrueOf bytes (locked lock answer) = ⊤
@@ -89,12 +92,12 @@ IsTrueOf bytes (got at piece) = piece ≡ take (length piece) (drop at bytes)
 IsTrueOf bytes (resized n) = ⊤
 IsTrueOf bytes (listed path) = ⊤
 
--- a file that held `first` answered these calls truly, and holds `now` after them
+-- a file with the bytes `first` answers each call truly, and has the bytes `now` after the last
 abbrev pub Answers : List ℕ → List OpeningCall → List ℕ → Type 0
 Answers first [] now = now ≡ first
 Answers first (call ∷ calls) now = IsTrueOf first call × Answers (bytes_after first call) calls now
 
--- whatever the file held, if it answered truly, the device has its whole sectors
+-- if the file answered truly, whatever it held, the device has its whole sectors
 abbrev pub Mirrors : List OpeningCall → Disk → Type 0
 Mirrors calls disk =
     (first now : List ℕ) → Answers first calls now

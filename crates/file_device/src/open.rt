@@ -13,7 +13,7 @@ use device::{MAX_SECTORS, SECTOR_SIZE};
 use std::alloc::Global;
 use std::io::ErrorKind;
 
-// How many whole sectors there are in so many bytes.
+// The number of whole sectors in this number of bytes, or `Long`.
 fn whole_sectors(bytes: u64) -> Result<u64, FileFault>
     ensures { result ≡ (if nat_lt 67108864 bytes then Err FileFault.Long else Ok (bytes / 512)) }
 {
@@ -63,7 +63,7 @@ fn load<F: Openable>(alloc: Global, file: &mut F) -> Result<Vec<u8>, FileFault>
     Ok(copy)
 }
 
-// Takes a lock on the file. A file of a system without locks goes without one.
+// Takes a lock on the file, or goes without one where the system has none. `Held` where another open file excludes it.
 fn take_lock<F: Openable>(file: &mut F, lock: Lock) -> Result<(), FileFault>
     ensures ok { OnOk result (TakesLock lock (F.opening file.old) (F.opening file.new)) }
     ensures held { IsErrOf result FileFault.Held
@@ -92,7 +92,7 @@ fn load_locked<F: Openable>(alloc: Global, file: &mut F, lock: Lock) -> Result<V
     load(alloc, file)
 }
 
-// Locks the file and makes it one of so many zeros, durably. At `Held` only the lock was asked for.
+// Locks the file, fills it with zeros and makes it durable. At `Held` only the lock was asked for.
 fn make_zeros<F: Openable>(
     rt: &HostRuntime,
     file: &mut F,
@@ -113,7 +113,7 @@ fn make_zeros<F: Openable>(
     Ok(())
 }
 
-// The device in the file at `path`, opened so and under this lock.
+// Opens the file at `path`, locks it, and gives the device in it.
 fn open_locked<F: Openable>(
     rt: &HostRuntime,
     path: &str,
@@ -162,7 +162,7 @@ impl<F: Openable> CopiedFile<HostFile<F>> {
         open_locked(rt, path, Access::Read, Lock::Shared)
     }
 
-    /// A device of so many sectors, all zeros, in a new file at `path`. A file that is there is emptied first. The
+    /// A device of `sectors` sectors, all zeros, in a new file at `path`. A file that is there is emptied first. The
     /// zeros are synced, and the folder that has the file, where the system lets it be opened. Until the device is
     /// dropped no other is open in the file.
     ///

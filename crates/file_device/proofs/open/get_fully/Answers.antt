@@ -13,7 +13,8 @@ loop-preserved g c = elim c.match-get.branch [
     within = search rules;
     bytes =
         rw w.done-is
-        (gets_on _ _ _ c.loop.into c.get.new.into c.loop.done (length c.loop.into - c.loop.done) w.in-Ok.count c.loop.invariant.within w.in-Ok.ensures.bound.0 c.loop.invariant.bytes
+        (gets_on _ _ _ c.loop.into c.get.new.into c.loop.done (length c.loop.into - c.loop.done) w.in-Ok.count
+        c.loop.invariant.within w.in-Ok.ensures.bound.0 c.loop.invariant.bytes
         w.in-Ok.ensures.ok);
     calls = w.in-Ok.ensures.calls ∙ c.loop.invariant.calls;
   }
@@ -22,7 +23,8 @@ loop-preserved g c = elim c.match-get.branch [
     within = search rules;
     bytes =
         rw w.done-is
-        (gets_kept _ _ _ c.loop.into c.get.new.into c.loop.done (length c.loop.into - c.loop.done) c.loop.invariant.within c.loop.invariant.bytes w.in-Err.ensures.err);
+        (gets_kept _ _ _ c.loop.into c.get.new.into c.loop.done (length c.loop.into - c.loop.done)
+        c.loop.invariant.within c.loop.invariant.bytes w.in-Err.ensures.err);
     calls = w.in-Err.ensures.calls ∙ c.loop.invariant.calls;
   }
 ]

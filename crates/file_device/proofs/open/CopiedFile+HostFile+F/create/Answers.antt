@@ -1,4 +1,4 @@
-use Rattle.std.proofs.Common.{◌*◌, ◌∙◌, arith}
+use Rattle.std.proofs.Common.{◌≡◌, ◌*◌, ◌∙◌, arith}
 use Rattle.device.proofs.Flat.{zeros_are}
 use Rattle.file_device.specs.FileDevice.{file_disk}
 use Rattle.file_device.proofs.Mirrored.{made_mirrors}
@@ -7,9 +7,11 @@ use Rattle.file_device.proofs.open.CopiedFile+HostFile+F.create.Goals as goal
 
 pub returns-clause-opening : goal.returns-clause-opening
 returns-clause-opening g c =
+    let before = g.F.Openable.opening c.in_ok-file.file in
+    let after = g.F.Openable.opening c.make_zeros.new.file in
     rw c.over.ensures.file
-    (makes c.args.path.now c.args.sectors _ (g.F.Openable.opening c.in_ok-file.file) (g.F.Openable.opening c.make_zeros.new.file) c.in_ok-file.ensures.opened (omega (arith, c.len.ensures, c.in_ok-zeros.ensures.len))
-    c.in_ok-make_zeros.ensures.made)
+    (makes c.args.path.now c.args.sectors _ before after c.in_ok-file.ensures.opened
+    (omega (arith, c.len.ensures, c.in_ok-zeros.ensures.len)) c.in_ok-make_zeros.ensures.made)
 
 pub returns-clause-zeros : goal.returns-clause-zeros
 returns-clause-zeros g c i lt =
@@ -18,4 +20,5 @@ returns-clause-zeros g c i lt =
 
 pub returns-clause-mirror : goal.returns-clause-mirror
 returns-clause-mirror g c =
-    made_mirrors (file_disk c.over.result) c.args.path.now c.args.sectors _ (omega (arith, c.over.ensures.size, c.in_ok-zeros.ensures.len)) (returns-clause-zeros g c) (returns-clause-opening g c)
+    let size : (file_disk c.over.result).sectors ≡ c.args.sectors = omega (arith, c.over.ensures.size, c.in_ok-zeros.ensures.len) in
+    made_mirrors (file_disk c.over.result) c.args.path.now c.args.sectors _ size (returns-clause-zeros g c) (returns-clause-opening g c)
