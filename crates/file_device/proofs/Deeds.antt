@@ -10,12 +10,13 @@ use Rattle.device.specs.Calls.{sectors_of}
 use Rattle.memory_device.specs.Past.{Event, writes_of}
 use Rattle.file_device.specs.RawCalls.{Adds, Call, took, Deed, writes, calls_of, events_by, taken, Takes, Tells}
 
-adds_more : (a b c : Option (List Call)) (xs ys : List Call) → Adds a b xs → Adds b c ys → Adds a c (xs ++ ys)
+-- calls, and then more
+pub adds_more : {X : Type 0} (a b c : Option (List X)) (xs ys : List X) → Adds a b xs → Adds b c ys → Adds a c (xs ++ ys)
 adds_more None None c xs ys p q = q
 adds_more None (Some one) c xs ys p q = cc
 adds_more (Some calls) None c xs ys p q = absurd p
 adds_more (Some calls) (Some one) None xs ys p q = absurd q
-adds_more (Some calls) (Some one) (Some two) xs ys p q = q ∙ ap (λ (l : List Call). l ++ ys) p ∙ append_assoc calls xs ys
+adds_more (Some calls) (Some one) (Some two) xs ys p q = q ∙ ap (λ l. l ++ ys) p ∙ append_assoc calls xs ys
 
 -- one more piece
 taken_one : (byte : ℕ) (ps : List (List ℕ)) (y : List ℕ) → taken byte (ps ++ y ∷ []) ≡ taken byte ps ++ took (byte + length (concat ps)) y ∷ []
@@ -70,6 +71,6 @@ where_ok (Ok x) ok is = ok
 where_ok (Err e) ok is = cc
 
 -- none
-pub adds_none : (a : Option (List Call)) → Adds a a []
+pub adds_none : {X : Type 0} (a : Option (List X)) → Adds a a []
 adds_none None = refl
 adds_none (Some calls) = sym (append-nil calls)

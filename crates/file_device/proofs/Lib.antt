@@ -1,3 +1,5 @@
 mod Copies
 mod Deeds
+mod Mirrored
+mod Openings
 mod Walks

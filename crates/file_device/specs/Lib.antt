@@ -1,6 +1,6 @@
 pub mod Codes
 pub mod FileDevice
-pub mod Known
+pub mod OpeningCalls
 pub mod RawCalls
 pub mod Sound
 pub mod SoundLaws

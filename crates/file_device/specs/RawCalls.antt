@@ -11,7 +11,7 @@ pub data Call : Type 0 where
   kept : Call
 
 -- known calls, and more; what isn't known stays so
-abbrev pub Adds : Option (List Call) → Option (List Call) → List Call → Type 0
+abbrev pub Adds : {X : Type 0} → Option (List X) → Option (List X) → List X → Type 0
 Adds None now more = now ≡ None
 Adds (Some calls) None more = ⊥
 Adds (Some calls) (Some now) more = now ≡ calls ++ more

@@ -1,10 +1,11 @@
 // A device in a file, with a copy of its sectors in memory.
-ghost use Rattle.std.specs.Prelude.{◌≡◌, ◌<◌, ◌≤◌, ◌+◌, ◌*◌, ◌%◌, [], length, IsOk, OnOk};
+ghost use Rattle.std.specs.Prelude.{◌≡◌, ◌<◌, ◌≤◌, ◌+◌, ◌*◌, ◌%◌, [], length, IfSome, IsOk, OnOk};
 ghost use Rattle.device.specs.Calls.{Agrees, sectors_of, image_of, AreSectors, Narrows, Only, Counts};
 ghost use Rattle.device.specs.Moments.{Elapses};
 ghost use Rattle.file_device.specs.Sound.{IsCopy};
 
 use crate::host_file::HostFile;
+use crate::raw_file::RawFile;
 use crate::sector_file::SectorFile;
 use device::{Device, Failed, SECTOR_SIZE};
 use memory_device::sectors::put;
@@ -31,7 +32,7 @@ impl<F: SectorFile> CopiedFile<F> {
     ghost use Rattle.file_device.specs.FileDevice.{file_disk};
 
     /// A device in this file, of which `copy` is what it holds. Nothing has been done to the file.
-    pub(crate) fn new(copy: Vec<u8>, file: F) -> CopiedFile<F>
+    pub fn new(copy: Vec<u8>, file: F) -> CopiedFile<F>
         requires whole { length copy.items % 512 ≡ 0 }
         requires few { sectors_of copy.items ≤ 131072 }
         requires first { F.first file ≡ copy.items }
@@ -40,12 +41,42 @@ impl<F: SectorFile> CopiedFile<F> {
         ensures seen { Agrees (file_disk result).seen (image_of copy.items) }
         ensures durable { Only (file_disk result).seen (file_disk result) }
         ensures failures { (file_disk result).failures ≡ F.failures file }
+        ensures file { result.file ≡ file }
     {
         CopiedFile {
             sectors: (copy.len() / SECTOR_SIZE) as u64,
             copy,
             file,
         }
+    }
+}
+
+impl<F: SectorFile> CopiedFile<F> {
+    /// The file.
+    pub fn file(&self) -> &F
+        ensures { result.now ≡ self.now.file }
+    {
+        &self.file
+    }
+}
+
+impl<F: RawFile> CopiedFile<HostFile<F>> {
+    ghost use Rattle.file_device.specs.FileDevice.{file_disk, raw_file};
+
+    /// A device in this file, whose bytes are `copy` and durable. No device call has been made on
+    /// the file.
+    pub fn over(file: F, copy: Vec<u8>) -> CopiedFile<HostFile<F>>
+        requires whole { length copy.items % 512 ≡ 0 }
+        requires few { sectors_of copy.items ≤ 131072 }
+        requires fresh { IfSome (F.calls file) (λ calls. calls ≡ []) }
+        ensures file { raw_file result ≡ file }
+        ensures size { (file_disk result).sectors ≡ sectors_of copy.items }
+        ensures seen { Agrees (file_disk result).seen (image_of copy.items) }
+        ensures durable { Only (file_disk result).seen (file_disk result) }
+        ensures failures { (file_disk result).failures ≡ 0 }
+    {
+        let file = HostFile::new(file, &copy);
+        CopiedFile::new(copy, file)
     }
 }
 

@@ -61,17 +61,25 @@ fn sync_all<F: RawFile>(file: &mut F) -> Result<(), Failed>
 
 impl<F: RawFile> HostFile<F> {
     /// A file that holds these bytes, on which nothing has been done.
-    pub(crate) fn new(file: F, bytes: &[u8]) -> HostFile<F>
+    pub fn new(file: F, bytes: &[u8]) -> HostFile<F>
         requires { IfSome (F.calls file) (λ calls. calls ≡ []) }
         ensures first { result.history.first ≡ bytes.now }
         ensures events { result.history.events ≡ [] }
         ensures failures { result.history.failures ≡ 0 }
+        ensures file { result.file ≡ file }
     {
         HostFile {
             file,
             is_broken: false,
             history: History::new(bytes),
         }
+    }
+
+    /// The file beneath.
+    pub fn file(&self) -> &F
+        ensures { result.now ≡ self.now.file }
+    {
+        &self.file
     }
 }
 

@@ -8,11 +8,13 @@ mod file_device;
 mod history;
 mod host_file;
 mod open;
+mod openable;
 mod raw_file;
 mod sector_file;
 
 pub use fault::FileFault;
 pub use file_device::{CopiedFile, FileDevice};
 pub use host_file::HostFile;
+pub use openable::{Access, Lock, LockAnswer, Openable};
 pub use raw_file::RawFile;
 pub use sector_file::SectorFile;

@@ -1,19 +1,19 @@
 // Opening and making a device in a file.
-ghost use Rattle.std.specs.Prelude.{◌≡◌, ◌<◌, ◌≤◌, ◌*◌, ◌/◌, ◌%◌, ℕ, length, replicate, nat_lt, if◌then◌else◌, take, Some, IfErr, IfOk, IfSome, IsErr, IsErrOf, OnOk, Ok, Err, ◌↔◌};
+ghost use Rattle.std.specs.Prelude.{◌≡◌, ◌≢◌, ◌⊎◌, ◌<◌, ◌≤◌, ◌*◌, ◌/◌, ◌%◌, ℕ, [], ◌∷◌, length, replicate, nat_lt, if◌then◌else◌, IfErr, IfOk, IfSome, IsErrOf, OnOk, OnErr, Ok, Err};
 ghost use Rattle.device.specs.Calls.{Agrees, Only, sectors_of, image_of};
-ghost use Rattle.file_device.specs.FileDevice.{file_disk};
-ghost use Rattle.file_device.specs.Known.{IfKnown};
+ghost use Rattle.file_device.specs.FileDevice.{file_disk, raw_file};
+ghost use Rattle.file_device.specs.OpeningCalls.{locked, measured, synced, Gets, Loads, LoadsLocked, TakesLock, MakesZeros, IsOpened, IsMade, Mirrors};
+ghost use Rattle.file_device.specs.RawCalls.{Adds};
 
 use crate::fault::FileFault;
-use crate::file_device::{CopiedFile, FileDevice};
+use crate::file_device::CopiedFile;
 use crate::host_file::HostFile;
+use crate::openable::{Access, Lock, LockAnswer, Openable};
 use device::{MAX_SECTORS, SECTOR_SIZE};
 use std::alloc::Global;
-use std::fs::{File, OpenOptions, TryLockError};
-use std::io::{Read, Seek, SeekFrom};
-use std::path::Path;
+use std::io::ErrorKind;
 
-// How many whole sectors there are in so many bytes.
+// The number of whole sectors in this number of bytes, or `Long`.
 fn whole_sectors(bytes: u64) -> Result<u64, FileFault>
     ensures { result ≡ (if nat_lt 67108864 bytes then Err FileFault.Long else Ok (bytes / 512)) }
 {
@@ -23,148 +23,170 @@ fn whole_sectors(bytes: u64) -> Result<u64, FileFault>
     Ok(bytes / SECTOR_SIZE as u64)
 }
 
-// Counts the whole sectors, and goes to the first.
-fn count_sectors<S: Seek>(file: &mut S) -> Result<u64, FileFault>
-    ensures count { IfOk result (λ n. IfKnown (S.stream_position file.old) (S.stream_bytes file.old)
-        (λ bytes. (length bytes ≤ 67108864) × (n ≡ length bytes / 512))) }
-    ensures few { IfOk result (λ n. n ≤ 131072) }
-    ensures long { IsErrOf result FileFault.Long → IfKnown (S.stream_position file.old) (S.stream_bytes file.old)
-        (λ bytes. 67108864 < length bytes) }
-    ensures start { OnOk result (IfSome (S.stream_position file.old) (λ _. S.stream_position file.new ≡ Some 0)) }
+// Fills `into` from byte 0 of the file on. A call that was interrupted is made again.
+fn get_fully<F: Openable>(file: &mut F, into: &mut [u8]) -> Result<(), FileFault>
+    requires { length into.old ≤ 67108864 }
+    ensures bytes { OnOk result (Gets (F.opening file.old) (F.opening file.new) into.new) }
+    ensures fault { IfErr result (λ fault. fault ≡ FileFault.Io) }
+    ensures calls { F.calls file.new ≡ F.calls file.old }
 {
-    let bytes = file.seek(SeekFrom::End(0))?;
-    let sectors = whole_sectors(bytes)?;
-    file.rewind()?;
-    Ok(sectors)
-}
-
-// Reads so many sectors.
-fn read_sectors<R: Read>(alloc: Global, file: &mut R, sectors: u64) -> Result<Vec<u8>, FileFault>
-    requires { sectors ≤ 131072 }
-    ensures size { IfOk result (λ copy. length copy.items ≡ 512 * sectors) }
-    ensures bytes { IfOk result (λ copy. IfSome (R.remaining file.old)
-        (λ bytes. copy.items ≡ take (512 * sectors) bytes)) }
-    ensures not_long { IsErrOf result FileFault.Long → ⊥ }
-{
-    let mut copy = vec![in alloc; 0; sectors as usize * SECTOR_SIZE]?;
-    file.read_exact(&mut copy)?;
-    Ok(copy)
+    let mut done = 0;
+    for _ in 0..u64::MAX {
+        if done == into.len() {
+            return Ok(());
+        }
+        match file.get(done as u64, &mut into[done..]) {
+            Ok(0) => return Err(FileFault::Io),
+            Ok(count) => done += count,
+            Err(error) => {
+                if error.kind() != ErrorKind::Interrupted {
+                    return Err(FileFault::Io);
+                }
+            }
+        }
+    }
+    Err(FileFault::Io)
 }
 
 // Reads all whole sectors of the file.
-fn load<F: Read + Seek>(alloc: Global, file: &mut F) -> Result<Vec<u8>, FileFault>
-    ensures whole { IfOk result (λ copy. length copy.items % 512 ≡ 0) }
+fn load<F: Openable>(alloc: Global, file: &mut F) -> Result<Vec<u8>, FileFault>
+    ensures read { IfOk result (λ copy. Loads (F.opening file.old) (F.opening file.new) copy.items) }
     ensures few { IfOk result (λ copy. sectors_of copy.items ≤ 131072) }
-    ensures count { IfOk result (λ copy. IfKnown (F.stream_position file.old) (F.stream_bytes file.old)
-        (λ bytes. (length bytes ≤ 67108864) × (sectors_of copy.items ≡ length bytes / 512))) }
-    ensures long { IsErrOf result FileFault.Long → IfKnown (F.stream_position file.old) (F.stream_bytes file.old)
-        (λ bytes. 67108864 < length bytes) }
+    ensures long { IsErrOf result FileFault.Long
+        → (n : ℕ) × (67108864 < n) × Adds (F.opening file.old) (F.opening file.new) (measured n ∷ []) }
+    ensures fault { IfErr result (λ fault. fault ≢ FileFault.Held) }
+    ensures calls { F.calls file.new ≡ F.calls file.old }
 {
-    let sectors = count_sectors(file)?;
-    read_sectors(alloc, file, sectors)
+    let sectors = whole_sectors(file.length()?)?;
+    let mut copy = vec![in alloc; 0; sectors as usize * SECTOR_SIZE]?;
+    get_fully(file, &mut copy)?;
+    Ok(copy)
 }
 
-// The device in this file, which holds these bytes.
-fn over(file: File, bytes: Vec<u8>) -> FileDevice
-    requires whole { length bytes.items % 512 ≡ 0 }
-    requires few { sectors_of bytes.items ≤ 131072 }
-    ensures size { (file_disk result).sectors ≡ sectors_of bytes.items }
-    ensures seen { Agrees (file_disk result).seen (image_of bytes.items) }
-    ensures durable { Only (file_disk result).seen (file_disk result) }
-    ensures failures { (file_disk result).failures ≡ 0 }
+// Takes a lock on the file, or goes without one where the system has none. `Held` where another open file excludes it.
+fn take_lock<F: Openable>(file: &mut F, lock: Lock) -> Result<(), FileFault>
+    ensures ok { OnOk result (TakesLock lock (F.opening file.old) (F.opening file.new)) }
+    ensures held { IsErrOf result FileFault.Held
+        → Adds (F.opening file.old) (F.opening file.new) (locked lock LockAnswer.Held ∷ []) }
+    ensures fault { IfErr result (λ fault. (fault ≡ FileFault.Io) ⊎ (fault ≡ FileFault.Held)) }
+    ensures calls { F.calls file.new ≡ F.calls file.old }
 {
-    let file = HostFile::new(file, &bytes);
-    CopiedFile::new(bytes, file)
-}
-
-// Whether a lock was taken. A file of a system without locks goes without one.
-fn taken(answer: Result<(), TryLockError>) -> Result<(), FileFault>
-    ensures held { IsErr result ↔ IsErrOf answer TryLockError.WouldBlock }
-    ensures fault { IfErr result (λ fault. fault ≡ FileFault.Held) }
-{
-    match answer {
-        Err(TryLockError::WouldBlock) => Err(FileFault::Held),
-        Ok(()) | Err(TryLockError::Error(_)) => Ok(()),
+    match file.lock(lock)? {
+        LockAnswer::Held => Err(FileFault::Held),
+        LockAnswer::Granted | LockAnswer::Unavailable => Ok(()),
     }
 }
 
-// The device in this file, which is synced before it is read.
-fn synced(alloc: Global, mut file: File) -> Result<FileDevice, FileFault>
-    ensures durable { IfOk result (λ d. Only (file_disk d).seen (file_disk d)) }
-    ensures failures { IfOk result (λ d. (file_disk d).failures ≡ 0) }
+// Locks the file, makes it durable and reads it. At `Held` only the lock was asked for.
+fn load_locked<F: Openable>(alloc: Global, file: &mut F, lock: Lock) -> Result<Vec<u8>, FileFault>
+    ensures read { IfOk result (λ copy. LoadsLocked lock (F.opening file.old) (F.opening file.new) copy.items) }
+    ensures few { IfOk result (λ copy. sectors_of copy.items ≤ 131072) }
+    ensures held { IsErrOf result FileFault.Held
+        → Adds (F.opening file.old) (F.opening file.new) (locked lock LockAnswer.Held ∷ []) }
+    ensures long { IsErrOf result FileFault.Long → (answer : LockAnswer) × (n : ℕ) × (67108864 < n)
+        × Adds (F.opening file.old) (F.opening file.new) (locked lock answer ∷ synced ∷ measured n ∷ []) }
+    ensures calls { F.calls file.new ≡ F.calls file.old }
 {
-    file.sync_data()?;
-    let copy = load(alloc, &mut file)?;
-    Ok(over(file, copy))
+    take_lock(file, lock)?;
+    file.sync()?;
+    load(alloc, file)
 }
 
-// Makes durable that a new file is in its folder, where the system lets the folder be opened.
-fn sync_folder(rt: &HostRuntime, path: &str) -> Result<(), FileFault> {
-    let folder = match Path::new(path).parent() {
-        Some(folder) if !folder.as_os_str().is_empty() => folder,
-        _ => Path::new("."),
-    };
-    if let Ok(folder) = File::open(rt, folder) {
-        folder.sync_all()?;
-    }
+// Locks the file, fills it with zeros and makes it durable. At `Held` only the lock was asked for.
+fn make_zeros<F: Openable>(
+    rt: &HostRuntime,
+    file: &mut F,
+    path: &str,
+    bytes: u64,
+) -> Result<(), FileFault>
+    ensures made { OnOk result (MakesZeros path.now bytes (F.opening file.old) (F.opening file.new)) }
+    ensures held { IsErrOf result FileFault.Held
+        → Adds (F.opening file.old) (F.opening file.new) (locked Lock.Exclusive LockAnswer.Held ∷ []) }
+    ensures fault { IfErr result (λ fault. (fault ≡ FileFault.Io) ⊎ (fault ≡ FileFault.Held)) }
+    ensures calls { F.calls file.new ≡ F.calls file.old }
+{
+    take_lock(file, Lock::Exclusive)?;
+    file.resize(0)?;
+    file.resize(bytes)?;
+    file.sync()?;
+    file.sync_folder(rt, path)?;
     Ok(())
 }
 
-impl CopiedFile<HostFile<File>> {
+// Opens the file at `path`, locks it, and gives the device in it.
+fn open_locked<F: Openable>(
+    rt: &HostRuntime,
+    path: &str,
+    access: Access,
+    lock: Lock,
+) -> Result<CopiedFile<HostFile<F>>, FileFault>
+    ensures opening { IfOk result (λ d. IfSome (F.opening (raw_file d))
+        (λ calls. IsOpened path.now access lock calls (file_disk d))) }
+    ensures mirror { IfOk result (λ d. IfSome (F.opening (raw_file d)) (λ calls. Mirrors calls (file_disk d))) }
+    ensures durable { IfOk result (λ d. Only (file_disk d).seen (file_disk d)) }
+    ensures failures { IfOk result (λ d. (file_disk d).failures ≡ 0) }
+{
+    let mut file = F::at(rt, path, access)?;
+    let copy = load_locked(rt.alloc(), &mut file, lock)?;
+    Ok(CopiedFile::over(file, copy))
+}
+
+impl<F: Openable> CopiedFile<HostFile<F>> {
     /// The device in the file at `path`, which has to be there. Its sectors are the whole ones of
-    /// the file: what comes after the last of them is left as it is. The file is synced before it
+    /// the file: what comes after the last of them is left as it is. The file is locked and synced before it
     /// is read, so what a read of the device gives at first is durable. Until the device is dropped no other is open
     /// in the file.
     ///
     /// `Held` where another device is open in it. `Long` where the file has more bytes than `MAX_SECTORS` sectors.
-    /// `Io` where the system refuses to open, sync, seek or read it, as it does with a file that isn't there, a
+    /// `Io` where the system refuses to open, sync, measure or read it, as it does with a file that isn't there, a
     /// folder or a pipe. `NoMemory` where there is no room for a copy of it.
-    pub fn open(rt: &HostRuntime, path: &str) -> Result<FileDevice, FileFault>
+    pub fn open(rt: &HostRuntime, path: &str) -> Result<CopiedFile<HostFile<F>>, FileFault>
+        ensures opening { IfOk result (λ d. IfSome (F.opening (raw_file d))
+            (λ calls. IsOpened path.now Access.Write Lock.Exclusive calls (file_disk d))) }
+        ensures mirror { IfOk result (λ d. IfSome (F.opening (raw_file d)) (λ calls. Mirrors calls (file_disk d))) }
         ensures durable { IfOk result (λ d. Only (file_disk d).seen (file_disk d)) }
         ensures failures { IfOk result (λ d. (file_disk d).failures ≡ 0) }
     {
-        let file = OpenOptions::new().read(true).write(true).open(rt, path)?;
-        taken(file.try_lock())?;
-        synced(rt.alloc(), file)
+        open_locked(rt, path, Access::Write, Lock::Exclusive)
     }
 
     /// As `open`, of a file that needn't be writable: each write to the device fails. Others that were opened so may
     /// be open in the file too.
-    pub fn open_to_read(rt: &HostRuntime, path: &str) -> Result<FileDevice, FileFault>
+    pub fn open_to_read(rt: &HostRuntime, path: &str) -> Result<CopiedFile<HostFile<F>>, FileFault>
+        ensures opening { IfOk result (λ d. IfSome (F.opening (raw_file d))
+            (λ calls. IsOpened path.now Access.Read Lock.Shared calls (file_disk d))) }
+        ensures mirror { IfOk result (λ d. IfSome (F.opening (raw_file d)) (λ calls. Mirrors calls (file_disk d))) }
         ensures durable { IfOk result (λ d. Only (file_disk d).seen (file_disk d)) }
         ensures failures { IfOk result (λ d. (file_disk d).failures ≡ 0) }
     {
-        let file = File::open(rt, path)?;
-        taken(file.try_lock_shared())?;
-        synced(rt.alloc(), file)
+        open_locked(rt, path, Access::Read, Lock::Shared)
     }
 
-    /// A device of so many sectors, all zeros, in a new file at `path`. A file that is there is emptied first. The
+    /// A device of `sectors` sectors, all zeros, in a new file at `path`. A file that is there is emptied first. The
     /// zeros are synced, and the folder that has the file, where the system lets it be opened. Until the device is
     /// dropped no other is open in the file.
     ///
     /// `Held` where another device is open in the file, which is left as it is. `Io` where the system refuses to make,
     /// lengthen or sync the file, which may then be there with any length. `NoMemory` where there is no room for a
     /// copy of it, and then no file was touched.
-    pub fn create(rt: &HostRuntime, path: &str, sectors: u64) -> Result<FileDevice, FileFault>
+    pub fn create(
+        rt: &HostRuntime,
+        path: &str,
+        sectors: u64,
+    ) -> Result<CopiedFile<HostFile<F>>, FileFault>
         requires { sectors ≤ MAX_SECTORS }
+        ensures opening { IfOk result (λ d. IfSome (F.opening (raw_file d))
+            (λ calls. IsMade path.now sectors calls)) }
+        ensures fault { IfErr result (λ fault. fault ≢ FileFault.Long) }
+        ensures mirror { IfOk result (λ d. IfSome (F.opening (raw_file d)) (λ calls. Mirrors calls (file_disk d))) }
         ensures size { IfOk result (λ d. (file_disk d).sectors ≡ sectors) }
         ensures zeros { IfOk result (λ d. (i : ℕ) → i < sectors → (file_disk d).seen i ≡ replicate 512 0) }
         ensures durable { IfOk result (λ d. Only (file_disk d).seen (file_disk d)) }
         ensures failures { IfOk result (λ d. (file_disk d).failures ≡ 0) }
     {
         let zeros = vec![in rt.alloc(); 0; sectors as usize * SECTOR_SIZE]?;
-        let file = OpenOptions::new()
-            .read(true)
-            .write(true)
-            .create(true)
-            .truncate(false)
-            .open(rt, path)?;
-        taken(file.try_lock())?;
-        file.set_len(0)?;
-        file.set_len(zeros.len() as u64)?;
-        file.sync_all()?;
-        sync_folder(rt, path)?;
-        Ok(over(file, zeros))
+        let mut file = F::at(rt, path, Access::Create)?;
+        make_zeros(rt, &mut file, path, zeros.len() as u64)?;
+        Ok(CopiedFile::over(file, zeros))
     }
 }

@@ -3,3 +3,6 @@
 
 #[cfg(test)]
 mod files;
+#[cfg(test)]
+mod openings;
+pub mod recorded;

@@ -1,0 +1,98 @@
+-- The calls that open or make a device, one after another.
+use Rattle.std.proofs.Common.{◌≡◌, ℕ, ◌+◌, ◌*◌, ◌≤◌, List, [], ◌∷◌, ◌++◌, Option, None, Some, IfSome, length, take, refl, sym, ap, ◌∙◌, subst, append-nil, arith, length-append, length-take-le, drop_at}
+use Rattle.std.proofs.Math.Seq.{take-add}
+use Rattle.std.proofs.lemmas.List.{take-append-le}
+use Rattle.std.proofs.lemmas.List.Folds.{concat-append}
+use Rattle.std.proofs.lemmas.Slice.{take-put_mid_below}
+use Rattle.std.specs.List.{concat}
+use borrow.Rule.Slice.PartMut.{put_mid, post_of}
+use Rattle.device.specs.Disk.{Disk}
+use Rattle.device.specs.Calls.{Agrees, image_of, sectors_of}
+use Rattle.file_device.specs.declared.openable.Access.{Access}
+use Rattle.file_device.specs.declared.openable.Access.TheVariants.{Create}
+use Rattle.file_device.specs.declared.openable.Lock.{Lock}
+use Rattle.file_device.specs.declared.openable.Lock.TheVariants.{Exclusive}
+use Rattle.file_device.specs.OpeningCalls.{OpeningCall, opened, locked, synced, measured, got, resized, listed, reads, Gets, LoadsLocked, MakesZeros, IsOpened, IsMade}
+use Rattle.file_device.specs.RawCalls.{Adds}
+use Rattle.file_device.proofs.Deeds.{adds_none, adds_more}
+
+abbrev Calls : Type 0
+Calls = Option (List OpeningCall)
+
+-- one more piece
+reads_more : (byte : ℕ) (ps : List (List ℕ)) (y : List ℕ) → reads byte (ps ++ y ∷ []) ≡ reads byte ps ++ got (byte + length (concat ps)) y ∷ []
+reads_more byte [] y = ap (λ (n : ℕ). got n y ∷ []) (omega arith)
+reads_more byte (p ∷ ps) y =
+    ap (λ (l : List OpeningCall). got byte p ∷ l) (reads_more (byte + length p) ps y
+    ∙ ap (λ (n : ℕ). reads (byte + length p) ps ++ got n y ∷ []) (omega (arith, length-append p (concat ps))))
+
+reads_one : (ps : List (List ℕ)) (y : List ℕ) → reads 0 (ps ++ y ∷ []) ≡ reads 0 ps ++ got (length (concat ps)) y ∷ []
+reads_one ps y = reads_more 0 ps y ∙ ap (λ (n : ℕ). reads 0 ps ++ got n y ∷ []) (omega arith)
+
+pub gets_none : (a : Calls) → Gets a a []
+gets_none a = ([], refl, adds_none a)
+
+gets_more : (a b c : Calls) (xs ys : List ℕ) → Gets a b xs → Adds b c (got (length xs) ys ∷ []) → Gets a c (xs ++ ys)
+gets_more a b c xs ys gets adds =
+    let behind : Adds b c (got (length (concat gets.0)) ys ∷ []) = subst (λ (l : List ℕ). Adds b c (got (length l) ys ∷ [])) (sym gets.1) adds in (
+      gets.0 ++ ys ∷ [],
+      concat-append gets.0 (ys ∷ []) ∙ ap (λ (l : List ℕ). concat gets.0 ++ l) (append-nil ys) ∙ ap (λ (l : List ℕ). l ++ ys) gets.1,
+      subst (Adds a c) (sym (reads_one gets.0 ys)) (adds_more a b c (reads 0 gets.0) (got (length (concat gets.0)) ys ∷ []) gets.2 behind),
+    )
+
+-- the front of a list, once n bytes were got behind it
+front_more : (i k n : ℕ) (into part : List ℕ) → i ≤ length into → n ≤ length part → take i into ++ take n part ≡ take (i + n) (put_mid i k into part)
+front_more i k n into part within fits =
+    let after = post_of i k into in
+    ap (λ (l : List ℕ). l ++ take n part) (sym (take-put_mid_below i k into part i (omega arith) within))
+    ∙ ap (λ (l : List ℕ). take i (put_mid i k into part) ++ l)
+    (sym (ap (take n) (drop_at (take i into) (part ++ after) i (length-take-le i into within)) ∙ take-append-le n part after fits))
+    ∙ sym (take-add i n (put_mid i k into part))
+
+-- a call got n bytes into the rest of a buffer
+pub gets_on : (a b c : Calls) (into part : List ℕ) (i k n : ℕ) → i ≤ length into → n ≤ length part
+    → Gets a b (take i into) → Adds b c (got i (take n part) ∷ []) → Gets a c (take (i + n) (put_mid i k into part))
+gets_on a b c into part i k n within fits gets adds =
+    let there : i ≡ length (take i into) = sym (length-take-le i into within) in
+    subst (Gets a c) (front_more i k n into part within fits)
+    (gets_more a b c (take i into) (take n part) gets (subst (λ (m : ℕ). Adds b c (got m (take n part) ∷ [])) there adds))
+
+-- a call that got nothing
+pub gets_kept : (a b c : Calls) (into part : List ℕ) (i k : ℕ) → i ≤ length into → Gets a b (take i into) → c ≡ b
+    → Gets a c (take i (put_mid i k into part))
+gets_kept a b c into part i k within gets same =
+    subst (Gets a c) (sym (take-put_mid_below i k into part i (omega arith) within))
+    (subst (λ (d : Calls). Gets a d (take i into)) (sym same) gets)
+
+-- a file that was just opened, and then loaded
+pub opens : (path : List ℕ) (access : Access) (lock : Lock) (a b : Calls) (copy : List ℕ) (disk : Disk)
+    → IfSome a (λ calls. calls ≡ opened path access ∷ []) → LoadsLocked lock a b copy
+    → disk.sectors ≡ sectors_of copy → Agrees disk.seen (image_of copy)
+    → IfSome b (λ calls. IsOpened path access lock calls disk)
+opens path access lock None None copy disk is loads size seen = tt
+opens path access lock None (Some now) copy disk is loads size seen = let none : Some now ≡ None = loads.6 in cc
+opens path access lock (Some calls) None copy disk is loads size seen = absurd loads.6
+opens path access lock (Some calls) (Some now) copy disk is loads size seen = record {
+  answer = loads.0;
+  bytes = loads.1;
+  pieces = loads.2;
+  made = loads.6 ∙ ap (λ (l : List OpeningCall). l ++ locked lock loads.0 ∷ synced ∷ measured loads.1 ∷ reads 0 loads.2) is;
+  free = loads.3;
+  size = omega (arith, size, loads.5);
+  whole = ap length loads.4 ∙ loads.5;
+  seen = subst (λ (l : List ℕ). Agrees disk.seen (image_of l)) (sym loads.4) seen;
+}
+
+-- a file that was just opened, and then filled with zeros
+pub makes : (path : List ℕ) (sectors n : ℕ) (a b : Calls) → IfSome a (λ calls. calls ≡ opened path Create ∷ []) → n ≡ 512 * sectors → MakesZeros path n a b
+    → IfSome b (λ calls. IsMade path sectors calls)
+makes path sectors n None None is size zeros = tt
+makes path sectors n None (Some now) is size zeros = let none : Some now ≡ None = zeros.2 in cc
+makes path sectors n (Some calls) None is size zeros = absurd zeros.2
+makes path sectors n (Some calls) (Some now) is size zeros = record {
+  answer = zeros.0;
+  made =
+      zeros.2 ∙ ap (λ (l : List OpeningCall). l ++ locked Exclusive zeros.0 ∷ resized 0 ∷ resized n ∷ synced ∷ listed path ∷ []) is
+      ∙ ap (λ (m : ℕ). opened path Create ∷ locked Exclusive zeros.0 ∷ resized 0 ∷ resized m ∷ synced ∷ listed path ∷ []) size;
+  free = zeros.1;
+}

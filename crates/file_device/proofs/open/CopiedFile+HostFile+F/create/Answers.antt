@@ -1,0 +1,24 @@
+use Rattle.std.proofs.Common.{◌≡◌, ◌*◌, ◌∙◌, arith}
+use Rattle.device.proofs.Flat.{zeros_are}
+use Rattle.file_device.specs.FileDevice.{file_disk}
+use Rattle.file_device.proofs.Mirrored.{made_mirrors}
+use Rattle.file_device.proofs.Openings.{makes}
+use Rattle.file_device.proofs.open.CopiedFile+HostFile+F.create.Goals as goal
+
+pub returns-clause-opening : goal.returns-clause-opening
+returns-clause-opening g c =
+    let before = g.F.Openable.opening c.in_ok-file.file in
+    let after = g.F.Openable.opening c.make_zeros.new.file in
+    rw c.over.ensures.file
+    (makes c.args.path.now c.args.sectors _ before after c.in_ok-file.ensures.opened
+    (omega (arith, c.len.ensures, c.in_ok-zeros.ensures.len)) c.in_ok-make_zeros.ensures.made)
+
+pub returns-clause-zeros : goal.returns-clause-zeros
+returns-clause-zeros g c i lt =
+    let zeros = c.in_ok-zeros.ensures.items_if_clones_equal (λ y e. e) in
+    c.over.ensures.seen i ∙ zeros_are c.in_ok-zeros.zeros.items (c.args.sectors * 512) c.args.sectors i zeros (omega arith) lt
+
+pub returns-clause-mirror : goal.returns-clause-mirror
+returns-clause-mirror g c =
+    let size : (file_disk c.over.result).sectors ≡ c.args.sectors = omega (arith, c.over.ensures.size, c.in_ok-zeros.ensures.len) in
+    made_mirrors (file_disk c.over.result) c.args.path.now c.args.sectors _ size (returns-clause-zeros g c) (returns-clause-opening g c)

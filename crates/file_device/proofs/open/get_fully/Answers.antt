@@ -1,0 +1,30 @@
+use Rattle.std.proofs.Common.{◌-◌, ◌∙◌, rules, arith, length}
+use Rattle.file_device.proofs.Openings.{gets_none, gets_on, gets_kept}
+use Rattle.file_device.proofs.open.get_fully.Goals as goal
+use Rattle.file_device.proofs.open.get_fully.Goals.{in-Ok, in-Err+else-ne}
+
+pub loop-init : goal.loop-init
+loop-init g c = record { size = search rules; within = omega arith; bytes = gets_none (g.F.Openable.opening c.args.file.now); calls = search rules }
+
+pub loop-preserved : goal.loop-preserved
+loop-preserved g c = elim c.match-get.branch [
+  | in-Ok w ↦ record {
+    size = search rules;
+    within = search rules;
+    bytes =
+        rw w.done-is
+        (gets_on _ _ _ c.loop.into c.get.new.into c.loop.done (length c.loop.into - c.loop.done) w.in-Ok.count
+        c.loop.invariant.within w.in-Ok.ensures.bound.0 c.loop.invariant.bytes
+        w.in-Ok.ensures.ok);
+    calls = w.in-Ok.ensures.calls ∙ c.loop.invariant.calls;
+  }
+  | in-Err+else-ne w ↦ record {
+    size = search rules;
+    within = search rules;
+    bytes =
+        rw w.done-is
+        (gets_kept _ _ _ c.loop.into c.get.new.into c.loop.done (length c.loop.into - c.loop.done)
+        c.loop.invariant.within c.loop.invariant.bytes w.in-Err.ensures.err);
+    calls = w.in-Err.ensures.calls ∙ c.loop.invariant.calls;
+  }
+]

@@ -1,0 +1,11 @@
+use Rattle.std.proofs.Common.{◌≡◌, ◌≤◌, length, take}
+use Rattle.file_device.specs.OpeningCalls.{Gets}
+use Rattle.file_device.proofs.open.get_fully.Given as goal
+
+abbrev pub invariant-loop : goal.invariant-loop
+invariant-loop g l = record {
+  size : length l.into ≡ length l.fn.into;
+  within : l.done ≤ length l.into;
+  bytes : Gets (g.F.Openable.opening l.fn.file) (g.F.Openable.opening l.file) (take l.done l.into);
+  calls : g.F.RawFile.calls l.file ≡ g.F.RawFile.calls l.fn.file;
+}
