@@ -76,7 +76,7 @@ pub filled : (ps : List Pair) (ns : Nodes) → ArePairs ps → IsTrue (are_apart
 filled [] ns pairs apart fresh = (ns, refl, refl)
 filled (p ∷ ps) ns pairs apart fresh =
     filled_at p.0 p.1 ps ns pairs.0 fresh.0 (λ mid puts.
-      filled ps mid pairs.1 (right (is_apart p.0 ps) (are_apart ps) apart) (new_kept ps p.0 p.1 (close ns) (close mid) puts (left (is_apart p.0 ps) (are_apart ps) apart) fresh.1))
+    filled ps mid pairs.1 (right (is_apart p.0 ps) (are_apart ps) apart) (new_kept ps p.0 p.1 (close ns) (close mid) puts (left (is_apart p.0 ps) (are_apart ps) apart) fresh.1))
 
 -- and nothing stands under a header
 not_under : (k : List ℕ) (o : Option Data) (ms : Members) (n : Nodes) → IfSome o (λ d. is_section d ≡ false) → fill_sections ms n ≡ Some n → fill_sections (member_or k o ms) n ≡ Some n

@@ -12,6 +12,7 @@ mod Quoted
 mod ReadBack
 mod Rising
 mod Said
+pub mod Short
 mod Spaces
 pub mod SameTables
 mod Telling

@@ -19,6 +19,7 @@ use Rattle.description.specs.declared.entry.PageEntry.{PageEntry}
 use Rattle.description.specs.declared.entry.ProcessEntry.{ProcessEntry}
 use Rattle.description.specs.Reading.{IsBank, IsDescription, IsList, IsNode, IsPage, IsProcess, IsTable}
 use Rattle.described_world.specs.Described.{AreSlots, HasFields, IsProcessEntry}
+use Rattle.image_describer.specs.Laws.{TextIsRead}
 use Rattle.image_describer.specs.Spelled.{CanBeSpelled, SpellsBank, SpellsNode, SpellsPage, SpellsProcess}
 use Rattle.image_describer.specs.Text.{bank_fields, bank_text, description_text, field_lines, image_fields, node_fields, node_text, page_fields, page_text, process_fields, process_text}
 use Rattle.image_describer.proofs.Chains.{Chain, Pair, are_apart, chain_append, chain_other}
@@ -225,3 +226,6 @@ module _ (d : Description) (fields : HasFields d) (may : CanBeSpelled d) where
   read_again text is =
       let (n, s, runs, said) = ran in
       (close n, ap parse_document (is ∙ sym parts_are) ∙ parsed all_lines parts n s lines_are lines_printed runs, said)
+
+pub text_is_read : TextIsRead
+text_is_read d fields may = read_again d fields may (description_text d) refl

@@ -44,10 +44,17 @@ bank_pairs b =
 
 module _ (b : BankEntry) (may : SpellsBank b) where
   pub bank_spelled : SpellFields (bank_fields b) (bank_pairs b)
-  bank_spelled =
-      (refl, bare (codes "number") refl, deeper 0 2 (decimal b.number) (number_data b.number) (omega arith) (spells_number b.number may.0),
-      (refl, bare (codes "owner") refl, deeper 0 2 (decimal b.owner) (number_data b.owner) (omega arith) (spells_number b.owner may.1),
-      (refl, bare (codes "limit") refl, deeper 0 2 (wide_text b.limit) (wide_data b.limit) (omega arith) (spells_wide b.limit may.2), tt)))
+  bank_spelled = (
+    refl,
+    bare (codes "number") refl,
+    deeper 0 2 (decimal b.number) (number_data b.number) (omega arith) (spells_number b.number may.0),
+    (
+      refl,
+      bare (codes "owner") refl,
+      deeper 0 2 (decimal b.owner) (number_data b.owner) (omega arith) (spells_number b.owner may.1),
+      (refl, bare (codes "limit") refl, deeper 0 2 (wide_text b.limit) (wide_data b.limit) (omega arith) (spells_wide b.limit may.2), tt),
+    ),
+  )
 
   pub bank_read : IsRead bank_pairs IsBank b
   bank_read = record {
@@ -75,15 +82,42 @@ process_pairs p =
 
 module _ (p : ProcessEntry) (entry : IsProcessEntry p) (may : SpellsProcess p) where
   pub process_spelled : SpellFields (process_fields p) (process_pairs p)
-  process_spelled =
-      (refl, bare (codes "root") refl, deeper 0 2 (decimal p.root) (number_data p.root) (omega arith) (spells_number p.root may.numbers.0),
-      (refl, bare (codes "annex") refl, deeper 0 2 (decimal p.annex) (number_data p.annex) (omega arith) (spells_number p.annex may.numbers.1),
-      (refl, bare (codes "owner") refl, deeper 0 2 (decimal p.owner) (number_data p.owner) (omega arith) (spells_number p.owner may.numbers.2),
-      (refl, bare (codes "state") refl, deeper 0 2 (state_value p.state) (state_data p.state) (omega arith) (spells_state p.state entry.state),
-      (refl, bare (codes "key") refl, spells_number_unless 0 p.key may.numbers.3,
-      (refl, bare (codes "words") refl, spells_four p.words may.words.0 may.words.1,
-      (refl, bare (codes "space") refl, spells_space p.space entry.space may.space,
-      (refl, bare (codes "registers") refl, spells_slots p.registers.items entry.registers.held may.registers, tt))))))))
+  process_spelled = (
+    refl,
+    bare (codes "root") refl,
+    deeper 0 2 (decimal p.root) (number_data p.root) (omega arith) (spells_number p.root may.numbers.0),
+    (
+      refl,
+      bare (codes "annex") refl,
+      deeper 0 2 (decimal p.annex) (number_data p.annex) (omega arith) (spells_number p.annex may.numbers.1),
+      (
+        refl,
+        bare (codes "owner") refl,
+        deeper 0 2 (decimal p.owner) (number_data p.owner) (omega arith) (spells_number p.owner may.numbers.2),
+        (
+          refl,
+          bare (codes "state") refl,
+          deeper 0 2 (state_value p.state) (state_data p.state) (omega arith) (spells_state p.state entry.state),
+          (
+            refl,
+            bare (codes "key") refl,
+            spells_number_unless 0 p.key may.numbers.3,
+            (
+              refl,
+              bare (codes "words") refl,
+              spells_four p.words may.words.0 may.words.1,
+              (
+                refl,
+                bare (codes "space") refl,
+                spells_space p.space entry.space may.space,
+                (refl, bare (codes "registers") refl, spells_slots p.registers.items entry.registers.held may.registers, tt),
+              ),
+            ),
+          ),
+        ),
+      ),
+    ),
+  )
 
   pub process_read : IsRead process_pairs IsProcess p
   process_read = record {
@@ -120,10 +154,17 @@ node_pairs n =
 
 module _ (n : NodeEntry) (entry : AreSlots 0 n.slots.items) (may : SpellsNode n) where
   pub node_spelled : SpellFields (node_fields n) (node_pairs n)
-  node_spelled =
-      (refl, bare (codes "number") refl, deeper 0 2 (decimal n.number) (number_data n.number) (omega arith) (spells_number n.number may.0),
-      (refl, bare (codes "owner") refl, deeper 0 2 (decimal n.owner) (number_data n.owner) (omega arith) (spells_number n.owner may.1),
-      (refl, bare (codes "slots") refl, spells_slots n.slots.items entry.held may.2, tt)))
+  node_spelled = (
+    refl,
+    bare (codes "number") refl,
+    deeper 0 2 (decimal n.number) (number_data n.number) (omega arith) (spells_number n.number may.0),
+    (
+      refl,
+      bare (codes "owner") refl,
+      deeper 0 2 (decimal n.owner) (number_data n.owner) (omega arith) (spells_number n.owner may.1),
+      (refl, bare (codes "slots") refl, spells_slots n.slots.items entry.held may.2, tt),
+    ),
+  )
 
   pub node_read : IsRead node_pairs IsNode n
   node_read = record {
@@ -150,10 +191,17 @@ page_pairs p =
 
 module _ (p : PageEntry) (may : SpellsPage p) where
   pub page_spelled : SpellFields (page_fields p) (page_pairs p)
-  page_spelled =
-      (refl, bare (codes "number") refl, deeper 0 2 (decimal p.number) (number_data p.number) (omega arith) (spells_number p.number may.0),
-      (refl, bare (codes "owner") refl, deeper 0 2 (decimal p.owner) (number_data p.owner) (omega arith) (spells_number p.owner may.1),
-      (refl, bare (codes "words") refl, spells_words p.words.items may.2, tt)))
+  page_spelled = (
+    refl,
+    bare (codes "number") refl,
+    deeper 0 2 (decimal p.number) (number_data p.number) (omega arith) (spells_number p.number may.0),
+    (
+      refl,
+      bare (codes "owner") refl,
+      deeper 0 2 (decimal p.owner) (number_data p.owner) (omega arith) (spells_number p.owner may.1),
+      (refl, bare (codes "words") refl, spells_words p.words.items may.2, tt),
+    ),
+  )
 
   pub page_read : IsRead page_pairs IsPage p
   page_read = record {
@@ -181,14 +229,32 @@ image_pairs d =
 
 module _ (d : Description) (may : CanBeSpelled d) where
   pub image_spelled : SpellFields (image_fields d) (image_pairs d)
-  image_spelled =
-      (refl, bare (codes "nodes") refl, deeper 0 2 (decimal d.geometry.nodes) (number_data d.geometry.nodes) (omega arith) (spells_number d.geometry.nodes may.geometry.0),
-      (refl, bare (codes "pages") refl, deeper 0 2 (decimal d.geometry.pages) (number_data d.geometry.pages) (omega arith) (spells_number d.geometry.pages may.geometry.1),
-      (refl, bare (codes "log") refl, deeper 0 2 (decimal d.geometry.log) (number_data d.geometry.log) (omega arith) (spells_number d.geometry.log may.geometry.2),
-      (refl, bare (codes "layout") refl, spells_number_unless 1 d.layout may.layout,
-      (refl, bare (codes "age") refl, spells_number_unless 0 d.age may.age,
-      (refl, bare (codes "ranges") refl, spells_ranges d.geometry d.ranges.items may.ranges, tt))))))
-
+  image_spelled = (
+    refl,
+    bare (codes "nodes") refl,
+    deeper 0 2 (decimal d.geometry.nodes) (number_data d.geometry.nodes) (omega arith) (spells_number d.geometry.nodes may.geometry.0),
+    (
+      refl,
+      bare (codes "pages") refl,
+      deeper 0 2 (decimal d.geometry.pages) (number_data d.geometry.pages) (omega arith) (spells_number d.geometry.pages may.geometry.1),
+      (
+        refl,
+        bare (codes "log") refl,
+        deeper 0 2 (decimal d.geometry.log) (number_data d.geometry.log) (omega arith) (spells_number d.geometry.log may.geometry.2),
+        (
+          refl,
+          bare (codes "layout") refl,
+          spells_number_unless 1 d.layout may.layout,
+          (
+            refl,
+            bare (codes "age") refl,
+            spells_number_unless 0 d.age may.age,
+            (refl, bare (codes "ranges") refl, spells_ranges d.geometry d.ranges.items may.ranges, tt),
+          ),
+        ),
+      ),
+    ),
+  )
 
 -- The whole, with what is put for each list of objects.
 abbrev pub whole_pairs : Description → Option Data → Option Data → Option Data → Option Data → List Pair

@@ -9,8 +9,8 @@ ghost use Rattle.image_describer.specs.Spelled.{CanBeSpelled};
 ghost use Rattle.image_describer.specs.Text.{are_whole, bank_text, description_text, field_line, field_lines, image_fields, is_range, list_text, node_text, page_text, process_text, range_text, unless};
 
 use crate::fields::{
-    put_header, put_list, put_list_unless_empty, put_number, put_number_unless, put_space, put_state,
-    put_wide_number, put_words,
+    put_header, put_list, put_list_unless_empty, put_number, put_number_unless, put_space,
+    put_state, put_wide_number, put_words,
 };
 use description::{BankEntry, Description, NodeEntry, PageEntry, ProcessEntry};
 use image_writer::NumberRange;

@@ -43,10 +43,7 @@ fn space_string(
 
 /// The text of a capability.
 #[tactic(auto, unfolding(model::specs::Text::capability_text))]
-pub(crate) fn capability_string(
-    alloc: Global,
-    capability: Capability,
-) -> Result<String, AllocError>
+pub(crate) fn capability_string(alloc: Global, capability: Capability) -> Result<String, AllocError>
     requires { IsWellFormed capability }
     ensures { IfOk result (λ text. string_bytes text ≡ capability_text capability) }
 {
