@@ -32,9 +32,9 @@ class World:
         return [[one, two - one] for one, two in zip(edges, edges[1:])]
 
     def number(self):
-        """Any number, as those of TOML or as the text of a capability."""
+        """A word: from 2^63 on it is the text of a capability."""
         number = self.chance.choice((0, 1, 2, 511, GREAT - 1, GREAT, WORDS - 1, self.chance.randrange(WORDS)))
-        return f"number {number}" if number >= GREAT or self.chance.random() < 0.1 else number
+        return f"number {number}" if number >= GREAT else number
 
     def capability(self):
         one = self.chance.choice
@@ -93,33 +93,27 @@ def text_of(document):
 
 # ---- what is told of a description
 
-def told_number(value):
-    """A number as it is told: from 2^63 on as the text of its capability."""
-    number = int(value.removeprefix("number ")) if isinstance(value, str) else value
-    return number if number < GREAT else f"number {number}"
-
-
 def told_held(slots):
-    return sorted([told_number(place), text] for place, text in slots if text != "void")
+    return sorted([place, text] for place, text in slots if text != "void")
 
 
 def told_words(words):
-    return sorted([told_number(place), told_number(word)] for place, word in words if told_number(word) != 0)
+    return sorted(([place, word] for place, word in words if word != 0), key=lambda it: it[0])
 
 
 def told_row(row):
-    """What is told of an object: what isn't at its default."""
-    numbers = {key: told_number(row[key]) for key in ("number", "root", "annex", "owner", "limit") if key in row}
+    """What is told of an object: what isn't at its default, in the manual's order."""
+    numbers = {key: row[key] for key in ("number", "root", "annex", "owner", "limit") if key in row}
     state = {"state": row["state"]} if "state" in row else {}
     if "root" in row:
-        more = {"key": told_number(row.get("key", 0)), "words": [told_number(it) for it in row.get("words", [0] * 4)], "space": row.get("space", "void"), "registers": told_held(row.get("registers", []))}
+        more = {"key": row.get("key", 0), "words": row.get("words", [0] * 4), "space": row.get("space", "void"), "registers": told_held(row.get("registers", []))}
     else:
         more = {"slots": told_held(row.get("slots", [])), "words": told_words(row.get("words", []))}
     return {**numbers, **state, **{key: value for key, value in more.items() if value not in (0, "void", [], [0] * 4)}}
 
 
 def told_of(document):
-    """What is told of the image of a description, as it is read from TOML."""
+    """What is told of the image of a description, in the manual's order."""
     nodes, pages = document["nodes"], document["pages"]
     default = {"layout": 1, "age": 0, "ranges": [[0, nodes], [nodes, pages]]}
     head = {key: document[key] for key in ("nodes", "pages", "log")} | {key: document[key] for key in default if document.get(key, default[key]) != default[key]}

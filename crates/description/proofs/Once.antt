@@ -1,5 +1,5 @@
 -- A value says one thing, and so a table says one description.
-use Rattle.std.proofs.Common.{◌≡◌, inl, inr, ℕ, pos, Option, Some, None, if◌then◌else◌, List, [], ◌∷◌, codes, IsSomeAnd, MatchOption, refl, sym, ap, subst, ◌∙◌}
+use Rattle.std.proofs.Common.{◌≡◌, inl, inr, ℕ, pos, Option, Some, None, if◌then◌else◌, List, [], ◌∷◌, codes, IsSomeAnd, MatchOption, refl, sym, ap, subst, ◌∙◌, arith}
 use Rattle.std.specs.Str.{bytes_eq}
 use Rattle.std.proofs.lemmas.Option.{same_Some}
 use Rattle.model.specs.Text.{capability_text, state_text}
@@ -10,8 +10,8 @@ use Rattle.model.specs.declared.object.State.{State}
 use Rattle.model.specs.declared.object.State.TheVariants.{Available, Running, Waiting}
 use Rattle.toml.specs.Data.{Data, integer, string, array, table, Items, no_items, item, Members, get_member}
 use Rattle.script.proofs.CapabilityTexts.{text_once}
-use Rattle.description.specs.Laws.{Each, IsSame, IsSameNode, IsSamePage, IsSameProcess}
-use Rattle.description.specs.Reading.{AreFour, AreItems, At, AtOr, IsBank, IsCapability, IsDescription, IsGeometry, IsList, IsNode, IsNumber, IsPage, IsPair, IsProcess, IsRange, IsSlot, IsState, IsTable, IsWord, whole_ranges}
+use Rattle.description.specs.Laws.{Each, IsSame, IsSameNode, IsSamePage, IsSameProcess, NumberIsSpelledOnce}
+use Rattle.description.specs.Reading.{AreFour, AreItems, At, AtOr, IsBank, IsCapability, IsDescription, IsGeometry, IsList, IsNode, IsNumber, IsPage, IsPair, IsProcess, IsRange, IsSlot, IsState, IsTable, IsWideNumber, IsWord, whole_ranges}
 use Rattle.description.specs.declared.entry.Description.{Description}
 
 -- ---- values
@@ -52,11 +52,22 @@ integer_or_text : (n : ℕ) (text : List ℕ) → integer (pos n) ≡ string tex
 integer_or_text n text e = cc
 
 number_once : Once IsNumber ◌≡◌
-unfolding IsNumber
-number_once d m n (inl one) (inl other) = same_integer m n (sym one ∙ other)
-number_once d m n (inl one) (inr other) = absurd (integer_or_text m (capability_text (Number n)) (sym one ∙ other.2))
-number_once d m n (inr one) (inl other) = absurd (integer_or_text n (capability_text (Number m)) (sym other ∙ one.2))
-number_once d m n (inr one) (inr other) = same_number m n (capability_once d (Some (Number m)) (Some (Number n)) one other)
+number_once d m n one other = same_integer m n (sym one.1 ∙ other.1)
+
+wide_once : Once IsWideNumber ◌≡◌
+unfolding IsWideNumber
+wide_once d m n (inl one) (inl other) = number_once d m n one other
+wide_once d m n (inl one) (inr other) = absurd (integer_or_text m (capability_text (Number n)) (sym one.1 ∙ other.1.2))
+wide_once d m n (inr one) (inl other) = absurd (integer_or_text n (capability_text (Number m)) (sym other.1 ∙ one.1.2))
+wide_once d m n (inr one) (inr other) = same_number m n (capability_once d (Some (Number m)) (Some (Number n)) one.1 other.1)
+
+-- a number has one spelling
+pub number_spelled_once : NumberIsSpelledOnce
+unfolding IsWideNumber
+number_spelled_once n d e (inl one) (inl other) = one.1 ∙ sym other.1
+number_spelled_once n d e (inl one) (inr other) = absurd (omega (arith, one.0, other.0))
+number_spelled_once n d e (inr one) (inl other) = absurd (omega (arith, one.0, other.0))
+number_spelled_once n d e (inr one) (inr other) = one.1.2 ∙ sym other.1.2
 
 abbrev state_found : List ℕ → Option State
 state_found text =
@@ -90,7 +101,7 @@ slot_once d e f one other =
 
 word_once : Once IsWord ◌≡◌
 word_once d e f one other =
-    let same = pair_once IsNumber IsNumber number_once number_once d e.index f.index e.word f.word one other in
+    let same = pair_once IsNumber IsWideNumber number_once wide_once d e.index f.index e.word f.word one other in
     ap (λ (i : ℕ). record { index = i; word = e.word }) same.0 ∙ ap (λ (w : ℕ). record { index = f.index; word = w }) same.1
 
 range_once : Once IsRange ◌≡◌
@@ -123,7 +134,7 @@ list_same : {A : Type 0} (P : Data → A → Type 0) → Once P ◌≡◌ → On
 list_same P once d xs ys one other = each_same xs ys (list_once P ◌≡◌ once d xs ys one other)
 
 four_once : Once AreFour ◌≡◌
-four_once d xs ys one other = list_same IsNumber number_once d xs ys one.1 other.1
+four_once d xs ys one other = list_same IsWideNumber wide_once d xs ys one.1 other.1
 
 table_once : {A : Type 0} (P : Members → A → Type 0) (R : A → A → Type 0) → Once P R → Once (IsTable P) R
 table_once P R once d x y one other =
@@ -150,6 +161,9 @@ module _ {A : Type 0} (P : Data → A → Type 0) (R : A → A → Type 0) (once
 number_at : (ms : Members) (key : List ℕ) (m n : ℕ) → At key IsNumber ms m → At key IsNumber ms n → m ≡ n
 number_at ms = at_once IsNumber ◌≡◌ number_once ms
 
+wide_at : (ms : Members) (key : List ℕ) (m n : ℕ) → At key IsWideNumber ms m → At key IsWideNumber ms n → m ≡ n
+wide_at ms = at_once IsWideNumber ◌≡◌ wide_once ms
+
 list_at : {A : Type 0} (P : Data → A → Type 0) → Once P ◌≡◌ → (ms : Members) (key : List ℕ) (xs ys : List A) → AtOr [] key (IsList P) ms xs → AtOr [] key (IsList P) ms ys → xs ≡ ys
 list_at P once ms = or_once (IsList P) ◌≡◌ (list_same P once) ms [] refl
 
@@ -163,7 +177,7 @@ bank_once : Once IsBank ◌≡◌
 bank_once ms a b one other =
     ap (λ (n : ℕ). record { number = n; owner = a.owner; limit = a.limit }) (number_at ms (codes "number") a.number b.number one.number other.number)
     ∙ ap (λ (n : ℕ). record { number = b.number; owner = n; limit = a.limit }) (number_at ms (codes "owner") a.owner b.owner one.owner other.owner)
-    ∙ ap (λ (n : ℕ). record { number = b.number; owner = b.owner; limit = n }) (number_at ms (codes "limit") a.limit b.limit one.limit other.limit)
+    ∙ ap (λ (n : ℕ). record { number = b.number; owner = b.owner; limit = n }) (wide_at ms (codes "limit") a.limit b.limit one.limit other.limit)
 
 process_once : Once IsProcess IsSameProcess
 process_once ms p q one other = record {

@@ -1,5 +1,5 @@
 -- Values of their types, and of others.
-use Rattle.std.proofs.Common.{◌≡◌, ◌≢◌, inl, inr, ℕ, ◌^◌, ◌<◌, ℤ, pos, negsuc, true, false, Option, Some, None, List, IfSome, IfNone, sym, ap, ◌∙◌, arith}
+use Rattle.std.proofs.Common.{◌≡◌, ◌≢◌, inl, inr, ℕ, ◌^◌, ◌<◌, ◌≤◌, ℤ, pos, negsuc, true, false, Option, Some, None, is_some, List, Result, Ok, Err, IfSome, IfNone, sym, ap, ◌∙◌, arith}
 use Rattle.std.proofs.lemmas.Option.{none-some, same_Some}
 use Rattle.std.specs.Prelude.{unsigned_abs}
 use Rattle.std.specs.Int.{is_negative}
@@ -10,8 +10,8 @@ use Rattle.model.specs.declared.capability.Capability.{Capability}
 use Rattle.model.specs.declared.capability.Capability.TheVariants.{Number}
 use Rattle.model.specs.declared.object.State.{State}
 use Rattle.toml.specs.Data.{Data, string, integer, float, boolean, datetime, array, table, as_integer, as_str}
-use Rattle.description.specs.Reading.{IsCapability, IsNumber, IsState}
-use Rattle.description.specs.Outcomes.{Fails}
+use Rattle.description.specs.Reading.{IsCapability, IsNumber, IsState, IsWideNumber}
+use Rattle.description.specs.Outcomes.{Fails, Reads}
 use Rattle.description.specs.declared.fault.DescriptionFault.{DescriptionFault}
 use Rattle.description.specs.declared.fault.DescriptionFault.TheVariants.{NoMemory, Shape}
 use Rattle.description.proofs.Once.{capability_once}
@@ -44,32 +44,49 @@ negative_integer d (pos m) is below n e = let none : ⊥ = grind (arith, below) 
 negative_integer d (negsuc m) is below n e = grind (arith, same_Some (negsuc m) (pos n) (is ∙ ap as_integer e))
 
 pub negative : (d : Data) (z : ℤ) → Some z ≡ as_integer d → is_negative z ≡ true → (n : ℕ) → IsNumber d n → ⊥
-unfolding IsNumber
-negative d z is below n (inl e) = negative_integer d z is below n e
-negative d z is below n (inr text) = no_text d z (capability_text (Number n)) is text.2
+negative d z is below n number = negative_integer d z is below n number.1
 
 -- one that isn't negative is
 natural_integer : (d : Data) (z : ℤ) → Some z ≡ as_integer d → is_negative z ≡ false → d ≡ integer (pos (unsigned_abs z))
 natural_integer d (pos n) is above = integer_is d (pos n) is
 natural_integer d (negsuc n) is above = absurd (false≢true (sym above))
 
-pub natural : (d : Data) (z : ℤ) → Some z ≡ as_integer d → is_negative z ≡ false → IsNumber d (unsigned_abs z)
-unfolding IsNumber
-natural d z is above = inl (natural_integer d z is above)
+pub natural : (d : Data) (z : ℤ) → Some z ≡ as_integer d → is_negative z ≡ false → unsigned_abs z < 2 ^ 63 → IsNumber d (unsigned_abs z)
+natural d z is above small = (small, natural_integer d z is above)
 
--- what is no integer is a number only as a text
-pub no_integer : (d : Data) → as_integer d ≡ None → (n : ℕ) → IsNumber d n → IsCapability d (Some (Number n))
-unfolding IsNumber
-no_integer d none n (inl e) = absurd (none-some (pos n) (sym none ∙ ap as_integer e))
+-- what is no integer is no number
+pub not_integer : (d : Data) → None ≡ as_integer d → (n : ℕ) → IsNumber d n → ⊥
+not_integer d none n number = none-some (pos n) (none ∙ ap as_integer number.1)
+
+-- and one of 64 bits only as a text
+no_integer : (d : Data) → as_integer d ≡ None → (n : ℕ) → IsWideNumber d n → (2 ^ 63 ≤ n) × IsCapability d (Some (Number n))
+unfolding IsWideNumber
+no_integer d none n (inl number) = absurd (not_integer d (sym none) n number)
 no_integer d none n (inr text) = text
 
-pub number_text : (d : Data) (n : ℕ) → IsCapability d (Some (Number n)) → IsNumber d n
-unfolding IsNumber
-number_text d n text = inr text
+pub wide_text : (d : Data) (n : ℕ) → 2 ^ 63 ≤ n → IsCapability d (Some (Number n)) → IsWideNumber d n
+unfolding IsWideNumber
+wide_text d n large text = inr (large, text)
 
 -- a value that says another capability, or none, or no text, says no number
-pub other_text : (d : Data) (r : Option Capability) → as_integer d ≡ None → IsCapability d r → ((n : ℕ) → r ≢ Some (Number n)) → (n : ℕ) → IsNumber d n → ⊥
-other_text d r none said other n number = other n (capability_once d r (Some (Number n)) said (no_integer d none n number))
+pub other_text : (d : Data) (r : Option Capability) → as_integer d ≡ None → IsCapability d r → ((n : ℕ) → 2 ^ 63 ≤ n → r ≢ Some (Number n)) → (n : ℕ) → IsWideNumber d n → ⊥
+other_text d r none said other n number =
+    let text = no_integer d none n number in other n text.0 (capability_once d r (Some (Number n)) said text.1)
+
+-- an integer is a number of 64 bits where it is a number
+is_text : (d : Data) (n : ℕ) → is_some (as_integer d) ≡ true → IsWideNumber d n → IsNumber d n
+unfolding IsWideNumber
+is_text d n some (inl number) = number
+is_text d n some (inr text) = absurd (false≢true (ap (λ (e : Data). is_some (as_integer e)) (sym text.1.2) ∙ some))
+
+fails_wide : (d : Data) (fault : DescriptionFault) → is_some (as_integer d) ≡ true → Fails (IsNumber d) fault → Fails (IsWideNumber d) fault
+fails_wide d Shape some fails = λ n number. fails n (is_text d n some number)
+fails_wide d NoMemory some fails = tt
+
+pub wide_read : (d : Data) (r : Result ℕ DescriptionFault) → is_some (as_integer d) ≡ true → Reads (IsNumber d) r → Reads (IsWideNumber d) r
+unfolding IsWideNumber
+wide_read d (Ok n) some reads = inl reads
+wide_read d (Err fault) some reads = fails_wide d fault some reads
 
 -- what is found to a text
 pub capability_told : (d : Data) (text : List ℕ) (r : Option Capability) → Some text ≡ as_str d → IfSome r (λ c. IsWellFormed c × IfSome (named c) (λ n. n < 2 ^ 64) × (capability_text c ≡ text)) → IfNone r ((c : Capability) → IsWellFormed c → IfSome (named c) (λ n. n < 2 ^ 64) → capability_text c ≢ text) → IsCapability d r
@@ -90,6 +107,6 @@ no_state d none None told = none-some told.0 (none ∙ ap as_str told.1)
 no_state d none (Some s) told = none-some (state_text s) (none ∙ ap as_str told)
 
 -- and one that isn't read
-pub no_number : (d : Data) (fault : DescriptionFault) → as_integer d ≡ None → Fails (IsCapability d) fault → Fails (IsNumber d) fault
-no_number d Shape none fails = λ n number. fails (Some (Number n)) (no_integer d none n number)
+pub no_number : (d : Data) (fault : DescriptionFault) → as_integer d ≡ None → Fails (IsCapability d) fault → Fails (IsWideNumber d) fault
+no_number d Shape none fails = λ n number. fails (Some (Number n)) (no_integer d none n number).1
 no_number d NoMemory none fails = tt

@@ -1,10 +1,10 @@
--- A text is that of one capability, and a table that of one description.
-use Rattle.std.specs.Prelude.{◌≡◌, ◌^◌, ◌<◌, List, [], ◌∷◌, IfSome}
+-- A number has one spelling, a text is that of one capability, and a table that of one description.
+use Rattle.std.specs.Prelude.{◌≡◌, ℕ, ◌^◌, ◌<◌, List, [], ◌∷◌, IfSome}
 use Rattle.model.specs.Capability.{IsWellFormed, named}
 use Rattle.model.specs.Text.{capability_text}
 use Rattle.model.specs.declared.capability.Capability.{Capability}
-use Rattle.toml.specs.Data.{Members}
-use Rattle.description.specs.Reading.{IsDescription}
+use Rattle.toml.specs.Data.{Data, Members}
+use Rattle.description.specs.Reading.{IsDescription, IsWideNumber}
 use Rattle.description.specs.declared.entry.Description.{Description}
 use Rattle.description.specs.declared.entry.NodeEntry.{NodeEntry}
 use Rattle.description.specs.declared.entry.PageEntry.{PageEntry}
@@ -47,6 +47,10 @@ pub record IsSame (d e : Description) : Type 0 where
   pub processes : Each IsSameProcess d.processes.items e.processes.items
   pub nodes : Each IsSameNode d.nodes.items e.nodes.items
   pub pages : Each IsSamePage d.pages.items e.pages.items
+
+-- a number has one spelling
+abbrev pub NumberIsSpelledOnce : Type 0
+NumberIsSpelledOnce = (n : ℕ) (d e : Data) → IsWideNumber d n → IsWideNumber e n → d ≡ e
 
 -- no two capabilities within their bounds have one text
 abbrev pub TextIsOfOne : Type 0

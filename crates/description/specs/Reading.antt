@@ -1,5 +1,5 @@
 -- What a table says.
-use Rattle.std.specs.Prelude.{◌≡◌, ◌≢◌, ◌⊎◌, ℕ, ◌^◌, ◌<◌, pos, Bool, true, ◌&&◌, Option, None, Some, List, [], ◌∷◌, length, codes, IfSome, IsTrue, IsSomeAnd, MatchOption}
+use Rattle.std.specs.Prelude.{◌≡◌, ◌≢◌, ◌⊎◌, ℕ, ◌^◌, ◌<◌, ◌≤◌, pos, Bool, true, ◌&&◌, Option, None, Some, List, [], ◌∷◌, length, codes, IfSome, IsTrue, IsSomeAnd, MatchOption}
 use Rattle.std.specs.List.{list_any}
 use Rattle.image_writer.specs.declared.number_range.NumberRange.{NumberRange}
 use Rattle.model.specs.Capability.{IsWellFormed, named}
@@ -24,9 +24,13 @@ abbrev pub IsCapability : Data → Option Capability → Type 0
 IsCapability d (Some c) = IsWellFormed c × IfSome (named c) (λ n. n < 2 ^ 64) × (d ≡ string (capability_text c))
 IsCapability d None = (text : List ℕ) × (d ≡ string text) × ((c : Capability) → IsWellFormed c → IfSome (named c) (λ n. n < 2 ^ 64) → capability_text c ≢ text)
 
--- a number, or as those of TOML end below 2^63, the text of its capability
-unfoldable pub IsNumber : Data → ℕ → Type 0
-IsNumber d n = (d ≡ integer (pos n)) ⊎ IsCapability d (Some (Number n))
+-- a number; those of TOML end below 2^63
+abbrev pub IsNumber : Data → ℕ → Type 0
+IsNumber d n = (n < 2 ^ 63) × (d ≡ integer (pos n))
+
+-- a number of 64 bits, as words and limits are: from 2^63 on it is the text of its capability
+unfoldable pub IsWideNumber : Data → ℕ → Type 0
+IsWideNumber d n = IsNumber d n ⊎ ((2 ^ 63 ≤ n) × IsCapability d (Some (Number n)))
 
 -- a text, and the state that has it, or none where no state has it
 abbrev pub IsState : Data → Option State → Type 0
@@ -47,9 +51,9 @@ AreItems P (item d ds) (x ∷ xs) = P d x × AreItems P ds xs
 abbrev pub IsList : {A : Type 0} → (Data → A → Type 0) → Data → List A → Type 0
 IsList P d xs = (ds : Items) × (d ≡ array ds) × AreItems P ds xs
 
--- a list of four numbers
+-- a list of four words
 abbrev pub AreFour : Data → List ℕ → Type 0
-AreFour d xs = (length xs ≡ 4) × IsList IsNumber d xs
+AreFour d xs = (length xs ≡ 4) × IsList IsWideNumber d xs
 
 abbrev pub IsTable : {A : Type 0} → (Members → A → Type 0) → Data → A → Type 0
 IsTable P d x = (ms : Members) × (d ≡ table ms) × P ms x
@@ -75,7 +79,7 @@ abbrev pub IsSlot : Data → SlotEntry → Type 0
 IsSlot d e = IsPair IsNumber IsCapability d e.index e.capability
 
 abbrev pub IsWord : Data → WordEntry → Type 0
-IsWord d e = IsPair IsNumber IsNumber d e.index e.word
+IsWord d e = IsPair IsNumber IsWideNumber d e.index e.word
 
 abbrev pub IsRange : Data → NumberRange → Type 0
 IsRange d r = IsPair IsNumber IsNumber d r.first r.count
@@ -84,7 +88,7 @@ pub record IsBank (ms : Members) (bank : BankEntry) : Type 0 where
   pub known : IsTrue (has_only (codes "number" ∷ codes "owner" ∷ codes "limit" ∷ []) ms)
   pub number : At (codes "number") IsNumber ms bank.number
   pub owner : At (codes "owner") IsNumber ms bank.owner
-  pub limit : At (codes "limit") IsNumber ms bank.limit
+  pub limit : At (codes "limit") IsWideNumber ms bank.limit
 
 pub record IsProcess (ms : Members) (process : ProcessEntry) : Type 0 where
   pub known : IsTrue (has_only (codes "root" ∷ codes "annex" ∷ codes "owner" ∷ codes "state" ∷ codes "key" ∷ codes "words" ∷ codes "space" ∷ codes "registers" ∷ []) ms)

@@ -3,12 +3,12 @@ ghost use Rattle.std.specs.Prelude.{◌∷◌, []};
 ghost use Rattle.toml.specs.Data.{Data};
 ghost use Rattle.toml.specs.View.{table_view, view};
 ghost use Rattle.description.specs.Outcomes.{Reads, ReadsList};
-ghost use Rattle.description.specs.Reading.{AreFour, AtOr, IsList, IsNumber, IsRange, IsSlot, IsWord};
+ghost use Rattle.description.specs.Reading.{AreFour, AtOr, IsList, IsRange, IsSlot, IsWideNumber, IsWord};
 
 use crate::entry::{SlotEntry, WordEntry};
 use crate::fault::DescriptionFault;
 use crate::member::member;
-use crate::value::{array_of, capability_at, number_of, pair_of};
+use crate::value::{array_of, capability_at, number_of, pair_of, wide_number_of};
 use image_writer::NumberRange;
 use std::alloc::Global;
 use toml::{Table, Value};
@@ -54,14 +54,14 @@ pub(crate) fn list_or_empty<T: FromValue>(
 }
 
 impl FromValue for u64 {
-    ghost IsSaid = { IsNumber };
+    ghost IsSaid = { IsWideNumber };
 
     fn from_value(_alloc: Global, value: &Value) -> Result<u64, DescriptionFault> {
-        number_of(value)
+        wide_number_of(value)
     }
 }
 
-// The four numbers of a list of four.
+// The four words of a list of four.
 fn four_of(alloc: Global, value: &Value) -> Result<[u64; 4], DescriptionFault>
     ensures { Reads (AreFour (view value.now)) result }
 {
@@ -72,7 +72,7 @@ fn four_of(alloc: Global, value: &Value) -> Result<[u64; 4], DescriptionFault>
     Ok([numbers[0], numbers[1], numbers[2], numbers[3]])
 }
 
-// The four numbers at a key, or else zeros.
+// The four words at a key, or else zeros.
 pub(crate) fn four_or_zeros(
     alloc: Global,
     table: &Table,
@@ -103,7 +103,7 @@ impl FromValue for WordEntry {
     fn from_value(_alloc: Global, value: &Value) -> Result<WordEntry, DescriptionFault> {
         let (index, word) = pair_of(value)?;
         let index = number_of(index)?;
-        let word = number_of(word)?;
+        let word = wide_number_of(word)?;
         Ok(WordEntry { index, word })
     }
 }

@@ -5,10 +5,10 @@ ghost use Rattle.model.specs.declared.capability.Capability.TheVariants.{Void};
 ghost use Rattle.toml.specs.Data.{get_member, same_key};
 ghost use Rattle.toml.specs.View.{table_view, view};
 ghost use Rattle.description.specs.Outcomes.{Reads};
-ghost use Rattle.description.specs.Reading.{At, AtOr, IsCapability, IsNumber, IsState, has_only};
+ghost use Rattle.description.specs.Reading.{At, AtOr, IsCapability, IsNumber, IsState, IsWideNumber, has_only};
 
 use crate::fault::DescriptionFault;
-use crate::value::{capability_at, number_of, state_at};
+use crate::value::{capability_at, number_of, state_at, wide_number_of};
 use model::{Capability, State};
 use toml::{Table, Value};
 
@@ -56,6 +56,16 @@ pub(crate) fn number(table: &Table, key: &str) -> Result<u64, DescriptionFault>
 {
     match member(table, key) {
         Some(value) => number_of(value),
+        None => Err(DescriptionFault::Shape),
+    }
+}
+
+// The number of 64 bits at a key.
+pub(crate) fn wide_number(table: &Table, key: &str) -> Result<u64, DescriptionFault>
+    ensures { Reads (At key.now IsWideNumber (table_view table.now)) result }
+{
+    match member(table, key) {
+        Some(value) => wide_number_of(value),
         None => Err(DescriptionFault::Shape),
     }
 }

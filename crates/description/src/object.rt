@@ -6,7 +6,7 @@ ghost use Rattle.description.specs.Reading.{IsBank, IsNode, IsPage, IsProcess, I
 use crate::entry::{BankEntry, NodeEntry, PageEntry, ProcessEntry};
 use crate::fault::DescriptionFault;
 use crate::list::{FromValue, four_or_zeros, list_or_empty};
-use crate::member::{capability_or_void, check_keys, number, number_or, state};
+use crate::member::{capability_or_void, check_keys, number, number_or, state, wide_number};
 use crate::value::table_of;
 use std::alloc::Global;
 use toml::{Table, Value};
@@ -18,7 +18,7 @@ fn read_bank(table: &Table) -> Result<BankEntry, DescriptionFault>
     Ok(BankEntry {
         number: number(table, "number")?,
         owner: number(table, "owner")?,
-        limit: number(table, "limit")?,
+        limit: wide_number(table, "limit")?,
     })
 }
 

@@ -1,9 +1,9 @@
 // Values of their types.
-ghost use Rattle.std.specs.Prelude.{◌≡◌, ◌≢◌, ℕ, None, Some, IfNone, IfSome, MatchResult};
+ghost use Rattle.std.specs.Prelude.{◌≡◌, ◌≢◌, ℕ, ◌^◌, ◌≤◌, None, Some, IfNone, IfSome, MatchResult};
 ghost use Rattle.toml.specs.Data.{Data, Items, Members, array, as_integer, table, item, no_items};
 ghost use Rattle.toml.specs.View.{array_view, table_view, view};
 ghost use Rattle.description.specs.Outcomes.{Reads};
-ghost use Rattle.description.specs.Reading.{IsCapability, IsNumber, IsState};
+ghost use Rattle.description.specs.Reading.{IsCapability, IsNumber, IsState, IsWideNumber};
 ghost use Rattle.description.specs.declared.fault.DescriptionFault.TheVariants.{Shape};
 
 use crate::fault::DescriptionFault;
@@ -12,13 +12,20 @@ use script::{capability_of, state_of};
 use toml::value::Array;
 use toml::{Table, Value};
 
-// The number that a capability is to.
-fn number_held(capability: Option<Capability>) -> Option<u64>
-    ensures found { IfSome result (λ n. capability ≡ Some (Capability.Number n)) }
-    ensures none { IfNone result ((n : ℕ) → capability ≢ Some (Capability.Number n)) }
+// The number that a capability is to, if TOML has no such number.
+fn large_number(capability: Option<Capability>) -> Option<u64>
+    ensures found { IfSome result (λ n. (2 ^ 63 ≤ n) × (capability ≡ Some (Capability.Number n))) }
+    ensures none { IfNone result
+        ((n : ℕ) → 2 ^ 63 ≤ n → capability ≢ Some (Capability.Number n)) }
 {
     match capability {
-        Some(Capability::Number(number)) => Some(number),
+        Some(Capability::Number(number)) => {
+            if number < 1 << 63 {
+                None
+            } else {
+                Some(number)
+            }
+        }
         _ => None,
     }
 }
@@ -26,10 +33,10 @@ fn number_held(capability: Option<Capability>) -> Option<u64>
 // The number that a text says, as that of a capability.
 fn number_in_text(value: &Value) -> Result<u64, DescriptionFault>
     requires { as_integer (view value.now) ≡ None }
-    ensures { Reads (IsNumber (view value.now)) result }
+    ensures { Reads (IsWideNumber (view value.now)) result }
 {
     match capability_at(value) {
-        Ok(capability) => match number_held(capability) {
+        Ok(capability) => match large_number(capability) {
             Some(number) => Ok(number),
             None => Err(DescriptionFault::Shape),
         },
@@ -37,7 +44,7 @@ fn number_in_text(value: &Value) -> Result<u64, DescriptionFault>
     }
 }
 
-// A number that isn't negative, or one that a text says.
+// A number that isn't negative.
 pub(crate) fn number_of(value: &Value) -> Result<u64, DescriptionFault>
     ensures { Reads (IsNumber (view value.now)) result }
 {
@@ -48,7 +55,18 @@ pub(crate) fn number_of(value: &Value) -> Result<u64, DescriptionFault>
             }
             Ok(number.unsigned_abs())
         }
-        None => number_in_text(value),
+        None => Err(DescriptionFault::Shape),
+    }
+}
+
+// A number of 64 bits: a text says it from 2^63 on.
+pub(crate) fn wide_number_of(value: &Value) -> Result<u64, DescriptionFault>
+    ensures { Reads (IsWideNumber (view value.now)) result }
+{
+    if value.is_integer() {
+        number_of(value)
+    } else {
+        number_in_text(value)
     }
 }
 

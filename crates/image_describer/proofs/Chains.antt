@@ -1,10 +1,10 @@
 -- Tables that come of an empty one by several values put at keys.
-use Rattle.std.proofs.Common.{◌≡◌, ℕ, zero, suc, ◌<◌, ◌≤◌, Bool, true, false, not, ◌&&◌, List, [], ◌∷◌, length, Option, None, IfSome, slice_index_or, refl, sym, ap, ◌∙◌, subst, arith}
+use Rattle.std.proofs.Common.{◌≡◌, ℕ, zero, suc, ◌<◌, Bool, true, false, not, ◌&&◌, List, [], ◌∷◌, ◌++◌, length, Option, None, slice_index_or, refl, sym, ap, ◌∙◌, subst, arith}
 use Rattle.std.specs.Prelude.{IsTrue}
 use Rattle.std.specs.List.{list_any}
-use Rattle.toml.specs.Data.{Data, Members, depth, get_member, members_depth, same_key}
+use Rattle.toml.specs.Data.{Data, Members, get_member, same_key}
 use Rattle.description.specs.Reading.{has_only}
-use Rattle.image_describer.specs.Tables.{Puts}
+use Rattle.image_describer.proofs.Puts.{Puts}
 
 -- a key, and what is put there
 abbrev pub Pair : Type 0
@@ -16,7 +16,7 @@ Chain [] old new = new ≡ old
 Chain (p ∷ ps) old new = (mid : Members) × Puts p.0 p.1 old mid × Chain ps mid new
 
 -- a key is none of the others, whichever is looked for
-abbrev is_apart : List ℕ → List Pair → Bool
+abbrev pub is_apart : List ℕ → List Pair → Bool
 is_apart k [] = true
 is_apart k (p ∷ ps) = not (same_key k p.0) && (not (same_key p.0 k) && is_apart k ps)
 
@@ -27,10 +27,6 @@ are_apart (p ∷ ps) = is_apart p.0 ps && are_apart ps
 abbrev pub are_known : List (List ℕ) → List Pair → Bool
 are_known keys [] = true
 are_known keys (p ∷ ps) = list_any (same_key p.0) keys && are_known keys ps
-
-abbrev pub AreDeep : ℕ → List Pair → Type 0
-AreDeep n [] = Unit {0}
-AreDeep n (p ∷ ps) = IfSome p.1 (λ d. depth d ≤ n) × AreDeep n ps
 
 left : (a b : Bool) → IsTrue (a && b) → IsTrue a
 left true b is = refl
@@ -45,7 +41,7 @@ falsely true is = sym is
 falsely false is = refl
 
 -- a key that is none of those keeps what it had
-chain_other : (ps : List Pair) (k : List ℕ) (old new : Members) → Chain ps old new → IsTrue (is_apart k ps) → get_member k new ≡ get_member k old
+pub chain_other : (ps : List Pair) (k : List ℕ) (old new : Members) → Chain ps old new → IsTrue (is_apart k ps) → get_member k new ≡ get_member k old
 chain_other [] k old new chain apart = ap (get_member k) chain
 chain_other (p ∷ ps) k old new chain apart =
     let rest = right (not (same_key k p.0)) (not (same_key p.0 k) && is_apart k ps) apart in
@@ -76,6 +72,7 @@ chain_only (p ∷ ps) keys old new chain known all =
     chain_only ps keys chain.0 new chain.2 (right (list_any (same_key p.0) keys) (are_known keys ps) known)
     (chain.1.only keys (left (list_any (same_key p.0) keys) (are_known keys ps) known) all)
 
-pub chain_deep : (ps : List Pair) (n : ℕ) (old new : Members) → Chain ps old new → AreDeep n ps → members_depth old ≤ n → members_depth new ≤ n
-chain_deep [] n old new chain deep all = subst (λ (ms : Members). members_depth ms ≤ n) (sym chain) all
-chain_deep (p ∷ ps) n old new chain deep all = chain_deep ps n chain.0 new chain.2 deep.1 (chain.1.deep n deep.0 all)
+-- a chain behind a chain
+pub chain_append : (ps qs : List Pair) (old mid new : Members) → Chain ps old mid → Chain qs mid new → Chain (ps ++ qs) old new
+chain_append [] qs old mid new one other = subst (λ (ms : Members). Chain qs ms new) one other
+chain_append (p ∷ ps) qs old mid new one other = (one.0, one.1, chain_append ps qs one.0 mid new one.2 other)

@@ -1,13 +1,19 @@
+mod Added
 mod Assembled
 mod Chains
 mod Covers
+mod Filled
+mod Lines
 mod Looking
-mod Members
 mod Naming
 pub mod Plain
-mod Putting
+mod Puts
+mod Quoted
+mod ReadBack
 mod Rising
-pub mod SameTables
 mod Said
-mod Sayings
+pub mod Short
+mod Spaces
+pub mod SameTables
 mod Telling
+mod Written

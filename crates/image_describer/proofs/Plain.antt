@@ -26,7 +26,7 @@ use Rattle.described_world.proofs.DescribedOnce.{described_once}
 use Rattle.image_describer.specs.Describes.{plain_frame, plain_frames}
 use Rattle.image_describer.specs.Laws.{DescribedIsLaid, DescribedIsSame}
 
-plain_at : (os : List Object) (n : ℕ) → frame_at (plain_frames os) n ≡ plain_frame (object_at os n)
+pub plain_at : (os : List Object) (n : ℕ) → frame_at (plain_frames os) n ≡ plain_frame (object_at os n)
 unfolding plain_frames
 plain_at os n = get_or-map plain_frame os n free
 

@@ -1,13 +1,20 @@
--- What a description of a world is laid as.
-use Rattle.std.specs.Prelude.{◌≡◌, ℕ, List}
+-- What a description of a world is laid as, and that it has a text.
+use Rattle.std.specs.Prelude.{◌≡◌, ℕ, List, map, Some}
 use Rattle.model.specs.declared.frame.Frame.{Frame}
 use Rattle.model.specs.declared.geometry.Geometry.{Geometry}
 use Rattle.model.specs.Keepable.{IsSoundFrames, world_at}
+use Rattle.toml.specs.Data.{Members}
+use Rattle.toml.specs.Parse.{parse_document}
+use Rattle.layout.specs.Superblock.{IsPlan, Plan, version_number}
+use Rattle.image_writer.specs.Laid.{numbers_of}
+use Rattle.description.specs.Reading.{IsDescription}
 use Rattle.description.specs.declared.entry.Description.{Description}
-use Rattle.described_world.specs.Described.{IsDescribed, IsWorldFault}
+use Rattle.described_world.specs.Described.{HasFields, IsDescribed, IsWorldFault}
 use Rattle.described_world.specs.declared.fault.WorldFault.{WorldFault}
 use Rattle.described_world.specs.declared.fault.WorldFault.TheVariants.{NoMemory}
 use Rattle.image_describer.specs.Describes.{Describes}
+use Rattle.image_describer.specs.Spelled.{CanBeSpelled}
+use Rattle.image_describer.specs.Text.{description_text}
 
 -- any frames of the description of a world are sound, and stand for that world at that age
 abbrev pub DescribedIsSame : Type 0
@@ -17,3 +24,12 @@ DescribedIsSame = (g : Geometry) (age : ℕ) (fs gs : List Frame) (d : Descripti
 -- and no fault is told of it
 abbrev pub DescribedIsLaid : Type 0
 DescribedIsLaid = (g : Geometry) (age : ℕ) (fs : List Frame) (d : Description) (fault : WorldFault) → IsSoundFrames g age fs → Describes g (world_at age fs) d → IsWorldFault d fault → fault ≡ NoMemory
+
+-- With the home ranges and the version of a plan it has a text.
+abbrev pub DescribedHasText : Type 0
+DescribedHasText = (p : Plan) (age : ℕ) (fs : List Frame) (d : Description) → IsPlan p → IsSoundFrames p.geometry age fs → Describes p.geometry (world_at age fs) d →
+    d.ranges.items ≡ map numbers_of p.ranges → d.layout ≡ version_number p.version → CanBeSpelled d
+
+-- What is read from the text of a description is that description.
+abbrev pub TextIsRead : Type 0
+TextIsRead = (d : Description) → HasFields d → CanBeSpelled d → (table : Members) × (parse_document (description_text d) ≡ Some table) × IsDescription table d

@@ -1,4 +1,5 @@
 pub mod Describes
 pub mod Laws
-pub mod Tables
+pub mod Spelled
+pub mod Text
 pub mod Told

@@ -1,6 +1,6 @@
 //! Laws of descriptions of worlds, each the contract of a function that does nothing.
 
-ghost use Rattle.image_describer.specs.Laws.{DescribedIsLaid, DescribedIsSame};
+ghost use Rattle.image_describer.specs.Laws.{DescribedHasText, DescribedIsLaid, DescribedIsSame, TextIsRead};
 
 /// The frames of a world's description stand for the same world, at its age, and are sound.
 pub fn described_is_same()
@@ -10,4 +10,14 @@ pub fn described_is_same()
 /// A description of a world is refused with no fault of its own: its world is laid.
 pub fn described_is_laid()
     ensures { DescribedIsLaid }
+{}
+
+/// A description of a world, with the home ranges and the version of an image, has a text.
+pub fn described_has_text()
+    ensures { DescribedHasText }
+{}
+
+/// The text of a description is read as that description.
+pub fn text_is_read()
+    ensures { TextIsRead }
 {}

@@ -5,10 +5,10 @@
 mod adding;
 mod describing;
 mod entries;
+mod fields;
 pub mod laws;
 mod objects;
 mod ranges;
-mod tables;
 mod text;
 mod values;
 

@@ -1,19 +1,15 @@
-// The values that numbers, capabilities, states and lists are said by. Each call fails only where memory runs out.
-ghost use Rattle.std.specs.Prelude.{◌≡◌, ℕ, suc, ◌∷◌, [], Some, IfOk, string_bytes};
-ghost use Rattle.std.specs.List.{All};
+// The values of a description. Each call fails only where memory runs out.
+ghost use Rattle.std.specs.Prelude.{◌≡◌, ℕ, ◌++◌, List, IfOk, OnOk, codes, string_bytes};
+ghost use Rattle.std.specs.List.{All, flat_map};
 ghost use Rattle.model.specs.Capability.{IsAccess, IsWellFormed};
-ghost use Rattle.model.specs.Text.{access_text, capability_text};
-ghost use Rattle.toml.specs.Data.{Data, array, item, no_items};
-ghost use Rattle.toml.specs.View.{view};
-ghost use Rattle.description.specs.Reading.{IsCapability, IsList, IsNumber, IsRange, IsSlot, IsState, IsWord};
+ghost use Rattle.model.specs.Text.{access_text, capability_text, state_text};
 ghost use Rattle.described_world.specs.Described.{IsSomeCapability};
-ghost use Rattle.image_describer.specs.Tables.{Says};
+ghost use Rattle.image_describer.specs.Text.{list_text, quoted, range_text, slot_text, wide_text, word_text};
 
 use description::{SlotEntry, WordEntry};
 use image_writer::NumberRange;
 use model::{Access, Capability, State};
 use std::alloc::{AllocError, Global};
-use toml::Value;
 
 // The word for an access, with the space before it.
 fn access_word(access: Access) -> &'static str
@@ -45,9 +41,9 @@ fn space_string(
     format!(in alloc; "space {object} {height}{word}")
 }
 
-// The text of a capability.
+/// The text of a capability.
 #[tactic(auto, unfolding(model::specs::Text::capability_text))]
-fn capability_string(alloc: Global, capability: Capability) -> Result<String, AllocError>
+pub(crate) fn capability_string(alloc: Global, capability: Capability) -> Result<String, AllocError>
     requires { IsWellFormed capability }
     ensures { IfOk result (λ text. string_bytes text ≡ capability_text capability) }
 {
@@ -75,127 +71,122 @@ fn capability_string(alloc: Global, capability: Capability) -> Result<String, Al
     }
 }
 
-/// The text of a capability.
-pub(crate) fn capability_value(alloc: Global, capability: Capability) -> Result<Value, AllocError>
-    requires { IsWellFormed capability }
-    ensures { IfOk result (λ value. Says IsCapability 0 (Some capability) (view value)) }
-{
-    Ok(Value::String(capability_string(alloc, capability)?))
-}
-
-/// A number, or from 2^63 on, where those of TOML end, the text of its capability.
-pub(crate) fn number_value(alloc: Global, number: u64) -> Result<Value, AllocError>
-    ensures { IfOk result (λ value. Says IsNumber 0 number (view value)) }
-{
-    match i64::try_from(number) {
-        Ok(number) => Ok(Value::Integer(number)),
-        Err(_) => capability_value(alloc, Capability::Number(number)),
-    }
-}
-
 /// The word for a state.
-pub(crate) fn state_value(alloc: Global, state: State) -> Result<Value, AllocError>
-    ensures { IfOk result (λ value. Says IsState 0 (Some state) (view value)) }
+pub(crate) fn state_word(state: State) -> &'static str
+    ensures { result.now ≡ state_text state }
 {
     match state {
-        State::Available => Value::string(alloc, "available"),
-        State::Running => Value::string(alloc, "running"),
-        State::Waiting => Value::string(alloc, "waiting"),
+        State::Available => "available",
+        State::Running => "running",
+        State::Waiting => "waiting",
     }
 }
 
-// A list of two values.
-fn pair_value(alloc: Global, first: Value, second: Value) -> Result<Value, AllocError>
-    ensures { IfOk result (λ value.
-        view value ≡ array (item (view first) (item (view second) no_items))) }
+/// Writes a number, or from 2^63 on, where those of TOML end, the text of its capability.
+#[tactic(auto, unfolding(model::specs::Text::capability_text))]
+pub(crate) fn put_wide(text: &mut String, number: u64) -> Result<(), AllocError>
+    ensures { OnOk result (string_bytes text.new ≡ string_bytes text.old ++ wide_text number) }
 {
-    match Vec::from_array(alloc, [first, second]) {
-        Ok(items) => Ok(Value::Array(items)),
-        Err(_) => Err(AllocError),
+    if number < 1 << 63 {
+        write!(text, "{number}")
+    } else {
+        write!(text, "\"number {number}\"")
     }
 }
 
-/// What values say.
-pub(crate) trait ToValue {
-    /// What a value says.
-    ghost IsSaid: { Data → Self → Type 0 };
+/// A value in a list.
+pub(crate) trait Item {
+    /// Its text.
+    ghost text_of: { Self → List ℕ };
 
-    /// What can be said.
-    ghost MayBeSaid: { Self → Type 0 };
+    /// It can be written.
+    ghost MayBePut: { Self → Type 0 };
 
-    /// How many levels of lists and tables the values have at most.
-    ghost levels: { ℕ };
-
-    fn to_value(&self, alloc: Global) -> Result<Value, AllocError>
-        requires { MayBeSaid self.now }
-        ensures { IfOk result (λ value. Says IsSaid levels self.now (view value)) };
+    /// Writes it.
+    fn put(&self, alloc: Global, text: &mut String) -> Result<(), AllocError>
+        requires { MayBePut self.now }
+        ensures { OnOk result (string_bytes text.new ≡ string_bytes text.old ++ text_of self.now) };
 }
 
-/// A list with a value for each of these.
-pub(crate) fn list_value<T: ToValue>(alloc: Global, items: &[T]) -> Result<Value, AllocError>
-    requires { All T.MayBeSaid items.now }
-    ensures { IfOk result (λ value. Says (IsList T.IsSaid) (suc T.levels) items.now (view value)) }
+// Writes values of a list, each behind a comma.
+fn put_others<T: Item>(alloc: Global, text: &mut String, items: &[T]) -> Result<(), AllocError>
+    requires { All T.MayBePut items.now }
+    ensures { OnOk result (string_bytes text.new
+        ≡ string_bytes text.old ++ flat_map (λ x. codes ", " ++ T.text_of x) items.now) }
 {
-    let mut values = Vec::new(alloc);
     for item in items {
-        values.push(item.to_value(alloc)?)?;
+        text.push_str(", ")?;
+        item.put(alloc, text)?;
     }
-    Ok(Value::Array(values))
+    Ok(())
 }
 
-impl ToValue for u64 {
-    ghost IsSaid = { IsNumber };
-
-    ghost MayBeSaid = { λ _. Unit {0} };
-
-    ghost levels = { 3 };
-
-    fn to_value(&self, alloc: Global) -> Result<Value, AllocError> {
-        number_value(alloc, *self)
+/// Writes a list.
+pub(crate) fn put_items<T: Item>(
+    alloc: Global,
+    text: &mut String,
+    items: &[T],
+) -> Result<(), AllocError>
+    requires { All T.MayBePut items.now }
+    ensures { OnOk result
+        (string_bytes text.new ≡ string_bytes text.old ++ list_text T.text_of items.now) }
+{
+    match items {
+        [] => text.push_str("[]"),
+        [first, others @ ..] => {
+            text.push_str("[")?;
+            first.put(alloc, text)?;
+            put_others(alloc, text, others)?;
+            text.push_str("]")
+        }
     }
 }
 
-impl ToValue for SlotEntry {
-    ghost IsSaid = { IsSlot };
+impl Item for u64 {
+    ghost text_of = { wide_text };
 
-    ghost MayBeSaid = { λ slot. IsSomeCapability slot.capability };
+    ghost MayBePut = { λ _. Unit {0} };
 
-    ghost levels = { 3 };
+    fn put(&self, _alloc: Global, text: &mut String) -> Result<(), AllocError> {
+        put_wide(text, *self)
+    }
+}
 
-    fn to_value(&self, alloc: Global) -> Result<Value, AllocError> {
+impl Item for SlotEntry {
+    ghost text_of = { slot_text };
+
+    ghost MayBePut = { λ slot. IsSomeCapability slot.capability };
+
+    fn put(&self, alloc: Global, text: &mut String) -> Result<(), AllocError> {
         let Some(capability) = self.capability else {
             unreachable!()
         };
-        let index = number_value(alloc, self.index)?;
-        let text = capability_value(alloc, capability)?;
-        pair_value(alloc, index, text)
+        let index = self.index;
+        let held = capability_string(alloc, capability)?;
+        write!(text, "[{index}, \"{held}\"]")
     }
 }
 
-impl ToValue for WordEntry {
-    ghost IsSaid = { IsWord };
+impl Item for WordEntry {
+    ghost text_of = { word_text };
 
-    ghost MayBeSaid = { λ _. Unit {0} };
+    ghost MayBePut = { λ _. Unit {0} };
 
-    ghost levels = { 3 };
-
-    fn to_value(&self, alloc: Global) -> Result<Value, AllocError> {
-        let index = number_value(alloc, self.index)?;
-        let word = number_value(alloc, self.word)?;
-        pair_value(alloc, index, word)
+    fn put(&self, _alloc: Global, text: &mut String) -> Result<(), AllocError> {
+        let index = self.index;
+        write!(text, "[{index}, ")?;
+        put_wide(text, self.word)?;
+        text.push_str("]")
     }
 }
 
-impl ToValue for NumberRange {
-    ghost IsSaid = { IsRange };
+impl Item for NumberRange {
+    ghost text_of = { range_text };
 
-    ghost MayBeSaid = { λ _. Unit {0} };
+    ghost MayBePut = { λ _. Unit {0} };
 
-    ghost levels = { 3 };
-
-    fn to_value(&self, alloc: Global) -> Result<Value, AllocError> {
-        let first = number_value(alloc, self.first)?;
-        let count = number_value(alloc, self.count)?;
-        pair_value(alloc, first, count)
+    fn put(&self, _alloc: Global, text: &mut String) -> Result<(), AllocError> {
+        let NumberRange { first, count } = *self;
+        write!(text, "[{first}, {count}]")
     }
 }

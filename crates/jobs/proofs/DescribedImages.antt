@@ -24,7 +24,10 @@ use Rattle.description.specs.Reading.{IsDescription}
 use Rattle.description.specs.Laws.{IsSame}
 use Rattle.description.proofs.Once.{description_once}
 use Rattle.image_describer.proofs.Plain.{described_is_same}
+use Rattle.image_describer.proofs.Short.{described_has_text}
 use Rattle.image_describer.proofs.SameTables.{same_described}
+use Rattle.image_describer.specs.Spelled.{CanBeSpelled}
+use Rattle.image_describer.specs.Text.{description_text}
 use Rattle.object_cache.specs.PlainStore.{StoreState, parts_of, view_of}
 use Rattle.jobs.specs.Images.{DescribesSaved, IsDescriptionOf, OpensAndDescribes, TellsWhole}
 use Rattle.jobs.specs.Laws.{DescribedIsDenoted}
@@ -71,9 +74,13 @@ described disk device back answer d is told = subst (λ (r : Result Description 
 
 -- A description of what is saved.
 module _ {D : Type 0} (disk : D → Disk) (device back : D) (d : Description) (saved : DescribesSaved disk device back d) where
+  -- it has a text
+  pub has_text : CanBeSpelled d
+  has_text = described_has_text saved.state.plan saved.state.header.age saved.state.frames d saved.encodes.plan.fits saved.sound saved.whole.describes saved.whole.ranges saved.whole.layout
+
   -- its text tells all
-  pub tells : (text : List ℕ) (table : Members) → parse_document text ≡ Some table → IsDescription table d → (Told : List ℕ → Type 0) → Told text → TellsWhole disk device back Told
-  tells text table read said Told told = record {
+  pub tells : (text : List ℕ) (table : Members) → parse_document text ≡ Some table → IsDescription table d → text ≡ description_text d → (Told : List ℕ → Type 0) → Told text → TellsWhole disk device back Told
+  tells text table read said spelled Told told = record {
     state = saved.state;
     encodes = saved.encodes;
     sound = saved.sound;
@@ -83,6 +90,7 @@ module _ {D : Type 0} (disk : D → Disk) (device back : D) (d : Description) (s
       read = read;
       description = d;
       said = said;
+      spelled = spelled;
       describes = saved.whole.describes;
       brief = saved.whole.brief;
       ranges = saved.whole.ranges;

@@ -28,6 +28,7 @@ use Rattle.image_builder.specs.declared.fault.BuildFault.TheVariants as build
 use Rattle.image_builder.specs.declared.upgrade_fault.UpgradeFault.TheVariants as upgrade
 use Rattle.image_builder.specs.Built.{BuildsFrom, Refuses, plan_for}
 use Rattle.image_describer.specs.Describes.{Describes, IsBrief}
+use Rattle.image_describer.specs.Text.{description_text}
 use Rattle.image_drawer.specs.Graph.{graph_text}
 use Rattle.image_builder.specs.Upgraded.{IsNotUpgraded, Upgrades}
 use Rattle.runs.specs.KernelRuns.{RunsOver}
@@ -132,12 +133,14 @@ OpensAndDescribes disk device back (Ok description) = DescribesSaved disk device
 OpensAndDescribes disk device back (Err why) = RefusesToOpen disk device back why
 
 -- A text is that of a description which tells each object that frames stand for as it is, at their age, and nothing else:
--- nothing at its default, numbers in order, and the home ranges and the version of a plan.
+-- nothing at its default, numbers in order, and the home ranges and the version of a plan. It is the one text of that
+-- description, and is read as it.
 pub record IsTextOf (p : Plan) (age : ℕ) (frames : List Frame) (text : List ℕ) : Type 0 where
   pub table : Members
   pub read : parse_document text ≡ Some table
   pub description : Description
   pub said : IsDescription table description
+  pub spelled : text ≡ description_text description
   pub describes : Describes p.geometry (world_at age frames) description
   pub brief : IsBrief description
   pub ranges : description.ranges.items ≡ map numbers_of p.ranges

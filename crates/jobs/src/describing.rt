@@ -4,6 +4,8 @@ ghost use Rattle.toml.specs.Data.{Members};
 ghost use Rattle.toml.specs.Parse.{parse_document};
 ghost use Rattle.description.specs.Reading.{IsDescription};
 ghost use Rattle.described_world.specs.Described.{HasFields};
+ghost use Rattle.image_describer.specs.Spelled.{CanBeSpelled};
+ghost use Rattle.image_describer.specs.Text.{description_text};
 ghost use Rattle.jobs.specs.Faults.{IsTold, status_of};
 ghost use Rattle.jobs.specs.Images.{DescribesImage};
 
@@ -20,8 +22,10 @@ use std::io::Write;
 
 // The text of a description, which is let go.
 fn text_of_whole(alloc: Global, description: Description) -> Result<String, AllocError>
-    requires { HasFields description }
-    ensures { IfOk result (λ text. (table : Members) × (parse_document (string_bytes text) ≡ Some table)
+    requires fields { HasFields description }
+    requires spelled { CanBeSpelled description }
+    ensures text { IfOk result (λ text. string_bytes text ≡ description_text description) }
+    ensures read { IfOk result (λ text. (table : Members) × (parse_document (string_bytes text) ≡ Some table)
         × IsDescription table description) }
 {
     text_of(alloc, &description)

@@ -12,13 +12,13 @@ returns-in_err-number c = failed _ (IsBank (table_view c.args.table.now)) c.in_e
 pub returns-in_err-number-2 : goal.returns-in_err-number-2
 returns-in_err-number-2 c = failed _ (IsBank (table_view c.args.table.now)) c.in_err-number-2.field-0.0 c.from_residual-in_err-number-2.result c.from_residual-in_err-number-2.ensures.1 c.in_err-number-2.ensures (λ p is. (p.owner, is.owner))
 
-pub returns-in_err-number-3 : goal.returns-in_err-number-3
-returns-in_err-number-3 c = failed _ (IsBank (table_view c.args.table.now)) c.in_err-number-3.field-0.0 c.from_residual-in_err-number-3.result c.from_residual-in_err-number-3.ensures.1 c.in_err-number-3.ensures (λ p is. (p.limit, is.limit))
+pub returns-in_err-wide_number : goal.returns-in_err-wide_number
+returns-in_err-wide_number c = failed _ (IsBank (table_view c.args.table.now)) c.in_err-wide_number.field-0.0 c.from_residual-in_err-wide_number.result c.from_residual-in_err-wide_number.ensures.1 c.in_err-wide_number.ensures (λ p is. (p.limit, is.limit))
 
 pub returns : goal.returns
 returns c = record {
   known = c.in_ok-check_keys.ensures;
   number = c.in_ok-number.ensures;
   owner = c.in_ok-number-2.ensures;
-  limit = c.in_ok-number-3.ensures;
+  limit = c.in_ok-wide_number.ensures;
 }

@@ -2,11 +2,11 @@ use Rattle.std.proofs.Common.{Option, subst}
 use Rattle.model.specs.declared.capability.Capability.{Capability}
 use Rattle.toml.specs.View.{view}
 use Rattle.description.specs.Reading.{IsCapability}
-use Rattle.description.proofs.Types.{no_number, number_text, other_text}
+use Rattle.description.proofs.Types.{no_number, other_text, wide_text}
 use Rattle.description.proofs.value.number_in_text.Goals as goal
 
 pub returns-in-Some : goal.returns-in-Some
-returns-in-Some c = number_text (view c.args.value.now) c.in-Some.number (subst (λ (o : Option Capability). IsCapability (view c.args.value.now) o) c.in-Some.ensures.found c.in-Ok.ensures)
+returns-in-Some c = wide_text (view c.args.value.now) c.in-Some.number c.in-Some.ensures.found.0 (subst (λ (o : Option Capability). IsCapability (view c.args.value.now) o) c.in-Some.ensures.found.1 c.in-Ok.ensures)
 
 pub returns-in-None : goal.returns-in-None
 returns-in-None c = other_text (view c.args.value.now) c.in-Ok.capability c.requires c.in-Ok.ensures c.in-None.ensures.none

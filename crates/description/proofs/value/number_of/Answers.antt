@@ -1,9 +1,9 @@
-use Rattle.std.proofs.Common.{◌≡◌, true, false, arith}
+use Rattle.std.proofs.Common.{◌≡◌, ◌<◌, ◌^◌, true, false, arith}
 use Rattle.std.proofs.lemmas.Int.{to_z-of_z}
 use Rattle.std.specs.Int.{is_negative}
 use Rattle.std.specs.Prelude.{unsigned_abs}
 use Rattle.toml.specs.View.{view}
-use Rattle.description.proofs.Types.{natural, negative}
+use Rattle.description.proofs.Types.{natural, negative, not_integer}
 use Rattle.description.proofs.value.number_of.Goals as goal
 
 pub returns-then-is_negative : goal.returns-then-is_negative
@@ -15,4 +15,8 @@ pub returns-else-is_negative : goal.returns-else-is_negative
 returns-else-is_negative c =
     let above : is_negative c.in-Some.number ≡ false = grind (arith, to_z-of_z) in
     let size : c.unsigned_abs.result ≡ unsigned_abs c.in-Some.number = grind (arith, to_z-of_z) in
-    rw size (natural (view c.args.value.now) c.in-Some.number c.in-Some.ensures above)
+    let small : unsigned_abs c.in-Some.number < 2 ^ 63 = grind (arith, to_z-of_z) in
+    rw size (natural (view c.args.value.now) c.in-Some.number c.in-Some.ensures above small)
+
+pub returns-in-None : goal.returns-in-None
+returns-in-None c = not_integer (view c.args.value.now) c.in-None.ensures

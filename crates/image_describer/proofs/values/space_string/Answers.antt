@@ -2,7 +2,7 @@ use Rattle.std.proofs.Common.{◌≡◌, ◌∙◌, String, Global, string_bytes
 use Rattle.std.proofs.lemmas.Result.{IfOk-weaker}
 use Rattle.model.specs.Text.{capability_text}
 use Rattle.model.specs.declared.capability.Capability.TheVariants.{Space}
-use Rattle.image_describer.proofs.Sayings.{space_text}
+use Rattle.image_describer.proofs.Spaces.{space_text}
 use Rattle.image_describer.proofs.values.space_string.Goals as goal
 
 pub returns : goal.returns

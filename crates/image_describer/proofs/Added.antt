@@ -1,0 +1,25 @@
+-- Lines that are written one behind the other.
+use Rattle.std.proofs.Common.{◌≡◌, ℕ, List, [], ◌∷◌, ◌++◌, Some, append-nil, append_assoc, sym, ap, ◌∙◌}
+use Rattle.image_describer.specs.Text.{Field, begin_line, field_line, field_lines, list_unless_empty}
+
+-- the lines of fields were written behind a text
+abbrev pub Adds : List ℕ → List Field → List ℕ → Type 0
+Adds old [] new = new ≡ old
+Adds old (f ∷ fs) new = (mid : List ℕ) × (mid ≡ old ++ field_line f) × Adds mid fs new
+
+added : (old new : List ℕ) (fs : List Field) → Adds old fs new → new ≡ old ++ field_lines fs
+added old new [] adds = adds ∙ sym (append-nil old)
+added old new (f ∷ fs) adds =
+    added adds.0 new fs adds.2 ∙ ap (λ (text : List ℕ). text ++ field_lines fs) adds.1 ∙ append_assoc old (field_line f) (field_lines fs)
+
+-- and behind the header of an object
+pub object_added : (old begun new name : List ℕ) (fs : List Field) → begun ≡ old ++ begin_line name → Adds begun fs new → new ≡ old ++ (begin_line name ++ field_lines fs)
+object_added old begun new name fs header adds =
+    added begun new fs adds ∙ ap (λ (text : List ℕ). text ++ field_lines fs) header ∙ append_assoc old (begin_line name) (field_lines fs)
+
+-- a value that was written is another by name
+pub same_list : {A : Type 0} (old new key : List ℕ) (f : A → List ℕ) (xs ys : List A) → new ≡ old ++ field_line (key, list_unless_empty f xs) → xs ≡ ys → new ≡ old ++ field_line (key, list_unless_empty f ys)
+same_list {A = A} old new key f xs ys made is = made ∙ ap (λ (zs : List A). old ++ field_line (key, list_unless_empty f zs)) is
+
+pub same_value : {A : Type 0} (old new key : List ℕ) (f : A → List ℕ) (x y : A) → new ≡ old ++ field_line (key, Some (f x)) → y ≡ x → new ≡ old ++ field_line (key, Some (f y))
+same_value {A = A} old new key f x y made is = made ∙ ap (λ (z : A). old ++ field_line (key, Some (f z))) (sym is)

@@ -1,0 +1,229 @@
+-- The lines of a description are those that TOML has for its values.
+use Rattle.std.proofs.Common.{◌≡◌, ℕ, suc, ◌<◌, ◌≤◌, ◌^◌, max, ℤ, pos, Bool, true, false, ◌&&◌, List, [], ◌∷◌, ◌++◌, codes, decimal, Option, Some, None, IfSome, FitsSigned, append-nil, append_assoc, refl, sym, ap, ◌∙◌, subst, arith}
+use Rattle.std.specs.Fmt.{signed_decimal}
+use Rattle.std.specs.Int.{w64}
+use Rattle.std.specs.List.{flat_map, join_by}
+use Rattle.std.proofs.lemmas.Bool.Decides.{nat_tests}
+use Rattle.toml_writer.specs.Text.{dotted_text, key_text, string_text}
+use Rattle.toml.specs.Data.{Data, string, integer, float, boolean, datetime, array, table, Items, no_items, item, Members, no_members, depth, has_valid_dates, items_depth, items_have_valid_dates}
+use Rattle.toml.specs.Tables.{Expression, array_table, key_value}
+use Rattle.toml.specs.Text.{IsItemsText, IsLinesText, IsValueText, are_tables, breaks_lines, elements, is_section, pairs, sections}
+use Rattle.toml.proofs.ReadLines.{AllPrinted}
+use Rattle.image_describer.specs.Text.{Field, begin_line, field_line, field_lines, list_text, pair_text, quoted}
+use Rattle.image_describer.proofs.Chains.{Pair}
+use Rattle.image_describer.proofs.Filled.{ArePairs, keyed, member_or, no_sections, tables}
+
+-- ---- values
+
+-- a text writes a value, which has few levels, no date, and no header of its own
+pub record Spells (levels : ℕ) (text : List ℕ) (d : Data) : Type 0 where
+  pub text_is : IsValueText false d text
+  pub deep : depth d ≤ levels
+  pub valid : has_valid_dates d ≡ true
+  pub pair : is_section d ≡ false
+
+pub spells_number : (n : ℕ) → n < 2 ^ 63 → Spells 0 (decimal n) (integer (pos n))
+spells_number n small = record { text_is = (refl, grind (arith, small)); deep = omega arith; valid = refl; pair = refl }
+
+pub spells_text : (text : List ℕ) → string_text text ≡ quoted text → Spells 0 (quoted text) (string text)
+spells_text text is = record { text_is = sym is; deep = omega arith; valid = refl; pair = refl }
+
+-- a list that begins with such a value has no header
+no_tables : (d : Data) (ds : Items) → is_section d ≡ false → are_tables (item d ds) ≡ false
+no_tables (string x) ds pair = refl
+no_tables (integer x) ds pair = refl
+no_tables (float x) ds pair = refl
+no_tables (boolean x) ds pair = refl
+no_tables (datetime x) ds pair = refl
+no_tables (array xs) ds pair = refl
+no_tables (table ms) ds pair = absurd cc
+
+both_true : (a b : Bool) → a ≡ true → b ≡ true → (a && b) ≡ true
+both_true a b one other = rw (one, other)
+
+one_line : (ds : Items) → breaks_lines false ds ≡ false
+one_line no_items = refl
+one_line (item d no_items) = refl
+one_line (item d (item e ds)) = refl
+
+-- lists of such values
+abbrev pub items : {A : Type 0} → (A → Data) → List A → Items
+items g [] = no_items
+items g (x ∷ xs) = item (g x) (items g xs)
+
+module _ {A : Type 0} (f : A → List ℕ) (g : A → Data) (levels : ℕ) where
+  abbrev pub AllSpell : List A → Type 0
+  AllSpell [] = Unit {0}
+  AllSpell (x ∷ xs) = Spells levels (f x) (g x) × AllSpell xs
+
+  further : (xs : List A) → AllSpell xs → IsItemsText false false false (items g xs) (flat_map (λ y. codes ", " ++ f y) xs ++ codes "]")
+  further [] spell = refl
+  further (x ∷ xs) spell = (
+    f x,
+    flat_map (λ y. codes ", " ++ f y) xs ++ codes "]",
+    append_assoc (codes ", " ++ f x) (flat_map (λ y. codes ", " ++ f y) xs) (codes "]") ∙ append_assoc (codes ", ") (f x) (flat_map (λ y. codes ", " ++ f y) xs ++ codes "]"),
+    spell.0.text_is,
+    further xs spell.1,
+  )
+
+  all_items : (xs : List A) → AllSpell xs → IsItemsText false false true (items g xs) (join_by f (codes ", ") xs ++ codes "]")
+  all_items [] spell = refl
+  all_items (x ∷ xs) spell = (
+    f x,
+    flat_map (λ y. codes ", " ++ f y) xs ++ codes "]",
+    append_assoc (f x) (flat_map (λ y. codes ", " ++ f y) xs) (codes "]"),
+    spell.0.text_is,
+    further xs spell.1,
+  )
+
+  items_deep : (xs : List A) → AllSpell xs → items_depth (items g xs) ≤ levels
+  items_deep [] spell = omega arith
+  items_deep (x ∷ xs) spell = let rest = items_deep xs spell.1 in omega (arith, spell.0.deep, rest)
+
+  items_valid : (xs : List A) → AllSpell xs → items_have_valid_dates (items g xs) ≡ true
+  items_valid [] spell = refl
+  items_valid (x ∷ xs) spell = both_true (has_valid_dates (g x)) (items_have_valid_dates (items g xs)) spell.0.valid (items_valid xs spell.1)
+
+  items_pair : (xs : List A) → AllSpell xs → is_section (array (items g xs)) ≡ false
+  items_pair [] spell = refl
+  items_pair (x ∷ xs) spell = no_tables (g x) (items g xs) spell.0.pair
+
+  pub spells_list : (xs : List A) → AllSpell xs → Spells (suc levels) (list_text f xs) (array (items g xs))
+  spells_list xs spell = record {
+    text_is = (
+      join_by f (codes ", ") xs ++ codes "]",
+      refl,
+      subst (λ (b : Bool). IsItemsText false b true (items g xs) (join_by f (codes ", ") xs ++ codes "]")) (sym (one_line (items g xs))) (all_items xs spell),
+    );
+    deep = let rest = items_deep xs spell in omega (arith, rest);
+    valid = items_valid xs spell;
+    pair = items_pair xs spell;
+  }
+
+pub spells_pair : (s t : List ℕ) (a b : Data) → Spells 0 s a → Spells 0 t b → Spells 1 (pair_text s t) (array (item a (item b no_items)))
+spells_pair s t a b one other = record {
+  text_is = (
+    s ++ codes ", " ++ t ++ codes "]",
+    refl,
+    (
+      s,
+      codes ", " ++ (t ++ codes "]"),
+      append_assoc (s ++ codes ", ") t (codes "]") ∙ append_assoc s (codes ", ") (t ++ codes "]"),
+      one.text_is,
+      (t, codes "]", refl, other.text_is, refl),
+    ),
+  );
+  deep = omega (arith, one.deep, other.deep);
+  valid = both_true (has_valid_dates a) (has_valid_dates b && true) one.valid (both_true (has_valid_dates b) true other.valid refl);
+  pair = no_tables a (item b no_items) one.pair;
+}
+
+-- ---- keys
+
+abbrev pub SpellsOption : Option (List ℕ) → Option Data → Type 0
+SpellsOption None None = Unit {0}
+SpellsOption (Some text) (Some d) = Spells 2 text d
+SpellsOption _ _ = ⊥
+
+-- a value that is left out where that is the same
+pub deeper : (m n : ℕ) (text : List ℕ) (d : Data) → m ≤ n → Spells m text d → Spells n text d
+deeper m n text d few spells = record { text_is = spells.text_is; deep = omega (arith, few, spells.deep); valid = spells.valid; pair = spells.pair }
+
+-- keys with their values; each key stands for itself
+abbrev pub SpellFields : List Field → List Pair → Type 0
+SpellFields [] [] = Unit {0}
+SpellFields [] (p ∷ ps) = ⊥
+SpellFields (f ∷ fs) [] = ⊥
+SpellFields (f ∷ fs) (p ∷ ps) = (f.0 ≡ p.0) × (key_text p.0 ≡ p.0) × SpellsOption f.1 p.1 × SpellFields fs ps
+
+pair_option : (o : Option (List ℕ)) (d : Option Data) → SpellsOption o d → IfSome d (λ e. is_section e ≡ false)
+pair_option None None spells = tt
+pair_option None (Some d) spells = absurd spells
+pair_option (Some text) None spells = absurd spells
+pair_option (Some text) (Some d) spells = spells.pair
+
+pub are_pairs : (fs : List Field) (ps : List Pair) → SpellFields fs ps → ArePairs ps
+are_pairs [] [] spell = tt
+are_pairs [] (p ∷ ps) spell = absurd spell
+are_pairs (f ∷ fs) [] spell = absurd spell
+are_pairs (f ∷ fs) (p ∷ ps) spell = (pair_option f.1 p.1 spell.2, are_pairs fs ps spell.3)
+
+line_of_field : (started : Bool) (k l : List ℕ) (o : Option (List ℕ)) (d : Option Data) (ms : Members) (text : List ℕ) → k ≡ l → key_text l ≡ l → SpellsOption o d
+    → ((begun : Bool) → IsLinesText false begun (pairs ms) text) → IsLinesText false started (pairs (member_or l d ms)) (field_line (k, o) ++ text)
+line_of_field started k l None None ms text same bare spells rest = rest started
+line_of_field started k l None (Some d) ms text same bare spells rest = absurd spells
+line_of_field started k l (Some value) None ms text same bare spells rest = absurd spells
+line_of_field started k l (Some value) (Some d) ms text same bare spells rest = rw spells.pair (
+  field_line (k, Some value),
+  text,
+  refl,
+  (
+    value,
+    append_assoc (k ++ codes " = ") value (10 ∷ []) ∙ append_assoc k (codes " = ") (value ++ 10 ∷ [])
+        ∙ ap (λ (key : List ℕ). key ++ (codes " = " ++ (value ++ 10 ∷ []))) (same ∙ sym bare),
+    spells.text_is,
+  ),
+  rest true,
+)
+
+pub lines_of_fields : (fs : List Field) (ps : List Pair) (started : Bool) → SpellFields fs ps → IsLinesText false started (pairs (keyed ps)) (field_lines fs)
+lines_of_fields [] [] started spell = refl
+lines_of_fields [] (p ∷ ps) started spell = absurd spell
+lines_of_fields (f ∷ fs) [] started spell = absurd spell
+lines_of_fields (f ∷ fs) (p ∷ ps) started spell =
+    line_of_field started f.0 p.0 f.1 p.1 (keyed ps) (field_lines fs) spell.0 spell.1 spell.2 (λ begun. lines_of_fields fs ps begun spell.3)
+
+printed_field : (l : List ℕ) (o : Option (List ℕ)) (d : Option Data) (ms : Members) → SpellsOption o d → AllPrinted (pairs ms) → AllPrinted (pairs (member_or l d ms))
+printed_field l None None ms spells rest = rest
+printed_field l None (Some d) ms spells rest = absurd spells
+printed_field l (Some value) None ms spells rest = absurd spells
+printed_field l (Some value) (Some d) ms spells rest = rw spells.pair ((refl, omega (arith, spells.deep), spells.valid), rest)
+
+pub printed_fields : (fs : List Field) (ps : List Pair) → SpellFields fs ps → AllPrinted (pairs (keyed ps))
+printed_fields [] [] spell = tt
+printed_fields [] (p ∷ ps) spell = absurd spell
+printed_fields (f ∷ fs) [] spell = absurd spell
+printed_fields (f ∷ fs) (p ∷ ps) spell = printed_field p.0 f.1 p.1 (keyed ps) spell.2 (printed_fields fs ps spell.3)
+
+-- ---- lists of lines
+
+pub append_lines : (started : Bool) (es fs : List Expression) (t u : List ℕ) → (es ≡ [] → started ≡ true) → IsLinesText false started es t → IsLinesText false true fs u
+    → IsLinesText false started (es ++ fs) (t ++ u)
+append_lines started [] fs t u starts one other =
+    subst (λ (b : Bool). IsLinesText false b fs (t ++ u)) (sym (starts refl))
+    (subst (λ (text : List ℕ). IsLinesText false true fs text) (ap (λ (text : List ℕ). text ++ u) (sym one)) other)
+append_lines started (e ∷ es) fs t u starts one other =
+    let (this, rest, is, line, more) = one in
+    (this, rest ++ u, ap (λ (text : List ℕ). text ++ u) is ∙ append_assoc this rest u, line, append_lines true es fs rest u (λ none. refl) more other)
+
+pub append_printed : (es fs : List Expression) → AllPrinted es → AllPrinted fs → AllPrinted (es ++ fs)
+append_printed [] fs one other = other
+append_printed (e ∷ es) fs one other = (one.0, append_printed es fs one.1 other)
+
+-- ---- tables
+
+module _ {A : Type 0} (f : A → List Pair) (g : A → List Field) (t : A → List ℕ) (name : List ℕ) (bare : key_text name ≡ name) (is : (x : A) → t x ≡ begin_line name ++ field_lines (g x)) where
+  abbrev pub AllFields : List A → Type 0
+  AllFields [] = Unit {0}
+  AllFields (x ∷ xs) = SpellFields (g x) (f x) × AllFields xs
+
+  header_is : begin_line name ≡ codes "\n[[" ++ (dotted_text ([], name) ++ codes "]]\n")
+  header_is = ap (λ (key : List ℕ). codes "\n[[" ++ key ++ codes "]]\n") (sym bare)
+
+  pub lines_of_tables : (xs : List A) → AllFields xs → IsLinesText false true (elements ([], name) (tables f xs)) (flat_map t xs)
+  lines_of_tables [] spell = refl
+  lines_of_tables (x ∷ xs) spell = rw (no_sections (name ∷ []) (f x) (are_pairs (g x) (f x) spell.0), append-nil (pairs (keyed (f x)))) (
+    begin_line name,
+    field_lines (g x) ++ flat_map t xs,
+    ap (λ (text : List ℕ). text ++ flat_map t xs) (is x) ∙ append_assoc (begin_line name) (field_lines (g x)) (flat_map t xs),
+    header_is,
+    append_lines true (pairs (keyed (f x))) (elements ([], name) (tables f xs)) (field_lines (g x)) (flat_map t xs) (λ none. refl)
+        (lines_of_fields (g x) (f x) true spell.0) (lines_of_tables xs spell.1),
+  )
+
+  pub printed_tables : (xs : List A) → AllFields xs → AllPrinted (elements ([], name) (tables f xs))
+  printed_tables [] spell = tt
+  printed_tables (x ∷ xs) spell = rw (no_sections (name ∷ []) (f x) (are_pairs (g x) (f x) spell.0), append-nil (pairs (keyed (f x)))) (
+    omega arith,
+    append_printed (pairs (keyed (f x))) (elements ([], name) (tables f xs)) (printed_fields (g x) (f x) spell.0) (printed_tables xs spell.1),
+  )

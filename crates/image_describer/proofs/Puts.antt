@@ -1,0 +1,99 @@
+-- What a table has once a value is put at a key.
+use Rattle.std.proofs.Common.{◌≡◌, ℕ, Bool, true, false, ◌&&◌, List, [], ◌∷◌, Option, Some, None, option_map, if◌then◌else◌, Ordering, Less, Equal, Greater, nat_cmp, is_eq, refl, sym, ap, ◌∙◌, subst}
+use Rattle.std.specs.Prelude.{IsTrue}
+use Rattle.std.specs.Cmp.Lexicographic.{slice_cmp}
+use Rattle.std.specs.List.{list_any}
+use Rattle.std.specs.Ordering.{match_ordering}
+use Rattle.std.proofs.lemmas.Cmp.{alike_right, nat_list_cmp_total}
+use Rattle.toml.specs.Data.{Data, get_member, member, Members, no_members, same_key}
+use Rattle.toml.specs.Tables.{Node, Nodes, close, close_node, get_node, insert, no_nodes, node}
+use Rattle.toml.proofs.NodeLaws.{get_node-insert}
+use Rattle.description.specs.Reading.{has_only}
+
+-- a value is put at a key, where there is one
+pub record Puts (key : List ℕ) (o : Option Data) (old new : Members) : Type 0 where
+  pub found : get_member key old ≡ None → get_member key new ≡ o
+  pub others : (k : List ℕ) → same_key k key ≡ false → get_member k new ≡ get_member k old
+  pub only : (keys : List (List ℕ)) → IsTrue (list_any (same_key key) keys) → IsTrue (has_only keys old) → IsTrue (has_only keys new)
+
+-- what a table has at a key is what its nodes have there
+member_here : (o : Ordering) (d : Option Data) (x : Node) (m : Option Node) → d ≡ option_map close_node m
+    → match_ordering o d (Some (close_node x)) d ≡ option_map close_node (if is_eq o then Some x else m)
+member_here Less d x m is = is
+member_here Equal d x m is = refl
+member_here Greater d x m is = is
+
+pub member_of : (k : List ℕ) (ns : Nodes) → get_member k (close ns) ≡ option_map close_node (get_node k ns)
+member_of k no_nodes = refl
+member_of k (node l x ns) = member_here (slice_cmp nat_cmp k l) (get_member k (close ns)) x (get_node k ns) (member_of k ns)
+
+-- nodes have nothing at a key where the table has none
+none_mapped : (m : Option Node) → option_map close_node m ≡ None → m ≡ None
+none_mapped None is = refl
+none_mapped (Some x) is = absurd cc
+
+pub no_node : (k : List ℕ) (ns : Nodes) → get_member k (close ns) ≡ None → get_node k ns ≡ None
+no_node k ns none = none_mapped (get_node k ns) (sym (member_of k ns) ∙ none)
+
+-- another key is looked for further on
+skipped : (o : Ordering) (x y : Option Data) → is_eq o ≡ false → match_ordering o y x y ≡ y
+skipped Less x y other = refl
+skipped Equal x y other = absurd cc
+skipped Greater x y other = refl
+
+first_other : (j l : List ℕ) (d : Data) (ms : Members) → same_key j l ≡ false → get_member j (member l d ms) ≡ get_member j ms
+first_other j l d ms other = skipped (slice_cmp nat_cmp j l) (Some d) (get_member j ms) other
+
+-- other keys have what they had
+other_at : (j : List ℕ) (o : Ordering) (k l : List ℕ) (x y : Node) (ns next : Nodes) → o ≡ slice_cmp nat_cmp k l → same_key j k ≡ false
+    → get_member j (close next) ≡ get_member j (close ns)
+    → get_member j (close (match_ordering o (node k x (node l y ns)) (node l x ns) (node l y next))) ≡ get_member j (close (node l y ns))
+other_at j Less k l x y ns next is other rest = first_other j k (close_node x) (close (node l y ns)) other
+other_at j Equal k l x y ns next is other rest =
+    let same : same_key j l ≡ false = ap is_eq (sym (alike_right nat_list_cmp_total k l j (sym is))) ∙ other in
+    first_other j l (close_node x) (close ns) same ∙ sym (first_other j l (close_node y) (close ns) same)
+other_at j Greater k l x y ns next is other rest =
+    ap (λ (r : Option Data). match_ordering (slice_cmp nat_cmp j l) r (Some (close_node y)) r) rest
+
+inserted_other : (j k : List ℕ) (x : Node) (ns : Nodes) → same_key j k ≡ false → get_member j (close (insert k x ns)) ≡ get_member j (close ns)
+inserted_other j k x no_nodes other = first_other j k (close_node x) no_members other
+inserted_other j k x (node l y ns) other = other_at j (slice_cmp nat_cmp k l) k l x y ns (insert k x ns) refl other (inserted_other j k x ns other)
+
+-- the keys are among those that are known
+both : (a b : Bool) → IsTrue a → IsTrue b → IsTrue (a && b)
+both true true one other = refl
+both true false one other = other
+both false b one other = absurd cc
+
+first_true : (a b : Bool) → IsTrue (a && b) → IsTrue a
+first_true true b is = refl
+first_true false b is = is
+
+second_true : (a b : Bool) → IsTrue (a && b) → IsTrue b
+second_true true b is = is
+second_true false b is = absurd cc
+
+only_at : (keys : List (List ℕ)) (o : Ordering) (k l : List ℕ) (x y : Node) (ns next : Nodes) → IsTrue (list_any (same_key k) keys)
+    → IsTrue (has_only keys (close (node l y ns))) → IsTrue (has_only keys (close next))
+    → IsTrue (has_only keys (close (match_ordering o (node k x (node l y ns)) (node l x ns) (node l y next))))
+only_at keys Less k l x y ns next known all rest = both (list_any (same_key k) keys) (has_only keys (close (node l y ns))) known all
+only_at keys Equal k l x y ns next known all rest = all
+only_at keys Greater k l x y ns next known all rest =
+    both (list_any (same_key l) keys) (has_only keys (close next)) (first_true (list_any (same_key l) keys) (has_only keys (close ns)) all) rest
+
+inserted_only : (keys : List (List ℕ)) (k : List ℕ) (x : Node) (ns : Nodes) → IsTrue (list_any (same_key k) keys) → IsTrue (has_only keys (close ns)) → IsTrue (has_only keys (close (insert k x ns)))
+inserted_only keys k x no_nodes known all = both (list_any (same_key k) keys) true known refl
+inserted_only keys k x (node l y ns) known all =
+    only_at keys (slice_cmp nat_cmp k l) k l x y ns (insert k x ns) known all
+    (inserted_only keys k x ns known (second_true (list_any (same_key l) keys) (has_only keys (close ns)) all))
+
+-- a node that is inserted is put, and nothing is where there is none
+pub puts_inserted : (k : List ℕ) (x : Node) (ns : Nodes) → Puts k (Some (close_node x)) (close ns) (close (insert k x ns))
+puts_inserted k x ns = record {
+  found = λ none. member_of k (insert k x ns) ∙ ap (option_map close_node) (get_node-insert k x ns);
+  others = λ j other. inserted_other j k x ns other;
+  only = λ keys known all. inserted_only keys k x ns known all;
+}
+
+pub puts_none : (k : List ℕ) (ms : Members) → Puts k None ms ms
+puts_none k ms = record { found = λ none. none; others = λ j other. refl; only = λ keys known all. all }

@@ -1,0 +1,123 @@
+-- The texts of capabilities and states stand between quotes as they are.
+use Rattle.std.proofs.Common.{◌≡◌, ℕ, ◌<◌, ◌≤◌, ◌^◌, Bool, true, false, not, ◌&&◌, ◌||◌, ◌==◌, nat_lt, nat_le, if◌then◌else◌, List, [], ◌∷◌, ◌++◌, codes, decimal, IfSome, inl, inr, refl, sym, ap, ◌∙◌, subst, arith}
+use Rattle.std.specs.List.{list_all, list_any}
+use Rattle.std.specs.Str.Parse.{AllDigits}
+use Rattle.std.proofs.lemmas.Bool.{cases_Bool}
+use Rattle.std.proofs.lemmas.Bool.Decides.{nat_tests}
+use Rattle.std.proofs.lemmas.Fmt.{decimal_is_IsNumeral}
+use Rattle.std.proofs.lemmas.Str.Parse.{digit_from_value}
+use Rattle.toml_parser.specs.Lexical.{is_non_eol}
+use Rattle.toml_writer.specs.Text.{encoding_of, escaped, has, is_control, needs_escape, quotes_after, string_text}
+use Rattle.model.specs.Capability.{IsWellFormed, named}
+use Rattle.model.specs.Text.{access_text, capability_text, state_text}
+use Rattle.model.specs.declared.access.Access.{Access}
+use Rattle.model.specs.declared.capability.Capability.{Capability}
+use Rattle.model.specs.declared.capability.Capability.TheVariants.{Void, Number, Page, Node, Space, Process, Start, Resume, Bank, Discrim}
+use Rattle.model.specs.declared.object.State.{State}
+use Rattle.model.specs.declared.object.State.TheVariants.{Available, Running, Waiting}
+use Rattle.image_describer.specs.Text.{quoted}
+
+-- a byte that no string escapes
+abbrev is_safe : ℕ → Bool
+is_safe c = (nat_lt 31 c && nat_lt c 127) && (not (c == 34) && not (c == 92))
+
+abbrev are_safe : List ℕ → Bool
+are_safe text = list_all is_safe text
+
+safe_append : (s t : List ℕ) → are_safe s ≡ true → are_safe t ≡ true → are_safe (s ++ t) ≡ true
+safe_append [] t one other = other
+safe_append (c ∷ cs) t one other =
+    elim (cases_Bool (is_safe c)) [
+      | inl holds ↦ rw holds (safe_append cs t (rw holds at one) other)
+      | inr none ↦ let never : false ≡ true = rw none at one in absurd cc
+    ]
+
+safe_digit : (c : ℕ) → 48 ≤ c → c ≤ 57 → is_safe c ≡ true
+safe_digit c least most = grind (arith, nat_tests, least, most)
+
+safe_digits : (ds : List ℕ) → AllDigits 10 ds → are_safe ds ≡ true
+safe_digits [] digits = refl
+safe_digits (c ∷ cs) digits = let range = digit_from_value c digits.0 in rw (safe_digit c (omega (arith, range)) (omega (arith, range))) (safe_digits cs digits.1)
+
+safe_decimal : (n : ℕ) → n < 2 ^ 64 → are_safe (decimal n) ≡ true
+safe_decimal n small = safe_digits (decimal n) (decimal_is_IsNumeral n small).0.1
+
+-- no test of the writer finds such a byte
+none_found : (test : ℕ → Bool) (text : List ℕ) → ((c : ℕ) → is_safe c ≡ true → test c ≡ false) → are_safe text ≡ true → list_any test text ≡ false
+none_found test [] other safe = refl
+none_found test (c ∷ cs) other safe =
+    elim (cases_Bool (is_safe c)) [
+      | inl holds ↦ rw (other c holds) (none_found test cs other (rw holds at safe))
+      | inr none ↦ let never : false ≡ true = rw none at safe in absurd cc
+    ]
+
+not_control : (c : ℕ) → is_safe c ≡ true → is_control c ≡ false
+not_control c safe = grind (arith, nat_tests, safe)
+
+not_newline : (c : ℕ) → is_safe c ≡ true → (c == 10) ≡ false
+not_newline c safe = grind (arith, nat_tests, safe)
+
+not_quote : (c : ℕ) → is_safe c ≡ true → (c == 34) ≡ false
+not_quote c safe = grind (arith, nat_tests, safe)
+
+not_backslash : (c : ℕ) → is_safe c ≡ true → (c == 92) ≡ false
+not_backslash c safe = grind (arith, nat_tests, safe)
+
+not_escaped : (quotes c : ℕ) → is_safe c ≡ true → needs_escape false quotes c ≡ false
+unfolding needs_escape
+not_escaped quotes c safe =
+    let control : is_non_eol c ≡ true = grind (arith, nat_tests, safe) in
+    let other : (c == 9) ≡ false = grind (arith, nat_tests, safe) in
+    rw (not_quote c safe, not_newline c safe, not_backslash c safe, control, other)
+
+same_escaped : (quotes : ℕ) (text : List ℕ) → are_safe text ≡ true → escaped false quotes text ≡ text
+unfolding escaped
+same_escaped quotes [] safe = refl
+same_escaped quotes (c ∷ cs) safe =
+    elim (cases_Bool (is_safe c)) [
+      | inl holds ↦ rw (not_escaped quotes c holds, same_escaped (quotes_after false quotes c) cs (rw holds at safe))
+      | inr none ↦ let never : false ≡ true = rw none at safe in absurd cc
+    ]
+
+-- such a text stands in quotes
+string_safe : (text : List ℕ) → are_safe text ≡ true → string_text text ≡ quoted text
+unfolding string_text encoding_of
+string_safe text safe = rw (
+  none_found is_control text not_control safe,
+  none_found (λ x. x == 92) text not_backslash safe,
+  none_found (λ x. x == 34) text not_quote safe,
+  none_found (λ x. x == 10) text not_newline safe,
+  same_escaped 0 text safe,
+)
+
+safe_access : (a : Access) → are_safe (access_text a) ≡ true
+safe_access a =
+    elim (cases_Bool (a.0 == 0)) [
+      | inl full ↦ rw full
+      | inr some ↦ elim (cases_Bool (a.0 == 1)) [
+        | inl read ↦ rw (some, read)
+        | inr weak ↦ rw (some, weak)
+      ]
+    ]
+
+safe_capability : (c : Capability) → IsWellFormed c → IfSome (named c) (λ n. n < 2 ^ 64) → are_safe (capability_text c) ≡ true
+unfolding capability_text
+safe_capability Void well small = refl
+safe_capability (Number n) well small = safe_decimal n well
+safe_capability (Page o a) well small = safe_append (decimal o) (access_text a) (safe_decimal o small) (safe_access a)
+safe_capability (Node o a) well small = safe_append (decimal o) (access_text a) (safe_decimal o small) (safe_access a)
+safe_capability (Space o h a) well small =
+    safe_append (decimal o ++ 32 ∷ decimal h) (access_text a) (safe_append (decimal o) (32 ∷ decimal h) (safe_decimal o small) (safe_decimal h (omega (arith, well.1)))) (safe_access a)
+safe_capability (Process p) well small = safe_decimal p small
+safe_capability (Start p key) well small = safe_append (decimal p) (32 ∷ decimal key) (safe_decimal p small) (safe_decimal key (omega (arith, well)))
+safe_capability (Resume p) well small = safe_decimal p small
+safe_capability (Bank b) well small = safe_decimal b small
+safe_capability Discrim well small = refl
+
+pub quoted_capability : (c : Capability) → IsWellFormed c → IfSome (named c) (λ n. n < 2 ^ 64) → string_text (capability_text c) ≡ quoted (capability_text c)
+quoted_capability c well small = string_safe (capability_text c) (safe_capability c well small)
+
+pub quoted_state : (s : State) → string_text (state_text s) ≡ quoted (state_text s)
+quoted_state Available = string_safe (codes "available") refl
+quoted_state Running = string_safe (codes "running") refl
+quoted_state Waiting = string_safe (codes "waiting") refl

@@ -1,0 +1,7 @@
+use Rattle.std.proofs.Common.{◌≡◌, ◌++◌, take, string_bytes}
+use Rattle.std.specs.List.{flat_map}
+use Rattle.image_describer.proofs.text.put_all.Given as goal
+
+-- those so far are written
+abbrev pub invariant-loop-entry : goal.invariant-loop-entry
+invariant-loop-entry g l = string_bytes l.text ≡ string_bytes l.fn.text ++ flat_map g.T.Lines.text_of (take l.entry-index l.entries)

@@ -1,0 +1,63 @@
+-- Which descriptions have a text.
+use Rattle.std.specs.Prelude.{◌≡◌, ℕ, ◌^◌, ◌<◌, Option, length, IfSome}
+use Rattle.std.specs.List.{All}
+use Rattle.image_writer.specs.declared.number_range.NumberRange.{NumberRange}
+use Rattle.model.specs.declared.capability.Capability.{Capability}
+use Rattle.model.specs.declared.geometry.Geometry.{Geometry}
+use Rattle.model.specs.Capability.{named}
+use Rattle.description.specs.declared.entry.BankEntry.{BankEntry}
+use Rattle.description.specs.declared.entry.Description.{Description}
+use Rattle.description.specs.declared.entry.NodeEntry.{NodeEntry}
+use Rattle.description.specs.declared.entry.PageEntry.{PageEntry}
+use Rattle.description.specs.declared.entry.ProcessEntry.{ProcessEntry}
+use Rattle.description.specs.declared.entry.SlotEntry.{SlotEntry}
+use Rattle.description.specs.declared.entry.WordEntry.{WordEntry}
+
+-- a number that TOML has, and one of 64 bits
+abbrev pub IsShort : ℕ → Type 0
+IsShort n = n < 2 ^ 63
+
+abbrev pub IsWide : ℕ → Type 0
+IsWide n = n < 2 ^ 64
+
+-- a capability whose object has a number of 64 bits
+abbrev pub NamesWide : Option Capability → Type 0
+NamesWide c = IfSome c (λ held. IfSome (named held) IsWide)
+
+abbrev pub SpellsSlot : SlotEntry → Type 0
+SpellsSlot s = IsShort s.index × NamesWide s.capability
+
+abbrev pub SpellsWord : WordEntry → Type 0
+SpellsWord w = IsShort w.index × IsWide w.word
+
+abbrev pub SpellsRange : NumberRange → Type 0
+SpellsRange r = IsShort r.first × IsShort r.count
+
+abbrev pub SpellsBank : BankEntry → Type 0
+SpellsBank b = IsShort b.number × IsShort b.owner × IsWide b.limit
+
+pub record SpellsProcess (p : ProcessEntry) : Type 0 where
+  pub numbers : IsShort p.root × IsShort p.annex × IsShort p.owner × IsShort p.key
+  pub words : (length p.words ≡ 4) × All IsWide p.words
+  pub space : NamesWide p.space
+  pub registers : All SpellsSlot p.registers.items
+
+abbrev pub SpellsNode : NodeEntry → Type 0
+SpellsNode n = IsShort n.number × IsShort n.owner × All SpellsSlot n.slots.items
+
+abbrev pub SpellsPage : PageEntry → Type 0
+SpellsPage p = IsShort p.number × IsShort p.owner × All SpellsWord p.words.items
+
+abbrev pub SpellsGeometry : Geometry → Type 0
+SpellsGeometry g = IsShort g.nodes × IsShort g.pages × IsShort g.log
+
+-- words, limits and the numbers in capabilities have 64 bits, and all other numbers are below 2^63
+pub record CanBeSpelled (d : Description) : Type 0 where
+  pub geometry : SpellsGeometry d.geometry
+  pub layout : IsShort d.layout
+  pub age : IsShort d.age
+  pub ranges : All SpellsRange d.ranges.items
+  pub banks : All SpellsBank d.banks.items
+  pub processes : All SpellsProcess d.processes.items
+  pub nodes : All SpellsNode d.nodes.items
+  pub pages : All SpellsPage d.pages.items

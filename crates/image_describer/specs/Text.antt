@@ -1,0 +1,135 @@
+-- The text of a description, in TOML.
+use Rattle.std.specs.Prelude.{ℕ, ◌^◌, ◌==◌, ◌&&◌, nat_lt, Bool, false, if◌then◌else◌, Option, None, Some, List, [], ◌∷◌, ◌++◌, codes, decimal, unwrap_or}
+use Rattle.std.specs.List.{flat_map, join_by, list_all}
+use Rattle.image_writer.specs.declared.number_range.NumberRange.{NumberRange}
+use Rattle.model.specs.declared.capability.Capability.{Capability}
+use Rattle.model.specs.declared.capability.Capability.TheVariants.{Void, Number}
+use Rattle.model.specs.declared.geometry.Geometry.{Geometry}
+use Rattle.model.specs.declared.object.State.{State}
+use Rattle.model.specs.Text.{capability_text, line_of, state_text}
+use Rattle.description.specs.declared.entry.BankEntry.{BankEntry}
+use Rattle.description.specs.declared.entry.Description.{Description}
+use Rattle.description.specs.declared.entry.NodeEntry.{NodeEntry}
+use Rattle.description.specs.declared.entry.PageEntry.{PageEntry}
+use Rattle.description.specs.declared.entry.ProcessEntry.{ProcessEntry}
+use Rattle.description.specs.declared.entry.SlotEntry.{SlotEntry}
+use Rattle.description.specs.declared.entry.WordEntry.{WordEntry}
+
+-- Values
+
+-- a text in quotes
+abbrev pub quoted : List ℕ → List ℕ
+quoted text = codes "\"" ++ text ++ codes "\""
+
+-- a number of 64 bits: from 2^63 on, where the numbers of TOML end, it is the text of its capability
+abbrev pub wide_text : ℕ → List ℕ
+wide_text n = if nat_lt n (2 ^ 63) then decimal n else quoted (capability_text (Number n))
+
+-- a capability, and a state
+abbrev pub held_text : Option Capability → List ℕ
+held_text c = quoted (capability_text (unwrap_or c Void))
+
+abbrev pub state_value : Option State → List ℕ
+state_value None = quoted []
+state_value (Some state) = quoted (state_text state)
+
+-- a list, and one of two values
+abbrev pub list_text : {A : Type 0} → (A → List ℕ) → List A → List ℕ
+list_text f xs = codes "[" ++ join_by f (codes ", ") xs ++ codes "]"
+
+abbrev pub pair_text : List ℕ → List ℕ → List ℕ
+pair_text first second = codes "[" ++ first ++ codes ", " ++ second ++ codes "]"
+
+abbrev pub slot_text : SlotEntry → List ℕ
+slot_text s = pair_text (decimal s.index) (held_text s.capability)
+
+abbrev pub word_text : WordEntry → List ℕ
+word_text w = pair_text (decimal w.index) (wide_text w.word)
+
+abbrev pub range_text : NumberRange → List ℕ
+range_text r = pair_text (decimal r.first) (decimal r.count)
+
+-- Keys
+
+-- a key and its value, or none where the key is left out
+abbrev pub Field : Type 0
+Field = List ℕ × Option (List ℕ)
+
+abbrev pub field_line : Field → List ℕ
+field_line (key, None) = []
+field_line (key, Some value) = line_of (key ++ codes " = " ++ value)
+
+abbrev pub field_lines : List Field → List ℕ
+field_lines fields = flat_map field_line fields
+
+-- the line that begins an object, behind an empty one
+abbrev pub begin_line : List ℕ → List ℕ
+begin_line name = codes "\n[[" ++ name ++ codes "]]\n"
+
+-- a value that is left out at its default
+abbrev pub unless : Bool → List ℕ → Option (List ℕ)
+unless is_default value = if is_default then None else Some value
+
+abbrev pub number_unless : ℕ → ℕ → Option (List ℕ)
+number_unless default n = unless (n == default) (decimal n)
+
+abbrev pub words_unless_zeros : List ℕ → Option (List ℕ)
+words_unless_zeros words = unless (list_all (λ w. w == 0) words) (list_text wide_text words)
+
+abbrev pub space_unless_void : Option Capability → Option (List ℕ)
+space_unless_void (Some Void) = None
+space_unless_void space = Some (held_text space)
+
+abbrev pub list_unless_empty : {A : Type 0} → (A → List ℕ) → List A → Option (List ℕ)
+list_unless_empty f [] = None
+list_unless_empty f (x ∷ xs) = Some (list_text f (x ∷ xs))
+
+-- a range is this one, and ranges are one of all nodes and one of all pages
+abbrev pub is_range : NumberRange → ℕ → ℕ → Bool
+is_range r n count = r.first == n && r.count == count
+
+abbrev pub are_whole : Geometry → List NumberRange → Bool
+are_whole g (n ∷ p ∷ []) = is_range n 0 g.nodes && is_range p g.nodes g.pages
+are_whole g _ = false
+
+-- Objects
+
+abbrev pub bank_fields : BankEntry → List Field
+bank_fields b = (codes "number", Some (decimal b.number)) ∷ (codes "owner", Some (decimal b.owner)) ∷ (codes "limit", Some (wide_text b.limit)) ∷ []
+
+abbrev pub process_fields : ProcessEntry → List Field
+process_fields p =
+    (codes "root", Some (decimal p.root)) ∷ (codes "annex", Some (decimal p.annex)) ∷ (codes "owner", Some (decimal p.owner))
+    ∷ (codes "state", Some (state_value p.state)) ∷ (codes "key", number_unless 0 p.key) ∷ (codes "words", words_unless_zeros p.words)
+    ∷ (codes "space", space_unless_void p.space) ∷ (codes "registers", list_unless_empty slot_text p.registers.items) ∷ []
+
+abbrev pub node_fields : NodeEntry → List Field
+node_fields n = (codes "number", Some (decimal n.number)) ∷ (codes "owner", Some (decimal n.owner)) ∷ (codes "slots", list_unless_empty slot_text n.slots.items) ∷ []
+
+abbrev pub page_fields : PageEntry → List Field
+page_fields p = (codes "number", Some (decimal p.number)) ∷ (codes "owner", Some (decimal p.owner)) ∷ (codes "words", list_unless_empty word_text p.words.items) ∷ []
+
+abbrev pub bank_text : BankEntry → List ℕ
+bank_text b = begin_line (codes "bank") ++ field_lines (bank_fields b)
+
+abbrev pub process_text : ProcessEntry → List ℕ
+process_text p = begin_line (codes "process") ++ field_lines (process_fields p)
+
+abbrev pub node_text : NodeEntry → List ℕ
+node_text n = begin_line (codes "node") ++ field_lines (node_fields n)
+
+abbrev pub page_text : PageEntry → List ℕ
+page_text p = begin_line (codes "page") ++ field_lines (page_fields p)
+
+-- The whole
+
+abbrev pub image_fields : Description → List Field
+image_fields d =
+    (codes "nodes", Some (decimal d.geometry.nodes)) ∷ (codes "pages", Some (decimal d.geometry.pages)) ∷ (codes "log", Some (decimal d.geometry.log))
+    ∷ (codes "layout", number_unless 1 d.layout) ∷ (codes "age", number_unless 0 d.age)
+    ∷ (codes "ranges", unless (are_whole d.geometry d.ranges.items) (list_text range_text d.ranges.items)) ∷ []
+
+-- the keys of the image, and behind them its objects
+unfoldable pub description_text : Description → List ℕ
+description_text d = field_lines (image_fields d) ++ flat_map bank_text d.banks.items ++ flat_map process_text d.processes.items
+    ++ flat_map node_text d.nodes.items ++ flat_map page_text d.pages.items
