@@ -3,8 +3,8 @@ ghost use Rattle.std.specs.Prelude.{◌≡◌, ◌≤◌, ◌+◌, ◌%◌, ◌-
 ghost use Rattle.device.specs.Calls.{Agrees, Elsewhere, sectors_of, AreSectors, Narrows, Tears, Only, Counts};
 ghost use Rattle.device.specs.Moments.{Elapses};
 
-use crate::tally::Tally;
 use device::{Device, Failed};
+use tally::Tally;
 
 /// Passes some reads, writes and syncs to the device beneath it, and then fails each of them, until
 /// a power cut.

@@ -7,7 +7,6 @@ mod memory;
 mod mirror;
 mod record;
 pub mod sectors;
-mod tally;
 
 pub use fuse::Fuse;
 pub use memory::Memory;

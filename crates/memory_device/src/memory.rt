@@ -6,9 +6,9 @@ ghost use Rattle.memory_device.specs.Past.{synced, writes_of, left_by, EndsCut};
 
 use crate::mirror::Mirror;
 use crate::record::Outcome;
-use crate::tally::Tally;
 use device::{Device, Failed, MAX_SECTORS, SECTOR_SIZE};
 use std::alloc::{AllocError, Global};
+use tally::Tally;
 
 /// A device in memory, which keeps a record with an entry for each sector written and each sync.
 ///

@@ -14,6 +14,7 @@ use jobs::{
 };
 use object_cache::PlainStore;
 use object_store::ObjectStore;
+use runs::ScriptReader;
 use std::fs::{self, File};
 use std::io::{self, BufWriter, ErrorKind, Read, Stderr, Stdout};
 use std::os::unix::fs::MetadataExt;
@@ -117,19 +118,20 @@ fn build(
 }
 
 // Runs a script over the image on a device, by a store of this kind, and gives the status.
-fn run_by<S: ObjectStore<FileDevice>, R: Read>(
+fn run_by<S: ObjectStore<FileDevice>, R: Read + Drop>(
     rt: &HostRuntime,
     device: FileDevice,
     setting: S::Setting,
-    script: &mut R,
+    script: R,
     writer: &mut BufWriter<Stdout>,
     errors: &mut Stderr,
 ) -> u8 {
+    let mut script = ScriptReader::new(script);
     let done = run_image::<FileDevice, S, _, _, _>(
         rt.alloc(),
         device,
         setting,
-        script,
+        &mut script,
         writer,
         errors,
     );
@@ -137,11 +139,11 @@ fn run_by<S: ObjectStore<FileDevice>, R: Read>(
 }
 
 // Runs a script over the image on a device, with a bounded cache where it has a capacity, and gives the status.
-fn run_on<R: Read>(
+fn run_on<R: Read + Drop>(
     rt: &HostRuntime,
     device: FileDevice,
     cache: Option<Capacity>,
-    script: &mut R,
+    script: R,
     writer: &mut BufWriter<Stdout>,
     errors: &mut Stderr,
 ) -> u8 {
@@ -164,9 +166,9 @@ fn run(
 ) -> Result<u8, Fault> {
     let device = open(rt, image)?;
     match script {
-        Script::Input => Ok(run_on(rt, device, cache, &mut rt.stdin(), writer, errors)),
+        Script::Input => Ok(run_on(rt, device, cache, rt.stdin(), writer, errors)),
         Script::File(path) => match File::open(rt, *path) {
-            Ok(mut file) => Ok(run_on(rt, device, cache, &mut file, writer, errors)),
+            Ok(file) => Ok(run_on(rt, device, cache, file, writer, errors)),
             Err(error) => Err(of_io(&error, Fault::CannotReadScript)),
         },
     }

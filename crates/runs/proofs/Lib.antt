@@ -1,3 +1,4 @@
+pub mod Confining
 mod Newlines
 mod ScriptLines
 mod TurnLists

@@ -1,5 +1,5 @@
 -- The first newline.
-use Rattle.std.proofs.Common.{◌≡◌, ◌≢◌, ℕ, ◌<◌, ◌==◌, List, None, Some, Option, length, take, get_or, ◌∙◌, sym, subst, arith}
+use Rattle.std.proofs.Common.{◌≡◌, ℕ, ◌<◌, List, None, Some, Option, length, take, get_or, ◌∙◌, sym, subst, arith}
 use Rattle.std.specs.Prelude.{slice_index_or, IfNone, IfSome}
 use Rattle.std.proofs.lemmas.Bool.Decides.{nat_tests}
 use Rattle.std.proofs.lemmas.List.{get_or-take, get_or_default, length-take, take_all}

@@ -27,7 +27,7 @@ last_line (b ∷ c ∷ bs) one some =
     let other : (b == 10) ≡ false = let ne : b ≢ 10 = one 0 0 (omega arith) in grind (arith, nat_tests) in
     rw (other, last_line (c ∷ bs) (λ k d lt. one (suc k) d (omega arith)) (λ is. cc)) refl
 
-lines_before : (lines : List (List ℕ)) (more : List ℕ) → All IsOneLine lines → lines_of (flat_map line_of lines ++ more) ≡ lines ++ lines_of more
+pub lines_before : (lines : List (List ℕ)) (more : List ℕ) → All IsOneLine lines → lines_of (flat_map line_of lines ++ more) ≡ lines ++ lines_of more
 lines_before [] more each = refl
 lines_before (l ∷ ls) more each =
     ap lines_of (append_assoc (line_of l) (flat_map line_of ls) more)

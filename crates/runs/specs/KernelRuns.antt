@@ -6,13 +6,17 @@ use Rattle.model.specs.declared.answer.Answer.TheVariants as answer
 use Rattle.model.specs.declared.answer.Refusal.TheVariants as refusal
 use Rattle.model.specs.declared.command.Command.{Command}
 use Rattle.model.specs.declared.geometry.Geometry.{Geometry}
+use Rattle.model.specs.declared.line.Line.{Line}
 use Rattle.model.specs.declared.line.Line.TheVariants as line
-use Rattle.model.specs.Machine.{Machine, candidates}
+use Rattle.model.specs.Closed.{IsClosed}
+use Rattle.model.specs.Machine.{Machine, Running, Up, candidates}
 use Rattle.model.specs.Run.{Reply, Told, Turn, IsRun, lines_of, reply_text, output_of}
 use Rattle.model.specs.Step.{second}
 use Rattle.model.specs.Text.{Says, line_of}
+use Rattle.model.specs.World.{object_at}
 use Rattle.device.specs.Disk.{Image, Disk}
 use Rattle.device.specs.Moments.{LeavesOnly}
+use Rattle.confinement.specs.Confinement.{IsKept, IsLineBy, with_free}
 use Rattle.capability.specs.Parts.{Parts}
 use Rattle.object_store.specs.Store.{View}
 use Rattle.kernel.specs.declared.power.Power.{Power}
@@ -87,6 +91,15 @@ pub record IsToldBy (old new : Disk) (reply : Reply) : Type 0 where
   pub later : old.failures ≤ new.failures
   pub exact : (tells_fault reply ≡ true) ↔ (old.failures < new.failures)
 
+-- a count of failures rises exactly if this failed, and never falls
+pub record IsCounted (Failed : Type 0) (old new : ℕ) : Type 0 where
+  pub never_falls : old ≤ new
+  pub cause : Failed ↔ (old < new)
+
+-- each line is an invocation or a memory reference by a process of a set, or no command
+abbrev pub AreLinesBy : (ℕ → Bool) → List (List ℕ) → Type 0
+AreLinesBy inside lines = All (λ line. (l : Line) → Says line l → IsLineBy inside l) lines
+
 -- The parameters are ghost members of a device and of an object store.
 module _ {D S : Type 0} (disk : D → Disk) (view : S → View D) (parts : S → Parts) where
   -- from one kernel to another a turn was taken: it stands for the machine after it, and a crash at any moment in its
@@ -114,3 +127,11 @@ module _ {D S : Type 0} (disk : D → Disk) (view : S → View D) (parts : S →
   RunsOver old new input input_left output output_left result =
       (g : Geometry) (m : Machine) → Stands disk view parts g old m →
       (turns : List Turn) × IsRunOf g m old new turns × Does turns input input_left output output_left result
+
+  -- The authority bound. The kernel is up before and after. If each line that was read is by a process of a closed set, or by
+  -- one made of numbers that were free, then each object outside the set that wasn't free is kept.
+  abbrev pub IsConfined : Power D S → Power D S → Option (List ℕ) → Option (List ℕ) → Type 0
+  IsConfined old new input input_left = (g : Geometry) (s t : Running) → Stands disk view parts g old (Up s) → Stands disk view parts g new (Up t) →
+      (text : List ℕ) × Consumes input input_left text × ((inside : ℕ → Bool) → IsClosed s.now.objects inside →
+      AreLinesBy (with_free s.now.objects inside) (lines_of text) → (n : ℕ) → with_free s.now.objects inside n ≡ false →
+      IsKept inside (object_at s.now.objects n) (object_at t.now.objects n))

@@ -1,12 +1,12 @@
 // Runs of scripts over a kernel.
-ghost use Rattle.std.specs.Prelude.{◌≡◌, ◌<◌, ◌++◌, ℕ, List, [], Option, length, slice_index_or, take, OnOk, OnErr, IfErr, IfNone, IfSome};
+ghost use Rattle.std.specs.Prelude.{◌≡◌, ◌<◌, ◌++◌, ℕ, List, [], Option, length, slice_index_or, take, OnOk, OnErr, IfErr, IsErrOf, IfNone, IfSome};
 ghost use Rattle.model.specs.declared.geometry.Geometry.{Geometry};
 ghost use Rattle.model.specs.Machine.{Machine};
 ghost use Rattle.model.specs.Run.{lines_of};
 ghost use Rattle.kernel.specs.declared.power.Power.{Power};
 ghost use Rattle.kernel.specs.Standing.{Stands};
 ghost use Rattle.script.specs.Lines.{IsOneLine};
-ghost use Rattle.runs.specs.KernelRuns.{BeginsWith, RunsOver};
+ghost use Rattle.runs.specs.KernelRuns.{BeginsWith, IsConfined, IsCounted, RunsOver};
 ghost use Rattle.runs.specs.Taking.{Ended, SoFar, Stopped, TakesTurn};
 
 use crate::output::Output;
@@ -100,6 +100,35 @@ fn take_rest<D: Device, S: ObjectStore<D>, W: Write>(
     take(alloc, kernel, &line.end(), writer)
 }
 
+// Runs a script over a kernel, as `run` does.
+fn run_turns<D: Device, S: ObjectStore<D>, R: Script, W: Output>(
+    alloc: Global,
+    kernel: &mut Kernel<D, S>,
+    reader: &mut R,
+    writer: &mut W,
+) -> Result<(), RunFault>
+    ensures runs { RunsOver D.disk S.view S.parts kernel.old kernel.new (R.unread reader.old)
+        (R.unread reader.new) (W.contents writer.old) (W.contents writer.new) result }
+    ensures none_waits { OnOk result (W.waiting writer.new ≡ []) }
+    ensures read_failed { IsCounted (IsErrOf result RunFault.Read) (R.failures reader.old) (R.failures reader.new) }
+{
+    let mut piece = [0; PIECE_SIZE];
+    let mut line = LineBuffer::new();
+    loop {
+        writer.pass_on()?;
+        match reader.read_piece(writer, &mut piece)? {
+            Piece::Bytes(count) => {
+                take_piece(alloc, kernel, &mut line, &piece[..count], writer)?;
+            }
+            Piece::End => {
+                take_rest(alloc, kernel, &mut line, writer)?;
+                return writer.pass_on();
+            }
+            Piece::Nothing => {}
+        }
+    }
+}
+
 /// Runs a script over a kernel: reads it in pieces of 4096 bytes, which may end anywhere, serves
 /// the lines that end in a piece before it reads the next, and writes the answer to each line that
 /// isn't skipped before it takes the next line. A line that isn't of the grammar is answered `bad
@@ -111,7 +140,11 @@ fn take_rest<D: Device, S: ObjectStore<D>, W: Write>(
 /// machine before it, or what its command is to save besides; `fault` is answered exactly where the
 /// device failed.
 ///
-/// `RunFault::Read` where the reader fails: then each line whose newline was read was answered.
+/// If each line is an invocation, a load or a store by a process of a closed set, or by one made of
+/// numbers that were free, then objects outside the set that weren't free keep their content and
+/// their owner (EROS: confinement). Exception: capabilities to members may become void.
+///
+/// `RunFault::Read` exactly where a read failed: then each line whose newline was read was answered.
 /// `RunFault::Write` where the writer fails or takes nothing: then the lines taken are the first of
 /// those read whole, or all of an input at its end, and only the answer to the last may be cut
 /// short; where it fails to pass on what it took, all of those lines were answered. The kernel then
@@ -126,21 +159,9 @@ pub fn run<D: Device, S: ObjectStore<D>, R: Script, W: Output>(
     ensures runs { RunsOver D.disk S.view S.parts kernel.old kernel.new (R.unread reader.old)
         (R.unread reader.new) (W.contents writer.old) (W.contents writer.new) result }
     ensures none_waits { OnOk result (W.waiting writer.new ≡ []) }
+    ensures read_failed { IsCounted (IsErrOf result RunFault.Read) (R.failures reader.old) (R.failures reader.new) }
+    ensures confined { IsConfined D.disk S.view S.parts kernel.old kernel.new (R.unread reader.old)
+        (R.unread reader.new) }
 {
-    let mut piece = [0; PIECE_SIZE];
-    let mut line = LineBuffer::new();
-    for _ in 0..u64::MAX {
-        writer.pass_on()?;
-        match reader.read_piece(writer, &mut piece)? {
-            Piece::Bytes(count) => {
-                take_piece(alloc, kernel, &mut line, &piece[..count], writer)?;
-            }
-            Piece::End => {
-                take_rest(alloc, kernel, &mut line, writer)?;
-                return writer.pass_on();
-            }
-            Piece::Nothing => {}
-        }
-    }
-    Err(RunFault::Read)
+    run_turns(alloc, kernel, reader, writer)
 }

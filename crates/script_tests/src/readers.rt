@@ -6,6 +6,7 @@ ghost use Rattle.capability.specs.Plain.{parts_of};
 use crate::worlds::{device_of, rewritten, run_over};
 use capability::Plain;
 use kernel_tests::{first_world, second_world};
+use runs::ScriptReader;
 use script::RunFault;
 use std::alloc::{AllocError, Global};
 use std::io;
@@ -80,7 +81,8 @@ fn is_answered(
     requires { AreKeepable plain.now.geometry 0 (frames_of (parts_of plain.now)) }
 {
     let mut answers = Vec::new(alloc);
-    let outcome = run_over(alloc, device_of(alloc, plain)?, reader, &mut answers)?;
+    let mut script = ScriptReader::new(&mut *reader);
+    let outcome = run_over(alloc, device_of(alloc, plain)?, &mut script, &mut answers)?;
     assert_eq!(rt; outcome, ends);
     assert_eq!(rt; answers.as_slice(), expected);
     assert!(rt; !reader.asked_otherwise);
@@ -266,7 +268,8 @@ fn a_failing_reader_ends_the_run(rt: HostRuntime) -> Result<(), Fail> {
 #[test]
 fn an_image_takes_the_place_of_one_of_a_greater_age(rt: HostRuntime) -> Result<(), Fail> {
     let device = rewritten(rt.alloc(), &second_world(rt.alloc())?)?;
-    let (mut reader, mut answers) = (b"cut\nshow 5\n".as_slice(), Vec::new(rt.alloc()));
+    let mut reader = ScriptReader::new(b"cut\nshow 5\n".as_slice());
+    let mut answers = Vec::new(rt.alloc());
     assert_eq!(rt;
         run_over(rt.alloc(), device, &mut reader, &mut answers)?,
         Ok(())

@@ -8,7 +8,7 @@ use crate::worlds::{device_of, run_over};
 use capability::Plain;
 use kernel_tests::first_world;
 use model::{Answer, Content, Description, Object, Shown, Words};
-use runs::Output;
+use runs::{Output, ScriptReader};
 use script::{RunFault, print_answer};
 use std::alloc::Global;
 use std::io;
@@ -135,7 +135,7 @@ fn is_answered(
 ) -> Result<(), Fail>
     requires { AreKeepable plain.now.geometry 0 (frames_of (parts_of plain.now)) }
 {
-    let mut reader = script;
+    let mut reader = ScriptReader::new(script);
     let mut writer = Narrow::new(alloc, 4096, room, true);
     let outcome = run_over(alloc, device_of(alloc, plain)?, &mut reader, &mut writer)?;
     has_taken(rt, &writer, room, expected, outcome);
@@ -161,7 +161,7 @@ fn what_is_not_passed_on_ends_the_run(rt: HostRuntime) -> Result<(), Fail> {
     let plain = first_world(alloc)?;
     for (room, ends) in [(19, Ok(())), (18, Err(RunFault::Write))] {
         let mut writer = BufWriter::new(alloc, Narrow::new(alloc, 4096, room, true))?;
-        let mut reader = b"show 5\n".as_slice();
+        let mut reader = ScriptReader::new(b"show 5\n".as_slice());
         let outcome = run_over(alloc, device_of(alloc, &plain)?, &mut reader, &mut writer)?;
         assert_eq!(rt; outcome, ends);
         assert_eq!(rt; writer.get_ref().taken.len(), room);

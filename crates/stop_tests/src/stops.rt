@@ -5,7 +5,7 @@ use device::Device;
 use kernel::Kernel;
 use object_cache::PlainStore;
 use object_store::ObjectStore;
-use runs::run;
+use runs::{ScriptReader, run};
 use script::RunFault;
 use std::alloc::Global;
 use std::io::Write;
@@ -36,7 +36,7 @@ fn tell_line<D: Device, S: ObjectStore<D>>(
     line: &[u8],
     told: &mut Vec<u8>,
 ) -> Result<bool, RunFault> {
-    let (mut reader, before) = (line, told.len());
+    let (mut reader, before) = (ScriptReader::new(line), told.len());
     run(alloc, kernel, &mut reader, told)?;
     Ok(told.get(before..) == Some(FAULT))
 }
@@ -63,7 +63,7 @@ fn tell_standing<D: Device, S: ObjectStore<D>>(
     script: &[u8],
     told: &mut Vec<u8>,
 ) -> Result<(), RunFault> {
-    let mut reader = script;
+    let mut reader = ScriptReader::new(script);
     tell_saved(kernel.saved(), told)?;
     run(alloc, kernel, &mut reader, told)
 }

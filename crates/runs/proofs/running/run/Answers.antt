@@ -1,64 +1,8 @@
-use Rattle.std.proofs.Common.{Err, Ok, refl, subst, ◌∙◌, take}
-use Rattle.std.proofs.lemmas.Result.{err_from_is_err_and}
-use Rattle.runs.specs.declared.script_pieces.Piece.{Piece}
-use Rattle.runs.specs.Taking.{ReadsPiece}
-use Rattle.runs.proofs.Turning.{end_passed_on, nothing_read, passed_on, piece_on, piece_stops, rest_taken, still_read}
+use Rattle.runs.proofs.Confining.{run_is_confined}
 use Rattle.runs.proofs.running.run.Goals as goal
-use Rattle.runs.proofs.running.run.Goals.{in-Bytes+in_ok-take_piece-in-Bytes, in-Nothing}
 
-pub loop-init : goal.loop-init
-loop-init g c = record {
-  sized = refl;
-  read = nothing_read g.D.Device.disk g.S.ObjectStore.view g.S.PresentFrames.parts g.met.D.Device.only_now c.args.kernel.now c.new-line.result
-      (g.R.Script.unread c.args.reader.now) (g.W.Write.contents c.args.writer.now) c.new-line.ensures;
-}
-
-pub returns-in_err-take_piece-in-Bytes-clause-runs : goal.returns-in_err-take_piece-in-Bytes-clause-runs
-returns-in_err-take_piece-in-Bytes-clause-runs g c =
-    let p = err_from_is_err_and c.from_residual-in_err-take_piece-in-Bytes.result c.from_residual-in_err-take_piece-in-Bytes.ensures.1 in
-    rw (p.1, p.2) (piece_stops g.D.Device.disk g.S.ObjectStore.view g.S.PresentFrames.parts g.met.D.Device.only_now c.args.kernel.now c.loop.kernel c.loop.line
-    (g.R.Script.unread c.args.reader.now) (g.R.Script.unread c.loop.reader) (g.R.Script.unread c.read_piece.new.self) (g.W.Write.contents c.args.writer.now) (g.W.Write.contents c.pass_on.new.self)
-    (passed_on g.D.Device.disk g.S.ObjectStore.view g.S.PresentFrames.parts g.met.D.Device.only_now c.args.kernel.now c.loop.kernel c.loop.line (g.R.Script.unread c.args.reader.now) (g.R.Script.unread c.loop.reader) (g.R.Script.unread c.loop.reader)
-    (g.W.Write.contents c.args.writer.now) (g.W.Write.contents c.loop.writer) c.loop.invariant.read (g.W.Write.contents c.pass_on.new.self) c.in_ok-pass_on.ensures.bytes)
-    (take c.in-Bytes.count c.read_piece.new.piece) c.take_piece.new.kernel (g.W.Write.contents c.take_piece.new.writer) (subst (λ (p : Piece). ReadsPiece (g.R.Script.unread c.loop.reader) (g.R.Script.unread c.read_piece.new.self) c.read_piece.new.piece (Ok p)) c.in-Bytes.is c.in_ok-count.ensures.bytes).1
-    c.in_err-take_piece-in-Bytes.ensures.stops c.in_err-take_piece-in-Bytes.field-0.0 c.in_err-take_piece-in-Bytes.ensures.fault)
-
-pub returns-in_err-take_rest-in-End-clause-runs : goal.returns-in_err-take_rest-in-End-clause-runs
-returns-in_err-take_rest-in-End-clause-runs g c =
-    let read = (subst (λ (p : Piece). ReadsPiece (g.R.Script.unread c.loop.reader) (g.R.Script.unread c.read_piece.new.self) c.read_piece.new.piece (Ok p)) c.in-End.is c.in_ok-count.ensures.bytes) in
-    let p = err_from_is_err_and c.from_residual-in_err-take_rest-in-End.result c.from_residual-in_err-take_rest-in-End.ensures.1 in
-    rw (p.1, p.2) (rest_taken g.D.Device.disk g.S.ObjectStore.view g.S.PresentFrames.parts g.met.D.Device.only_now c.args.kernel.now c.loop.kernel c.loop.line
-    (g.R.Script.unread c.args.reader.now) (g.R.Script.unread c.loop.reader) (g.R.Script.unread c.read_piece.new.self) (g.W.Write.contents c.args.writer.now) (g.W.Write.contents c.pass_on.new.self)
-    (passed_on g.D.Device.disk g.S.ObjectStore.view g.S.PresentFrames.parts g.met.D.Device.only_now c.args.kernel.now c.loop.kernel c.loop.line (g.R.Script.unread c.args.reader.now) (g.R.Script.unread c.loop.reader) (g.R.Script.unread c.loop.reader)
-    (g.W.Write.contents c.args.writer.now) (g.W.Write.contents c.loop.writer) c.loop.invariant.read (g.W.Write.contents c.pass_on.new.self) c.in_ok-pass_on.ensures.bytes)
-    c.take_rest.new.kernel (g.W.Write.contents c.take_rest.new.writer) read.0 read.1 (Err c.in_err-take_rest-in-End.field-0.0)
-    c.in_err-take_rest-in-End.ensures.ends c.in_err-take_rest-in-End.ensures.stops c.in_err-take_rest-in-End.ensures.fault)
-
-pub returns-in-End-clause-runs : goal.returns-in-End-clause-runs
-returns-in-End-clause-runs g c =
-    let read = (subst (λ (p : Piece). ReadsPiece (g.R.Script.unread c.loop.reader) (g.R.Script.unread c.read_piece.new.self) c.read_piece.new.piece (Ok p)) c.in-End.is c.in_ok-count.ensures.bytes) in
-    end_passed_on g.D.Device.disk g.S.ObjectStore.view g.S.PresentFrames.parts g.met.D.Device.only_now c.args.kernel.now c.loop.kernel c.loop.line
-    (g.R.Script.unread c.args.reader.now) (g.R.Script.unread c.loop.reader) (g.R.Script.unread c.read_piece.new.self) (g.W.Write.contents c.args.writer.now) (g.W.Write.contents c.pass_on.new.self)
-    (passed_on g.D.Device.disk g.S.ObjectStore.view g.S.PresentFrames.parts g.met.D.Device.only_now c.args.kernel.now c.loop.kernel c.loop.line (g.R.Script.unread c.args.reader.now) (g.R.Script.unread c.loop.reader) (g.R.Script.unread c.loop.reader)
-    (g.W.Write.contents c.args.writer.now) (g.W.Write.contents c.loop.writer) c.loop.invariant.read (g.W.Write.contents c.pass_on.new.self) c.in_ok-pass_on.ensures.bytes)
-    c.take_rest.new.kernel (g.W.Write.contents c.take_rest.new.writer) read.0 read.1 (g.W.Write.contents c.pass_on-in-End.new.self) c.pass_on-in-End.ensures.bytes
-    c.in_ok-take_rest-in-End.ensures.ends c.pass_on-in-End.result c.pass_on-in-End.ensures.fault
-
-pub loop-preserved : goal.loop-preserved
-loop-preserved g c = record {
-  sized = c.read_piece.ensures.size ∙ c.loop.invariant.sized;
-  read = elim c.match-branch-3.branch [
-    | in-Bytes+in_ok-take_piece-in-Bytes w ↦ rw (w.kernel-is, w.line-is, w.writer-is)
-        (piece_on g.D.Device.disk g.S.ObjectStore.view g.S.PresentFrames.parts g.met.D.Device.only_now c.args.kernel.now c.loop.kernel c.loop.line
-        (g.R.Script.unread c.args.reader.now) (g.R.Script.unread c.loop.reader) (g.R.Script.unread c.read_piece.new.self) (g.W.Write.contents c.args.writer.now) (g.W.Write.contents c.pass_on.new.self)
-        (passed_on g.D.Device.disk g.S.ObjectStore.view g.S.PresentFrames.parts g.met.D.Device.only_now c.args.kernel.now c.loop.kernel c.loop.line (g.R.Script.unread c.args.reader.now) (g.R.Script.unread c.loop.reader) (g.R.Script.unread c.loop.reader)
-        (g.W.Write.contents c.args.writer.now) (g.W.Write.contents c.loop.writer) c.loop.invariant.read (g.W.Write.contents c.pass_on.new.self) c.in_ok-pass_on.ensures.bytes)
-        (take w.in-Bytes.count c.read_piece.new.piece) w.take_piece.new.kernel (g.W.Write.contents w.take_piece.new.writer) (subst (λ (p : Piece). ReadsPiece (g.R.Script.unread c.loop.reader) (g.R.Script.unread c.read_piece.new.self) c.read_piece.new.piece (Ok p)) w.in-Bytes.is c.in_ok-count.ensures.bytes).1
-        w.take_piece.new.line w.in_ok-take_piece-in-Bytes.ensures.goes_on)
-    | in-Nothing w ↦ rw (w.kernel-is, w.line-is, w.writer-is)
-        (still_read g.D.Device.disk g.S.ObjectStore.view g.S.PresentFrames.parts g.met.D.Device.only_now c.args.kernel.now c.loop.kernel c.loop.line
-        (g.R.Script.unread c.args.reader.now) (g.R.Script.unread c.loop.reader) (g.R.Script.unread c.read_piece.new.self) (g.W.Write.contents c.args.writer.now) (g.W.Write.contents c.pass_on.new.self)
-        (passed_on g.D.Device.disk g.S.ObjectStore.view g.S.PresentFrames.parts g.met.D.Device.only_now c.args.kernel.now c.loop.kernel c.loop.line (g.R.Script.unread c.args.reader.now) (g.R.Script.unread c.loop.reader) (g.R.Script.unread c.loop.reader)
-        (g.W.Write.contents c.args.writer.now) (g.W.Write.contents c.loop.writer) c.loop.invariant.read (g.W.Write.contents c.pass_on.new.self) c.in_ok-pass_on.ensures.bytes) (subst (λ (p : Piece). ReadsPiece (g.R.Script.unread c.loop.reader) (g.R.Script.unread c.read_piece.new.self) c.read_piece.new.piece (Ok p)) w.in-Nothing.is c.in_ok-count.ensures.bytes))
-  ];
-}
+pub returns-clause-confined : goal.returns-clause-confined
+returns-clause-confined g c =
+    run_is_confined g.D.Device.disk g.S.ObjectStore.view g.S.PresentFrames.parts c.args.kernel.now c.run_turns.new.kernel
+    (g.R.Script.unread c.args.reader.now) (g.R.Script.unread c.run_turns.new.reader) (g.W.Write.contents c.args.writer.now) (g.W.Write.contents c.run_turns.new.writer)
+    c.run_turns.result c.run_turns.ensures.runs

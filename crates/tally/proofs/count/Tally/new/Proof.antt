@@ -21,11 +21,11 @@ use denote.Triple.Entry.{on_entry, alive}
 use denote.Triple.Spec.{Meets, triple_of}
 use denote.Triple.Table.{entered}
 use denote.Triple.Walked.{says, Stays, walk_of, Walks, ends_at, walked, walk_Meets}
-use Rattle.memory_device.specs.contracts.tally.Tally.new.Key.{name as key}
-use Rattle.memory_device.specs.contracts.tally.Tally.new as f
-use Rattle.memory_device.proofs.tally.Tally.new.Statement as stated
-use Rattle.memory_device.proofs.tally.Tally.new.Code as code
-use Rattle.memory_device.specs.contracts.tally.Tally as made
+use Rattle.tally.specs.contracts.count.Tally.new.Key.{name as key}
+use Rattle.tally.specs.contracts.count.Tally.new as f
+use Rattle.tally.proofs.count.Tally.new.Statement as stated
+use Rattle.tally.proofs.count.Tally.new.Code as code
+use Rattle.tally.specs.contracts.count.Tally as made
 
 abbrev stayed : Stays (f.ended).signature.params (f.ended).kept
 stayed = tt

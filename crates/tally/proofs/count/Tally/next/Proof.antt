@@ -28,11 +28,11 @@ use denote.Triple.Entry.{on_entry, alive, Args}
 use denote.Triple.Spec.{Meets, triple_of}
 use denote.Triple.Table.{entered}
 use denote.Triple.Walked.{says, stay_none_ref, Stays, walk_of, Walks, ends_at, walked, Goes-none_ref, walk_Meets}
-use Rattle.memory_device.specs.contracts.tally.Tally.next.Key.{name as key}
-use Rattle.memory_device.specs.contracts.tally.Tally.next as f
-use Rattle.memory_device.proofs.tally.Tally.next.Statement as stated
-use Rattle.memory_device.proofs.tally.Tally.next.Code as code
-use Rattle.memory_device.specs.contracts.tally.Tally as tally
+use Rattle.tally.specs.contracts.count.Tally.next.Key.{name as key}
+use Rattle.tally.specs.contracts.count.Tally.next as f
+use Rattle.tally.proofs.count.Tally.next.Statement as stated
+use Rattle.tally.proofs.count.Tally.next.Code as code
+use Rattle.tally.specs.contracts.count.Tally as tally
 
 abbrev stayed : Stays (f.ended).signature.params (f.ended).kept
 stayed = (stay_none_ref (0 ∷ []) tt (plain (λ _. tally.the_row)) yes, tt)

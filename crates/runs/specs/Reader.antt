@@ -1,0 +1,15 @@
+-- A script that a reader gives.
+use Rattle.std.specs.Prelude.{ℕ}
+use Rattle.runs.specs.declared.script_reader.ScriptReader.{ScriptReader}
+
+-- the reader beneath
+abbrev pub read_from : {R : Type 0} → ScriptReader R → R
+read_from script = script.inner
+
+-- how many more reads are passed on to it
+abbrev pub left_to_read : {R : Type 0} → ScriptReader R → ℕ
+left_to_read script = script.left
+
+-- how many reads failed
+abbrev pub failed_reads : {R : Type 0} → ScriptReader R → ℕ
+failed_reads script = script.failures.number
