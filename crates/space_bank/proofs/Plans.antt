@@ -1,6 +1,6 @@
 -- What is planned is what an order comes to.
-use Rattle.std.proofs.Common.{◌≡◌, ◌+◌, ◌<◌, ◌≤◌, ◌++◌, ◌∙◌, ℕ, true, false, List, [], ◌∷◌, length, refl, sym, ap, subst, arith}
-use Rattle.std.specs.Prelude.{IsTrue}
+use Rattle.std.proofs.Common.{◌≡◌, ◌+◌, ◌<◌, ◌≤◌, ◌++◌, ◌∙◌, ℕ, Bool, true, false, List, [], ◌∷◌, Option, None, Some, length, refl, sym, ap, subst, arith}
+use Rattle.std.specs.Prelude.{IsTrue, if◌then◌else◌, nat_lt, not}
 use Rattle.std.proofs.lemmas.Bool.{eq-eqb, le-ltb, lt-ltb, ne_eqb}
 use Rattle.std.proofs.lemmas.List.{append-nil, length-append}
 use Rattle.model.specs.declared.capability.Capability.{Capability}
@@ -15,17 +15,24 @@ use Rattle.model.specs.declared.order.BankOrder.TheVariants as bank
 use Rattle.model.specs.declared.order.ResultCode.{ResultCode}
 use Rattle.model.specs.declared.order.ResultCode.TheVariants as code
 use Rattle.model.specs.Bank.{chain, usage}
-use Rattle.model.specs.Banking.{freed, freed_by, inherited, owned_by, remaining, under, free_nodes, free_pages, has_room, new_annex, new_node, new_page, new_root, on_bank, with_new}
+use Rattle.model.specs.Banking.{allocated, bank_allocated, free_nodes, free_pages, freed, freed_by, has_room, inherited, on_bank, owned_by, process_allocated, remaining, under, with_new}
 use Rattle.model.specs.Capability.{full}
 use Rattle.model.specs.OrderOutcome.{OrderOutcome, made, refused, told_three}
 use Rattle.model.specs.Object.{is_bank, is_root, limit_in}
 use Rattle.model.specs.Revoke.{rescind}
 use Rattle.model.specs.Sound.{MayBeHeld}
 use Rattle.model.specs.World.{content_at, owner_at}
-use Rattle.capability.specs.Parts.{HaveTheirRoles, Parts, frames_of, objects_in}
+use Rattle.capability.specs.declared.order.BankChange.{BankChange}
+use Rattle.capability.specs.declared.present.Fresh.{Fresh}
+use Rattle.capability.specs.declared.present.Fresh.TheVariants as fresh
+use Rattle.capability.specs.Changes.{bank_changed}
+use Rattle.capability.specs.Parts.{HaveTheirRoles, Parts, frames_of, fresh_content, objects_in}
 use Rattle.capability.proofs.Keeping.{keepable_count, keepable_roles}
 use Rattle.capability.proofs.KindNumbers.{root_number}
 use Rattle.space_bank.specs.declared.plan.BankPlan.{BankPlan}
+use Rattle.space_bank.specs.declared.planning_new.New.{New}
+use Rattle.space_bank.specs.declared.planning_new.New.TheVariants as new
+use Rattle.space_bank.specs.Allocating.{allocated_by, allocating, count_of, given_by, given_for, is_deep, made_for, new_at, new_of, numbers_of, process_at}
 use Rattle.space_bank.specs.Banks.{BanksState, IsPlanned, MayAsk}
 use Rattle.space_bank.specs.Planning.{IsBankOf}
 use Rattle.space_bank.proofs.Walks.{node_of_bank}
@@ -72,69 +79,65 @@ module _ (p : Parts) (b : ℕ) (order : BankOrder) (args : Arguments) (first lis
     listed = same ∙ sym (append-nil first) ∙ sym (ap (λ (o : OrderOutcome). first ++ o.written) is);
   }
 
--- What orders that make new objects come to: without room, without a free number, and with both.
+-- what an order that allocates comes to
+one_allocated : (os : List Object) (b : ℕ) (f : Fresh) (named : ℕ → Capability) → ((n : ℕ) → named n ≡ given_for n f) → (ns : List ℕ)
+    → allocated os b ns (fresh_content Void f) named ≡ allocated_by os false (new_at b f ns)
+one_allocated os b f named are [] = refl
+one_allocated os b f named are (n ∷ ns) = ap (made (with_new os n b (fresh_content Void f)) (n ∷ [])) (are n)
+
+two_allocated : (os : List Object) (b : ℕ) (ns : List ℕ) → process_allocated os b ns ≡ allocated_by os false (process_at b ns)
+two_allocated os b [] = refl
+two_allocated os b (r ∷ []) = refl
+two_allocated os b (r ∷ a ∷ ns) = refl
+
+deep_allocated : (os : List Object) (b limit : ℕ) (ns : List ℕ) → bank_allocated os b ns limit ≡ allocated_by os (is_deep os b (new.Bank limit)) (new_at b (fresh.Bank limit) ns)
+deep_allocated os b limit [] = refl
+deep_allocated os b limit (n ∷ ns) = turned (nat_lt (length (chain os b)) 16) _ _
+  where
+    turned : (short : Bool) (x y : OrderOutcome) → (if short then x else y) ≡ (if not short then y else x)
+    turned true x y = refl
+    turned false x y = refl
+
+pub allocating_is : (g : Geometry) (os : List Object) (b : ℕ) (order : BankOrder) (args : Arguments) (kind : New) → new_of order args ≡ Some kind
+    → on_bank g os b order args ≡ allocating g os b kind
+unfolding on_bank
+allocating_is g os b bank.NewPage args kind is =
+    let e : new.Page ≡ kind = cc in
+    subst (λ (k : New). on_bank g os b bank.NewPage args ≡ allocating g os b k) e
+    (ap (λ (o : OrderOutcome). if has_room os b 1 then o else refused os code.Limit) (one_allocated os b fresh.Page (λ n. Page n full) (λ n. refl) (free_pages g os)))
+allocating_is g os b bank.NewNode args kind is =
+    let e : new.Node ≡ kind = cc in
+    subst (λ (k : New). on_bank g os b bank.NewNode args ≡ allocating g os b k) e
+    (ap (λ (o : OrderOutcome). if has_room os b 1 then o else refused os code.Limit) (one_allocated os b fresh.Node (λ n. Node n full) (λ n. refl) (free_nodes g os)))
+allocating_is g os b bank.NewProcess args kind is =
+    let e : new.Process ≡ kind = cc in
+    subst (λ (k : New). on_bank g os b bank.NewProcess args ≡ allocating g os b k) e
+    (ap (λ (o : OrderOutcome). if has_room os b 2 then o else refused os code.Limit) (two_allocated os b (free_nodes g os)))
+allocating_is g os b bank.NewBank args kind is =
+    let e : new.Bank args.first ≡ kind = cc in
+    subst (λ (k : New). on_bank g os b bank.NewBank args ≡ allocating g os b k) e
+    (ap (λ (o : OrderOutcome). if has_room os b 1 then o else refused os code.Limit) (deep_allocated os b args.first (free_nodes g os)))
+allocating_is g os b bank.Free args kind is = cc
+allocating_is g os b bank.Destroy args kind is = cc
+allocating_is g os b bank.ReturnToParent args kind is = cc
+allocating_is g os b bank.Remaining args kind is = cc
+
+-- by the tests that the code makes
+module _ (g : Geometry) (os : List Object) (b : ℕ) (order : BankOrder) (args : Arguments) (kind : New) (is : new_of order args ≡ Some kind) where
+  pub new_limit : has_room os b (count_of kind) ≡ false → on_bank g os b order args ≡ refused os code.Limit
+  new_limit full = allocating_is g os b order args kind is ∙ rw full refl
+
+  pub new_none : has_room os b (count_of kind) ≡ true → made_for g os b kind ≡ None → on_bank g os b order args ≡ refused os code.NoFrame
+  new_none room none = allocating_is g os b order args kind is ∙ rw (room, none) refl
+
+  pub new_deep : (c : BankChange) → has_room os b (count_of kind) ≡ true → made_for g os b kind ≡ Some c → is_deep os b kind ≡ true → on_bank g os b order args ≡ refused os code.TooDeep
+  new_deep c room some deep = allocating_is g os b order args kind is ∙ rw (room, some, deep) refl
+
+  pub new_made : (c : BankChange) → has_room os b (count_of kind) ≡ true → made_for g os b kind ≡ Some c → is_deep os b kind ≡ false
+      → on_bank g os b order args ≡ made (bank_changed os (numbers_of c) c) (numbers_of c) (given_by c)
+  new_made c room some short = allocating_is g os b order args kind is ∙ rw (room, some, short) refl
+
 module _ (g : Geometry) (os : List Object) (b : ℕ) (args : Arguments) where
-  pub page_limit : has_room os b 1 ≡ false → on_bank g os b bank.NewPage args ≡ refused os code.Limit
-  unfolding on_bank
-  page_limit full = rw full refl
-
-  pub page_none : has_room os b 1 ≡ true → free_pages g os ≡ [] → on_bank g os b bank.NewPage args ≡ refused os code.NoFrame
-  unfolding on_bank
-  page_none room none = rw (room, none) refl
-
-  pub page_new : (n : ℕ) (ns : List ℕ) → has_room os b 1 ≡ true → free_pages g os ≡ n ∷ ns →
-      on_bank g os b bank.NewPage args ≡ made (with_new os n b new_page) (n ∷ []) (Page n full)
-  unfolding on_bank
-  page_new n ns room some = rw (room, some) refl
-
-  pub node_limit : has_room os b 1 ≡ false → on_bank g os b bank.NewNode args ≡ refused os code.Limit
-  unfolding on_bank
-  node_limit full = rw full refl
-
-  pub node_none : has_room os b 1 ≡ true → free_nodes g os ≡ [] → on_bank g os b bank.NewNode args ≡ refused os code.NoFrame
-  unfolding on_bank
-  node_none room none = rw (room, none) refl
-
-  pub node_new : (n : ℕ) (ns : List ℕ) → has_room os b 1 ≡ true → free_nodes g os ≡ n ∷ ns →
-      on_bank g os b bank.NewNode args ≡ made (with_new os n b new_node) (n ∷ []) (Node n full)
-  unfolding on_bank
-  node_new n ns room some = rw (room, some) refl
-
-  pub process_limit : has_room os b 2 ≡ false → on_bank g os b bank.NewProcess args ≡ refused os code.Limit
-  unfolding on_bank
-  process_limit full = rw full refl
-
-  pub process_none : has_room os b 2 ≡ true → free_nodes g os ≡ [] → on_bank g os b bank.NewProcess args ≡ refused os code.NoFrame
-  unfolding on_bank
-  process_none room none = rw (room, none) refl
-
-  pub process_one : (n : ℕ) → has_room os b 2 ≡ true → free_nodes g os ≡ n ∷ [] → on_bank g os b bank.NewProcess args ≡ refused os code.NoFrame
-  unfolding on_bank
-  process_one n room one = rw (room, one) refl
-
-  pub process_new : (n a : ℕ) (ns : List ℕ) → has_room os b 2 ≡ true → free_nodes g os ≡ n ∷ a ∷ ns →
-      on_bank g os b bank.NewProcess args ≡ made (with_new (with_new os n b (new_root a)) a b new_annex) (n ∷ a ∷ []) (Process n)
-  unfolding on_bank
-  process_new n a ns room two = rw (room, two) refl
-
-  pub bank_limit : has_room os b 1 ≡ false → on_bank g os b bank.NewBank args ≡ refused os code.Limit
-  unfolding on_bank
-  bank_limit full = rw full refl
-
-  pub bank_none : has_room os b 1 ≡ true → free_nodes g os ≡ [] → on_bank g os b bank.NewBank args ≡ refused os code.NoFrame
-  unfolding on_bank
-  bank_none room none = rw (room, none) refl
-
-  pub bank_deep : (n : ℕ) (ns : List ℕ) → has_room os b 1 ≡ true → free_nodes g os ≡ n ∷ ns → 16 ≤ length (chain os b) →
-      on_bank g os b bank.NewBank args ≡ refused os code.TooDeep
-  unfolding on_bank
-  bank_deep n ns room some deep = rw (room, some, le-ltb (length (chain os b)) 16 deep) refl
-
-  pub bank_new : (n : ℕ) (ns : List ℕ) → has_room os b 1 ≡ true → free_nodes g os ≡ n ∷ ns → length (chain os b) < 16 →
-      on_bank g os b bank.NewBank args ≡ made (with_new os n b (content.Bank args.first)) (n ∷ []) (Bank n)
-  unfolding on_bank
-  bank_new n ns room some short = rw (room, some, lt-ltb (length (chain os b)) 16 short) refl
-
   -- what orders that give up come to
   pub frees_none : (c : Capability) → args.capability ≡ c → freed_by os c ≡ [] → on_bank g os b bank.Free args ≡ refused os code.BadCapability
   unfolding on_bank

@@ -14,6 +14,7 @@ mod listing;
 mod marking;
 mod plan;
 mod planning;
+mod planning_new;
 mod walking;
 
 pub use banks::Banks;

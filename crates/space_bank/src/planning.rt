@@ -13,7 +13,8 @@ ghost use Rattle.space_bank.specs.Planning.{IsBankOf, annex_of};
 
 use crate::banks::Banks;
 use crate::plan::BankPlan;
-use crate::walking::{MAX_CHAIN, chain_length, owner};
+use crate::planning_new::New;
+use crate::walking::owner;
 use capability::{PresentFrames, objects};
 use model::{Access, Arguments, BankOrder, Capability, ResultCode};
 
@@ -58,10 +59,13 @@ impl Banks {
     {
         self.list_only(first);
         match order {
-            BankOrder::NewPage => self.plan_page(store, bank),
-            BankOrder::NewNode => self.plan_node(store, bank),
-            BankOrder::NewProcess => self.plan_process(store, bank),
-            BankOrder::NewBank => self.plan_bank(store, bank),
+            BankOrder::NewPage => self.plan_new(store, bank, New::Page),
+            BankOrder::NewNode => self.plan_new(store, bank, New::Node),
+            BankOrder::NewProcess => self.plan_new(store, bank, New::Process),
+            BankOrder::NewBank => {
+                let limit = arguments.first;
+                self.plan_new(store, bank, New::Bank { limit })
+            }
             BankOrder::Free => self.plan_free(store, bank, arguments.capability),
             BankOrder::Destroy => self.plan_destroy(store, bank),
             BankOrder::ReturnToParent => self.plan_return(store, bank),
@@ -83,100 +87,6 @@ impl Banks {
             self.usages[number],
             self.limits[number],
         ]
-    }
-
-    // A new page, at the least free number.
-    fn plan_page<F: PresentFrames>(&mut self, store: &F, bank: u64) -> BankPlan
-        requires bank { IsBankOf (F.parts store.now) self.old bank }
-        requires few { length self.old.listed ≤ 2 }
-        ensures planned { (args : Arguments) → IsPlanned (F.parts store.now) bank
-            BankOrder.NewPage args self.old.listed result self.new.listed }
-        ensures kept { self.new ≡ record self.old { listed = self.new.listed } }
-    {
-        if !self.has_room(store, bank, 1) {
-            return BankPlan::refused(ResultCode::Limit);
-        }
-        match self.pages.next(0) {
-            None => BankPlan::refused(ResultCode::NoFrame),
-            Some(page) => {
-                let object = store.geometry().nodes + page as u64;
-                let access = Access::full();
-                self.list(object);
-                BankPlan::given(Capability::Page { object, access })
-            }
-        }
-    }
-
-    // A new node, at the least free number.
-    fn plan_node<F: PresentFrames>(&mut self, store: &F, bank: u64) -> BankPlan
-        requires bank { IsBankOf (F.parts store.now) self.old bank }
-        requires few { length self.old.listed ≤ 2 }
-        ensures planned { (args : Arguments) → IsPlanned (F.parts store.now) bank
-            BankOrder.NewNode args self.old.listed result self.new.listed }
-        ensures kept { self.new ≡ record self.old { listed = self.new.listed } }
-    {
-        if !self.has_room(store, bank, 1) {
-            return BankPlan::refused(ResultCode::Limit);
-        }
-        match self.nodes.next(0) {
-            None => BankPlan::refused(ResultCode::NoFrame),
-            Some(node) => {
-                let object = node as u64;
-                let access = Access::full();
-                self.list(object);
-                BankPlan::given(Capability::Node { object, access })
-            }
-        }
-    }
-
-    // A new process, its root at the least free number and its annex at the next.
-    fn plan_process<F: PresentFrames>(&mut self, store: &F, bank: u64) -> BankPlan
-        requires bank { IsBankOf (F.parts store.now) self.old bank }
-        requires few { length self.old.listed ≤ 2 }
-        ensures planned { (args : Arguments) → IsPlanned (F.parts store.now) bank
-            BankOrder.NewProcess args self.old.listed result self.new.listed }
-        ensures kept { self.new ≡ record self.old { listed = self.new.listed } }
-    {
-        if !self.has_room(store, bank, 2) {
-            return BankPlan::refused(ResultCode::Limit);
-        }
-        let root = match self.nodes.next(0) {
-            None => return BankPlan::refused(ResultCode::NoFrame),
-            Some(root) => root,
-        };
-        match self.nodes.next(root + 1) {
-            None => BankPlan::refused(ResultCode::NoFrame),
-            Some(annex) => {
-                let process = root as u64;
-                self.list(process);
-                self.list(annex as u64);
-                BankPlan::given(Capability::Process(process))
-            }
-        }
-    }
-
-    // A new bank, at the least free number, where the chain isn't as long as it may be.
-    fn plan_bank<F: PresentFrames>(&mut self, store: &F, bank: u64) -> BankPlan
-        requires bank { IsBankOf (F.parts store.now) self.old bank }
-        requires few { length self.old.listed ≤ 2 }
-        ensures planned { (args : Arguments) → IsPlanned (F.parts store.now) bank
-            BankOrder.NewBank args self.old.listed result self.new.listed }
-        ensures kept { self.new ≡ record self.old { listed = self.new.listed } }
-    {
-        if !self.has_room(store, bank, 1) {
-            return BankPlan::refused(ResultCode::Limit);
-        }
-        match self.nodes.next(0) {
-            None => BankPlan::refused(ResultCode::NoFrame),
-            Some(node) => {
-                if chain_length(store, bank) >= MAX_CHAIN {
-                    return BankPlan::refused(ResultCode::TooDeep);
-                }
-                let number = node as u64;
-                self.list(number);
-                BankPlan::given(Capability::Bank(number))
-            }
-        }
     }
 
     // What a capability frees, where the bank owns it.

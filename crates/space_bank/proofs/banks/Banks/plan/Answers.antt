@@ -9,41 +9,41 @@ use Rattle.space_bank.specs.Banks.{BanksState}
 use Rattle.space_bank.proofs.Plans.{bank_asked, planned_behind, planned_told, remaining_told, told_words}
 use Rattle.space_bank.proofs.banks.Banks.plan.Goals as goal
 
-pub plan_page-requires-clause-bank : goal.plan_page-requires-clause-bank
-plan_page-requires-clause-bank g c =
+pub plan_new-requires-clause-bank : goal.plan_new-requires-clause-bank
+plan_new-requires-clause-bank g c =
     bank_asked (g.F.PresentFrames.parts c.args.store.now) c.args.self.now c.list_only.new.self c.args.bank c.args.arguments c.args.first.now c.requires.asks c.list_only.ensures
 
 pub returns-in-NewPage-clause-planned : goal.returns-in-NewPage-clause-planned
 returns-in-NewPage-clause-planned g c =
-    planned_behind (g.F.PresentFrames.parts c.args.store.now) c.args.bank c.args.order bank.NewPage c.args.arguments c.args.first.now c.list_only.new.self.listed c.plan_page.new.self.listed c.plan_page.result
-    c.in-NewPage.is (ap (λ (s : BanksState). s.listed) c.list_only.ensures) (c.plan_page.ensures.planned c.args.arguments)
+    planned_behind (g.F.PresentFrames.parts c.args.store.now) c.args.bank c.args.order bank.NewPage c.args.arguments c.args.first.now c.list_only.new.self.listed c.plan_new.new.self.listed c.plan_new.result
+    c.in-NewPage.is (ap (λ (s : BanksState). s.listed) c.list_only.ensures) (c.plan_new.ensures.planned bank.NewPage c.args.arguments refl)
 
-pub plan_node-requires-clause-bank : goal.plan_node-requires-clause-bank
-plan_node-requires-clause-bank g c =
+pub plan_new-requires-in-NewNode-clause-bank : goal.plan_new-requires-in-NewNode-clause-bank
+plan_new-requires-in-NewNode-clause-bank g c =
     bank_asked (g.F.PresentFrames.parts c.args.store.now) c.args.self.now c.list_only.new.self c.args.bank c.args.arguments c.args.first.now c.requires.asks c.list_only.ensures
 
 pub returns-in-NewNode-clause-planned : goal.returns-in-NewNode-clause-planned
 returns-in-NewNode-clause-planned g c =
-    planned_behind (g.F.PresentFrames.parts c.args.store.now) c.args.bank c.args.order bank.NewNode c.args.arguments c.args.first.now c.list_only.new.self.listed c.plan_node.new.self.listed c.plan_node.result
-    c.in-NewNode.is (ap (λ (s : BanksState). s.listed) c.list_only.ensures) (c.plan_node.ensures.planned c.args.arguments)
+    planned_behind (g.F.PresentFrames.parts c.args.store.now) c.args.bank c.args.order bank.NewNode c.args.arguments c.args.first.now c.list_only.new.self.listed c.plan_new-in-NewNode.new.self.listed c.plan_new-in-NewNode.result
+    c.in-NewNode.is (ap (λ (s : BanksState). s.listed) c.list_only.ensures) (c.plan_new-in-NewNode.ensures.planned bank.NewNode c.args.arguments refl)
 
-pub plan_process-requires-clause-bank : goal.plan_process-requires-clause-bank
-plan_process-requires-clause-bank g c =
+pub plan_new-requires-in-NewProcess-clause-bank : goal.plan_new-requires-in-NewProcess-clause-bank
+plan_new-requires-in-NewProcess-clause-bank g c =
     bank_asked (g.F.PresentFrames.parts c.args.store.now) c.args.self.now c.list_only.new.self c.args.bank c.args.arguments c.args.first.now c.requires.asks c.list_only.ensures
 
 pub returns-in-NewProcess-clause-planned : goal.returns-in-NewProcess-clause-planned
 returns-in-NewProcess-clause-planned g c =
-    planned_behind (g.F.PresentFrames.parts c.args.store.now) c.args.bank c.args.order bank.NewProcess c.args.arguments c.args.first.now c.list_only.new.self.listed c.plan_process.new.self.listed c.plan_process.result
-    c.in-NewProcess.is (ap (λ (s : BanksState). s.listed) c.list_only.ensures) (c.plan_process.ensures.planned c.args.arguments)
+    planned_behind (g.F.PresentFrames.parts c.args.store.now) c.args.bank c.args.order bank.NewProcess c.args.arguments c.args.first.now c.list_only.new.self.listed c.plan_new-in-NewProcess.new.self.listed c.plan_new-in-NewProcess.result
+    c.in-NewProcess.is (ap (λ (s : BanksState). s.listed) c.list_only.ensures) (c.plan_new-in-NewProcess.ensures.planned bank.NewProcess c.args.arguments refl)
 
-pub plan_bank-requires-clause-bank : goal.plan_bank-requires-clause-bank
-plan_bank-requires-clause-bank g c =
+pub plan_new-requires-in-NewBank-clause-bank : goal.plan_new-requires-in-NewBank-clause-bank
+plan_new-requires-in-NewBank-clause-bank g c =
     bank_asked (g.F.PresentFrames.parts c.args.store.now) c.args.self.now c.list_only.new.self c.args.bank c.args.arguments c.args.first.now c.requires.asks c.list_only.ensures
 
 pub returns-in-NewBank-clause-planned : goal.returns-in-NewBank-clause-planned
 returns-in-NewBank-clause-planned g c =
-    planned_behind (g.F.PresentFrames.parts c.args.store.now) c.args.bank c.args.order bank.NewBank c.args.arguments c.args.first.now c.list_only.new.self.listed c.plan_bank.new.self.listed c.plan_bank.result
-    c.in-NewBank.is (ap (λ (s : BanksState). s.listed) c.list_only.ensures) (c.plan_bank.ensures.planned c.args.arguments)
+    planned_behind (g.F.PresentFrames.parts c.args.store.now) c.args.bank c.args.order bank.NewBank c.args.arguments c.args.first.now c.list_only.new.self.listed c.plan_new-in-NewBank.new.self.listed c.plan_new-in-NewBank.result
+    c.in-NewBank.is (ap (λ (s : BanksState). s.listed) c.list_only.ensures) (c.plan_new-in-NewBank.ensures.planned bank.NewBank c.args.arguments refl)
 
 pub plan_free-requires-clause-bank : goal.plan_free-requires-clause-bank
 plan_free-requires-clause-bank g c =
