@@ -2,11 +2,12 @@
 use Rattle.std.specs.Prelude.{◌≡◌, ℕ, Option, None, Some, List, [], ◌∷◌}
 use Rattle.std.specs.Option.{option_to_list}
 use Rattle.model.specs.declared.capability.Capability.TheVariants.{Void}
+use Rattle.model.specs.declared.command.Message.{Message}
 use Rattle.model.specs.declared.object.Object.{Object}
 use Rattle.model.specs.declared.order.ResultCode.{ResultCode}
 use Rattle.model.specs.Banking.{inherited, new_annex, new_root, with_new}
 use Rattle.model.specs.Order.{with_root_word, with_space}
-use Rattle.model.specs.OrderOutcome.{OrderOutcome}
+use Rattle.model.specs.OrderOutcome.{OrderOutcome, code_number}
 use Rattle.model.specs.Revoke.{consume, rescind}
 use Rattle.model.specs.World.{root_at, with_root, with_slot, with_state, with_word}
 use Rattle.capability.specs.declared.order.BankChange.{BankChange}
@@ -39,6 +40,10 @@ changed os list (change.SetState process state) = consume process (with_state os
 changed os list (change.Space process held) = with_root os process (with_space (root_at os process) held)
 changed os list (change.Bank made) = bank_changed os list made
 
+-- the message that a reply is: the code and the words, key 0, and the capability
+abbrev pub message_of : Reply → Message
+message_of reply = record { words = code_number reply.code ∷ reply.words; key = 0; capabilities = reply.capability ∷ Void ∷ Void ∷ Void ∷ [] }
+
 -- the one object that it writes
 abbrev pub target_of : Change → Option ℕ
 target_of change.Nothing = None
@@ -49,6 +54,9 @@ target_of (change.RootWord process index word) = Some process
 target_of (change.SetState process state) = Some process
 target_of (change.Space process held) = Some process
 target_of (change.Bank made) = None
+
+abbrev pub written_of : Change → List ℕ
+written_of c = option_to_list (target_of c)
 
 -- what comes of an order that goes as planned and writes the numbers of the list
 abbrev pub outcome_by : List Object → List ℕ → OrderPlan → OrderOutcome

@@ -133,7 +133,7 @@ impl OrderPlan {
     }
 
     /// The plan tells three words.
-    pub fn told(words: [u64; 3]) -> OrderPlan
+    pub fn told_three(words: [u64; 3]) -> OrderPlan
         ensures { result ≡ record {
           reply = record { code = ResultCode.Done; words = words; capability = Capability.Void };
           change = Change.Nothing;
@@ -143,6 +143,27 @@ impl OrderPlan {
             reply: Reply {
                 code: ResultCode::Done,
                 words,
+                capability: Capability::Void,
+            },
+            change: Change::Nothing,
+        }
+    }
+
+    /// The plan tells two words.
+    pub fn told(first: u64, second: u64) -> OrderPlan
+        ensures { result ≡ record {
+          reply = record {
+            code = ResultCode.Done;
+            words = first ∷ second ∷ 0 ∷ [];
+            capability = Capability.Void;
+          };
+          change = Change.Nothing;
+        } }
+    {
+        OrderPlan {
+            reply: Reply {
+                code: ResultCode::Done,
+                words: [first, second, 0],
                 capability: Capability::Void,
             },
             change: Change::Nothing,

@@ -8,14 +8,14 @@ ghost use Rattle.model.specs.Object.{limit_in};
 ghost use Rattle.model.specs.Sound.{MayBeHeld};
 ghost use Rattle.model.specs.World.{content_at};
 ghost use Rattle.capability.specs.Parts.{objects_in};
-ghost use Rattle.space_bank.specs.Banks.{IsPlanned, MayAsk};
+ghost use Rattle.space_bank.specs.Banks.{MayAsk};
+ghost use Rattle.space_bank.specs.Carrying.{IsPlanned};
 ghost use Rattle.space_bank.specs.Planning.{IsBankOf, annex_of};
 
 use crate::banks::Banks;
-use crate::plan::BankPlan;
 use crate::planning_new::New;
 use crate::walking::owner;
-use capability::{PresentFrames, objects};
+use capability::{BankChange, Change, OrderPlan, PresentFrames, objects};
 use model::{Access, Arguments, BankOrder, Capability, ResultCode};
 
 // The object that a capability frees, the root of a process: none where it frees nothing.
@@ -37,27 +37,26 @@ fn freed_object(capability: Capability) -> Option<u64>
 }
 
 impl Banks {
-    /// What an order comes to. Lists the numbers `first`, and behind them those that it writes.
+    /// What an order comes to. Lists the numbers that it writes behind those that are listed, two at
+    /// most.
     ///
     /// Changes nothing else and takes no memory. A new object is planned at the least number that
     /// is free. Where more than one code applies, the least is told.
     pub fn plan<F: PresentFrames>(
         &mut self,
         store: &F,
-        first: &[u64],
         bank: u64,
         order: BankOrder,
         arguments: Arguments,
-    ) -> BankPlan
+    ) -> OrderPlan
         requires asks { MayAsk (F.parts store.now) self.old bank arguments }
         requires root { (p : ℕ) → arguments.capability ≡ Capability.Process p
             → F.IsFetched store.now p }
-        requires few { length first.now ≤ 2 }
-        ensures planned { IsPlanned (F.parts store.now) bank order arguments first.now result
+        requires few { length self.old.listed ≤ 2 }
+        ensures planned { IsPlanned (F.parts store.now) bank order arguments self.old.listed result
             self.new.listed }
         ensures kept { self.new ≡ record self.old { listed = self.new.listed } }
     {
-        self.list_only(first);
         match order {
             BankOrder::NewPage => self.plan_new(store, bank, New::Page),
             BankOrder::NewNode => self.plan_new(store, bank, New::Node),
@@ -69,7 +68,7 @@ impl Banks {
             BankOrder::Free => self.plan_free(store, bank, arguments.capability),
             BankOrder::Destroy => self.plan_destroy(store, bank),
             BankOrder::ReturnToParent => self.plan_return(store, bank),
-            BankOrder::Remaining => BankPlan::told(self.remaining(store, bank)),
+            BankOrder::Remaining => OrderPlan::told_three(self.remaining(store, bank)),
         }
     }
 
@@ -95,7 +94,7 @@ impl Banks {
         store: &F,
         bank: u64,
         capability: Capability,
-    ) -> BankPlan
+    ) -> OrderPlan
         requires bank { IsBankOf (F.parts store.now) self.old bank }
         requires few { length self.old.listed ≤ 2 }
         requires sent { MayBeHeld (objects_in (F.parts store.now)) capability }
@@ -106,14 +105,14 @@ impl Banks {
         ensures kept { self.new ≡ record self.old { listed = self.new.listed } }
     {
         match freed_object(capability) {
-            None => BankPlan::refused(ResultCode::BadCapability),
+            None => OrderPlan::refused(ResultCode::BadCapability),
             Some(object) => {
                 if owner(store, object) != bank {
-                    return BankPlan::refused(ResultCode::NotFromThisBank);
+                    return OrderPlan::refused(ResultCode::NotFromThisBank);
                 }
                 self.list(object);
                 self.list_annex(store, capability);
-                BankPlan::given(Capability::Void)
+                OrderPlan::changed(Change::Bank(BankChange::GiveUp { above: bank }))
             }
         }
     }
@@ -132,7 +131,7 @@ impl Banks {
     }
 
     // A bank and all that is under it are destroyed.
-    fn plan_destroy<F: PresentFrames>(&mut self, store: &F, bank: u64) -> BankPlan
+    fn plan_destroy<F: PresentFrames>(&mut self, store: &F, bank: u64) -> OrderPlan
         requires bank { IsBankOf (F.parts store.now) self.old bank }
         requires few { length self.old.listed ≤ 2 }
         ensures planned { (args : Arguments) → IsPlanned (F.parts store.now) bank
@@ -140,14 +139,15 @@ impl Banks {
         ensures kept { self.new ≡ record self.old { listed = self.new.listed } }
     {
         if bank == 0 {
-            return BankPlan::refused(ResultCode::PrimeBank);
+            return OrderPlan::refused(ResultCode::PrimeBank);
         }
+        let above = owner(store, bank);
         self.list_under(store, bank);
-        BankPlan::given(Capability::Void)
+        OrderPlan::changed(Change::Bank(BankChange::GiveUp { above }))
     }
 
     // A bank is destroyed, and what it owns goes to its own owner.
-    fn plan_return<F: PresentFrames>(&mut self, store: &F, bank: u64) -> BankPlan
+    fn plan_return<F: PresentFrames>(&mut self, store: &F, bank: u64) -> OrderPlan
         requires bank { IsBankOf (F.parts store.now) self.old bank }
         requires few { length self.old.listed ≤ 2 }
         ensures planned { (args : Arguments) → IsPlanned (F.parts store.now) bank
@@ -155,10 +155,10 @@ impl Banks {
         ensures kept { self.new ≡ record self.old { listed = self.new.listed } }
     {
         if bank == 0 {
-            return BankPlan::refused(ResultCode::PrimeBank);
+            return OrderPlan::refused(ResultCode::PrimeBank);
         }
         self.list(bank);
         self.list_owned(store, bank);
-        BankPlan::given(Capability::Void)
+        OrderPlan::changed(Change::Bank(BankChange::HandOn { bank }))
     }
 }

@@ -8,14 +8,13 @@ ghost use Rattle.model.specs.Banking.{are_free};
 ghost use Rattle.model.specs.Sound.{object_count};
 ghost use Rattle.capability.specs.Parts.{objects_in};
 ghost use Rattle.space_bank.specs.Allocating.{count_of, given_by, given_for, is_deep, made_for, new_at, new_of, numbers_of, process_at};
-ghost use Rattle.space_bank.specs.Banks.{IsPlanned};
+ghost use Rattle.space_bank.specs.Carrying.{IsPlanned};
 ghost use Rattle.space_bank.specs.Counting.{AreMarked};
 ghost use Rattle.space_bank.specs.Planning.{IsBankOf};
 
 use crate::banks::Banks;
-use crate::plan::BankPlan;
 use crate::walking::{MAX_CHAIN, chain_length};
-use capability::{BankChange, Fresh, PresentFrames};
+use capability::{BankChange, Change, Fresh, OrderPlan, PresentFrames};
 use model::{Access, Capability, ResultCode};
 use number_set::NumberSet;
 
@@ -25,9 +24,7 @@ pub enum New {
     Page,
     Node,
     Process,
-    Bank {
-        limit: u64,
-    },
+    Bank { limit: u64 },
 }
 
 impl New {
@@ -147,12 +144,7 @@ impl Banks {
 
     // A new object, at the least free number of its kind. A process takes two, its root and its
     // annex, and a bank a chain that isn't as long as it may be.
-    pub(crate) fn plan_new<F: PresentFrames>(
-        &mut self,
-        store: &F,
-        bank: u64,
-        new: New,
-    ) -> BankPlan
+    pub(crate) fn plan_new<F: PresentFrames>(&mut self, store: &F, bank: u64, new: New) -> OrderPlan
         requires bank { IsBankOf (F.parts store.now) self.old bank }
         requires few { length self.old.listed ≤ 2 }
         ensures planned { (order : BankOrder) (args : Arguments) → new_of order args ≡ Some new
@@ -160,16 +152,16 @@ impl Banks {
         ensures kept { self.new ≡ record self.old { listed = self.new.listed } }
     {
         if !self.has_room(store, bank, new.count()) {
-            return BankPlan::refused(ResultCode::Limit);
+            return OrderPlan::refused(ResultCode::Limit);
         }
         match self.next_free(store, bank, new) {
-            None => BankPlan::refused(ResultCode::NoFrame),
+            None => OrderPlan::refused(ResultCode::NoFrame),
             Some(change) => {
                 if is_deep(store, bank, new) {
-                    return BankPlan::refused(ResultCode::TooDeep);
+                    return OrderPlan::refused(ResultCode::TooDeep);
                 }
                 self.list_new(change);
-                BankPlan::given(given_by(change))
+                OrderPlan::made(given_by(change), Change::Bank(change))
             }
         }
     }
