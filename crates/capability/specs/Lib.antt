@@ -8,7 +8,9 @@ pub use Rattle.model.specs.Bank
 pub use Rattle.model.specs.Revoke
 pub use Rattle.model.specs.Machine
 pub use Rattle.model.specs.Worlds
+pub use Rattle.model.specs.Banking
 pub mod Parts
 pub mod Objects
+pub mod Changes
 pub mod Plain
 pub mod Laws

@@ -3,6 +3,7 @@
 
 pub mod laws;
 pub mod objects;
+pub mod order;
 pub mod plain;
 pub mod present;
 pub mod roots;
@@ -10,6 +11,7 @@ pub mod table;
 pub mod view;
 
 pub use model::{Access, Cap, Capability};
+pub use order::{BankChange, Caller, Change, OrderPlan, Reply};
 pub use plain::Plain;
 pub use present::{Fresh, MAX_FETCHED, PrepareFault, PresentFrames};
 pub use table::ObjectTable;

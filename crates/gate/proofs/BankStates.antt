@@ -1,5 +1,5 @@
--- What is asked of a bank, as a process that returns becomes available, and what is counted after the reply.
-use Rattle.std.proofs.Common.{◌≡◌, ℕ, ◌+◌, ◌++◌, ◌&&◌, Bool, true, false, List, ◌∷◌, Result, Ok, Err, refl, sym, ap, subst, ◌∙◌, arith, if◌then◌else◌}
+-- What is counted, as a process that returns becomes available, after the reply, and after an invocation that asks no bank.
+use Rattle.std.proofs.Common.{◌≡◌, ℕ, ◌+◌, ◌++◌, ◌<◌, ◌≤◌, ◌&&◌, Bool, true, false, List, ◌∷◌, Result, Ok, Err, drop, length, refl, sym, ap, subst, ◌∙◌, arith, if◌then◌else◌}
 use Rattle.std.specs.Prelude.{IsTrue, OnOk, OnErr, slice_index}
 use Rattle.std.specs.List.{All}
 use Rattle.model.specs.declared.capability.Capability.{Capability}
@@ -8,31 +8,38 @@ use Rattle.model.specs.declared.command.Command.TheVariants as command
 use Rattle.model.specs.declared.command.Invocation.{Invocation}
 use Rattle.model.specs.declared.frame.Frame.{Frame}
 use Rattle.model.specs.declared.command.Operation.{Operation}
-use Rattle.model.specs.declared.command.Operation.TheVariants.{Call}
+use Rattle.model.specs.declared.command.Operation.TheVariants.{Call, Return, Send}
 use Rattle.model.specs.declared.geometry.Geometry.{Geometry}
 use Rattle.model.specs.declared.object.Object.{Object}
-use Rattle.model.specs.declared.object.State.TheVariants.{Available}
 use Rattle.model.specs.declared.order.Arguments.{Arguments}
+use Rattle.model.specs.declared.order.BankOrder.{BankOrder}
+use Rattle.model.specs.Banking.{on_bank}
 use Rattle.model.specs.Frame.{objects_of}
-use Rattle.model.specs.Invoke.{deliver, reply_of}
-use Rattle.model.specs.Keepable.{AreCurrent, AreKeepable, IsSoundFrames, world_at}
+use Rattle.model.specs.Invoke.{deliver}
+use Rattle.model.specs.Keepable.{AreCurrent, AreKeepable, IsSoundFrames}
 use Rattle.model.specs.Object.{is_bank, is_running}
 use Rattle.model.specs.Order.{IsNoBankOrder}
-use Rattle.model.specs.OrderOutcome.{OrderOutcome}
-use Rattle.model.specs.Sound.{IsSound, MayBeHeld}
+use Rattle.model.specs.Sound.{IsSound, MayBeHeld, NamesItsKind}
 use Rattle.model.specs.Text.{Fits}
-use Rattle.model.specs.World.{World, content_at, is_process, is_running_process, register_at, root_at, with_state}
+use Rattle.model.specs.World.{World, annex_at, content_at, is_process, is_running_process, register_at, root_at}
 use Rattle.model_laws.proofs.InvocationFrame.{deliver_frame, invocation_frame, state_sound}
-use Rattle.model_laws.proofs.SoundGates.{IsAfter, after_state}
-use Rattle.model_laws.proofs.SoundOrders.{IsNow}
-use Rattle.model_laws.proofs.SoundParts.{Waits, held_from, held_on, held_to, nearly_from}
+use Rattle.model_laws.proofs.SoundOrders.{AreArguments, IsNow}
+use Rattle.model_laws.proofs.SoundParts.{held_to}
 use Rattle.model_laws.proofs.Usage.{SameFrame, frame_refl, tests_at, usage_same}
+use Rattle.capability.specs.declared.order.Caller.{Caller}
+use Rattle.capability.specs.declared.order.OrderPlan.{OrderPlan}
+use Rattle.capability.specs.declared.order.Reply.{Reply}
+use Rattle.capability.specs.Changes.{message_of}
 use Rattle.capability.specs.Parts.{AreSound, IsUnchanged, Parts, frames_of, objects_in}
+use Rattle.capability.proofs.Frames.{process_known}
 use Rattle.space_bank.specs.Banks.{AreCounted, BanksState, MayAsk}
-use Rattle.gate.specs.Banking.{answered, ordered_at, outcome_at, state_before, writers}
-use Rattle.gate.specs.declared.banking.BankCall.{BankCall}
-use Rattle.gate.specs.Invoke.{Invokes}
+use Rattle.space_bank.specs.Planning.{writer_count, writers}
+use Rattle.gate.specs.Ordering.{IsPlanned, answered, arguments_of, state_before}
+use Rattle.gate.specs.Plan.{MayChange}
+use Rattle.gate.specs.Invoke.{Invokes, IsAsked}
+use Rattle.gate.proofs.Effects.{frame_before}
 use Rattle.gate.proofs.Known.{running_process, same_frames}
+use Rattle.gate.proofs.Plans.{arguments_held, invoked_held}
 use Rattle.gate.proofs.Standing.{LooksAs, looked_objects, looked_sound, now_sound}
 
 -- what is counted holds of objects of the same frame
@@ -58,67 +65,66 @@ process_runs os p runs = go (is_process os p) runs
     go true e = e
     go false e = cc
 
--- a bank may be asked after a running process became available
-module _ (old mid : Parts) (s : BanksState) (b : ℕ) (args : Arguments) (p : ℕ) (asks : MayAsk old s b args)
-    (runs : IsTrue (is_running_process (objects_in old) p))
-    (is : objects_in mid ≡ with_state (objects_in old) p Available) (geometry : mid.geometry ≡ old.geometry)
-    (current : AreCurrent (frames_of mid)) (keepable : AreKeepable old.geometry asks.sound.0 (frames_of mid)) where
-  now_before : IsNow old.geometry (objects_in old)
-  now_before = nearly_from old.geometry (world_at asks.sound.0 (frames_of old)) asks.sound.1.sound
+-- what holds of sound frames holds as the order finds them
+module _ (old mid : Parts) (s : BanksState) (sound : AreSound old) (counted : AreCounted old.geometry (objects_in old) s) (op : Operation) (p : ℕ)
+    (runs : IsTrue (is_running_process (objects_in old) p)) (is : objects_in mid ≡ state_before op (objects_in old) p) (geometry : mid.geometry ≡ old.geometry) where
+  pub before_frame : SameFrame (objects_in old) (objects_in mid)
+  before_frame = subst (SameFrame (objects_in old)) (sym is) (frame_before op (objects_in old) p (running_process (objects_in old) p runs))
 
-  became : IsAfter old.geometry (objects_in old) (with_state (objects_in old) p Available)
-  became = after_state old.geometry (objects_in old) p Available now_before runs
+  pub before_counted : AreCounted mid.geometry (objects_in mid) s
+  before_counted = subst (λ (g : Geometry). AreCounted g (objects_in mid) s) (sym geometry) (counted_on old.geometry (objects_in old) (objects_in mid) s before_frame counted)
 
-  pub after_asks : MayAsk mid s b args
-  after_asks = record {
-    sound = (
-      asks.sound.0,
-      subst (λ (g : Geometry). IsSoundFrames g asks.sound.0 (frames_of mid)) (sym geometry) (record {
-        keepable = keepable;
-        current = current;
-        sound = subst (λ (us : List Object). let w : World = record { objects = us; age = asks.sound.0 } in IsSound old.geometry w) (sym is)
-            (state_sound old.geometry (objects_in old) p asks.sound.0 asks.sound.1.sound (running_process (objects_in old) p runs)
-            (process_runs (objects_in old) p runs));
-      }),
-    );
-    counted = subst (λ (g : Geometry). AreCounted g (objects_in mid) s) (sym geometry)
-        (subst (λ (us : List Object). AreCounted old.geometry us s) (sym is)
-        (counted_on old.geometry (objects_in old) (with_state (objects_in old) p Available) s became.frame asks.counted));
-    bank = subst (λ (us : List Object). IsTrue (is_bank (content_at us b))) (sym is)
-        ((tests_at (objects_in old) (with_state (objects_in old) p Available) became.frame b).bank ∙ asks.bank);
-    sent = subst (λ (us : List Object). MayBeHeld us args.capability) (sym is)
-        (held_to (with_state (objects_in old) p Available) args.capability
-        (held_on (objects_in old) (with_state (objects_in old) p Available) (Waits (objects_in old))
-        (Waits (with_state (objects_in old) p Available)) args.capability became.frame became.waits (held_from (objects_in old) args.capability asks.sent)));
-  }
+  sound_before : (k : Operation) → (let w : World = record { objects = state_before k (objects_in old) p; age = sound.0 } in IsSound old.geometry w)
+  sound_before Call = sound.1.sound
+  sound_before Return = state_sound old.geometry (objects_in old) p sound.0 sound.1.sound (running_process (objects_in old) p runs) (process_runs (objects_in old) p runs)
+  sound_before Send = sound.1.sound
+
+  pub before_sound : AreCurrent (frames_of mid) → AreKeepable old.geometry sound.0 (frames_of mid) → AreSound mid
+  before_sound current keepable = (
+    sound.0,
+    subst (λ (g : Geometry). IsSoundFrames g sound.0 (frames_of mid)) (sym geometry) (record {
+      keepable = keepable;
+      current = current;
+      sound = subst (λ (us : List Object). let w : World = record { objects = us; age = sound.0 } in IsSound old.geometry w) (sym is) (sound_before op);
+    }),
+  )
+
+  pub before_may : (i : Invocation) (caller : Caller) (plan : OrderPlan) (list : List ℕ) → IsPlanned old.geometry (objects_in old) i caller plan list → AreSound mid
+      → MayChange mid.geometry (objects_in mid) (drop (writer_count caller.operation) list) plan.change
+  before_may i caller plan list planned there =
+      subst (λ (g : Geometry). MayChange g (objects_in mid) (drop (writer_count caller.operation) list) plan.change) (sym geometry)
+      (planned.plans.may (objects_in mid) before_frame (subst (λ (g : Geometry). IsNow g (objects_in mid)) geometry (now_sound mid there)))
 
 -- a reply changes no frame
-pub answered_frame : (us : List Object) (p : ℕ) (o : OrderOutcome) → SameFrame us (answered Call p us o)
-answered_frame us p o = go (is_running_process us p) (λ runs. running_process us p runs)
+pub answered_frame : (op : Operation) (us : List Object) (p : ℕ) (told : Reply) → SameFrame us (answered op p us told)
+answered_frame Call us p told = go (is_running_process us p) (λ runs. running_process us p runs)
   where
-    go : (b : Bool) → (b ≡ true → IsTrue (is_process us p)) → SameFrame us (if b then deliver us p (reply_of o) else us)
-    go true process = deliver_frame us p (reply_of o) (process refl)
+    go : (b : Bool) → (b ≡ true → IsTrue (is_process us p)) → SameFrame us (if b then deliver us p (message_of told) else us)
+    go true process = deliver_frame us p (message_of told) (process refl)
     go false process = frame_refl us
+answered_frame Return us p told = frame_refl us
+answered_frame Send us p told = frame_refl us
 
 -- the numbers that an invocation writes itself come first
-pub listed_by : (o k : Operation) (p a : ℕ) (list ns : List ℕ) → list ≡ writers o p a ++ ns → o ≡ k → list ≡ writers k p a ++ ns
-listed_by o k p a list ns is same = is ∙ ap (λ (x : Operation). writers x p a ++ ns) same
+pub process_listed : (P : ℕ → Type 0) (op : Operation) (p a : ℕ) (rest list : List ℕ) → list ≡ writers op p a ++ rest → (op ≡ Send → ⊥) → All P list → P p
+process_listed P Call p a rest list is other all = (subst (All P) is all) 0 0 (omega arith)
+process_listed P Return p a rest list is other all = (subst (All P) is all) 0 0 (omega arith)
+process_listed P Send p a rest list is other all = absurd (other refl)
 
-pub first_of : (P : ℕ → Type 0) (x : ℕ) (xs list : List ℕ) → list ≡ x ∷ xs → All P list → P x
-first_of P x xs list is all = (subst (All P) is all) 0 0 (omega arith)
+pub annex_listed : (P : ℕ → Type 0) (op : Operation) (p a : ℕ) (rest list : List ℕ) → list ≡ writers op p a ++ rest → op ≡ Call → All P list → P a
+annex_listed P Call p a rest list is call all = (subst (All P) is all) 1 0 (omega arith)
+annex_listed P Return p a rest list is call all = cc
+annex_listed P Send p a rest list is call all = cc
 
-pub second_of : (P : ℕ → Type 0) (x y : ℕ) (xs list : List ℕ) → list ≡ x ∷ y ∷ xs → All P list → P y
-second_of P x y xs list is all = (subst (All P) is all) 1 0 (omega arith)
+pub no_send : (op : Operation) → op ≡ Call → op ≡ Send → ⊥
+no_send Call is other = cc
+no_send Return is other = cc
+no_send Send is other = cc
 
--- what an order comes to by its operation
-pub ordered_by : (g : Geometry) (os : List Object) (call : BankCall) (o : Operation) → call.operation ≡ o → ordered_at g os call ≡ outcome_at g (state_before o os call.process) call
-ordered_by g os call o is = ap (λ (x : Operation). outcome_at g (state_before x os call.process) call) is
-
-pub banked_by : (g : Geometry) (os : List Object) (call : BankCall) (o : Operation) → call.operation ≡ o →
-    answered call.operation call.process (ordered_at g os call).objects (ordered_at g os call)
-    ≡ answered o call.process (outcome_at g (state_before o os call.process) call).objects (outcome_at g (state_before o os call.process) call)
-banked_by g os call o is =
-    ap (λ (x : Operation). answered x call.process (outcome_at g (state_before x os call.process) call).objects (outcome_at g (state_before x os call.process) call)) is
+pub writers_within : (op : Operation) (p a : ℕ) (rest list : List ℕ) → list ≡ writers op p a ++ rest → writer_count op ≤ length list
+writers_within Call p a rest list is = omega (arith, ap (λ (ns : List ℕ). length ns) is)
+writers_within Return p a rest list is = omega (arith, ap (λ (ns : List ℕ). length ns) is)
+writers_within Send p a rest list is = omega arith
 
 -- what is counted stays after a look
 pub counted_looked : (old mid : Parts) (s : BanksState) → LooksAs old mid → AreCounted old.geometry (objects_in old) s → AreCounted mid.geometry (objects_in mid) s
@@ -166,3 +172,56 @@ no_bank_order (Process p) w other = tt
 no_bank_order (Start p key) w other = tt
 no_bank_order (Resume p) w other = tt
 no_bank_order Discrim w other = tt
+
+-- what is counted stays whatever is listed
+pub counted_listed : (g : Geometry) (os : List Object) (s t : BanksState) → t ≡ record s { listed = t.listed } → AreCounted g os s → AreCounted g os t
+counted_listed g os s t kept h = subst (AreCounted g os) (sym kept) (record {
+  nodes = h.nodes;
+  pages = h.pages;
+  node = h.node;
+  page = h.page;
+  usage_each = h.usage_each;
+  limit_each = h.limit_each;
+  usage = h.usage;
+  limit = h.limit;
+  room = h.room;
+})
+
+-- a bank that is invoked may be asked, also after a look
+module _ (old now : Parts) (s : BanksState) (i : Invocation) (caller : Caller) (b : ℕ) (args : Arguments) (looks : LooksAs old now) (sound : AreSound old)
+    (counted : AreCounted old.geometry (objects_in old) s) (fits : Fits (command.Invoke i)) (is : IsAsked (objects_in old) i caller) (args_are : args ≡ arguments_of (objects_in old) i)
+    (invoked : caller.invoked ≡ Bank b) where
+  pub bank_may_ask : MayAsk now s b args
+  bank_may_ask =
+      let os = objects_in old in
+      let same = looked_objects old now looks in
+      record {
+        sound = looked_sound old now looks sound;
+        counted = counted_looked old now s looks counted;
+        bank = subst (λ (us : List Object). IsTrue (is_bank (content_at us b))) (sym same)
+            (subst (NamesItsKind os) invoked (held_to os caller.invoked (invoked_held old.geometry os i (now_sound old sound) caller.invoked is.invoked)).1);
+        sent = subst (λ (us : List Object). MayBeHeld us args.capability) (sym same)
+            (held_to os args.capability (subst (λ (a : Arguments). AreArguments os a) (sym args_are) (arguments_held old.geometry os i (now_sound old sound) fits)).held);
+      }
+
+-- a process that is sent is one of the objects
+pub bank_known : (p : Parts) (sound : AreSound p) (i : Invocation) (args : Arguments) → Fits (command.Invoke i) → args ≡ arguments_of (objects_in p) i →
+    (q : ℕ) → args.capability ≡ Process q → q < length p.headers
+bank_known p sound i args fits args_are q is =
+    let os = objects_in p in
+    process_known p q (subst (NamesItsKind os) is
+    (held_to os args.capability (subst (λ (a : Arguments). AreArguments os a) (sym args_are) (arguments_held p.geometry os i (now_sound p sound) fits)).held).1)
+
+pub bank_written : (p q : Parts) (b : ℕ) (order : BankOrder) (args : Arguments) → p.geometry ≡ q.geometry →
+    (on_bank p.geometry (objects_in p) b order args).written ≡ (on_bank q.geometry (objects_in p) b order args).written
+bank_written p q b order args same = ap (λ (g : Geometry). (on_bank g (objects_in p) b order args).written) same
+
+-- what is planned is planned of the same objects
+pub planned_same : (g : Geometry) (os us : List Object) (i : Invocation) (caller : Caller) (plan : OrderPlan) (list : List ℕ) → os ≡ us
+    → IsPlanned g os i caller plan list → IsPlanned g us i caller plan list
+planned_same g os us i caller plan list same planned = subst (λ (vs : List Object). IsPlanned g vs i caller plan list) same planned
+
+pub annex_asked : (old mid : Parts) (i : Invocation) (caller : Caller) → LooksAs old mid → caller.process ≡ i.process →
+    annex_at (objects_in old) i.process ≡ annex_at (objects_in mid) caller.process
+annex_asked old mid i caller looks is =
+    ap (λ (us : List Object). annex_at us i.process) (sym (looked_objects old mid looks)) ∙ ap (λ (p : ℕ). annex_at (objects_in mid) p) (sym is)

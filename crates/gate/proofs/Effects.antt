@@ -1,25 +1,44 @@
 -- What an invocation comes to, from what each part of it told.
-use Rattle.std.proofs.Common.{◌≡◌, ℕ, ◌+◌, ◌^◌, ◌<◌, ◌≤◌, Bool, List, Option, None, Some, refl, sym, ap, ◌∙◌, subst, if◌then◌else◌}
-use Rattle.std.specs.Prelude.{IsTrue}
+use Rattle.std.proofs.Common.{◌≡◌, ℕ, zero, suc, ◌+◌, ◌++◌, ◌^◌, ◌<◌, ◌≤◌, Bool, List, Option, None, Some, drop, length, refl, sym, ap, ◌∙◌, subst, arith, if◌then◌else◌}
+use Rattle.std.specs.Prelude.{IsTrue, slice_index}
+use Rattle.std.specs.List.{All}
 use Rattle.model.specs.declared.capability.Capability.{Capability}
 use Rattle.model.specs.declared.capability.Capability.TheVariants.{Void, Number, Page, Node, Space, Process, Start, Resume, Bank, Discrim}
 use Rattle.model.specs.declared.command.Command.TheVariants as command
 use Rattle.model.specs.declared.command.Invocation.{Invocation}
+use Rattle.model.specs.declared.command.Operation.{Operation}
+use Rattle.model.specs.declared.command.Operation.TheVariants.{Call, Return, Send}
 use Rattle.model.specs.declared.frame.Frame.{Frame}
 use Rattle.model.specs.declared.geometry.Geometry.{Geometry}
 use Rattle.model.specs.declared.object.Object.{Object}
+use Rattle.model.specs.declared.object.State.TheVariants.{Available}
+use Rattle.model.specs.declared.order.Arguments.{Arguments}
 use Rattle.model.specs.Frame.{objects_of}
-use Rattle.model.specs.Invoke.{Effect, can_start, invoke, on_kernel_object, through_gate}
+use Rattle.model.specs.Invoke.{Effect, can_start, invoke, on_kernel_object, ordered, through_gate}
 use Rattle.model.specs.Keepable.{AreCurrent, AreKeepable, IsSoundFrames, world_at}
 use Rattle.model.specs.Machine.{touching, touched_count}
+use Rattle.model.specs.Order.{order}
+use Rattle.model.specs.OrderOutcome.{OrderOutcome}
 use Rattle.model.specs.Revoke.{consume}
-use Rattle.model.specs.Sound.{IsSound}
+use Rattle.model.specs.Sound.{IsSound, object_count}
 use Rattle.model.specs.Text.{Fits}
-use Rattle.model.specs.World.{World, is_running_process, register_at}
-use Rattle.model_laws.proofs.SoundGates.{invocation_keeps}
-use Rattle.gate.specs.declared.looking.Asked.{Asked}
-use Rattle.gate.specs.declared.plan.OrderPlan.{OrderPlan}
-use Rattle.gate.specs.Invoke.{Invokes, IsAsked, IsKernelObject, IsPlanned, Overfills, finished, written_by}
+use Rattle.model.specs.World.{World, annex_at, is_process, is_running_process, register_at, with_state}
+use Rattle.model_laws.proofs.InvocationFrame.{state_frame}
+use Rattle.model_laws.proofs.SoundGates.{invocation_keeps, ordered_keeps}
+use Rattle.model_laws.proofs.SoundObjects.{order_keeps}
+use Rattle.model_laws.proofs.SoundOrders.{IsNow}
+use Rattle.model_laws.proofs.SoundParts.{held_to}
+use Rattle.model_laws.proofs.Usage.{SameFrame, frame_refl}
+use Rattle.capability.specs.declared.order.Caller.{Caller}
+use Rattle.capability.specs.declared.order.OrderPlan.{OrderPlan}
+use Rattle.capability.specs.declared.order.Reply.{Reply}
+use Rattle.capability.specs.Changes.{changed}
+use Rattle.space_bank.specs.Planning.{writer_count, writers}
+use Rattle.gate.specs.Invoke.{Invokes, IsAsked, IsKernelObject, Overfills}
+use Rattle.gate.specs.Ordering.{IsPlanned, answered, arguments_of, finished, ordered_by, state_before}
+use Rattle.gate.specs.Plan.{FitsCap, fetched_of}
+use Rattle.gate.proofs.Fits.{held_fits}
+use Rattle.gate.proofs.Plans.{arguments_held, change_fetched, invoked_held}
 
 -- an invocation by the capability that is invoked
 abbrev pub invoked_by : Geometry → List Object → Invocation → Capability → Option Effect
@@ -45,8 +64,8 @@ object_by g os i (Resume p) object = absurd object
 object_by g os i (Bank b) object = refl
 object_by g os i Discrim object = refl
 
-pub object_invoked : (g : Geometry) (os : List Object) (i : Invocation) (asked : Asked) → IsAsked os i asked → IsKernelObject asked.invoked → invoke g os i ≡ Some (on_kernel_object g os i)
-object_invoked g os i asked is object = invoke_is g os i ∙ ap (invoked_by g os i) (sym is.invoked) ∙ object_by g os i asked.invoked object
+pub object_invoked : (g : Geometry) (os : List Object) (i : Invocation) (caller : Caller) → IsAsked os i caller → IsKernelObject caller.invoked → invoke g os i ≡ Some (on_kernel_object g os i)
+object_invoked g os i caller is object = invoke_is g os i ∙ ap (invoked_by g os i) (sym is.invoked) ∙ object_by g os i caller.invoked object
 
 -- sound frames after an invocation whose objects are those of its effect
 pub sound_after : (g : Geometry) (age : ℕ) (fs gs : List Frame) (i : Invocation) (e : Effect) → age < 2 ^ 62 → Fits (command.Invoke i) → IsTrue (is_running_process (objects_of fs) i.process) →
@@ -66,10 +85,99 @@ invokes_by g i os after touched touched_after e is objects written within = (e, 
 pub overfills_by : (g : Geometry) (i : Invocation) (os : List Object) (touched : List Bool) (e : Effect) → invoke g os i ≡ Some e → g.log < touched_count (touching touched e.written) → Overfills g i os touched
 overfills_by g i os touched e is over = (e, is, over)
 
--- the numbers and the objects of a planned order
-module _ (g : Geometry) (os : List Object) (i : Invocation) (asked : Asked) (plan : OrderPlan) (is : IsAsked os i asked) (planned : IsPlanned g os i plan) where
-  pub planned_written : (on_kernel_object g os i).written ≡ written_by i.operation i.process asked.annex plan.change
-  planned_written = ap (λ (e : Effect). e.written) planned.effect ∙ ap (λ (a : ℕ). written_by i.operation i.process a plan.change) (sym is.annex)
+-- An invocation of a kernel object, by its operation.
+abbrev reply_in : OrderOutcome → Reply
+reply_in o = record { code = o.code; words = o.words; capability = o.capability }
 
-  pub planned_objects : (on_kernel_object g os i).objects ≡ finished os i.operation i.process plan
-  planned_objects = ap (λ (e : Effect). e.objects) planned.effect
+abbrev effect_by : Operation → ℕ → ℕ → OrderOutcome → Effect
+effect_by operation p annex o = record { objects = answered operation p o.objects (reply_in o); written = writers operation p annex ++ o.written }
+
+effect_is : (g : Geometry) (os : List Object) (i : Invocation) → on_kernel_object g os i
+    ≡ effect_by i.operation i.process (annex_at os i.process)
+    (order g (state_before i.operation os i.process) (register_at os i.process i.register) (slice_index i.words 0) (arguments_of os i))
+unfolding on_kernel_object
+effect_is g os i = refl
+
+-- a process that returns leaves the frame
+pub frame_before : (op : Operation) (os : List Object) (p : ℕ) → IsTrue (is_process os p) → SameFrame os (state_before op os p)
+frame_before Call os p is = frame_refl os
+frame_before Return os p is = state_frame os p Available is
+frame_before Send os p is = frame_refl os
+
+module _ (g : Geometry) (os : List Object) (i : Invocation) (caller : Caller) (plan : OrderPlan) (list : List ℕ) (is : IsAsked os i caller)
+    (planned : IsPlanned g os i caller plan list) (process : IsTrue (is_process os caller.process)) where
+  abbrev word : ℕ
+  word = slice_index i.words 0
+
+  abbrev args : Arguments
+  args = arguments_of os i
+
+  abbrev rest : List ℕ
+  rest = drop (writer_count caller.operation) list
+
+  -- by the parts of the caller
+  effect_asked : on_kernel_object g os i ≡ effect_by caller.operation caller.process caller.annex (order g (state_before caller.operation os caller.process) caller.invoked word args)
+  effect_asked =
+      effect_is g os i
+      ∙ ap (λ (op : Operation). effect_by op i.process (annex_at os i.process) (order g (state_before op os i.process) (register_at os i.process i.register) word args)) (sym is.operation)
+      ∙ ap (λ (p : ℕ). effect_by caller.operation p (annex_at os i.process) (order g (state_before caller.operation os p) (register_at os i.process i.register) word args)) (sym is.process)
+      ∙ ap (λ (a : ℕ). effect_by caller.operation caller.process a (order g (state_before caller.operation os caller.process) (register_at os i.process i.register) word args)) (sym is.annex)
+      ∙ ap (λ (c : Capability). effect_by caller.operation caller.process caller.annex (order g (state_before caller.operation os caller.process) c word args)) (sym is.invoked)
+
+  effect_planned : (op : Operation) → effect_by op caller.process caller.annex (order g (state_before op os caller.process) caller.invoked word args)
+      ≡ record {
+        objects = answered op caller.process (changed (state_before op os caller.process) rest plan.change) plan.reply;
+        written = writers op caller.process caller.annex ++ rest;
+      }
+  effect_planned Call = ap (effect_by Call caller.process caller.annex) planned.plans.here
+  effect_planned Return =
+      let us = with_state os caller.process Available in
+      let frame = state_frame os caller.process Available process in
+      ap (λ (vs : List Object). let e : Effect = record { objects = vs; written = writers Return caller.process caller.annex ++ (order g us caller.invoked word args).written } in e)
+      (planned.plans.objects us frame)
+      ∙ ap (λ (ns : List ℕ). let e : Effect = record { objects = changed us rest plan.change; written = writers Return caller.process caller.annex ++ ns } in e)
+      (planned.plans.written us frame)
+  effect_planned Send = ap (effect_by Send caller.process caller.annex) planned.plans.here
+
+  pub order_objects : (on_kernel_object g os i).objects ≡ finished os caller rest plan
+  order_objects = ap (λ (e : Effect). e.objects) (effect_asked ∙ effect_planned caller.operation)
+
+  pub order_written : list ≡ (on_kernel_object g os i).written
+  order_written = planned.listed ∙ sym (ap (λ (e : Effect). e.written) (effect_asked ∙ effect_planned caller.operation))
+
+  -- all that is written is among the objects
+  pub listed_known : (P : ℕ → Type 0) → P caller.process → P caller.annex → ((n : ℕ) → n < length os → P n) → All P list
+  listed_known P of_process of_annex known =
+      subst (All P) (sym planned.listed) (go caller.operation rest (λ k d inside. known _ (planned.plans.known k d inside)))
+    where
+      go : (op : Operation) (ns : List ℕ) → All P ns → All P (writers op caller.process caller.annex ++ ns)
+      go Call ns all zero d inside = of_process
+      go Call ns all (suc zero) d inside = of_annex
+      go Call ns all (suc (suc k)) d inside = all k d (omega arith)
+      go Return ns all zero d inside = of_process
+      go Return ns all (suc k) d inside = all k d (omega arith)
+      go Send ns all k d inside = all k d inside
+
+  pub fetched_known : (P : ℕ → Type 0) → IsNow g os → ((n : ℕ) → n < length os → P n) → All P (fetched_of plan.change)
+  fetched_known P now known =
+      change_fetched g os rest P plan.change (planned.plans.may os (frame_refl os) now) (λ k d inside. known _ (planned.plans.known k d inside))
+
+  -- the objects after the order are sound, and what it gives fits
+  module _ (now : IsNow g os) (fits : Fits (command.Invoke i)) (runs : IsTrue (is_running_process os i.process)) where
+    ordered_asked : ordered g os i ≡ order g (state_before caller.operation os caller.process) caller.invoked word args
+    ordered_asked =
+        ap (λ (op : Operation). order g (state_before op os i.process) (register_at os i.process i.register) word args) (sym is.operation)
+        ∙ ap (λ (p : ℕ). order g (state_before caller.operation os p) (register_at os i.process i.register) word args) (sym is.process)
+        ∙ ap (λ (c : Capability). order g (state_before caller.operation os caller.process) c word args) (sym is.invoked)
+
+    pub order_after : IsNow g (ordered_by os caller rest plan)
+    order_after =
+        subst (IsNow g) (ap (λ (o : OrderOutcome). o.objects) ordered_asked ∙ planned.plans.objects (state_before caller.operation os caller.process) (frame_before caller.operation os caller.process process))
+        (ordered_keeps g os i now fits runs).now
+
+    pub order_fits : object_count g < 2 ^ 64 → FitsCap g plan.reply.capability
+    order_fits few =
+        let outcome = order_keeps g os caller.invoked word args now (invoked_held g os i now caller.invoked is.invoked) (arguments_held g os i now fits) in
+        subst (FitsCap g) (ap (λ (o : OrderOutcome). o.capability) planned.plans.here)
+        (held_fits g (order g os caller.invoked word args).objects outcome.now.frame.kinds few (order g os caller.invoked word args).capability
+        (held_to (order g os caller.invoked word args).objects (order g os caller.invoked word args).capability outcome.held))

@@ -16,7 +16,7 @@ use Rattle.model.specs.World.{annex_at, is_process, register_at}
 use Rattle.model_laws.proofs.SoundOrders.{IsNow}
 use Rattle.model_laws.proofs.SoundParts.{held_to}
 use Rattle.gate.specs.declared.gates.Gate.{Gate}
-use Rattle.gate.specs.declared.looking.Asked.{Asked}
+use Rattle.capability.specs.declared.order.Caller.{Caller}
 use Rattle.gate.specs.Invoke.{IsAsked, entered, gate_capability, received, written_through}
 use Rattle.gate.specs.Plan.{FitsCap}
 use Rattle.gate.proofs.Effects.{invoke_is, invoked_by}
@@ -39,9 +39,9 @@ gate_by g os i q key true zeroth can = ap (λ (k : ℕ). Some (effect_through os
 gate_by g os i q key false zeroth can = ap (λ (b : Bool). if b then Some (through_gate os i q key) else None) can
 
 -- it is carried out where the gate can be entered
-pub gate_invoked : (g : Geometry) (os : List Object) (i : Invocation) (asked : Asked) (gate : Gate) → IsAsked os i asked → asked.invoked ≡ gate_capability gate →
+pub gate_invoked : (g : Geometry) (os : List Object) (i : Invocation) (caller : Caller) (gate : Gate) → IsAsked os i caller → caller.invoked ≡ gate_capability gate →
     (gate.is_resume ≡ true → gate.key ≡ 0) → (gate.is_resume || can_start os i gate.process) ≡ true → invoke g os i ≡ Some (effect_through os i gate)
-gate_invoked g os i asked gate is same zeroth can =
+gate_invoked g os i caller gate is same zeroth can =
     invoke_is g os i ∙ ap (invoked_by g os i) (sym is.invoked ∙ same) ∙ gate_by g os i gate.process gate.key gate.is_resume zeroth can
 
 -- and else stalls
@@ -49,9 +49,9 @@ stalled_by : (g : Geometry) (os : List Object) (i : Invocation) (q key : ℕ) (b
 stalled_by g os i q key true can = cc
 stalled_by g os i q key false can = ap (λ (b : Bool). if b then Some (through_gate os i q key) else None) can
 
-pub gate_stalled : (g : Geometry) (os : List Object) (i : Invocation) (asked : Asked) (gate : Gate) → IsAsked os i asked → asked.invoked ≡ gate_capability gate →
+pub gate_stalled : (g : Geometry) (os : List Object) (i : Invocation) (caller : Caller) (gate : Gate) → IsAsked os i caller → caller.invoked ≡ gate_capability gate →
     (gate.is_resume || can_start os i gate.process) ≡ false → invoke g os i ≡ None
-gate_stalled g os i asked gate is same can =
+gate_stalled g os i caller gate is same can =
     invoke_is g os i ∙ ap (invoked_by g os i) (sym is.invoked ∙ same) ∙ stalled_by g os i gate.process gate.key gate.is_resume can
 
 -- a gate is that of a process

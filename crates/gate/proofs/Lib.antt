@@ -1,7 +1,3 @@
-mod BankEffects
-mod BankLists
-mod BankOutcomes
-mod BankReplies
 pub mod BankStates
 mod Effects
 mod Entering

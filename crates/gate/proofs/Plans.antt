@@ -1,6 +1,8 @@
--- What an order that goes as planned comes to.
-use Rattle.std.proofs.Common.{◌≡◌, ⊎_elim, ℕ, ◌^◌, ◌<◌, true, List, [], ◌∷◌, ◌++◌, length, Some, refl, sym, ap, ◌∙◌, subst}
+-- What an order comes to that goes as planned.
+use Rattle.std.proofs.Common.{◌≡◌, ⊎_elim, ℕ, zero, suc, ◌^◌, ◌<◌, true, List, [], ◌∷◌, ◌++◌, Option, None, Some, drop, length, refl, sym, ap, ◌∙◌, subst, arith}
 use Rattle.std.specs.Prelude.{IsTrue, slice_index}
+use Rattle.std.specs.List.{All}
+use Rattle.std.specs.Option.{option_to_list}
 use Rattle.model.specs.declared.capability.Capability.{Capability}
 use Rattle.model.specs.declared.capability.Capability.TheVariants.{Void, Number, Page, Node, Space, Process, Start, Resume, Bank, Discrim}
 use Rattle.model.specs.declared.command.Command.TheVariants as command
@@ -9,31 +11,42 @@ use Rattle.model.specs.declared.command.Operation.{Operation}
 use Rattle.model.specs.declared.command.Operation.TheVariants.{Call, Return, Send}
 use Rattle.model.specs.declared.geometry.Geometry.{Geometry}
 use Rattle.model.specs.declared.object.Object.{Object}
-use Rattle.model.specs.declared.object.State.TheVariants.{Available}
 use Rattle.model.specs.declared.order.Arguments.{Arguments}
-use Rattle.model.specs.Invoke.{Effect, on_kernel_object}
-use Rattle.model.specs.Object.{is_annex, is_node}
-use Rattle.model.specs.OrderOutcome.{OrderOutcome}
-use Rattle.model.specs.Order.{order}
+use Rattle.model.specs.declared.order.BankOrder.{BankOrder}
+use Rattle.model.specs.declared.order.ResultCode.TheVariants as code
+use Rattle.model.specs.Banking.{on_bank}
+use Rattle.model.specs.Object.{is_annex, is_bank, is_node}
+use Rattle.model.specs.OrderOutcome.{OrderOutcome, refused}
+use Rattle.model.specs.Order.{bank_order, order}
 use Rattle.model.specs.Sound.{NamesItsKind, object_count}
 use Rattle.model.specs.Text.{Fits}
-use Rattle.model.specs.World.{annex_at, content_at, is_process, register_at, with_state}
+use Rattle.model.specs.World.{annex_at, content_at, is_process, register_at}
 use Rattle.model_laws.proofs.BankFreed.{used_within}
+use Rattle.model_laws.proofs.BankWrites.{annex_kept, written_within}
 use Rattle.model_laws.proofs.SoundGates.{all_words, held_sent}
-use Rattle.model_laws.proofs.SoundObjects.{order_keeps}
-use Rattle.model_laws.proofs.SoundOrders.{IsNow}
+use Rattle.model_laws.proofs.SoundOrders.{AreArguments, IsNow}
 use Rattle.model_laws.proofs.SoundParts.{IsHeld, Waits, held_to}
-use Rattle.gate.specs.declared.looking.Asked.{Asked}
-use Rattle.gate.specs.declared.plan.Change.{Change}
-use Rattle.gate.specs.declared.plan.Change.TheVariants as change
-use Rattle.gate.specs.declared.plan.OrderPlan.{OrderPlan}
-use Rattle.gate.specs.Banking.{answered, arguments_of, state_before, writers}
-use Rattle.gate.specs.Invoke.{IsAsked, IsPlanned, finished, written_by}
-use Rattle.gate.specs.Plan.{ChangesAs, FitsCap, HaveAnnexesOf, IsFor, IsOfProcess, IsWithinObject, MayHold, changed, node_named, outcome_of, process_named, target_of}
+use Rattle.model_laws.proofs.Usage.{SameFrame, frame_refl, tests_at}
+use Rattle.capability.specs.declared.order.BankChange.{BankChange}
+use Rattle.capability.specs.declared.order.BankChange.TheVariants as bank
+use Rattle.capability.specs.declared.order.Caller.{Caller}
+use Rattle.capability.specs.declared.order.Change.{Change}
+use Rattle.capability.specs.declared.order.Change.TheVariants as change
+use Rattle.capability.specs.declared.order.OrderPlan.{OrderPlan}
+use Rattle.capability.specs.Changes.{changed, outcome_by, target_of, written_of}
+use Rattle.space_bank.specs.Allocating.{numbers_of}
+use Rattle.space_bank.specs.Carrying.{IsForBank, MayMake, PlansAs}
+use Rattle.space_bank.specs.Planning.{writer_count, writers}
+use Rattle.gate.specs.Invoke.{IsAsked}
+use Rattle.gate.specs.Ordering.{IsPlanned, Plans, arguments_of}
+use Rattle.gate.specs.Plan.{ChangesAs, FitsCap, HaveAnnexesOf, IsFor, IsOfProcess, IsWithinObject, MayChange, MayEdit, MayHold, fetched_of, node_named, outcome_of, process_named}
 use Rattle.capability.proofs.Frames.{annex_used, node_used, root_used}
 use Rattle.gate.proofs.Fits.{held_fits}
 use Rattle.gate.proofs.Known.{named_used}
-use Rattle.gate.proofs.Roles.{state_annex}
+use Rattle.gate.proofs.Roles.{changed_annex}
+
+none_all : (P : ℕ → Type 0) → All P []
+none_all P k d inside = absurd (omega arith)
 
 -- the process and the node that a capability names that may be held
 pub process_there : (os : List Object) (c : Capability) → NamesItsKind os c → (p : ℕ) → process_named c ≡ Some p → IsTrue (is_process os p)
@@ -69,6 +82,7 @@ module _ (os : List Object) (c : Capability) (args : Arguments) (kind : NamesIts
   for_within (change.RootWord process index word) for = for.0
   for_within (change.SetState process state) for = tt
   for_within (change.Space process held) for = tt
+  for_within (change.Bank made) for = for
 
   for_process : (x : Change) → IsFor os c args x → IsOfProcess os x
   for_process change.Nothing for = tt
@@ -78,6 +92,7 @@ module _ (os : List Object) (c : Capability) (args : Arguments) (kind : NamesIts
   for_process (change.RootWord process index word) for = process_there os c kind process for.1
   for_process (change.SetState process state) for = process_there os c kind process for
   for_process (change.Space process held) for = process_there os c kind process for.0
+  for_process (change.Bank made) for = absurd for
 
   for_holds : (g : Geometry) → FitsCap g args.capability → args.second < 2 ^ 64 → (x : Change) → IsFor os c args x → MayHold g os x
   for_holds g fits small change.Nothing for = tt
@@ -90,6 +105,7 @@ module _ (os : List Object) (c : Capability) (args : Arguments) (kind : NamesIts
   for_holds g fits small (change.RootWord process index word) for = tt
   for_holds g fits small (change.SetState process state) for = tt
   for_holds g fits small (change.Space process held) for = (subst (FitsCap g) (sym for.1) fits, for.2)
+  for_holds g fits small (change.Bank made) for = absurd for
 
   -- what it writes is one of the objects
   for_target : ((p : ℕ) → IsTrue (is_process os p) → IsTrue (is_annex (content_at os (annex_at os p)))) → (x : Change) → IsFor os c args x → (n : ℕ) → target_of x ≡ Some n → n < length os
@@ -106,66 +122,183 @@ module _ (os : List Object) (c : Capability) (args : Arguments) (kind : NamesIts
       let e : process ≡ n = cc in used_within os n (root_used (content_at os n) (subst (λ (m : ℕ). is_process os m ≡ true) e (process_there os c kind process for)))
   for_target annexes (change.Space process held) for n is =
       let e : process ≡ n = cc in used_within os n (root_used (content_at os n) (subst (λ (m : ℕ). is_process os m ≡ true) e (process_there os c kind process for.0)))
+  for_target annexes (change.Bank made) for n is = absurd for
 
--- An invocation of a kernel object, by its operation.
-abbrev pub effect_by : Operation → ℕ → ℕ → OrderOutcome → Effect
-effect_by operation p annex outcome = record {
-  objects = answered operation p outcome.objects outcome;
-  written = writers operation p annex ++ outcome.written;
-}
+-- an edit that may be made may be made also where the frame is the same
+module _ (g : Geometry) (os us : List Object) (frame : SameFrame os us) where
+  process_alike : (x : Change) → IsOfProcess os x → IsOfProcess us x
+  process_alike change.Nothing of = tt
+  process_alike (change.Word page index word) of = tt
+  process_alike (change.Slot node slot held) of = tt
+  process_alike (change.Register process annex register held) of = tt
+  process_alike (change.RootWord process index word) of = (tests_at os us frame process).root ∙ of
+  process_alike (change.SetState process state) of = (tests_at os us frame process).root ∙ of
+  process_alike (change.Space process held) of = (tests_at os us frame process).root ∙ of
+  process_alike (change.Bank made) of = tt
 
-pub effect_is : (g : Geometry) (os : List Object) (i : Invocation) → on_kernel_object g os i
-    ≡ effect_by i.operation i.process (annex_at os i.process)
-    (order g (state_before i.operation os i.process) (register_at os i.process i.register) (slice_index i.words 0) (arguments_of os i))
-unfolding on_kernel_object
-effect_is g os i = refl
+  holds_alike : (x : Change) → MayHold g os x → MayHold g us x
+  holds_alike change.Nothing holds = tt
+  holds_alike (change.Word page index word) holds = tt
+  holds_alike (change.Slot node slot held) holds = (holds.0, (tests_at os us frame node).node ∙ holds.1)
+  holds_alike (change.Register process annex register held) holds = holds
+  holds_alike (change.RootWord process index word) holds = tt
+  holds_alike (change.SetState process state) holds = tt
+  holds_alike (change.Space process held) holds = holds
+  holds_alike (change.Bank made) holds = tt
 
-module _ (g : Geometry) (os : List Object) (p annex : ℕ) (c : Capability) (w : ℕ) (args : Arguments) (plan : OrderPlan)
-    (as_planned : outcome_of os plan ≡ order g os c w args)
-    (changes : (us : List Object) → HaveAnnexesOf os us → ChangesAs us plan (order g us c w args)) where
-  by_operation : (operation : Operation) → effect_by operation p annex (order g (state_before operation os p) c w args)
-      ≡ record { objects = finished os operation p plan; written = written_by operation p annex plan.change }
-  by_operation Call = ap (effect_by Call p annex) (sym as_planned)
-  by_operation Return =
-      let done = changes (with_state os p Available) (λ q. state_annex os p Available q) in
-      ap (λ (us : List Object). let e : Effect = record { objects = us; written = (p ∷ []) ++ (order g (with_state os p Available) c w args).written } in e) done.objects
-      ∙ ap (λ (ns : List ℕ). let e : Effect = record { objects = changed (with_state os p Available) plan.change; written = (p ∷ []) ++ ns } in e) done.written
-  by_operation Send = ap (effect_by Send p annex) (sym as_planned)
+  edit_alike : (list : List ℕ) (x : Change) → MayEdit g os list x → MayEdit g us list x
+  edit_alike list x may = record { within = may.within; process = process_alike x may.process; holds = holds_alike x may.holds; listed = may.listed }
 
--- an order that is planned comes to what the definitions say
-pub planned : (g : Geometry) (os : List Object) (i : Invocation) (asked : Asked) (plan : OrderPlan) (args : Arguments) → IsNow g os → object_count g < 2 ^ 64 →
-    Fits (command.Invoke i) → IsAsked os i asked → args ≡ arguments_of os i → IsFor os asked.invoked args plan.change →
-    outcome_of os plan ≡ order g os asked.invoked (slice_index i.words 0) args →
-    ((us : List Object) → HaveAnnexesOf os us → ChangesAs us plan (order g us asked.invoked (slice_index i.words 0) args)) → IsPlanned g os i plan
-planned g os i asked plan args now few fits is args_are for as_planned changes =
-    let held : IsHeld os (Waits os) asked.invoked = subst (IsHeld os (Waits os)) (sym is.invoked) ((now.filled (annex_at os i.process)).slots i.register) in
-    let sent : IsHeld os (Waits os) args.capability = subst (IsHeld os (Waits os)) (sym (ap (λ (a : Arguments). a.capability) args_are)) (held_sent g os i 0 now) in
-    let small : args.second < 2 ^ 64 = subst (λ (n : ℕ). n < 2 ^ 64) (sym (ap (λ (a : Arguments). a.second) args_are)) (all_words i.words fits.3 2) in
-    let first : args.first < 2 ^ 64 = subst (λ (n : ℕ). n < 2 ^ 64) (sym (ap (λ (a : Arguments). a.first) args_are)) (all_words i.words fits.3 1) in
-    let kind = (held_to os asked.invoked held).1 in
-    let outcome = order_keeps g os asked.invoked (slice_index i.words 0) args now held (record { first = first; second = small; held = sent }) in
+module _ (g : Geometry) (os : List Object) (list : List ℕ) where
+  pub edit_change : (x : Change) → MayEdit g os list x → MayChange g os list x
+  edit_change change.Nothing may = may
+  edit_change (change.Word page index word) may = may
+  edit_change (change.Slot node slot held) may = may
+  edit_change (change.Register process annex register held) may = may
+  edit_change (change.RootWord process index word) may = may
+  edit_change (change.SetState process state) may = may
+  edit_change (change.Space process held) may = may
+  edit_change (change.Bank made) may = absurd may.within
+
+  pub change_edit : (x : Change) → ((made : BankChange) → x ≡ change.Bank made → ⊥) → MayChange g os list x → MayEdit g os list x
+  change_edit change.Nothing other may = may
+  change_edit (change.Word page index word) other may = may
+  change_edit (change.Slot node slot held) other may = may
+  change_edit (change.Register process annex register held) other may = may
+  change_edit (change.RootWord process index word) other may = may
+  change_edit (change.SetState process state) other may = may
+  change_edit (change.Space process held) other may = may
+  change_edit (change.Bank made) other may = absurd (other made refl)
+
+  pub bank_change : (x : Change) → IsForBank g os list x → MayChange g os list x
+  bank_change change.Nothing may = record { within = tt; process = tt; holds = tt; listed = may }
+  bank_change (change.Word page index word) may = absurd may
+  bank_change (change.Slot node slot held) may = absurd may
+  bank_change (change.Register process annex register held) may = absurd may
+  bank_change (change.RootWord process index word) may = absurd may
+  bank_change (change.SetState process state) may = absurd may
+  bank_change (change.Space process held) may = absurd may
+  bank_change (change.Bank made) may = may
+
+  -- what holds of all that is written holds of what is to be fetched
+  made_fetched : (P : ℕ → Type 0) (made : BankChange) → MayMake g os list made → All P list → All P (numbers_of made)
+  made_fetched P (bank.Make n f b) may all = subst (All P) may.listed all
+  made_fetched P (bank.MakeProcess r a b) may all = subst (All P) may.listed all
+  made_fetched P (bank.GiveUp above) may all = none_all P
+  made_fetched P (bank.HandOn b) may all = none_all P
+
+  pub change_fetched : (P : ℕ → Type 0) (x : Change) → MayChange g os list x → All P list → All P (fetched_of x)
+  change_fetched P change.Nothing may all = subst (All P) may.listed all
+  change_fetched P (change.Word page index word) may all = subst (All P) may.listed all
+  change_fetched P (change.Slot node slot held) may all = subst (All P) may.listed all
+  change_fetched P (change.Register process annex register held) may all = subst (All P) may.listed all
+  change_fetched P (change.RootWord process index word) may all = subst (All P) may.listed all
+  change_fetched P (change.SetState process state) may all = subst (All P) may.listed all
+  change_fetched P (change.Space process held) may all = subst (All P) may.listed all
+  change_fetched P (change.Bank made) may all = made_fetched P made may all
+
+pub edit_fetched : (x : Change) → ((made : BankChange) → x ≡ change.Bank made → ⊥) → fetched_of x ≡ written_of x
+edit_fetched change.Nothing other = refl
+edit_fetched (change.Word page index word) other = refl
+edit_fetched (change.Slot node slot held) other = refl
+edit_fetched (change.Register process annex register held) other = refl
+edit_fetched (change.RootWord process index word) other = refl
+edit_fetched (change.SetState process state) other = refl
+edit_fetched (change.Space process held) other = refl
+edit_fetched (change.Bank made) other = absurd (other made refl)
+
+pub target_all : (P : ℕ → Type 0) (o : Option ℕ) → All P (option_to_list o) → (n : ℕ) → o ≡ Some n → P n
+target_all P None all n is = cc
+target_all P (Some m) all n is = let e : m ≡ n = cc in subst P e (all 0 0 (omega arith))
+
+all_target : (P : ℕ → Type 0) (o : Option ℕ) → ((n : ℕ) → o ≡ Some n → P n) → All P (option_to_list o)
+all_target P None each k d inside = absurd (omega arith)
+all_target P (Some m) each zero d inside = each m refl
+all_target P (Some m) each (suc k) d inside = absurd (omega arith)
+
+-- behind the numbers that the invocation writes itself
+pub behind_writers : (op : Operation) (p annex : ℕ) (ns : List ℕ) → drop (writer_count op) (writers op p annex ++ ns) ≡ ns
+behind_writers Call p annex ns = refl
+behind_writers Return p annex ns = refl
+behind_writers Send p annex ns = refl
+
+pub planned_by : (g : Geometry) (os : List Object) (i : Invocation) (caller : Caller) (plan : OrderPlan) (args : Arguments) (first list rest : List ℕ) → args ≡ arguments_of os i
+    → first ≡ writers caller.operation caller.process caller.annex → list ≡ first ++ rest → Plans g os caller.invoked (slice_index i.words 0) args rest plan → IsPlanned g os i caller plan list
+planned_by g os i caller plan args first list rest args_are first_is is plans =
+    let all : list ≡ writers caller.operation caller.process caller.annex ++ rest = is ∙ ap (λ (ns : List ℕ). ns ++ rest) first_is in
+    let behind : drop (writer_count caller.operation) list ≡ rest =
+    ap (λ (ns : List ℕ). drop (writer_count caller.operation) ns) all ∙ behind_writers caller.operation caller.process caller.annex rest in
     record {
-      effect =
-          effect_is g os i
-          ∙ ap (λ (c : Capability). effect_by i.operation i.process (annex_at os i.process) (order g (state_before i.operation os i.process) c (slice_index i.words 0) (arguments_of os i))) (sym is.invoked)
-          ∙ ap (λ (a : Arguments). effect_by i.operation i.process (annex_at os i.process) (order g (state_before i.operation os i.process) asked.invoked (slice_index i.words 0) a)) (sym args_are)
-          ∙ by_operation g os i.process (annex_at os i.process) asked.invoked (slice_index i.words 0) args plan as_planned changes i.operation;
-      within = for_within os asked.invoked args kind plan.change for;
-      process = for_process os asked.invoked args kind plan.change for;
-      target = for_target os asked.invoked args kind (λ p is. (now.frame.annexes p is).0) plan.change for;
-      holds = for_holds os asked.invoked args kind g (held_fits g os now.frame.kinds few args.capability (held_to os args.capability sent)) small plan.change for;
-      fits = subst (FitsCap g) (sym (ap (λ (o : OrderOutcome). o.capability) as_planned))
-          (held_fits g (order g os asked.invoked (slice_index i.words 0) args).objects outcome.now.frame.kinds few (order g os asked.invoked (slice_index i.words 0) args).capability
-          (held_to (order g os asked.invoked (slice_index i.words 0) args).objects (order g os asked.invoked (slice_index i.words 0) args).capability outcome.held));
+      plans = subst (λ (ns : List ℕ). Plans g os caller.invoked (slice_index i.words 0) (arguments_of os i) ns plan) (sym behind)
+          (subst (λ (a : Arguments). Plans g os caller.invoked (slice_index i.words 0) a rest plan) args_are plans);
+      listed = all ∙ ap (λ (ns : List ℕ). writers caller.operation caller.process caller.annex ++ ns) (sym behind);
     }
 
--- the same after a look at the objects
-pub planned_looked : (g : Geometry) (os us : List Object) (i : Invocation) (asked : Asked) (plan : OrderPlan) (args : Arguments) → us ≡ os → IsNow g os → object_count g < 2 ^ 64 →
-    Fits (command.Invoke i) → IsAsked os i asked → args ≡ arguments_of os i → IsFor us asked.invoked args plan.change →
-    outcome_of us plan ≡ order g us asked.invoked (slice_index i.words 0) args →
-    ((vs : List Object) → HaveAnnexesOf us vs → ChangesAs vs plan (order g vs asked.invoked (slice_index i.words 0) args)) → IsPlanned g os i plan
-planned_looked g os us i asked plan args same now few fits is args_are for as_planned changes =
-    planned g os i asked plan args now few fits is args_are
-    (subst (λ (vs : List Object). IsFor vs asked.invoked args plan.change) same for)
-    (subst (λ (vs : List Object). outcome_of vs plan ≡ order g vs asked.invoked (slice_index i.words 0) args) same as_planned)
-    (λ vs have. changes vs (subst (λ (ws : List Object). HaveAnnexesOf ws vs) (sym same) have))
+-- what is invoked, and what is sent, may be held
+module _ (g : Geometry) (os : List Object) (i : Invocation) (now : IsNow g os) where
+  pub invoked_held : (c : Capability) → c ≡ register_at os i.process i.register → IsHeld os (Waits os) c
+  invoked_held c is = subst (IsHeld os (Waits os)) (sym is) ((now.filled (annex_at os i.process)).slots i.register)
+
+  pub arguments_held : Fits (command.Invoke i) → AreArguments os (arguments_of os i)
+  arguments_held fits = record { first = all_words i.words fits.3 1; second = all_words i.words fits.3 2; held = held_sent g os i 0 now }
+
+-- an order that asks no bank is planned
+pub object_planned : (g : Geometry) (os us : List Object) (i : Invocation) (caller : Caller) (plan : OrderPlan) (args : Arguments) (first list : List ℕ) → us ≡ os → IsNow g os
+    → object_count g < 2 ^ 64 → Fits (command.Invoke i) → IsAsked os i caller → args ≡ arguments_of os i → first ≡ writers caller.operation caller.process caller.annex
+    → list ≡ first ++ written_of plan.change → IsFor us caller.invoked args plan.change
+    → outcome_of us plan ≡ order g us caller.invoked (slice_index i.words 0) args
+    → ((vs : List Object) → HaveAnnexesOf us vs → ChangesAs vs plan (order g vs caller.invoked (slice_index i.words 0) args)) → IsPlanned g os i caller plan list
+object_planned g os us i caller plan args first list same now few fits is args_are first_is listed for as_planned changes =
+    let c = caller.invoked in
+    let sent = subst (λ (a : Arguments). AreArguments os a) (sym args_are) (arguments_held g os i now fits) in
+    let kind = (held_to os c (invoked_held g os i now c is.invoked)).1 in
+    let for_os = subst (λ (vs : List Object). IsFor vs c args plan.change) same for in
+    let may : MayEdit g os (written_of plan.change) plan.change = record {
+      within = for_within os c args kind plan.change for_os;
+      process = for_process os c args kind plan.change for_os;
+      holds = for_holds os c args kind g (held_fits g os now.frame.kinds few args.capability (held_to os args.capability sent.held)) sent.second plan.change for_os;
+      listed = refl;
+    } in
+    planned_by g os i caller plan args first list (written_of plan.change) args_are first_is listed (record {
+      here = sym (subst (λ (vs : List Object). outcome_of vs plan ≡ order g vs c (slice_index i.words 0) args) same as_planned);
+      objects = λ vs frame. (changes vs (λ p. (frame.alike p).annex ∙ ap (λ (ws : List Object). annex_at ws p) (sym same))).objects;
+      written = λ vs frame. (changes vs (λ p. (frame.alike p).annex ∙ ap (λ (ws : List Object). annex_at ws p) (sym same))).written;
+      may = λ vs frame then. edit_change g vs (written_of plan.change) plan.change (edit_alike g os vs frame (written_of plan.change) plan.change may);
+      annex = λ vs frame p before after. changed_annex vs (written_of plan.change) plan.change may.within p;
+      known = all_target (λ n. n < length os) (target_of plan.change) (for_target os c args kind (λ p process. (now.frame.annexes p process).0) plan.change for_os);
+    })
+
+-- and one of a bank
+bank_ordered : (g : Geometry) (os : List Object) (b w : ℕ) (asked : BankOrder) (args : Arguments) → bank_order w ≡ Some asked → order g os (Bank b) w args ≡ on_bank g os b asked args
+unfolding order
+bank_ordered g os b w asked args is = ap (λ (found : Option BankOrder). elim found [ None ↦ refused os code.NoOrder | Some k ↦ on_bank g os b k args ]) is
+
+bank_plans : (g : Geometry) (os : List Object) (b w : ℕ) (asked : BankOrder) (args : Arguments) (plan : OrderPlan) (list : List ℕ) → IsNow g os → IsTrue (is_bank (content_at os b))
+    → NamesItsKind os args.capability → bank_order w ≡ Some asked → list ≡ (on_bank g os b asked args).written → PlansAs g os b asked args list plan
+    → Plans g os (Bank b) w args list plan
+bank_plans g os b w asked args plan list now bank names is listed plans =
+    let at : (us : List Object) → SameFrame os us → order g us (Bank b) w args ≡ outcome_by us list plan =
+    λ us frame. bank_ordered g us b w asked args is ∙ plans.outcome us frame in
+    record {
+      here = at os (frame_refl os);
+      objects = λ us frame. ap (λ (o : OrderOutcome). o.objects) (at us frame);
+      written = λ us frame. ap (λ (o : OrderOutcome). o.written) (at us frame);
+      may = λ us frame then. bank_change g us list plan.change (plans.may us frame then);
+      annex = λ us frame p before after.
+          let objects : (on_bank g us b asked args).objects ≡ changed us list plan.change = ap (λ (o : OrderOutcome). o.objects) (plans.outcome us frame) in
+          ap (λ (vs : List Object). annex_at vs p) (sym objects)
+          ∙ annex_kept g us b asked args p before (subst (λ (vs : List Object). is_process vs p ≡ true) (sym objects) after);
+      known = subst (λ (ns : List ℕ). All (λ n. n < length os) ns) (sym listed) (written_within g os b asked args now bank names);
+    }
+
+pub bank_planned : (g : Geometry) (os us : List Object) (i : Invocation) (caller : Caller) (plan : OrderPlan) (args : Arguments) (b : ℕ) (asked : BankOrder) (first list ws : List ℕ)
+    → us ≡ os → IsNow g os → Fits (command.Invoke i) → IsAsked os i caller → args ≡ arguments_of os i → first ≡ writers caller.operation caller.process caller.annex
+    → caller.invoked ≡ Bank b → bank_order (slice_index i.words 0) ≡ Some asked → ws ≡ (on_bank g us b asked args).written → list ≡ first ++ ws → PlansAs g us b asked args ws plan
+    → IsPlanned g os i caller plan list
+bank_planned g os us i caller plan args b asked first list ws same now fits is args_are first_is invoked order_is written listed plans =
+    let sent = subst (λ (a : Arguments). AreArguments os a) (sym args_are) (arguments_held g os i now fits) in
+    let bank : IsTrue (is_bank (content_at os b)) = subst (NamesItsKind os) invoked (held_to os caller.invoked (invoked_held g os i now caller.invoked is.invoked)).1 in
+    planned_by g os i caller plan args first list ws args_are first_is listed
+    (subst (λ (c : Capability). Plans g os c (slice_index i.words 0) args ws plan) (sym invoked)
+    (bank_plans g os b (slice_index i.words 0) asked args plan ws now bank (held_to os args.capability sent.held).1 order_is
+    (subst (λ (vs : List Object). ws ≡ (on_bank g vs b asked args).written) same written) (subst (λ (vs : List Object). PlansAs g vs b asked args ws plan) same plans)))

@@ -1,5 +1,5 @@
 -- What stays of processes while one of them changes.
-use Rattle.std.proofs.Common.{◌≡◌, ℕ, true, List, refl, sym, ap, ◌∙◌}
+use Rattle.std.proofs.Common.{◌≡◌, ℕ, true, List, [], refl, sym, ap, ◌∙◌}
 use Rattle.std.specs.Prelude.{IsTrue, slice_index_or}
 use Rattle.std.proofs.Math.ListN.{get_or-map}
 use Rattle.std.proofs.Math.Seq.{map-set_same}
@@ -18,10 +18,12 @@ use Rattle.model.specs.Object.{free, is_node, is_root, map_content, root_in, wit
 use Rattle.model.specs.Order.{with_root_word, with_space}
 use Rattle.model.specs.Revoke.{consume, resumes, void_where, without}
 use Rattle.model.specs.World.{annex_at, content_at, is_process, root_at, with_content, with_root, with_slot, with_state, with_word}
-use Rattle.gate.specs.declared.plan.Change.{Change}
-use Rattle.gate.specs.declared.plan.Change.TheVariants as change
-use Rattle.model.specs.declared.geometry.Geometry.{Geometry}
-use Rattle.gate.specs.Plan.{IsOfProcess, MayHold, changed}
+use Rattle.model_laws.proofs.InvocationFrame.{root_frame, set_frame, slot_frame, word_frame}
+use Rattle.model_laws.proofs.Usage.{SameFrame, frame_refl}
+use Rattle.capability.specs.declared.order.Change.{Change}
+use Rattle.capability.specs.declared.order.Change.TheVariants as change
+use Rattle.capability.specs.Changes.{changed}
+use Rattle.gate.specs.Plan.{IsOfProcess, IsWithinObject}
 
 -- a field of all contents that one edit leaves
 module _ {X : Type 0} (field : Content Capability → X) where
@@ -114,32 +116,34 @@ consume_annex p os q =
     ∙ void_annex (void_where (resumes p)) (content_at os q)
 
 -- a change leaves the annex of each process
-pub changed_annex : (os : List Object) (c : Change) (q : ℕ) → annex_at (changed os c) q ≡ annex_at os q
+pub changed_annex : (os : List Object) (list : List ℕ) (c : Change) → IsWithinObject c → (q : ℕ) → annex_at (changed os list c) q ≡ annex_at os q
 unfolding with_word with_slot with_root
-changed_annex os change.Nothing q = refl
-changed_annex os (change.Word page index word) q = field_kept annex_in os page _ (word_annex (content_at os page) index word) q
-changed_annex os (change.Slot node slot held) q = field_kept annex_in os node _ (slot_annex (content_at os node) slot held) q
-changed_annex os (change.Register process annex slot held) q = field_kept annex_in os annex _ (slot_annex (content_at os annex) slot held) q
-changed_annex os (change.RootWord process index word) q = field_kept annex_in os process (content.Root (with_root_word (root_at os process) index word)) refl q
-changed_annex os (change.SetState process state) q = consume_annex process (with_state os process state) q ∙ state_annex os process state q
-changed_annex os (change.Space process held) q = field_kept annex_in os process (content.Root (with_space (root_at os process) held)) refl q
+changed_annex os list change.Nothing within q = refl
+changed_annex os list (change.Word page index word) within q = field_kept annex_in os page _ (word_annex (content_at os page) index word) q
+changed_annex os list (change.Slot node slot held) within q = field_kept annex_in os node _ (slot_annex (content_at os node) slot held) q
+changed_annex os list (change.Register process annex slot held) within q = field_kept annex_in os annex _ (slot_annex (content_at os annex) slot held) q
+changed_annex os list (change.RootWord process index word) within q = field_kept annex_in os process (content.Root (with_root_word (root_at os process) index word)) refl q
+changed_annex os list (change.SetState process state) within q = consume_annex process (with_state os process state) q ∙ state_annex os process state q
+changed_annex os list (change.Space process held) within q = field_kept annex_in os process (content.Root (with_space (root_at os process) held)) refl q
+changed_annex os list (change.Bank made) within q = absurd within
 
--- a change of a process is one also while another process changes its state
-pub state_of_process : (os : List Object) (p : ℕ) (s : State) → IsTrue (is_process os p) → (c : Change) → IsOfProcess os c → IsOfProcess (with_state os p s) c
-state_of_process os p s is change.Nothing of = tt
-state_of_process os p s is (change.Word page index word) of = tt
-state_of_process os p s is (change.Slot node slot held) of = tt
-state_of_process os p s is (change.Register process annex slot held) of = tt
-state_of_process os p s is (change.RootWord process index word) of = state_process os p s is process ∙ of
-state_of_process os p s is (change.SetState process state) of = state_process os p s is process ∙ of
-state_of_process os p s is (change.Space process held) of = state_process os p s is process ∙ of
+-- an edit that a list doesn't tell is the same with another, and leaves the frame
+pub changed_any : (os : List Object) (list : List ℕ) (c : Change) → IsWithinObject c → changed os [] c ≡ changed os list c
+changed_any os list change.Nothing within = refl
+changed_any os list (change.Word page index word) within = refl
+changed_any os list (change.Slot node slot held) within = refl
+changed_any os list (change.Register process annex register held) within = refl
+changed_any os list (change.RootWord process index word) within = refl
+changed_any os list (change.SetState process state) within = refl
+changed_any os list (change.Space process held) within = refl
+changed_any os list (change.Bank made) within = absurd within
 
--- what a change may put, it may also put while another process changes its state
-pub state_may_hold : (g : Geometry) (os : List Object) (p : ℕ) (s : State) → IsTrue (is_process os p) → (c : Change) → MayHold g os c → MayHold g (with_state os p s) c
-state_may_hold g os p s is change.Nothing held = tt
-state_may_hold g os p s is (change.Word page index word) held = tt
-state_may_hold g os p s is (change.Slot node slot capability) held = (held.0, state_node os p s is node ∙ held.1)
-state_may_hold g os p s is (change.Register process annex slot capability) held = held
-state_may_hold g os p s is (change.RootWord process index word) held = tt
-state_may_hold g os p s is (change.SetState process state) held = tt
-state_may_hold g os p s is (change.Space process capability) held = held
+pub changed_frame : (os : List Object) (c : Change) → IsWithinObject c → IsOfProcess os c → SameFrame os (changed os [] c)
+changed_frame os change.Nothing within of = frame_refl os
+changed_frame os (change.Word page index word) within of = word_frame os page index word
+changed_frame os (change.Slot node slot held) within of = slot_frame os node slot held
+changed_frame os (change.Register process annex register held) within of = slot_frame os annex register held
+changed_frame os (change.RootWord process index word) within of = root_frame os process _ of refl
+changed_frame os (change.SetState process state) within of = set_frame os process state of
+changed_frame os (change.Space process held) within of = root_frame os process _ of refl
+changed_frame os (change.Bank made) within of = absurd within

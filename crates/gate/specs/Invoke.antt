@@ -14,16 +14,13 @@ use Rattle.model.specs.Keepable.{IsSoundFrames}
 use Rattle.model.specs.Machine.{touching, touched_count}
 use Rattle.model.specs.Revoke.{consume}
 use Rattle.model.specs.World.{annex_at, register_at, is_running_process, with_state}
+use Rattle.capability.specs.declared.order.Caller.{Caller}
 use Rattle.capability.specs.declared.present.PrepareFault.{PrepareFault}
 use Rattle.capability.specs.declared.present.PrepareFault.TheVariants as prepare
 use Rattle.capability.specs.Parts.{IsUnchanged, Parts, Renews, frames_of, objects_in}
 use Rattle.gate.specs.declared.fault.InvokeFault.{InvokeFault}
 use Rattle.gate.specs.declared.fault.InvokeFault.TheVariants as fault
 use Rattle.gate.specs.declared.gates.Gate.{Gate}
-use Rattle.gate.specs.declared.looking.Asked.{Asked}
-use Rattle.gate.specs.declared.plan.Change.{Change}
-use Rattle.gate.specs.declared.plan.OrderPlan.{OrderPlan}
-use Rattle.gate.specs.Plan.{changed, outcome_of, target_of, FitsCap, IsOfProcess, IsWithinObject, MayHold}
 
 -- why an invocation wasn't carried out, where it is that objects weren't prepared
 abbrev pub fault_of : PrepareFault → InvokeFault
@@ -48,48 +45,17 @@ IsKernelObject (Start p key) = ⊥
 IsKernelObject (Resume p) = ⊥
 IsKernelObject _ = Unit {0}
 
--- the numbers that an invocation of a kernel object writes: for a call the process and its annex, for a return the
--- process, and what the order changes
-abbrev pub written_by : Operation → ℕ → ℕ → Change → List ℕ
-written_by operation process annex change =
-    (elim operation [ Call ↦ process ∷ annex ∷ [] | Return ↦ process ∷ [] | Send ↦ [] ]) ++ option_to_list (target_of change)
-
--- and those of one through the gate of another process: that one, its annex, and who calls or returns
+-- the numbers that an invocation through the gate of another process writes: that one, its annex, and who calls or
+-- returns
 abbrev pub written_through : Operation → ℕ → ℕ → ℕ → List ℕ
 written_through operation process q annex = q ∷ annex ∷ (elim operation [ Send ↦ [] | _ ↦ process ∷ [] ])
 
--- what an invocation writes is announced
-pub record AreAnnounced {S : Type 0} (Announced : S → ℕ → Type 0) (store : S) (operation : Operation) (process annex : ℕ) (change : Change) : Type 0 where
-  pub target : (n : ℕ) → target_of change ≡ Some n → Announced store n
-  pub invoker : (operation ≡ Send → ⊥) → Announced store process
-  pub registers : operation ≡ Call → Announced store annex
-
--- the objects after the reply to a process that called, which is dropped where it doesn't run any more
-abbrev pub replied_to : List Object → ℕ → OrderPlan → List Object
-replied_to os process plan = if is_running_process os process then deliver os process (reply_of (outcome_of os plan)) else os
-
--- the objects after the change of a plan, with the reply to a call; a process that returns is available before
-abbrev pub finished : List Object → Operation → ℕ → OrderPlan → List Object
-finished os Call process plan = replied_to (changed os plan.change) process plan
-finished os Return process plan = changed (with_state os process Available) plan.change
-finished os Send process plan = changed os plan.change
-
--- what was read of an invocation is the annex of its process and what it invokes
-pub record IsAsked (os : List Object) (i : Invocation) (asked : Asked) : Type 0 where
-  pub annex : asked.annex ≡ annex_at os i.process
-  pub invoked : asked.invoked ≡ register_at os i.process i.register
-
--- an order that is planned comes to what the definitions say, in objects that there are, and puts only what may be kept
-pub record IsPlanned (g : Geometry) (os : List Object) (i : Invocation) (plan : OrderPlan) : Type 0 where
-  pub effect : on_kernel_object g os i ≡ record {
-    objects = finished os i.operation i.process plan;
-    written = written_by i.operation i.process (annex_at os i.process) plan.change;
-  }
-  pub within : IsWithinObject plan.change
-  pub process : IsOfProcess os plan.change
-  pub target : (n : ℕ) → target_of plan.change ≡ Some n → n < length os
-  pub holds : MayHold g os plan.change
-  pub fits : FitsCap g plan.capability
+-- what was read of an invocation
+pub record IsAsked (os : List Object) (i : Invocation) (caller : Caller) : Type 0 where
+  pub process : caller.process ≡ i.process
+  pub operation : caller.operation ≡ i.operation
+  pub annex : caller.annex ≡ annex_at os i.process
+  pub invoked : caller.invoked ≡ register_at os i.process i.register
 
 -- frames that are sound at an age are sound at the next
 abbrev pub KeepsSoundFrames : Parts → Parts → Type 0

@@ -1,3 +1,3 @@
 pub mod Plan
 pub mod Invoke
-pub mod Banking
+pub mod Ordering

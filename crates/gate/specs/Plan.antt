@@ -14,44 +14,21 @@ use Rattle.model.specs.Keepable.{IsKeptCap}
 use Rattle.model.specs.Object.{is_node}
 use Rattle.model.specs.Sound.{IsSpace}
 use Rattle.model.specs.World.{root_at, annex_at, content_at, is_process, with_word, with_slot, with_root, with_state}
-use Rattle.gate.specs.declared.plan.Change.{Change}
-use Rattle.gate.specs.declared.plan.Change.TheVariants as change
-use Rattle.gate.specs.declared.plan.OrderPlan.{OrderPlan}
+use Rattle.capability.specs.declared.order.Change.{Change}
+use Rattle.capability.specs.declared.order.Change.TheVariants as change
+use Rattle.capability.specs.declared.order.OrderPlan.{OrderPlan}
+use Rattle.capability.specs.Changes.{changed, outcome_by, written_of}
+use Rattle.space_bank.specs.Allocating.{numbers_of}
+use Rattle.space_bank.specs.Carrying.{MayMake}
 
--- the objects after a change
-abbrev pub changed : List Object → Change → List Object
-changed os change.Nothing = os
-changed os (change.Word page index word) = with_word os page index word
-changed os (change.Slot node slot held) = with_slot os node slot held
-changed os (change.Register process annex register held) = with_slot os annex register held
-changed os (change.RootWord process index word) = with_root os process (with_root_word (root_at os process) index word)
-changed os (change.SetState process state) = consume process (with_state os process state)
-changed os (change.Space process held) = with_root os process (with_space (root_at os process) held)
-
--- the object that it writes
-abbrev pub target_of : Change → Option ℕ
-target_of change.Nothing = None
-target_of (change.Word page index word) = Some page
-target_of (change.Slot node slot held) = Some node
-target_of (change.Register process annex register held) = Some annex
-target_of (change.RootWord process index word) = Some process
-target_of (change.SetState process state) = Some process
-target_of (change.Space process held) = Some process
-
--- what comes of an order that goes as planned
+-- what comes of an order on one object that goes as planned
 abbrev pub outcome_of : List Object → OrderPlan → OrderOutcome
-outcome_of os plan = record {
-  code = plan.code;
-  words = plan.words;
-  capability = plan.capability;
-  objects = changed os plan.change;
-  written = option_to_list (target_of plan.change);
-}
+outcome_of os plan = outcome_by os (written_of plan.change) plan
 
 -- an outcome changes what the plan changes, and writes what it writes
 pub record ChangesAs (os : List Object) (plan : OrderPlan) (outcome : OrderOutcome) : Type 0 where
-  pub objects : outcome.objects ≡ changed os plan.change
-  pub written : outcome.written ≡ option_to_list (target_of plan.change)
+  pub objects : outcome.objects ≡ changed os (written_of plan.change) plan.change
+  pub written : outcome.written ≡ written_of plan.change
 
 -- each process has the annex that it has in other objects
 abbrev pub HaveAnnexesOf : List Object → List Object → Type 0
@@ -77,6 +54,7 @@ IsFor os c args (change.Register process annex register held) =
 IsFor os c args (change.RootWord process index word) = (index < 4) × (process_named c ≡ Some process)
 IsFor os c args (change.SetState process state) = process_named c ≡ Some process
 IsFor os c args (change.Space process held) = (process_named c ≡ Some process) × (held ≡ args.capability) × IsSpace held
+IsFor os c args (change.Bank made) = ⊥
 
 -- a capability whose orders need no object, and no access; what a bank doesn't know is refused without a look
 abbrev pub IsPlain : Capability → ℕ → Type 0
@@ -95,6 +73,7 @@ IsWithinObject (change.Register process annex register held) = (register < 32) �
 IsWithinObject (change.RootWord process index word) = index < 4
 IsWithinObject (change.SetState process state) = Unit {0}
 IsWithinObject (change.Space process held) = Unit {0}
+IsWithinObject (change.Bank made) = ⊥
 
 -- a change of a root is one of a process
 abbrev pub IsOfProcess : List Object → Change → Type 0
@@ -113,3 +92,20 @@ MayHold g os (change.Slot node slot held) = FitsCap g held × IsTrue (is_node (c
 MayHold g os (change.Register process annex register held) = FitsCap g held
 MayHold g os (change.Space process held) = FitsCap g held × IsSpace held
 MayHold g os _ = Unit {0}
+
+-- a change of one object that may be made, and the numbers that it writes
+pub record MayEdit (g : Geometry) (os : List Object) (list : List ℕ) (c : Change) : Type 0 where
+  pub within : IsWithinObject c
+  pub process : IsOfProcess os c
+  pub holds : MayHold g os c
+  pub listed : list ≡ written_of c
+
+-- a change that may be made, whose order writes the numbers of a list
+abbrev pub MayChange : Geometry → List Object → List ℕ → Change → Type 0
+MayChange g os list (change.Bank made) = MayMake g os list made
+MayChange g os list c = MayEdit g os list c
+
+-- the numbers that it needs fetched
+abbrev pub fetched_of : Change → List ℕ
+fetched_of (change.Bank made) = numbers_of made
+fetched_of c = written_of c

@@ -1,12 +1,12 @@
 // The changes that orders make.
-ghost use Rattle.std.specs.Prelude.{◌≡◌, ◌+◌, ◌<◌, ◌^◌, ℕ, Some};
+ghost use Rattle.std.specs.Prelude.{◌≡◌, ◌+◌, ◌<◌, ◌^◌, ℕ, Some, []};
 ghost use Rattle.model.specs.Frame.{header_at};
 ghost use Rattle.model.specs.Keepable.{AreCurrent, AreKeepable};
 ghost use Rattle.capability.specs.Parts.{KeepsAside, frames_of, objects_in};
-ghost use Rattle.gate.specs.Plan.{changed, target_of, IsWithinObject, IsOfProcess, MayHold};
+ghost use Rattle.capability.specs.Changes.{changed, target_of};
+ghost use Rattle.gate.specs.Plan.{IsWithinObject, IsOfProcess, MayHold};
 
-use crate::plan::Change;
-use capability::{PresentFrames, objects, roots};
+use capability::{Change, PresentFrames, objects, roots};
 
 /// Makes a change in an object that is fetched and announced.
 #[inline(always)]
@@ -19,7 +19,7 @@ pub fn make<F: PresentFrames>(store: &mut F, change: Change)
     requires fetched { (n : ℕ) → target_of change ≡ Some n → F.IsFetched store.old n }
     requires announced { (n : ℕ) → target_of change ≡ Some n → F.IsAnnounced store.old n }
     ensures objects { objects_in (F.parts store.new)
-        ≡ changed (objects_in (F.parts store.old)) change }
+        ≡ changed (objects_in (F.parts store.old)) [] change }
     ensures current { AreCurrent (frames_of (F.parts store.new)) }
     ensures keepable { (age : ℕ) → age + 1 < 2 ^ 64
         → MayHold (F.parts store.old).geometry (objects_in (F.parts store.old)) change
@@ -54,5 +54,6 @@ pub fn make<F: PresentFrames>(store: &mut F, change: Change)
             process,
             capability,
         } => roots::set_space(store, process, capability),
+        Change::Bank(_) => unreachable!(),
     }
 }

@@ -1,5 +1,5 @@
 // Invocations through gates: start and resume capabilities.
-ghost use Rattle.std.specs.Prelude.{◌≡◌, ◌+◌, ◌<◌, ◌^◌, ℕ, length, true, ◌||◌, OnOk, IsTrue};
+ghost use Rattle.std.specs.Prelude.{◌≡◌, ◌+◌, ◌<◌, ◌^◌, ℕ, length, true, ◌||◌, IfSome, None, OnOk, IsTrue};
 ghost use Rattle.model.specs.declared.command.Command.TheVariants as command;
 ghost use Rattle.model.specs.Frame.{header_at};
 ghost use Rattle.model.specs.Invoke.{after_gate, can_start};
@@ -8,14 +8,14 @@ ghost use Rattle.model.specs.Text.{Fits};
 ghost use Rattle.model.specs.World.{annex_at, is_process, is_running_process};
 ghost use Rattle.capability.specs.Parts.{AreSound, KeepsAside, frames_of, objects_in, Prepares};
 ghost use Rattle.std.specs.List.{All};
-ghost use Rattle.gate.specs.Invoke.{entered, gate_capability, received, written_through, IsAsked, Invoked};
+ghost use Rattle.gate.specs.Invoke.{entered, gate_capability, received, written_through, IsAsked, IsKernelObject, Invoked};
 ghost use Rattle.gate.specs.Plan.{FitsCap};
 
 use crate::delivery::deliver;
 use crate::fault::InvokeFault;
-use crate::looking::{Asked, all_sent, look_at_process};
+use crate::looking::{all_sent, look_at_process};
 use crate::written::Written;
-use capability::{PrepareFault, PresentFrames, objects, roots};
+use capability::{Caller, PrepareFault, PresentFrames, objects, roots};
 use model::{Capability, Invocation, Message, Operation, State};
 use std::alloc::Global;
 
@@ -25,6 +25,27 @@ pub struct Gate {
     pub process: u64,
     pub key: u16,
     pub is_resume: bool,
+}
+
+/// The gate that a capability is, if it is one.
+pub fn gate_of(capability: Capability) -> Option<Gate>
+    ensures gate { IfSome result (λ gate. capability ≡ gate_capability gate) }
+    ensures key { IfSome result (λ gate. gate.is_resume ≡ true → gate.key ≡ 0) }
+    ensures object { result ≡ None → IsKernelObject capability }
+{
+    match capability {
+        Capability::Start { process, key } => Some(Gate {
+            process,
+            key,
+            is_resume: false,
+        }),
+        Capability::Resume(process) => Some(Gate {
+            process,
+            key: 0,
+            is_resume: true,
+        }),
+        _ => None,
+    }
 }
 
 // What a gate receives: with a call the last register gets the right to answer.
@@ -156,7 +177,7 @@ pub fn invoke_gate<F: PresentFrames>(
     alloc: Global,
     store: &mut F,
     invocation: &Invocation,
-    asked: Asked,
+    caller: Caller,
     gate: Gate,
 ) -> Result<(), InvokeFault>
     requires sound { AreSound (F.parts store.old) }
@@ -164,13 +185,13 @@ pub fn invoke_gate<F: PresentFrames>(
         (objects_in (F.parts store.old)) invocation.now.process) }
     requires fits { Fits (command.Invoke invocation.now) }
     requires few { length (F.parts store.old).headers < 2 ^ 64 }
-    requires asked { IsAsked (objects_in (F.parts store.old)) invocation.now asked }
-    requires fetched { F.IsFetched store.old asked.annex }
-    requires gate { asked.invoked ≡ gate_capability gate }
+    requires asked { IsAsked (objects_in (F.parts store.old)) invocation.now caller }
+    requires fetched { F.IsFetched store.old caller.annex }
+    requires gate { caller.invoked ≡ gate_capability gate }
     requires key { gate.is_resume ≡ true → gate.key ≡ 0 }
     ensures { Invoked F.parts F.LeadsTo store.old store.new invocation.now result }
 {
-    let sent = all_sent(store, invocation, asked.annex);
+    let sent = all_sent(store, invocation, caller.annex);
     let annex = look_at_process(alloc, store, gate.process)?;
     if !can_enter(store, invocation, gate) {
         return Err(InvokeFault::Stalled);

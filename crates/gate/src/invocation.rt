@@ -6,13 +6,12 @@ ghost use Rattle.capability.specs.Parts.{AreSound, objects_in};
 ghost use Rattle.space_bank.specs.Banks.{AreCounted};
 ghost use Rattle.gate.specs.Invoke.{Invoked};
 
-use crate::banking::{bank_order, invoke_bank};
 use crate::fault::InvokeFault;
-use crate::gates::{Gate, invoke_gate};
-use crate::kernel_object::invoke_object;
-use crate::looking::{ask, numbers_fit, order_arguments};
+use crate::gates::{gate_of, invoke_gate};
+use crate::kernel_object::invoke_order;
+use crate::looking::{ask, numbers_fit};
 use capability::PresentFrames;
-use model::{Capability, Invocation};
+use model::Invocation;
 use space_bank::Banks;
 use std::alloc::Global;
 
@@ -47,32 +46,9 @@ pub fn invoke<F: PresentFrames>(
 {
     invocation.can_be_spelt();
     numbers_fit(store);
-    let asked = ask(alloc, store, &invocation)?;
-    match asked.invoked {
-        Capability::Start { process, key } => {
-            let gate = Gate {
-                process,
-                key,
-                is_resume: false,
-            };
-            invoke_gate(alloc, store, &invocation, asked, gate)
-        }
-        Capability::Resume(process) => {
-            let gate = Gate {
-                process,
-                key: 0,
-                is_resume: true,
-            };
-            invoke_gate(alloc, store, &invocation, asked, gate)
-        }
-        Capability::Bank(bank) => match bank_order(invocation.words[0]) {
-            Some(order) => {
-                let arguments = order_arguments(store, &invocation, asked.annex);
-                let call = asked.of_bank(&invocation, bank, order, arguments);
-                invoke_bank(alloc, store, banks, &invocation, call)
-            }
-            None => invoke_object(alloc, store, &invocation, asked),
-        },
-        _ => invoke_object(alloc, store, &invocation, asked),
+    let caller = ask(alloc, store, &invocation)?;
+    match gate_of(caller.invoked) {
+        Some(gate) => invoke_gate(alloc, store, &invocation, caller, gate),
+        None => invoke_order(alloc, store, banks, &invocation, caller),
     }
 }

@@ -2,6 +2,7 @@
 #![tactic(auto)]
 
 mod banking;
+mod carrying;
 mod change;
 mod delivery;
 mod fault;
@@ -12,7 +13,6 @@ mod looking;
 mod node;
 mod orders;
 mod page;
-mod plan;
 mod process;
 mod written;
 

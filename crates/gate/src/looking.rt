@@ -1,56 +1,19 @@
 // What an invocation reads before anything changes.
-ghost use Rattle.std.specs.Prelude.{◌≡◌, ℕ, ◌<◌, ◌^◌, List, length, slice_index, Some, IfOk, OnOk, IsTrue};
+ghost use Rattle.std.specs.Prelude.{◌≡◌, ℕ, ◌<◌, ◌^◌, length, Some, IfOk, OnOk, IsTrue};
 ghost use Rattle.model.specs.Capability.{named};
 ghost use Rattle.model.specs.Invoke.{sent_by};
 ghost use Rattle.model.specs.Keepable.{AreKeepable};
-ghost use Rattle.model.specs.declared.object.Object.{Object};
 ghost use Rattle.model.specs.Object.{is_annex};
-ghost use Rattle.model.specs.Order.{bank_order};
 ghost use Rattle.model.specs.Sound.{NamesItsKind};
 ghost use Rattle.model.specs.World.{annex_at, content_at, is_process};
 ghost use Rattle.capability.specs.Parts.{Looks, frames_of, objects_in};
-ghost use Rattle.gate.specs.Banking.{arguments_of, AsksBank};
+ghost use Rattle.gate.specs.Ordering.{arguments_of};
 ghost use Rattle.gate.specs.Invoke.{IsAsked};
 ghost use Rattle.gate.specs.Plan.{process_named};
 
-use crate::banking::BankCall;
-use capability::{PrepareFault, PresentFrames, objects};
-use model::{Arguments, BankOrder, Capability, Invocation};
+use capability::{Caller, PrepareFault, PresentFrames, objects};
+use model::{Arguments, Capability, Invocation};
 use std::alloc::Global;
-
-/// What a process invokes, as it is before anything changes.
-#[derive(Clone, Copy, Debug)]
-pub struct Asked {
-    /// The annex of the process that invokes.
-    pub annex: u64,
-    pub invoked: Capability,
-}
-
-impl Asked {
-    /// What is asked of a bank, where one is invoked.
-    pub fn of_bank(
-        &self,
-        invocation: &Invocation,
-        bank: u64,
-        order: BankOrder,
-        arguments: Arguments,
-    ) -> BankCall
-        ensures { (os : List Object) → IsAsked os invocation.now self.now
-            → self.now.invoked ≡ Capability.Bank bank
-            → bank_order (slice_index invocation.now.words 0) ≡ Some order
-            → arguments ≡ arguments_of os invocation.now
-            → AsksBank os invocation.now result }
-    {
-        BankCall {
-            operation: invocation.operation,
-            process: invocation.process,
-            annex: self.annex,
-            bank,
-            order,
-            arguments,
-        }
-    }
-}
 
 /// Fetches one object.
 pub fn look<F: PresentFrames>(alloc: Global, store: &mut F, number: u64) -> Result<(), PrepareFault>
@@ -117,7 +80,7 @@ pub fn ask<F: PresentFrames>(
     alloc: Global,
     store: &mut F,
     invocation: &Invocation,
-) -> Result<Asked, PrepareFault>
+) -> Result<Caller, PrepareFault>
     requires keepable { AreKeepable (F.parts store.old).geometry u64.MAX
         (frames_of (F.parts store.old)) }
     requires process { IsTrue (is_process
@@ -125,13 +88,15 @@ pub fn ask<F: PresentFrames>(
     requires annex { IsTrue (is_annex
         (content_at (objects_in (F.parts store.old))
         (annex_at (objects_in (F.parts store.old)) invocation.now.process))) }
-    ensures asked { IfOk result (λ asked. IsAsked (objects_in (F.parts store.old)) invocation.now asked) }
-    ensures fetched { IfOk result (λ asked. F.IsFetched store.new asked.annex) }
+    ensures asked { IfOk result (λ caller. IsAsked (objects_in (F.parts store.old)) invocation.now caller) }
+    ensures fetched { IfOk result (λ caller. F.IsFetched store.new caller.annex) }
     ensures looks { Looks F.parts F.LeadsTo store.old store.new result }
 {
     let annex = look_at_process(alloc, store, invocation.process)?;
-    Ok(Asked {
+    Ok(Caller {
+        process: invocation.process,
         annex,
+        operation: invocation.operation,
         invoked: objects::slot(store, annex, invocation.register.index()),
     })
 }

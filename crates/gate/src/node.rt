@@ -7,9 +7,8 @@ ghost use Rattle.capability.specs.Parts.{objects_in};
 ghost use Rattle.gate.specs.Plan.{outcome_of, ChangesAs, IsFor};
 
 use crate::page::reduction;
-use crate::plan::{Change, OrderPlan};
 use bitflags::Flags;
-use capability::{PresentFrames, objects};
+use capability::{Change, OrderPlan, PresentFrames, objects};
 use model::{Access, Arguments, Capability, MAX_HEIGHT, NodeOrder, ResultCode, SLOTS};
 
 /// The order that a word asks of a node.

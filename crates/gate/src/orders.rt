@@ -11,10 +11,9 @@ ghost use Rattle.gate.specs.Plan.{outcome_of, process_named, ChangesAs, HaveAnne
 
 use crate::node::{node_order, on_node};
 use crate::page::{on_page, page_order, reduction};
-use crate::plan::OrderPlan;
 use crate::process::{on_process, process_order};
 use bitflags::Flags;
-use capability::PresentFrames;
+use capability::{OrderPlan, PresentFrames};
 use model::{Access, Arguments, Capability, ResultCode};
 
 // The order that reads a number.

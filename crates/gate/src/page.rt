@@ -6,9 +6,8 @@ ghost use Rattle.model.specs.Capability.{union};
 ghost use Rattle.capability.specs.Parts.{objects_in};
 ghost use Rattle.gate.specs.Plan.{outcome_of, ChangesAs, IsFor};
 
-use crate::plan::{Change, OrderPlan};
 use bitflags::Flags;
-use capability::{PresentFrames, objects};
+use capability::{Change, OrderPlan, PresentFrames, objects};
 use model::{Access, Arguments, Capability, PageOrder, ResultCode, WORDS};
 
 /// The order that a word asks of a page.

@@ -6,8 +6,7 @@ ghost use Rattle.model.specs.World.{annex_at, is_process};
 ghost use Rattle.capability.specs.Parts.{objects_in};
 ghost use Rattle.gate.specs.Plan.{outcome_of, ChangesAs, HaveAnnexesOf, IsFor};
 
-use crate::plan::{Change, OrderPlan};
-use capability::{PresentFrames, objects, roots};
+use capability::{Change, OrderPlan, PresentFrames, objects, roots};
 use model::{Arguments, Capability, ProcessOrder, REGISTERS, ResultCode, State};
 
 // How many words a process is delivered.

@@ -1,8 +1,7 @@
 // What an invocation writes.
 ghost use Rattle.std.specs.Prelude.{◌≡◌};
-ghost use Rattle.gate.specs.Invoke.{written_by, written_through};
+ghost use Rattle.gate.specs.Invoke.{written_through};
 
-use crate::plan::Change;
 use model::Operation;
 use std::marker::Model;
 
@@ -24,39 +23,6 @@ impl Model for Written {
 }
 
 impl Written {
-    /// What an invocation of a kernel object writes: with a call the process and its annex, with a
-    /// return the process, and what the order changes.
-    pub fn by(operation: Operation, process: u64, annex: u64, change: &Change) -> Written
-        ensures { result ≡ written_by operation process annex change.now }
-    {
-        match (operation, change.target()) {
-            (Operation::Call, None) => Written {
-                numbers: [process, annex, annex],
-                count: 2,
-            },
-            (Operation::Call, Some(changed)) => Written {
-                numbers: [process, annex, changed],
-                count: 3,
-            },
-            (Operation::Return, None) => Written {
-                numbers: [process, annex, annex],
-                count: 1,
-            },
-            (Operation::Return, Some(changed)) => Written {
-                numbers: [process, changed, annex],
-                count: 2,
-            },
-            (Operation::Send, None) => Written {
-                numbers: [process, annex, annex],
-                count: 0,
-            },
-            (Operation::Send, Some(changed)) => Written {
-                numbers: [changed, annex, annex],
-                count: 1,
-            },
-        }
-    }
-
     /// What an invocation through the gate of a process writes: that process and its annex, and
     /// the one that calls or returns.
     pub fn through(operation: Operation, process: u64, receiver: u64, annex: u64) -> Written

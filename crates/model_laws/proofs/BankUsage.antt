@@ -135,33 +135,33 @@ module _ (os us : List Object) (s : SameFrame os us) where
   free_alike : (ns : List ℕ) → are_free us ns ≡ are_free os ns
   free_alike ns = filter_alike (λ n. is_free (content_at os n)) (λ n. is_free (content_at us n)) ns (λ n. (tests_at os us s n).free)
 
-  nodes_alike : (g : Geometry) → free_nodes g us ≡ free_nodes g os
+  pub nodes_alike : (g : Geometry) → free_nodes g us ≡ free_nodes g os
   unfolding free_nodes
   nodes_alike g = free_alike (range_with_len 0 g.nodes)
 
-  pages_alike : (g : Geometry) → free_pages g us ≡ free_pages g os
+  pub pages_alike : (g : Geometry) → free_pages g us ≡ free_pages g os
   unfolding free_pages
   pages_alike g = free_alike (range_with_len g.nodes g.pages)
 
-  room_alike : (b count : ℕ) → has_room us b count ≡ has_room os b count
+  pub room_alike : (b count : ℕ) → has_room us b count ≡ has_room os b count
   unfolding has_room
   room_alike b count =
       ap (λ xs. list_all (λ c. nat_le (usage us c + count) (limit_in (content_at us c))) xs) (chain_same os us s b)
       ∙ all_alike (λ c. nat_le (usage os c + count) (limit_in (content_at os c))) (λ c. nat_le (usage us c + count) (limit_in (content_at us c))) (chain os b)
       (λ c. rw (usage_same os us s c, (s.alike c).limit) refl)
 
-  freed_alike : (c : Capability) → freed_by us c ≡ freed_by os c
+  pub freed_alike : (c : Capability) → freed_by us c ≡ freed_by os c
   freed_alike (Process p) = rw (s.alike p).annex refl
   freed_alike c = refl
 
-  under_alike : (b : ℕ) → under us b ≡ under os b
+  pub under_alike : (b : ℕ) → under us b ≡ under os b
   unfolding under
   under_alike b =
       ap (λ k. filter (λ n. (n == b) || is_under us b (object_at us n)) (range_with_len 0 k)) s.size
       ∙ filter_alike (λ n. (n == b) || is_under os b (object_at os n)) (λ n. (n == b) || is_under us b (object_at us n)) (range_with_len 0 (length os))
       (λ n. ap (λ u. (n == b) || u) (under_same os us s b (object_at os n) (object_at us n) (s.alike n)))
 
-  owned_alike : (b : ℕ) → owned_by us b ≡ owned_by os b
+  pub owned_alike : (b : ℕ) → owned_by us b ≡ owned_by os b
   unfolding owned_by
   owned_alike b =
       ap (λ k. filter (λ n. not (is_free (content_at us n)) && (owner_at us n == b)) (range_with_len 0 k)) s.size
@@ -171,7 +171,7 @@ module _ (os us : List Object) (s : SameFrame os us) where
   left_alike : (b : ℕ) → left_of us b ≡ left_of os b
   left_alike b = rw ((s.alike b).limit, usage_same os us s b) refl
 
-  remaining_alike : (b : ℕ) → remaining us b ≡ remaining os b
+  pub remaining_alike : (b : ℕ) → remaining us b ≡ remaining os b
   unfolding remaining
   remaining_alike b =
       rw (left_alike b, chain_same os us s b) (ap (least (left_of os b)) (map_alike (left_of os) (left_of us) (chain os b) left_alike))

@@ -45,7 +45,7 @@ pub word_frame : (os : List Object) (n i w : ℕ) → SameFrame os (with_word os
 unfolding with_word
 word_frame os n i w = frame_content os n (with_word_in (content_at os n) i w) (alike_word (owner_at os n) i w (content_at os n))
 
-slot_frame : (os : List Object) (n i : ℕ) (c : Capability) → SameFrame os (with_slot os n i c)
+pub slot_frame : (os : List Object) (n i : ℕ) (c : Capability) → SameFrame os (with_slot os n i c)
 unfolding with_slot
 slot_frame os n i c = frame_content os n (with_slot_in (content_at os n) i c) (alike_slot (owner_at os n) i c (content_at os n))
 
@@ -54,7 +54,7 @@ slots_frame os n i [] = frame_refl os
 slots_frame os n i (c ∷ cs) =
     frame_trans os (with_slot os n i c) (with_slots_from (with_slot os n i c) n (i + 1) cs) (slot_frame os n i c) (slots_frame (with_slot os n i c) n (i + 1) cs)
 
-root_frame : (os : List Object) (p : ℕ) (r : Root Capability) → IsTrue (is_process os p) → r.annex ≡ annex_at os p → SameFrame os (with_root os p r)
+pub root_frame : (os : List Object) (p : ℕ) (r : Root Capability) → IsTrue (is_process os p) → r.annex ≡ annex_at os p → SameFrame os (with_root os p r)
 unfolding with_root
 root_frame os p r is same = frame_content os p _ (alike_root (owner_at os p) r (content_at os p) is same)
 
@@ -107,7 +107,7 @@ node_frame os o a node.Reduce args = either_frame os (reduces args.first) _ _ (f
 node_frame os o a node.MakeSpace args = either_frame os ((args.first == 0) || not (nat_lt args.first 5)) _ _ (frame_refl os) (frame_refl os)
 node_frame os o a node.PutNumber args = stored_frame os o a args.first (Number args.second)
 
-set_frame : (os : List Object) (p : ℕ) (s : State) → IsTrue (is_process os p) → SameFrame os (consume p (with_state os p s))
+pub set_frame : (os : List Object) (p : ℕ) (s : State) → IsTrue (is_process os p) → SameFrame os (consume p (with_state os p s))
 set_frame os p s is = frame_trans os (with_state os p s) (consume p (with_state os p s)) (state_frame os p s is) (frame_consume p (with_state os p s))
 
 process_frame : (os : List Object) (p : ℕ) (asked : ProcessOrder) (args : Arguments) → IsTrue (is_process os p) → LeavesFrame os (on_process os p asked args)

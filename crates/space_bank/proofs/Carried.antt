@@ -21,7 +21,7 @@ use Rattle.capability.specs.Parts.{FreshFits, Parts, frames_of, fresh_content, o
 use Rattle.capability.proofs.Frames.{length_objects}
 use Rattle.capability.proofs.Keeping.{keepable_later}
 use Rattle.space_bank.specs.Banks.{AreCounted, BanksState}
-use Rattle.space_bank.specs.Carrying.{CarriesOut, IsAlone, MayServe, marks_of}
+use Rattle.space_bank.specs.Carrying.{CarriesOut, IsAlone, IsMadeUnder, MayServe, marks_of}
 use Rattle.space_bank.specs.Chains.{IsRaised}
 use Rattle.space_bank.proofs.Standing.{free_header, serve_framed, serve_tree}
 use Rattle.space_bank.proofs.Tallies.{IsTaken, counted_alone, counted_bank, counted_two}
@@ -69,6 +69,21 @@ pub alone_fits : (f : Fresh) → IsAlone f → FreshFits f
 alone_fits fresh.Page is = tt
 alone_fits fresh.Node is = tt
 alone_fits f is = absurd is
+
+pub alone_under : (os : List Object) (b : ℕ) (f : Fresh) → ((limit : ℕ) → f ≡ fresh.Bank limit → ⊥) → IsMadeUnder os b f → IsAlone f
+alone_under os b fresh.Page other under = tt
+alone_under os b fresh.Node other under = tt
+alone_under os b (fresh.Bank limit) other under = absurd (other limit refl)
+alone_under os b (fresh.Root annex) other under = under
+alone_under os b fresh.Annex other under = under
+
+-- what is new isn't free
+pub fresh_used : (f : Fresh) → is_free (fresh_content Void f) ≡ false
+fresh_used fresh.Page = refl
+fresh_used fresh.Node = refl
+fresh_used (fresh.Root annex) = refl
+fresh_used fresh.Annex = refl
+fresh_used (fresh.Bank limit) = refl
 
 alone_used : (f : Fresh) → IsAlone f → is_free (fresh_content Void f) ≡ false
 alone_used fresh.Page is = refl

@@ -1,13 +1,18 @@
 -- The least free numbers, found by their marks.
-use Rattle.std.proofs.Common.{◌≡◌, ◌+◌, ◌-◌, ◌<◌, ◌≤◌, ◌∙◌, ℕ, zero, suc, Bool, cond, List, [], ◌∷◌, length, ⊎_elim, refl, sym, ap, subst, zero-add, arith}
+use Rattle.std.proofs.Common.{◌≡◌, ◌+◌, ◌-◌, ◌<◌, ◌≤◌, ◌∙◌, ℕ, zero, suc, Option, None, Some, Bool, cond, List, [], ◌∷◌, length, ⊎_elim, refl, sym, ap, subst, zero-add, arith}
 use Rattle.std.proofs.lemmas.Bool.{cases_lt}
 use Rattle.std.specs.List.{range_with_len}
+use Rattle.std.specs.Prelude.{IfSome}
 use Rattle.model.specs.declared.geometry.Geometry.{Geometry}
 use Rattle.model.specs.declared.object.Object.{Object}
 use Rattle.model.specs.Banking.{are_free, free_nodes, free_pages}
 use Rattle.model.specs.Object.{is_free}
 use Rattle.model.specs.World.{content_at}
+use Rattle.capability.specs.declared.order.BankChange.{BankChange}
+use Rattle.capability.specs.declared.order.BankChange.TheVariants.{MakeProcess}
+use Rattle.space_bank.specs.Allocating.{numbers_of, process_at}
 use Rattle.space_bank.specs.Banks.{AreCounted, BanksState}
+use Rattle.space_bank.specs.Counting.{AreMarked}
 use Rattle.number_set.specs.Marks.{HasNoneMarked, IsNextMarked, is_marked}
 
 -- marks of the numbers from a base on
@@ -60,59 +65,62 @@ module _ (os : List Object) (base : ℕ) (marks : List Bool) (same : (n : ℕ) �
       (λ (inside : from ≤ length marks). none_by (length marks - from) from (omega arith) none)
       (cases_lt (length marks) from)
 
--- what is counted of free numbers
-module _ (g : Geometry) (os : List Object) (s : BanksState) (h : AreCounted g os s) where
-  pub node_marks : (n : ℕ) → n < length s.free_nodes → is_marked s.free_nodes n ≡ is_free (content_at os (0 + n))
-  node_marks n inside = h.node n (omega (arith, h.nodes)) ∙ ap (λ (m : ℕ). is_free (content_at os m)) (sym (zero-add n))
+  whole : are_free os (range_with_len base (length marks)) ≡ free_from 0
+  whole =
+      let start : base ≡ base + 0 = omega arith in
+      let all : length marks ≡ length marks - 0 = omega arith in
+      ap (λ (k : ℕ). are_free os (range_with_len base k)) all ∙ ap (λ (m : ℕ). are_free os (range_with_len m (length marks - 0))) start
 
-  pub page_marks : (n : ℕ) → n < length s.free_pages → is_marked s.free_pages n ≡ is_free (content_at os (g.nodes + n))
-  page_marks n inside = h.page n (omega (arith, h.pages))
+  pub found_none : HasNoneMarked marks 0 → are_free os (range_with_len base (length marks)) ≡ []
+  found_none none = whole ∙ none_free 0 none
 
-  abbrev pub nodes_from : ℕ → List ℕ
-  nodes_from from = free_from os 0 s.free_nodes node_marks from
+  pub found_one : (n : ℕ) → IsNextMarked marks 0 n → are_free os (range_with_len base (length marks)) ≡ (base + n) ∷ free_from (n + 1)
+  found_one n first = whole ∙ next_free 0 n first
 
-  abbrev pub pages_from : ℕ → List ℕ
-  pages_from from = free_from os g.nodes s.free_pages page_marks from
+  pub found_only : (n : ℕ) → IsNextMarked marks 0 n → HasNoneMarked marks (n + 1) → are_free os (range_with_len base (length marks)) ≡ (base + n) ∷ []
+  found_only n first none = found_one n first ∙ ap (λ (xs : List ℕ). (base + n) ∷ xs) (none_free (n + 1) none)
 
-  nodes_whole : free_nodes g os ≡ nodes_from 0
+  pub found_two : (n m : ℕ) → IsNextMarked marks 0 n → IsNextMarked marks (n + 1) m → are_free os (range_with_len base (length marks)) ≡ (base + n) ∷ (base + m) ∷ free_from (m + 1)
+  found_two n m first second = found_one n first ∙ ap (λ (xs : List ℕ). (base + n) ∷ xs) (next_free (n + 1) m second)
+
+-- a process is made of the first two nodes that are free
+module _ (os : List Object) (marks : List Bool) (same : (n : ℕ) → n < length marks → is_marked marks n ≡ is_free (content_at os (0 + n))) (b n : ℕ) where
+  pub process_missing : IsNextMarked marks 0 n → HasNoneMarked marks (n + 1) → None ≡ process_at b (are_free os (range_with_len 0 (length marks)))
+  process_missing first none = ap (process_at b) (sym (found_only os 0 marks same n first none))
+
+  pub process_found : (m : ℕ) → IsNextMarked marks 0 n → IsNextMarked marks (n + 1) m → Some (MakeProcess n m b) ≡ process_at b (are_free os (range_with_len 0 (length marks)))
+  process_found m first second =
+      ap (λ (r : ℕ). Some (MakeProcess r m b)) (sym (zero-add n))
+      ∙ ap (λ (a : ℕ). Some (MakeProcess (0 + n) a b)) (sym (zero-add m))
+      ∙ ap (process_at b) (sym (found_two os 0 marks same n m first second))
+
+-- the marks that are looked at are those that are counted
+module _ (g : Geometry) (os : List Object) (s : BanksState) (h : AreCounted g os s) (marks : List Bool) where
+  pub nodes_marked : marks ≡ s.free_nodes → AreMarked os 0 (length marks) marks
+  nodes_marked are = subst (λ (m : List Bool). AreMarked os 0 (length m) m) (sym are) (record {
+    size = refl;
+    each = λ n inside. h.node n (omega (arith, inside, h.nodes)) ∙ ap (λ (m : ℕ). is_free (content_at os m)) (sym (zero-add n));
+  })
+
+  pub nodes_are : marks ≡ s.free_nodes → free_nodes g os ≡ are_free os (range_with_len 0 (length marks))
   unfolding free_nodes
-  nodes_whole =
-      let all : g.nodes ≡ length s.free_nodes - 0 = omega (arith, h.nodes) in
+  nodes_are are =
+      let all : g.nodes ≡ length marks = omega (arith, h.nodes, ap (λ (m : List Bool). length m) are) in
       ap (λ (k : ℕ). are_free os (range_with_len 0 k)) all
 
-  pages_whole : free_pages g os ≡ pages_from 0
+  pub pages_marked : marks ≡ s.free_pages → (first : ℕ) → first ≡ g.nodes → AreMarked os first (length marks) marks
+  pages_marked are first is = subst (λ (n : ℕ). AreMarked os n (length marks) marks) (sym is) (subst (λ (m : List Bool). AreMarked os g.nodes (length m) m) (sym are) (record {
+    size = refl;
+    each = λ n inside. h.page n (omega (arith, inside, h.pages));
+  }))
+
+  pub pages_are : marks ≡ s.free_pages → (first : ℕ) → first ≡ g.nodes → free_pages g os ≡ are_free os (range_with_len first (length marks))
   unfolding free_pages
-  pages_whole =
-      let start : g.nodes + 0 ≡ g.nodes = omega arith in
-      let all : g.pages ≡ length s.free_pages - 0 = omega (arith, h.pages) in
-      ap (λ (k : ℕ). are_free os (range_with_len g.nodes k)) all
-      ∙ ap (λ (m : ℕ). are_free os (range_with_len m (length s.free_pages - 0))) (sym start)
+  pages_are are first is =
+      let all : g.pages ≡ length marks = omega (arith, h.pages, ap (λ (m : List Bool). length m) are) in
+      ap (λ (k : ℕ). are_free os (range_with_len g.nodes k)) all ∙ ap (λ (n : ℕ). are_free os (range_with_len n (length marks))) (sym is)
 
-  -- the marks that are looked at are those that are counted
-  module _ (marks : List Bool) (are : marks ≡ s.free_pages) where
-    pub page_found : (n : ℕ) → IsNextMarked marks 0 n → free_pages g os ≡ (g.nodes + n) ∷ pages_from (n + 1)
-    page_found n next = pages_whole ∙ next_free os g.nodes s.free_pages page_marks 0 n (subst (λ (m : List Bool). IsNextMarked m 0 n) are next)
-
-    pub no_page : HasNoneMarked marks 0 → free_pages g os ≡ []
-    no_page none = pages_whole ∙ none_free os g.nodes s.free_pages page_marks 0 (subst (λ (m : List Bool). HasNoneMarked m 0) are none)
-
-  module _ (marks : List Bool) (are : marks ≡ s.free_nodes) where
-    node_next : (from n : ℕ) → IsNextMarked marks from n → nodes_from from ≡ n ∷ nodes_from (n + 1)
-    node_next from n next =
-        next_free os 0 s.free_nodes node_marks from n (subst (λ (m : List Bool). IsNextMarked m from n) are next)
-        ∙ ap (λ (m : ℕ). m ∷ nodes_from (n + 1)) (zero-add n)
-
-    none_next : (from : ℕ) → HasNoneMarked marks from → nodes_from from ≡ []
-    none_next from none = none_free os 0 s.free_nodes node_marks from (subst (λ (m : List Bool). HasNoneMarked m from) are none)
-
-    pub node_found : (n : ℕ) → IsNextMarked marks 0 n → free_nodes g os ≡ n ∷ nodes_from (n + 1)
-    node_found n next = nodes_whole ∙ node_next 0 n next
-
-    pub no_node : HasNoneMarked marks 0 → free_nodes g os ≡ []
-    no_node none = nodes_whole ∙ none_next 0 none
-
-    pub second_found : (n m : ℕ) → IsNextMarked marks 0 n → IsNextMarked marks (n + 1) m → free_nodes g os ≡ n ∷ m ∷ nodes_from (m + 1)
-    second_found n m first second = node_found n first ∙ ap (λ (xs : List ℕ). n ∷ xs) (node_next (n + 1) m second)
-
-    pub no_second : (n : ℕ) → IsNextMarked marks 0 n → HasNoneMarked marks (n + 1) → free_nodes g os ≡ n ∷ []
-    no_second n first none = node_found n first ∙ ap (λ (xs : List ℕ). n ∷ xs) (none_next (n + 1) none)
+-- what takes no more than so many numbers takes no more than more
+pub fewer : (r : Option BankChange) (m n : ℕ) → m ≤ n → IfSome r (λ c. length (numbers_of c) ≤ m) → IfSome r (λ c. length (numbers_of c) ≤ n)
+fewer None m n more few = tt
+fewer (Some c) m n more few = omega (arith, few, more)

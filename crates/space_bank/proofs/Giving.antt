@@ -24,7 +24,7 @@ use Rattle.space_bank.proofs.Ending.{once_of_differ}
 use Rattle.space_bank.proofs.Standing.{serve_tree}
 
 -- what a capability frees, where a bank owns it
-freed_list : (g : Geometry) (os : List Object) (b : ℕ) (c : Capability) (list : List ℕ) → IsNow g os → IsTrue (is_bank (content_at os b)) → NamesItsKind os c
+pub freed_list : (g : Geometry) (os : List Object) (b : ℕ) (c : Capability) (list : List ℕ) → IsNow g os → IsTrue (is_bank (content_at os b)) → NamesItsKind os c
     → freed_by os c ≡ list → 0 < length list → owner_at os (slice_index list 0) ≡ b → MayGiveUp os b list
 freed_list g os b c [] h is names frees some own = absurd (omega arith)
 freed_list g os b c (n ∷ ns) h is names frees some own =

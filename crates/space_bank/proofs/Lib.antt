@@ -1,14 +1,14 @@
 mod Carried
 mod Climbs
 mod Counts
-mod Done
-mod Ending
+pub mod Ending
 mod Found
 mod Giving
 mod Lists
+mod Making
 mod Missing
 mod Owners
-mod Plans
+pub mod Plans
 pub mod Renewing
 mod Returning
 mod Standing

@@ -1,6 +1,6 @@
 -- What is planned is what an order comes to.
-use Rattle.std.proofs.Common.{◌≡◌, ◌+◌, ◌<◌, ◌≤◌, ◌++◌, ◌∙◌, ℕ, true, false, List, [], ◌∷◌, length, refl, sym, ap, subst, arith}
-use Rattle.std.specs.Prelude.{IsTrue}
+use Rattle.std.proofs.Common.{◌≡◌, ◌+◌, ◌<◌, ◌≤◌, ◌++◌, ◌∙◌, ℕ, Bool, true, false, List, [], ◌∷◌, Option, None, Some, length, refl, sym, ap, subst, arith}
+use Rattle.std.specs.Prelude.{IsTrue, if◌then◌else◌, nat_lt, not}
 use Rattle.std.proofs.lemmas.Bool.{eq-eqb, le-ltb, lt-ltb, ne_eqb}
 use Rattle.std.proofs.lemmas.List.{append-nil, length-append}
 use Rattle.model.specs.declared.capability.Capability.{Capability}
@@ -15,127 +15,146 @@ use Rattle.model.specs.declared.order.BankOrder.TheVariants as bank
 use Rattle.model.specs.declared.order.ResultCode.{ResultCode}
 use Rattle.model.specs.declared.order.ResultCode.TheVariants as code
 use Rattle.model.specs.Bank.{chain, usage}
-use Rattle.model.specs.Banking.{freed, freed_by, inherited, owned_by, remaining, under, free_nodes, free_pages, has_room, new_annex, new_node, new_page, new_root, on_bank, with_new}
+use Rattle.model.specs.Banking.{allocated, bank_allocated, free_nodes, free_pages, freed, freed_by, has_room, inherited, on_bank, owned_by, process_allocated, remaining, under, with_new}
 use Rattle.model.specs.Capability.{full}
 use Rattle.model.specs.OrderOutcome.{OrderOutcome, made, refused, told_three}
 use Rattle.model.specs.Object.{is_bank, is_root, limit_in}
 use Rattle.model.specs.Revoke.{rescind}
 use Rattle.model.specs.Sound.{MayBeHeld}
 use Rattle.model.specs.World.{content_at, owner_at}
-use Rattle.capability.specs.Parts.{HaveTheirRoles, Parts, frames_of, objects_in}
+use Rattle.capability.specs.declared.order.BankChange.{BankChange}
+use Rattle.capability.specs.declared.order.Change.TheVariants as change
+use Rattle.capability.specs.declared.order.OrderPlan.{OrderPlan}
+use Rattle.capability.specs.declared.present.Fresh.{Fresh}
+use Rattle.capability.specs.declared.present.Fresh.TheVariants as fresh
+use Rattle.capability.specs.Changes.{bank_changed, reply_of_code}
+use Rattle.capability.specs.Parts.{HaveTheirRoles, Parts, frames_of, fresh_content, objects_in}
+use Rattle.model_laws.proofs.BankUsage.{freed_alike, nodes_alike, owned_alike, pages_alike, remaining_alike, room_alike, under_alike}
+use Rattle.model_laws.proofs.SoundOrders.{IsNow}
+use Rattle.model_laws.proofs.Usage.{SameFrame, chain_same, frame_refl, usage_same}
 use Rattle.capability.proofs.Keeping.{keepable_count, keepable_roles}
 use Rattle.capability.proofs.KindNumbers.{root_number}
-use Rattle.space_bank.specs.declared.plan.BankPlan.{BankPlan}
-use Rattle.space_bank.specs.Banks.{BanksState, IsPlanned, MayAsk}
+use Rattle.space_bank.specs.declared.planning_new.New.{New}
+use Rattle.space_bank.specs.declared.planning_new.New.TheVariants as new
+use Rattle.space_bank.specs.Allocating.{allocated_by, allocating, count_of, given_by, given_for, is_deep, made_for, new_at, new_of, numbers_of, process_at}
+use Rattle.space_bank.specs.Banks.{BanksState, MayAsk}
+use Rattle.space_bank.specs.Carrying.{IsPlanned, MayMake, PlansAs}
 use Rattle.space_bank.specs.Planning.{IsBankOf}
 use Rattle.space_bank.proofs.Walks.{node_of_bank}
 
--- a plan that tells no, one that gives a capability, and one that tells three words
-abbrev pub refusal : ResultCode → BankPlan
-refusal why = record { code = why; words = 0 ∷ 0 ∷ 0 ∷ []; capability = Void }
+-- a plan that tells no, one that makes a change of a bank, and one that tells three words
+abbrev pub refusal : ResultCode → OrderPlan
+refusal why = record { reply = reply_of_code why; change = change.Nothing }
 
-abbrev pub gift : Capability → BankPlan
-gift c = record { code = code.Done; words = 0 ∷ 0 ∷ 0 ∷ []; capability = c }
+abbrev pub making : Capability → BankChange → OrderPlan
+making c made = record { reply = record { code = code.Done; words = 0 ∷ 0 ∷ 0 ∷ []; capability = c }; change = change.Bank made }
 
-abbrev pub answer : ℕ → ℕ → ℕ → BankPlan
-answer a b c = record { code = code.Done; words = a ∷ b ∷ c ∷ []; capability = Void }
+abbrev pub answer : List ℕ → OrderPlan
+answer words = record { reply = record { code = code.Done; words = words; capability = Void }; change = change.Nothing }
 
-pub told_words : (plan : BankPlan) (words : List ℕ) (a b c : ℕ) → plan ≡ record { code = code.Done; words = words; capability = Void } → words ≡ a ∷ b ∷ c ∷ [] →
-    plan ≡ answer a b c
-told_words plan words a b c is are = is ∙ ap (λ (ws : List ℕ). let q : BankPlan = record { code = code.Done; words = ws; capability = Void } in q) are
+module _ (g : Geometry) (os : List Object) (b : ℕ) (order : BankOrder) (args : Arguments) (plan : OrderPlan) where
+  pub refused_as : (why : ResultCode) → ((us : List Object) → SameFrame os us → on_bank g us b order args ≡ refused us why) → plan ≡ refusal why → PlansAs g os b order args [] plan
+  refused_as why is plans = subst (λ (q : OrderPlan). PlansAs g os b order args [] q) (sym plans) (record { outcome = is; may = λ us frame now. refl })
 
-module _ (p : Parts) (b : ℕ) (order : BankOrder) (args : Arguments) (first list : List ℕ) (plan : BankPlan) where
-  pub planned_refused : (os : List Object) (why : ResultCode) → on_bank p.geometry (objects_in p) b order args ≡ refused os why →
-      plan ≡ refusal why → list ≡ first → IsPlanned p b order args first plan list
-  planned_refused os why is plans same = record {
-    code = ap (λ (q : BankPlan). q.code) plans ∙ sym (ap (λ (o : OrderOutcome). o.code) is);
-    words = ap (λ (q : BankPlan). q.words) plans ∙ sym (ap (λ (o : OrderOutcome). o.words) is);
-    capability = ap (λ (q : BankPlan). q.capability) plans ∙ sym (ap (λ (o : OrderOutcome). o.capability) is);
-    listed = same ∙ sym (append-nil first) ∙ sym (ap (λ (o : OrderOutcome). first ++ o.written) is);
-  }
+  pub made_as : (list : List ℕ) (c : Capability) (x : BankChange) → ((us : List Object) → SameFrame os us → on_bank g us b order args ≡ made (bank_changed us list x) list c)
+      → ((us : List Object) → SameFrame os us → IsNow g us → MayMake g us list x) → plan ≡ making c x → PlansAs g os b order args list plan
+  made_as list c x is may plans = subst (λ (q : OrderPlan). PlansAs g os b order args list q) (sym plans) (record { outcome = is; may = may })
 
-  pub planned_made : (os : List Object) (written : List ℕ) (c : Capability) → on_bank p.geometry (objects_in p) b order args ≡ made os written c →
-      plan ≡ gift c → list ≡ first ++ written → IsPlanned p b order args first plan list
-  planned_made os written c is plans same = record {
-    code = ap (λ (q : BankPlan). q.code) plans ∙ sym (ap (λ (o : OrderOutcome). o.code) is);
-    words = ap (λ (q : BankPlan). q.words) plans ∙ sym (ap (λ (o : OrderOutcome). o.words) is);
-    capability = ap (λ (q : BankPlan). q.capability) plans ∙ sym (ap (λ (o : OrderOutcome). o.capability) is);
-    listed = same ∙ sym (ap (λ (o : OrderOutcome). first ++ o.written) is);
-  }
+  pub told_as : (x y z : ℕ) → ((us : List Object) → SameFrame os us → on_bank g us b order args ≡ told_three us x y z) → plan ≡ answer (x ∷ y ∷ z ∷ []) → PlansAs g os b order args [] plan
+  told_as x y z is plans = subst (λ (q : OrderPlan). PlansAs g os b order args [] q) (sym plans) (record { outcome = is; may = λ us frame now. refl })
 
-  pub planned_told : (os : List Object) (x y z : ℕ) → on_bank p.geometry (objects_in p) b order args ≡ told_three os x y z →
-      plan ≡ answer x y z → list ≡ first → IsPlanned p b order args first plan list
-  planned_told os x y z is plans same = record {
-    code = ap (λ (q : BankPlan). q.code) plans ∙ sym (ap (λ (o : OrderOutcome). o.code) is);
-    words = ap (λ (q : BankPlan). q.words) plans ∙ sym (ap (λ (o : OrderOutcome). o.words) is);
-    capability = ap (λ (q : BankPlan). q.capability) plans ∙ sym (ap (λ (o : OrderOutcome). o.capability) is);
-    listed = same ∙ sym (append-nil first) ∙ sym (ap (λ (o : OrderOutcome). first ++ o.written) is);
-  }
+-- what is planned as a list of numbers, and listed
+module _ (p : Parts) (b : ℕ) (order : BankOrder) (args : Arguments) (first list : List ℕ) (plan : OrderPlan) where
+  pub planned_as : (written : List ℕ) → PlansAs p.geometry (objects_in p) b order args written plan → list ≡ first ++ written → IsPlanned p b order args first plan list
+  planned_as written plans is =
+      let same : (on_bank p.geometry (objects_in p) b order args).written ≡ written =
+      ap (λ (o : OrderOutcome). o.written) (plans.outcome (objects_in p) (frame_refl (objects_in p))) in
+      record {
+        plans = subst (λ (ns : List ℕ). PlansAs p.geometry (objects_in p) b order args ns plan) (sym same) plans;
+        listed = is ∙ ap (λ (ns : List ℕ). first ++ ns) (sym same);
+      }
 
--- What orders that make new objects come to: without room, without a free number, and with both.
+  pub planned_none : PlansAs p.geometry (objects_in p) b order args [] plan → list ≡ first → IsPlanned p b order args first plan list
+  planned_none plans is = planned_as [] plans (is ∙ sym (append-nil first))
+
+-- what an order that allocates comes to
+one_allocated : (os : List Object) (b : ℕ) (f : Fresh) (named : ℕ → Capability) → ((n : ℕ) → named n ≡ given_for n f) → (ns : List ℕ)
+    → allocated os b ns (fresh_content Void f) named ≡ allocated_by os false (new_at b f ns)
+one_allocated os b f named are [] = refl
+one_allocated os b f named are (n ∷ ns) = ap (made (with_new os n b (fresh_content Void f)) (n ∷ [])) (are n)
+
+two_allocated : (os : List Object) (b : ℕ) (ns : List ℕ) → process_allocated os b ns ≡ allocated_by os false (process_at b ns)
+two_allocated os b [] = refl
+two_allocated os b (r ∷ []) = refl
+two_allocated os b (r ∷ a ∷ ns) = refl
+
+deep_allocated : (os : List Object) (b limit : ℕ) (ns : List ℕ) → bank_allocated os b ns limit ≡ allocated_by os (is_deep os b (new.Bank limit)) (new_at b (fresh.Bank limit) ns)
+deep_allocated os b limit [] = refl
+deep_allocated os b limit (n ∷ ns) = turned (nat_lt (length (chain os b)) 16) _ _
+  where
+    turned : (short : Bool) (x y : OrderOutcome) → (if short then x else y) ≡ (if not short then y else x)
+    turned true x y = refl
+    turned false x y = refl
+
+pub allocating_is : (g : Geometry) (os : List Object) (b : ℕ) (order : BankOrder) (args : Arguments) (kind : New) → new_of order args ≡ Some kind
+    → on_bank g os b order args ≡ allocating g os b kind
+unfolding on_bank
+allocating_is g os b bank.NewPage args kind is =
+    let e : new.Page ≡ kind = cc in
+    subst (λ (k : New). on_bank g os b bank.NewPage args ≡ allocating g os b k) e
+    (ap (λ (o : OrderOutcome). if has_room os b 1 then o else refused os code.Limit) (one_allocated os b fresh.Page (λ n. Page n full) (λ n. refl) (free_pages g os)))
+allocating_is g os b bank.NewNode args kind is =
+    let e : new.Node ≡ kind = cc in
+    subst (λ (k : New). on_bank g os b bank.NewNode args ≡ allocating g os b k) e
+    (ap (λ (o : OrderOutcome). if has_room os b 1 then o else refused os code.Limit) (one_allocated os b fresh.Node (λ n. Node n full) (λ n. refl) (free_nodes g os)))
+allocating_is g os b bank.NewProcess args kind is =
+    let e : new.Process ≡ kind = cc in
+    subst (λ (k : New). on_bank g os b bank.NewProcess args ≡ allocating g os b k) e
+    (ap (λ (o : OrderOutcome). if has_room os b 2 then o else refused os code.Limit) (two_allocated os b (free_nodes g os)))
+allocating_is g os b bank.NewBank args kind is =
+    let e : new.Bank args.first ≡ kind = cc in
+    subst (λ (k : New). on_bank g os b bank.NewBank args ≡ allocating g os b k) e
+    (ap (λ (o : OrderOutcome). if has_room os b 1 then o else refused os code.Limit) (deep_allocated os b args.first (free_nodes g os)))
+allocating_is g os b bank.Free args kind is = cc
+allocating_is g os b bank.Destroy args kind is = cc
+allocating_is g os b bank.ReturnToParent args kind is = cc
+allocating_is g os b bank.Remaining args kind is = cc
+
+-- where the frame is the same, the same is made
+module _ (os us : List Object) (frame : SameFrame os us) (g : Geometry) (b : ℕ) where
+  pub made_alike : (kind : New) → made_for g us b kind ≡ made_for g os b kind
+  made_alike new.Page = ap (new_at b fresh.Page) (pages_alike os us frame g)
+  made_alike new.Node = ap (new_at b fresh.Node) (nodes_alike os us frame g)
+  made_alike new.Process = ap (process_at b) (nodes_alike os us frame g)
+  made_alike (new.Bank limit) = ap (new_at b (fresh.Bank limit)) (nodes_alike os us frame g)
+
+  pub deep_alike : (kind : New) → is_deep us b kind ≡ is_deep os b kind
+  deep_alike new.Page = refl
+  deep_alike new.Node = refl
+  deep_alike new.Process = refl
+  deep_alike (new.Bank limit) = ap (λ (xs : List ℕ). not (nat_lt (length xs) 16)) (chain_same os us frame b)
+
+-- by the tests that the code makes
+module _ (g : Geometry) (os : List Object) (b : ℕ) (order : BankOrder) (args : Arguments) (kind : New) (is : new_of order args ≡ Some kind) (us : List Object) (frame : SameFrame os us) where
+  pub new_limit : has_room os b (count_of kind) ≡ false → on_bank g us b order args ≡ refused us code.Limit
+  new_limit full = allocating_is g us b order args kind is ∙ rw (room_alike os us frame b (count_of kind), full) refl
+
+  pub new_none : has_room os b (count_of kind) ≡ true → made_for g os b kind ≡ None → on_bank g us b order args ≡ refused us code.NoFrame
+  new_none room none = allocating_is g us b order args kind is ∙ rw (room_alike os us frame b (count_of kind), room, made_alike os us frame g b kind, none) refl
+
+  pub new_deep : (c : BankChange) → has_room os b (count_of kind) ≡ true → made_for g os b kind ≡ Some c → is_deep os b kind ≡ true → on_bank g us b order args ≡ refused us code.TooDeep
+  new_deep c room some deep =
+      allocating_is g us b order args kind is
+      ∙ rw (room_alike os us frame b (count_of kind), room, made_alike os us frame g b kind, some, deep_alike os us frame g b kind, deep) refl
+
+  pub new_made : (c : BankChange) → has_room os b (count_of kind) ≡ true → made_for g os b kind ≡ Some c → is_deep os b kind ≡ false
+      → on_bank g us b order args ≡ made (bank_changed us (numbers_of c) c) (numbers_of c) (given_by c)
+  new_made c room some short =
+      allocating_is g us b order args kind is
+      ∙ rw (room_alike os us frame b (count_of kind), room, made_alike os us frame g b kind, some, deep_alike os us frame g b kind, short) refl
+
+-- what orders that give up come to
 module _ (g : Geometry) (os : List Object) (b : ℕ) (args : Arguments) where
-  pub page_limit : has_room os b 1 ≡ false → on_bank g os b bank.NewPage args ≡ refused os code.Limit
-  unfolding on_bank
-  page_limit full = rw full refl
-
-  pub page_none : has_room os b 1 ≡ true → free_pages g os ≡ [] → on_bank g os b bank.NewPage args ≡ refused os code.NoFrame
-  unfolding on_bank
-  page_none room none = rw (room, none) refl
-
-  pub page_new : (n : ℕ) (ns : List ℕ) → has_room os b 1 ≡ true → free_pages g os ≡ n ∷ ns →
-      on_bank g os b bank.NewPage args ≡ made (with_new os n b new_page) (n ∷ []) (Page n full)
-  unfolding on_bank
-  page_new n ns room some = rw (room, some) refl
-
-  pub node_limit : has_room os b 1 ≡ false → on_bank g os b bank.NewNode args ≡ refused os code.Limit
-  unfolding on_bank
-  node_limit full = rw full refl
-
-  pub node_none : has_room os b 1 ≡ true → free_nodes g os ≡ [] → on_bank g os b bank.NewNode args ≡ refused os code.NoFrame
-  unfolding on_bank
-  node_none room none = rw (room, none) refl
-
-  pub node_new : (n : ℕ) (ns : List ℕ) → has_room os b 1 ≡ true → free_nodes g os ≡ n ∷ ns →
-      on_bank g os b bank.NewNode args ≡ made (with_new os n b new_node) (n ∷ []) (Node n full)
-  unfolding on_bank
-  node_new n ns room some = rw (room, some) refl
-
-  pub process_limit : has_room os b 2 ≡ false → on_bank g os b bank.NewProcess args ≡ refused os code.Limit
-  unfolding on_bank
-  process_limit full = rw full refl
-
-  pub process_none : has_room os b 2 ≡ true → free_nodes g os ≡ [] → on_bank g os b bank.NewProcess args ≡ refused os code.NoFrame
-  unfolding on_bank
-  process_none room none = rw (room, none) refl
-
-  pub process_one : (n : ℕ) → has_room os b 2 ≡ true → free_nodes g os ≡ n ∷ [] → on_bank g os b bank.NewProcess args ≡ refused os code.NoFrame
-  unfolding on_bank
-  process_one n room one = rw (room, one) refl
-
-  pub process_new : (n a : ℕ) (ns : List ℕ) → has_room os b 2 ≡ true → free_nodes g os ≡ n ∷ a ∷ ns →
-      on_bank g os b bank.NewProcess args ≡ made (with_new (with_new os n b (new_root a)) a b new_annex) (n ∷ a ∷ []) (Process n)
-  unfolding on_bank
-  process_new n a ns room two = rw (room, two) refl
-
-  pub bank_limit : has_room os b 1 ≡ false → on_bank g os b bank.NewBank args ≡ refused os code.Limit
-  unfolding on_bank
-  bank_limit full = rw full refl
-
-  pub bank_none : has_room os b 1 ≡ true → free_nodes g os ≡ [] → on_bank g os b bank.NewBank args ≡ refused os code.NoFrame
-  unfolding on_bank
-  bank_none room none = rw (room, none) refl
-
-  pub bank_deep : (n : ℕ) (ns : List ℕ) → has_room os b 1 ≡ true → free_nodes g os ≡ n ∷ ns → 16 ≤ length (chain os b) →
-      on_bank g os b bank.NewBank args ≡ refused os code.TooDeep
-  unfolding on_bank
-  bank_deep n ns room some deep = rw (room, some, le-ltb (length (chain os b)) 16 deep) refl
-
-  pub bank_new : (n : ℕ) (ns : List ℕ) → has_room os b 1 ≡ true → free_nodes g os ≡ n ∷ ns → length (chain os b) < 16 →
-      on_bank g os b bank.NewBank args ≡ made (with_new os n b (content.Bank args.first)) (n ∷ []) (Bank n)
-  unfolding on_bank
-  bank_new n ns room some short = rw (room, some, lt-ltb (length (chain os b)) 16 short) refl
-
-  -- what orders that give up come to
   pub frees_none : (c : Capability) → args.capability ≡ c → freed_by os c ≡ [] → on_bank g os b bank.Free args ≡ refused os code.BadCapability
   unfolding on_bank
   frees_none c is none = ap (λ (d : Capability). freed os b (freed_by os d)) is ∙ ap (freed os b) none
@@ -176,6 +195,28 @@ module _ (g : Geometry) (os : List Object) (b : ℕ) (args : Arguments) where
   unfolding on_bank
   remaining_told = refl
 
+-- the same where the frame is the same, by what was read before
+module _ (g : Geometry) (os : List Object) (b : ℕ) (args : Arguments) (us : List Object) (frame : SameFrame os us) where
+  pub frees_none_there : (c : Capability) → args.capability ≡ c → freed_by os c ≡ [] → on_bank g us b bank.Free args ≡ refused us code.BadCapability
+  frees_none_there c is none = frees_none g us b args c is (freed_alike os us frame c ∙ none)
+
+  pub frees_other_there : (c : Capability) (n : ℕ) (ns : List ℕ) → args.capability ≡ c → freed_by os c ≡ n ∷ ns → (owner_at os n ≡ b → ⊥) →
+      on_bank g us b bank.Free args ≡ refused us code.NotFromThisBank
+  frees_other_there c n ns is some other = frees_other g us b args c n ns is (freed_alike os us frame c ∙ some) (λ e. other (sym (frame.alike n).owner ∙ e))
+
+  pub frees_own_there : (c : Capability) (n : ℕ) (ns : List ℕ) → args.capability ≡ c → freed_by os c ≡ n ∷ ns → owner_at os n ≡ b →
+      on_bank g us b bank.Free args ≡ made (rescind (n ∷ ns) us) (n ∷ ns) Void
+  frees_own_there c n ns is some own = frees_own g us b args c n ns is (freed_alike os us frame c ∙ some) ((frame.alike n).owner ∙ own)
+
+  pub destroy_there : (b ≡ 0 → ⊥) → on_bank g us b bank.Destroy args ≡ made (rescind (under os b) us) (under os b) Void
+  destroy_there other = destroy_all g us b args other ∙ ap (λ (ns : List ℕ). made (rescind ns us) ns Void) (under_alike os us frame b)
+
+  pub return_there : (b ≡ 0 → ⊥) → on_bank g us b bank.ReturnToParent args ≡ made (rescind (b ∷ []) (inherited us b)) (b ∷ owned_by os b) Void
+  return_there other = return_all g us b args other ∙ ap (λ (ns : List ℕ). made (rescind (b ∷ []) (inherited us b)) (b ∷ ns) Void) (owned_alike os us frame b)
+
+  pub remaining_there : on_bank g us b bank.Remaining args ≡ told_three us (remaining os b) (usage os b) (limit_in (content_at os b))
+  remaining_there = remaining_told g us b args ∙ rw (remaining_alike os us frame b, usage_same os us frame b, (frame.alike b).limit) refl
+
 -- what a bank that is asked leaves room for, and what its frames are
 module _ (p : Parts) (s : BanksState) (b : ℕ) (h : IsBankOf p s b) where
   pub bank_roles : HaveTheirRoles (frames_of p)
@@ -205,29 +246,6 @@ process_room p s t b c q n h sent is few listed =
     let other : q ≡ b → ⊥ = λ e. root_not_bank (content_at os b) (subst (λ (m : ℕ). IsTrue (is_root (content_at os m))) e process) h.bank in
     omega (arith, node_of_bank p s b h, h.counted.room, ap (λ (u : BanksState). length u.listed) listed, length-append s.listed (n ∷ []), ap (λ (u : BanksState). u.room) listed)
 
--- a bank that may be asked is one, whatever was listed
-pub bank_asked : (p : Parts) (s t : BanksState) (b : ℕ) (args : Arguments) (list : List ℕ) → MayAsk p s b args → t ≡ record s { listed = list } → IsBankOf p t b
-bank_asked p s t b args list h is =
-    let listed : IsBankOf p (record s { listed = list }) b = record {
-      sound = h.sound;
-      counted = record {
-        nodes = h.counted.nodes;
-        pages = h.counted.pages;
-        node = h.counted.node;
-        page = h.counted.page;
-        usage_each = h.counted.usage_each;
-        limit_each = h.counted.limit_each;
-        usage = h.counted.usage;
-        limit = h.counted.limit;
-        room = h.counted.room;
-      };
-      bank = h.bank;
-    } in
-    subst (λ (u : BanksState). IsBankOf p u b) (sym is) listed
-
--- what is planned behind a list is planned behind the same list
-pub planned_behind : (p : Parts) (b : ℕ) (order asked : BankOrder) (args : Arguments) (first mid list : List ℕ) (plan : BankPlan) → order ≡ asked → mid ≡ first →
-    IsPlanned p b asked args mid plan list → IsPlanned p b order args first plan list
-planned_behind p b order asked args first mid list plan same is planned =
-    subst (λ (o : BankOrder). IsPlanned p b o args first plan list) (sym same)
-    (subst (λ (xs : List ℕ). IsPlanned p b asked args xs plan list) is planned)
+-- a bank that may be asked is one
+pub bank_asked : (p : Parts) (s : BanksState) (b : ℕ) (args : Arguments) → MayAsk p s b args → IsBankOf p s b
+bank_asked p s b args h = record { sound = h.sound; counted = h.counted; bank = h.bank }

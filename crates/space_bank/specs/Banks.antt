@@ -1,17 +1,13 @@
 -- What is counted of banks, beside the objects, and what their orders come to.
-use Rattle.std.specs.Prelude.{◌≡◌, ℕ, ◌+◌, ◌<◌, ◌≤◌, ◌++◌, Bool, true, false, List, length, slice_index, IsTrue}
+use Rattle.std.specs.Prelude.{◌≡◌, ℕ, ◌+◌, ◌<◌, ◌≤◌, Bool, false, List, length, slice_index, IsTrue}
 use Rattle.model.specs.declared.geometry.Geometry.{Geometry}
 use Rattle.model.specs.declared.object.Object.{Object}
 use Rattle.model.specs.declared.order.Arguments.{Arguments}
-use Rattle.model.specs.declared.order.BankOrder.{BankOrder}
-use Rattle.model.specs.declared.order.BankOrder.TheVariants.{NewPage, NewNode, NewProcess, NewBank}
 use Rattle.model.specs.Bank.{usage}
-use Rattle.model.specs.Banking.{on_bank}
 use Rattle.model.specs.Object.{is_bank, is_free, limit_in}
 use Rattle.model.specs.Sound.{MayBeHeld, object_count}
 use Rattle.model.specs.World.{content_at}
 use Rattle.capability.specs.Parts.{AreSound, Parts, Renews, objects_in}
-use Rattle.space_bank.specs.declared.plan.BankPlan.{BankPlan}
 use Rattle.number_set.specs.Marks.{is_marked}
 
 -- Which nodes and which pages are free, counted from the first of each; by number of a bank how many objects it
@@ -42,21 +38,6 @@ pub record MayAsk (p : Parts) (s : BanksState) (b : ℕ) (args : Arguments) : Ty
   pub counted : AreCounted p.geometry (objects_in p) s
   pub bank : IsTrue (is_bank (content_at (objects_in p) b))
   pub sent : MayBeHeld (objects_in p) args.capability
-
--- what a plan tells, and what it lists, behind the numbers that the invocation writes itself
-pub record IsPlanned (p : Parts) (b : ℕ) (order : BankOrder) (args : Arguments) (first : List ℕ) (plan : BankPlan) (list : List ℕ) : Type 0 where
-  pub code : plan.code ≡ (on_bank p.geometry (objects_in p) b order args).code
-  pub words : plan.words ≡ (on_bank p.geometry (objects_in p) b order args).words
-  pub capability : plan.capability ≡ (on_bank p.geometry (objects_in p) b order args).capability
-  pub listed : list ≡ first ++ (on_bank p.geometry (objects_in p) b order args).written
-
--- an order that makes new objects
-abbrev pub is_new : BankOrder → Bool
-is_new NewPage = true
-is_new NewNode = true
-is_new NewProcess = true
-is_new NewBank = true
-is_new _ = false
 
 -- What lies beside the objects goes on as it was, counts of allocations rise where objects are given up, and what
 -- isn't free stays fetched and announced. The parameters are ghost members of a store of present frames.

@@ -1,17 +1,28 @@
 -- What the orders of a bank ask, and what they leave.
-use Rattle.std.specs.Prelude.{◌≡◌, ℕ, ◌+◌, ◌^◌, ◌<◌, ◌++◌, Bool, true, false, List, length, slice_index, if◌then◌else◌, IsTrue}
+use Rattle.std.specs.Prelude.{◌≡◌, ◌≢◌, [], ◌∷◌, ℕ, ◌+◌, ◌^◌, ◌<◌, ◌++◌, Bool, true, false, List, length, slice_index, if◌then◌else◌, IsTrue}
 use Rattle.model.specs.declared.capability.Capability.{Capability}
+use Rattle.model.specs.declared.geometry.Geometry.{Geometry}
 use Rattle.model.specs.declared.object.Object.{Object}
+use Rattle.model.specs.declared.order.Arguments.{Arguments}
+use Rattle.model.specs.declared.order.BankOrder.{BankOrder}
 use Rattle.model.specs.Bank.{chain, usage}
-use Rattle.model.specs.Banking.{freed_by}
+use Rattle.model.specs.Banking.{freed_by, has_room, on_bank, owned_by}
 use Rattle.model.specs.Keepable.{AreCurrent, AreKeepable}
 use Rattle.model.specs.Object.{is_bank, is_free}
 use Rattle.model.specs.Revoke.{is_member, rescind}
 use Rattle.model.specs.Sound.{MayBeHeld}
 use Rattle.model.specs.World.{content_at, object_at, owner_at}
+use Rattle.model_laws.proofs.SoundOrders.{IsNow}
+use Rattle.model_laws.proofs.Usage.{SameFrame}
+use Rattle.capability.specs.declared.order.BankChange.{BankChange}
+use Rattle.capability.specs.declared.order.BankChange.TheVariants as bank
+use Rattle.capability.specs.declared.order.Change.{Change}
+use Rattle.capability.specs.declared.order.Change.TheVariants as change
+use Rattle.capability.specs.declared.order.OrderPlan.{OrderPlan}
 use Rattle.capability.specs.declared.present.Fresh.{Fresh}
 use Rattle.capability.specs.declared.present.Fresh.TheVariants as fresh
-use Rattle.capability.specs.Parts.{AreSound, IsOnce, Parts, frames_of, objects_in}
+use Rattle.capability.specs.Changes.{outcome_by}
+use Rattle.capability.specs.Parts.{AreSound, IsFreshAt, IsOnce, Parts, frames_of, objects_in}
 use Rattle.space_bank.specs.Banks.{AreCounted, BanksState}
 
 -- which numbers are marked as free, those of nodes and then those of pages
@@ -57,3 +68,63 @@ pub record MayGiveUp (os : List Object) (above : ℕ) (list : List ℕ) : Type 0
 pub record AreHandedOn (list : List ℕ) (b : ℕ) (old new : List Object) : Type 0 where
   pub size : length new ≡ length old
   pub each : (n : ℕ) → object_at new n ≡ (if is_member list n then record { owner = b; content = content_at old n } else object_at old n)
+
+-- a new object that is a page, a node, or a bank under a chain that isn't as long as it may be
+abbrev pub IsMadeUnder : List Object → ℕ → Fresh → Type 0
+IsMadeUnder os b fresh.Page = Unit {0}
+IsMadeUnder os b fresh.Node = Unit {0}
+IsMadeUnder os b (fresh.Bank limit) = length (chain os b) < 16
+IsMadeUnder os b (fresh.Root annex) = ⊥
+IsMadeUnder os b fresh.Annex = ⊥
+
+-- what a bank may make: one new object, a process, or the end of objects
+pub record MakesOne (g : Geometry) (os : List Object) (list : List ℕ) (n : ℕ) (f : Fresh) (b : ℕ) : Type 0 where
+  pub listed : list ≡ n ∷ []
+  pub bank : IsTrue (is_bank (content_at os b))
+  pub room : IsTrue (has_room os b 1)
+  pub unused : IsTrue (is_free (content_at os n))
+  pub place : IsFreshAt g n f
+  pub kind : IsMadeUnder os b f
+
+pub record MakesTwo (g : Geometry) (os : List Object) (list : List ℕ) (r a b : ℕ) : Type 0 where
+  pub listed : list ≡ r ∷ a ∷ []
+  pub bank : IsTrue (is_bank (content_at os b))
+  pub room : IsTrue (has_room os b 2)
+  pub unused : IsTrue (is_free (content_at os r))
+  pub annex_unused : IsTrue (is_free (content_at os a))
+  pub two : a ≢ r
+  pub place : r < g.nodes
+  pub annex_place : a < g.nodes
+
+pub record GivesUp (os : List Object) (list : List ℕ) (above : ℕ) : Type 0 where
+  pub bank : IsTrue (is_bank (content_at os above))
+  pub gives : MayGiveUp os above list
+
+pub record HandsOn (os : List Object) (list : List ℕ) (b : ℕ) : Type 0 where
+  pub bank : IsTrue (is_bank (content_at os b))
+  pub other : b ≢ 0
+  pub listed : list ≡ b ∷ owned_by os b
+
+-- a change of a bank may be made, whose order writes the numbers of a list
+abbrev pub MayMake : Geometry → List Object → List ℕ → BankChange → Type 0
+MayMake g os list (bank.Make n f b) = MakesOne g os list n f b
+MayMake g os list (bank.MakeProcess r a b) = MakesTwo g os list r a b
+MayMake g os list (bank.GiveUp above) = GivesUp os list above
+MayMake g os list (bank.HandOn b) = HandsOn os list b
+
+-- a change that an order of a bank may make
+abbrev pub IsForBank : Geometry → List Object → List ℕ → Change → Type 0
+IsForBank g os list change.Nothing = list ≡ []
+IsForBank g os list (change.Bank made) = MayMake g os list made
+IsForBank g os list _ = ⊥
+
+-- An order is planned that writes the numbers of a list. Whatever else changes in words, slots and states before it is
+-- carried out, it comes to what the plan says, and the change may be made.
+pub record PlansAs (g : Geometry) (os : List Object) (b : ℕ) (order : BankOrder) (args : Arguments) (written : List ℕ) (plan : OrderPlan) : Type 0 where
+  pub outcome : (us : List Object) → SameFrame os us → on_bank g us b order args ≡ outcome_by us written plan
+  pub may : (us : List Object) → SameFrame os us → IsNow g us → IsForBank g us written plan.change
+
+-- a plan, and what is listed, behind the numbers that the invocation writes itself
+pub record IsPlanned (p : Parts) (b : ℕ) (order : BankOrder) (args : Arguments) (first : List ℕ) (plan : OrderPlan) (list : List ℕ) : Type 0 where
+  pub plans : PlansAs p.geometry (objects_in p) b order args (on_bank p.geometry (objects_in p) b order args).written plan
+  pub listed : list ≡ first ++ (on_bank p.geometry (objects_in p) b order args).written

@@ -2,6 +2,8 @@
 use Rattle.std.specs.Prelude.{◌≡◌, ℕ, ◌+◌, ◌<◌, ◌≤◌, ◌++◌, Bool, true, false, IsTrue, List, [], ◌∷◌, length}
 use Rattle.model.specs.declared.capability.Capability.{Capability}
 use Rattle.model.specs.declared.capability.Capability.TheVariants.{Process}
+use Rattle.model.specs.declared.command.Operation.{Operation}
+use Rattle.model.specs.declared.command.Operation.TheVariants.{Call, Return, Send}
 use Rattle.model.specs.declared.object.Object.{Object}
 use Rattle.model.specs.Object.{is_bank, is_free}
 use Rattle.model.specs.World.{annex_at, content_at}
@@ -35,3 +37,14 @@ pub record IsNextUsed (os : List Object) (from n : ℕ) : Type 0 where
 -- all are free from a number on
 abbrev pub HasNoneUsed : List Object → ℕ → Type 0
 HasNoneUsed os from = (m : ℕ) → from ≤ m → m < length os → is_free (content_at os m) ≡ true
+
+-- the numbers that an invocation of a kernel object writes itself: with a call the process and its annex, with a
+-- return the process
+abbrev pub writers : Operation → ℕ → ℕ → List ℕ
+writers operation p annex = elim operation [ Call ↦ p ∷ annex ∷ [] | Return ↦ p ∷ [] | Send ↦ [] ]
+
+-- how many they are
+abbrev pub writer_count : Operation → ℕ
+writer_count Call = 2
+writer_count Return = 1
+writer_count Send = 0

@@ -1,81 +1,73 @@
-// An order of a bank is carried out.
-ghost use Rattle.std.specs.Prelude.{◌≡◌, ℕ, ◌+◌, ◌^◌, ◌<◌, true, drop, length, slice_index};
+// A change of a bank is made.
+ghost use Rattle.std.specs.Prelude.{◌≡◌, ◌≤◌, drop, length, IsTrue};
 ghost use Rattle.std.specs.List.{All};
-ghost use Rattle.model.specs.Banking.{on_bank};
-ghost use Rattle.model.specs.Keepable.{AreCurrent, AreKeepable};
-ghost use Rattle.capability.specs.Parts.{frames_of, objects_in};
-ghost use Rattle.space_bank.specs.Banks.{AreCounted, KeepsObjects, MayAsk, is_new};
+ghost use Rattle.model.specs.Banking.{has_room, with_new};
+ghost use Rattle.model.specs.Object.{is_free};
+ghost use Rattle.model.specs.World.{content_at};
+ghost use Rattle.capability.specs.Changes.{bank_changed};
+ghost use Rattle.capability.specs.Parts.{AreSound, IsFreshAt, KeepsAside, fresh_content, objects_in};
+ghost use Rattle.space_bank.specs.Allocating.{numbers_of};
+ghost use Rattle.space_bank.specs.Banks.{AreCounted, KeepsObjects};
+ghost use Rattle.space_bank.specs.Carrying.{CarriesOut, IsMadeUnder, MayMake, MayServe};
 
 use crate::banks::Banks;
-use capability::{Fresh, PresentFrames};
-use model::{Arguments, BankOrder, ResultCode};
+use capability::{BankChange, Fresh, PresentFrames};
+use model::Capability;
 
 impl Banks {
-    /// Carries out an order that was planned as done, whose numbers are listed from `skip` on. What
-    /// it writes is announced, and where it makes new objects fetched too.
+    /// Makes a change that was planned, whose order's numbers are listed from `skip` on. They are
+    /// announced, and those of new objects fetched.
     ///
-    /// Takes no memory, and can't fail. `Destroy` and `ReturnToParent` go over the numbers listed,
-    /// and every other order over at most 16 banks.
-    pub fn carry_out<F: PresentFrames>(
-        &mut self,
-        store: &mut F,
-        skip: usize,
-        bank: u64,
-        order: BankOrder,
-        arguments: Arguments,
-    )
-        requires asks { MayAsk (F.parts store.old) self.old bank arguments }
-        requires done { (on_bank (F.parts store.old).geometry
-            (objects_in (F.parts store.old)) bank order arguments).code
-            ≡ ResultCode.Done }
-        requires listed { drop skip self.old.listed
-            ≡ (on_bank (F.parts store.old).geometry (objects_in (F.parts store.old))
-            bank order arguments).written }
+    /// Takes no memory, and can't fail. Where objects are given up or handed on, it goes over the
+    /// numbers listed, and else over at most 16 banks.
+    pub fn carry_out<F: PresentFrames>(&mut self, store: &mut F, skip: usize, change: BankChange)
+        requires sound { AreSound (F.parts store.old) }
+        requires counted { AreCounted (F.parts store.old).geometry
+            (objects_in (F.parts store.old)) self.old }
+        requires may { MayMake (F.parts store.old).geometry (objects_in (F.parts store.old))
+            (drop skip self.old.listed) change }
+        requires within { skip ≤ length self.old.listed }
         requires announced { All (F.IsAnnounced store.old) (drop skip self.old.listed) }
-        requires fetched { is_new order ≡ true
-            → All (F.IsFetched store.old) (drop skip self.old.listed) }
+        requires fetched { All (F.IsFetched store.old) (numbers_of change) }
         ensures objects { objects_in (F.parts store.new)
-            ≡ (on_bank (F.parts store.old).geometry (objects_in (F.parts store.old))
-            bank order arguments).objects }
-        ensures counted { AreCounted (F.parts store.old).geometry
-            (objects_in (F.parts store.new)) self.new }
-        ensures current { AreCurrent (frames_of (F.parts store.new)) }
-        ensures keepable { (age : ℕ) → age + 1 < 2 ^ 64
-            → AreKeepable (F.parts store.old).geometry age (frames_of (F.parts store.old))
-            → AreKeepable (F.parts store.old).geometry (age + 1) (frames_of (F.parts store.new)) }
+            ≡ bank_changed (objects_in (F.parts store.old)) (drop skip self.old.listed) change }
+        ensures carried { CarriesOut (F.parts store.old) (F.parts store.new) self.new }
         ensures aside { KeepsObjects F.parts F.IsFetched F.IsAnnounced F.LeadsTo store.old
             store.new }
     {
-        match order {
-            BankOrder::NewPage => {
-                let number = self.listed_at(skip, 0);
-                self.allocate(store, number, Fresh::Page, bank);
+        match change {
+            BankChange::Make {
+                number,
+                fresh,
+                bank,
+            } => self.make_one(store, number, fresh, bank),
+            BankChange::MakeProcess { root, annex, bank } => {
+                self.new_process(store, root, annex, bank)
             }
-            BankOrder::NewNode => {
-                let number = self.listed_at(skip, 0);
-                self.allocate(store, number, Fresh::Node, bank);
-            }
-            BankOrder::NewProcess => {
-                let root = self.listed_at(skip, 0);
-                let annex = self.listed_at(skip, 1);
-                self.new_process(store, root, annex, bank);
-            }
-            BankOrder::NewBank => {
-                let number = self.listed_at(skip, 0);
-                self.sub_bank(store, number, bank, arguments.first);
-            }
-            BankOrder::Free => self.free(store, skip, bank),
-            BankOrder::Destroy => self.destroy(store, skip, bank),
-            BankOrder::ReturnToParent => self.return_to_parent(store, skip, bank),
-            BankOrder::Remaining => {}
+            BankChange::GiveUp { above } => self.give_up(store, skip, above),
+            BankChange::HandOn { bank } => self.return_to_parent(store, skip, bank),
         }
     }
 
-    // The number listed so many places behind `skip`.
-    fn listed_at(&self, skip: usize, place: usize) -> u64
-        requires { skip + place < length self.now.listed }
-        ensures { result ≡ slice_index self.now.listed (skip + place) }
+    // Makes a free number a page, a node or a bank.
+    fn make_one<F: PresentFrames>(&mut self, store: &mut F, number: u64, fresh: Fresh, bank: u64)
+        requires asks { MayServe (F.parts store.old) self.old bank }
+        requires room { IsTrue (has_room (objects_in (F.parts store.old)) bank 1) }
+        requires free { IsTrue
+            (is_free (content_at (objects_in (F.parts store.old)) number)) }
+        requires place { IsFreshAt (F.parts store.old).geometry number fresh }
+        requires kind { IsMadeUnder (objects_in (F.parts store.old)) bank fresh }
+        requires fetched { F.IsFetched store.old number }
+        requires announced { F.IsAnnounced store.old number }
+        ensures objects { objects_in (F.parts store.new)
+            ≡ with_new (objects_in (F.parts store.old)) number bank
+            (fresh_content Capability.Void fresh) }
+        ensures carried { CarriesOut (F.parts store.old) (F.parts store.new) self.new }
+        ensures aside { KeepsAside F.parts F.IsFetched F.IsAnnounced F.LeadsTo store.old store.new }
     {
-        self.listed[skip + place]
+        match fresh {
+            Fresh::Bank { limit } => self.sub_bank(store, number, bank, limit),
+            _ => self.allocate(store, number, fresh, bank),
+        }
     }
 }

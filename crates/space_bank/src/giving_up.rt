@@ -73,7 +73,7 @@ impl Banks {
     }
 
     // Gives up what is listed from `skip` on, which the chain of a bank accounted for.
-    fn give_up<F: PresentFrames>(&mut self, store: &mut F, skip: usize, above: u64)
+    pub(crate) fn give_up<F: PresentFrames>(&mut self, store: &mut F, skip: usize, above: u64)
         requires asks { MayServe (F.parts store.old) self.old above }
         requires gives { MayGiveUp (objects_in (F.parts store.old)) above
             (drop skip self.old.listed) }

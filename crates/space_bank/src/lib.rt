@@ -12,11 +12,10 @@ mod giving_up;
 mod handing;
 mod listing;
 mod marking;
-mod plan;
 mod planning;
+mod planning_new;
 mod walking;
 
 pub use banks::Banks;
 pub use counting::{count_usages, read_limits};
-pub use plan::BankPlan;
 pub use walking::is_in_chain;

@@ -5,12 +5,13 @@ ghost use Rattle.model.specs.Banking.{owned_by, under};
 ghost use Rattle.model.specs.Object.{is_free};
 ghost use Rattle.model.specs.World.{content_at, owner_at};
 ghost use Rattle.capability.specs.Parts.{HaveTheirRoles, frames_of, objects_in};
-ghost use Rattle.space_bank.specs.Planning.{AreFree, IsBankOf};
+ghost use Rattle.space_bank.specs.Planning.{AreFree, IsBankOf, writers};
 
 use crate::banks::Banks;
 use crate::marking::next_used;
 use crate::walking::{is_under, owner};
-use capability::PresentFrames;
+use capability::{Caller, PresentFrames};
+use model::Operation;
 use number_set::NumberSet;
 
 // Lists a bank and all that is under it, by number. Goes over the numbers that aren't free.
@@ -70,29 +71,28 @@ fn list_owned<F: PresentFrames>(
     }
 }
 
-// Lists these numbers.
-fn list_each(numbers: &[u64], listed: &mut Vec<u64>)
-    requires { vec_len listed.old + length numbers.now ≤ vec_capacity listed.old }
-    ensures listed { listed.new.items ≡ listed.old.items ++ numbers.now }
-    ensures room { vec_capacity listed.new ≡ vec_capacity listed.old }
-{
-    for number in numbers {
-        listed.push_reserved(*number);
-    }
-}
-
 impl Banks {
-    // Lists these numbers alone.
-    pub(crate) fn list_only(&mut self, numbers: &[u64])
-        requires { length numbers.now ≤ self.old.room }
-        ensures { self.new ≡ record self.old { listed = numbers.now } }
+    /// Lists the numbers that an invocation of a kernel object writes itself, and these alone: with a
+    /// call the process and its annex, with a return the process.
+    pub fn list_writers(&mut self, caller: Caller)
+        requires { 2 ≤ self.old.room }
+        ensures { self.new ≡ record self.old {
+          listed = writers caller.operation caller.process caller.annex;
+        } }
     {
         self.listed.clear();
-        list_each(numbers, &mut self.listed);
+        match caller.operation {
+            Operation::Call => {
+                self.listed.push_reserved(caller.process);
+                self.listed.push_reserved(caller.annex);
+            }
+            Operation::Return => self.listed.push_reserved(caller.process),
+            Operation::Send => {}
+        }
     }
 
-    // Lists a number behind those that are listed.
-    pub(crate) fn list(&mut self, number: u64)
+    /// Lists a number behind those that are listed.
+    pub fn list(&mut self, number: u64)
         requires { length self.old.listed < self.old.room }
         ensures { self.new ≡ record self.old { listed = self.old.listed ++ number ∷ [] } }
     {

@@ -8,13 +8,14 @@ ghost use Rattle.model.specs.Object.{limit_in};
 ghost use Rattle.model.specs.Sound.{MayBeHeld};
 ghost use Rattle.model.specs.World.{content_at};
 ghost use Rattle.capability.specs.Parts.{objects_in};
-ghost use Rattle.space_bank.specs.Banks.{IsPlanned, MayAsk};
+ghost use Rattle.space_bank.specs.Banks.{MayAsk};
+ghost use Rattle.space_bank.specs.Carrying.{IsPlanned};
 ghost use Rattle.space_bank.specs.Planning.{IsBankOf, annex_of};
 
 use crate::banks::Banks;
-use crate::plan::BankPlan;
-use crate::walking::{MAX_CHAIN, chain_length, owner};
-use capability::{PresentFrames, objects};
+use crate::planning_new::New;
+use crate::walking::owner;
+use capability::{BankChange, Change, OrderPlan, PresentFrames, objects};
 use model::{Access, Arguments, BankOrder, Capability, ResultCode};
 
 // The object that a capability frees, the root of a process: none where it frees nothing.
@@ -36,36 +37,38 @@ fn freed_object(capability: Capability) -> Option<u64>
 }
 
 impl Banks {
-    /// What an order comes to. Lists the numbers `first`, and behind them those that it writes.
+    /// What an order comes to. Lists the numbers that it writes behind those that are listed, two at
+    /// most.
     ///
     /// Changes nothing else and takes no memory. A new object is planned at the least number that
     /// is free. Where more than one code applies, the least is told.
     pub fn plan<F: PresentFrames>(
         &mut self,
         store: &F,
-        first: &[u64],
         bank: u64,
         order: BankOrder,
         arguments: Arguments,
-    ) -> BankPlan
+    ) -> OrderPlan
         requires asks { MayAsk (F.parts store.now) self.old bank arguments }
         requires root { (p : ℕ) → arguments.capability ≡ Capability.Process p
             → F.IsFetched store.now p }
-        requires few { length first.now ≤ 2 }
-        ensures planned { IsPlanned (F.parts store.now) bank order arguments first.now result
+        requires few { length self.old.listed ≤ 2 }
+        ensures planned { IsPlanned (F.parts store.now) bank order arguments self.old.listed result
             self.new.listed }
         ensures kept { self.new ≡ record self.old { listed = self.new.listed } }
     {
-        self.list_only(first);
         match order {
-            BankOrder::NewPage => self.plan_page(store, bank),
-            BankOrder::NewNode => self.plan_node(store, bank),
-            BankOrder::NewProcess => self.plan_process(store, bank),
-            BankOrder::NewBank => self.plan_bank(store, bank),
+            BankOrder::NewPage => self.plan_new(store, bank, New::Page),
+            BankOrder::NewNode => self.plan_new(store, bank, New::Node),
+            BankOrder::NewProcess => self.plan_new(store, bank, New::Process),
+            BankOrder::NewBank => {
+                let limit = arguments.first;
+                self.plan_new(store, bank, New::Bank { limit })
+            }
             BankOrder::Free => self.plan_free(store, bank, arguments.capability),
             BankOrder::Destroy => self.plan_destroy(store, bank),
             BankOrder::ReturnToParent => self.plan_return(store, bank),
-            BankOrder::Remaining => BankPlan::told(self.remaining(store, bank)),
+            BankOrder::Remaining => OrderPlan::told_three(self.remaining(store, bank)),
         }
     }
 
@@ -85,107 +88,13 @@ impl Banks {
         ]
     }
 
-    // A new page, at the least free number.
-    fn plan_page<F: PresentFrames>(&mut self, store: &F, bank: u64) -> BankPlan
-        requires bank { IsBankOf (F.parts store.now) self.old bank }
-        requires few { length self.old.listed ≤ 2 }
-        ensures planned { (args : Arguments) → IsPlanned (F.parts store.now) bank
-            BankOrder.NewPage args self.old.listed result self.new.listed }
-        ensures kept { self.new ≡ record self.old { listed = self.new.listed } }
-    {
-        if !self.has_room(store, bank, 1) {
-            return BankPlan::refused(ResultCode::Limit);
-        }
-        match self.pages.next(0) {
-            None => BankPlan::refused(ResultCode::NoFrame),
-            Some(page) => {
-                let object = store.geometry().nodes + page as u64;
-                let access = Access::full();
-                self.list(object);
-                BankPlan::given(Capability::Page { object, access })
-            }
-        }
-    }
-
-    // A new node, at the least free number.
-    fn plan_node<F: PresentFrames>(&mut self, store: &F, bank: u64) -> BankPlan
-        requires bank { IsBankOf (F.parts store.now) self.old bank }
-        requires few { length self.old.listed ≤ 2 }
-        ensures planned { (args : Arguments) → IsPlanned (F.parts store.now) bank
-            BankOrder.NewNode args self.old.listed result self.new.listed }
-        ensures kept { self.new ≡ record self.old { listed = self.new.listed } }
-    {
-        if !self.has_room(store, bank, 1) {
-            return BankPlan::refused(ResultCode::Limit);
-        }
-        match self.nodes.next(0) {
-            None => BankPlan::refused(ResultCode::NoFrame),
-            Some(node) => {
-                let object = node as u64;
-                let access = Access::full();
-                self.list(object);
-                BankPlan::given(Capability::Node { object, access })
-            }
-        }
-    }
-
-    // A new process, its root at the least free number and its annex at the next.
-    fn plan_process<F: PresentFrames>(&mut self, store: &F, bank: u64) -> BankPlan
-        requires bank { IsBankOf (F.parts store.now) self.old bank }
-        requires few { length self.old.listed ≤ 2 }
-        ensures planned { (args : Arguments) → IsPlanned (F.parts store.now) bank
-            BankOrder.NewProcess args self.old.listed result self.new.listed }
-        ensures kept { self.new ≡ record self.old { listed = self.new.listed } }
-    {
-        if !self.has_room(store, bank, 2) {
-            return BankPlan::refused(ResultCode::Limit);
-        }
-        let root = match self.nodes.next(0) {
-            None => return BankPlan::refused(ResultCode::NoFrame),
-            Some(root) => root,
-        };
-        match self.nodes.next(root + 1) {
-            None => BankPlan::refused(ResultCode::NoFrame),
-            Some(annex) => {
-                let process = root as u64;
-                self.list(process);
-                self.list(annex as u64);
-                BankPlan::given(Capability::Process(process))
-            }
-        }
-    }
-
-    // A new bank, at the least free number, where the chain isn't as long as it may be.
-    fn plan_bank<F: PresentFrames>(&mut self, store: &F, bank: u64) -> BankPlan
-        requires bank { IsBankOf (F.parts store.now) self.old bank }
-        requires few { length self.old.listed ≤ 2 }
-        ensures planned { (args : Arguments) → IsPlanned (F.parts store.now) bank
-            BankOrder.NewBank args self.old.listed result self.new.listed }
-        ensures kept { self.new ≡ record self.old { listed = self.new.listed } }
-    {
-        if !self.has_room(store, bank, 1) {
-            return BankPlan::refused(ResultCode::Limit);
-        }
-        match self.nodes.next(0) {
-            None => BankPlan::refused(ResultCode::NoFrame),
-            Some(node) => {
-                if chain_length(store, bank) >= MAX_CHAIN {
-                    return BankPlan::refused(ResultCode::TooDeep);
-                }
-                let number = node as u64;
-                self.list(number);
-                BankPlan::given(Capability::Bank(number))
-            }
-        }
-    }
-
     // What a capability frees, where the bank owns it.
     fn plan_free<F: PresentFrames>(
         &mut self,
         store: &F,
         bank: u64,
         capability: Capability,
-    ) -> BankPlan
+    ) -> OrderPlan
         requires bank { IsBankOf (F.parts store.now) self.old bank }
         requires few { length self.old.listed ≤ 2 }
         requires sent { MayBeHeld (objects_in (F.parts store.now)) capability }
@@ -196,14 +105,14 @@ impl Banks {
         ensures kept { self.new ≡ record self.old { listed = self.new.listed } }
     {
         match freed_object(capability) {
-            None => BankPlan::refused(ResultCode::BadCapability),
+            None => OrderPlan::refused(ResultCode::BadCapability),
             Some(object) => {
                 if owner(store, object) != bank {
-                    return BankPlan::refused(ResultCode::NotFromThisBank);
+                    return OrderPlan::refused(ResultCode::NotFromThisBank);
                 }
                 self.list(object);
                 self.list_annex(store, capability);
-                BankPlan::given(Capability::Void)
+                OrderPlan::changed(Change::Bank(BankChange::GiveUp { above: bank }))
             }
         }
     }
@@ -222,7 +131,7 @@ impl Banks {
     }
 
     // A bank and all that is under it are destroyed.
-    fn plan_destroy<F: PresentFrames>(&mut self, store: &F, bank: u64) -> BankPlan
+    fn plan_destroy<F: PresentFrames>(&mut self, store: &F, bank: u64) -> OrderPlan
         requires bank { IsBankOf (F.parts store.now) self.old bank }
         requires few { length self.old.listed ≤ 2 }
         ensures planned { (args : Arguments) → IsPlanned (F.parts store.now) bank
@@ -230,14 +139,15 @@ impl Banks {
         ensures kept { self.new ≡ record self.old { listed = self.new.listed } }
     {
         if bank == 0 {
-            return BankPlan::refused(ResultCode::PrimeBank);
+            return OrderPlan::refused(ResultCode::PrimeBank);
         }
+        let above = owner(store, bank);
         self.list_under(store, bank);
-        BankPlan::given(Capability::Void)
+        OrderPlan::changed(Change::Bank(BankChange::GiveUp { above }))
     }
 
     // A bank is destroyed, and what it owns goes to its own owner.
-    fn plan_return<F: PresentFrames>(&mut self, store: &F, bank: u64) -> BankPlan
+    fn plan_return<F: PresentFrames>(&mut self, store: &F, bank: u64) -> OrderPlan
         requires bank { IsBankOf (F.parts store.now) self.old bank }
         requires few { length self.old.listed ≤ 2 }
         ensures planned { (args : Arguments) → IsPlanned (F.parts store.now) bank
@@ -245,10 +155,10 @@ impl Banks {
         ensures kept { self.new ≡ record self.old { listed = self.new.listed } }
     {
         if bank == 0 {
-            return BankPlan::refused(ResultCode::PrimeBank);
+            return OrderPlan::refused(ResultCode::PrimeBank);
         }
         self.list(bank);
         self.list_owned(store, bank);
-        BankPlan::given(Capability::Void)
+        OrderPlan::changed(Change::Bank(BankChange::HandOn { bank }))
     }
 }

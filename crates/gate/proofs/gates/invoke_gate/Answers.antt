@@ -26,14 +26,14 @@ pub look_at_process-requires-clause-process : goal.look_at_process-requires-clau
 look_at_process-requires-clause-process g c =
     let old = g.F.PresentFrames.parts c.args.store.now in
     let i = c.args.invocation.now in
-    gate_process (objects_in old) c.args.asked.invoked c.args.gate (register_kind old c.requires.sound i.process i.register c.args.asked.invoked c.requires.asked.invoked) c.requires.gate
+    gate_process (objects_in old) c.args.caller.invoked c.args.gate (register_kind old c.requires.sound i.process i.register c.args.caller.invoked c.requires.asked.invoked) c.requires.gate
 
 pub look_at_process-requires-clause-annex : goal.look_at_process-requires-clause-annex
 look_at_process-requires-clause-annex g c =
     let old = g.F.PresentFrames.parts c.args.store.now in
     let i = c.args.invocation.now in
     annex_there old c.requires.sound c.args.gate.process
-    (gate_process (objects_in old) c.args.asked.invoked c.args.gate (register_kind old c.requires.sound i.process i.register c.args.asked.invoked c.requires.asked.invoked) c.requires.gate)
+    (gate_process (objects_in old) c.args.caller.invoked c.args.gate (register_kind old c.requires.sound i.process i.register c.args.caller.invoked c.requires.asked.invoked) c.requires.gate)
 
 pub announce-requires-clause-keepable : goal.announce-requires-clause-keepable
 announce-requires-clause-keepable g c =
@@ -58,8 +58,8 @@ enter-requires-clause-receiver g c =
     let mid = g.F.PresentFrames.parts c.announce.new.store in
     let there : LooksAs old mid = looks_again old now mid looks (prepared_as c.in_ok-announce.ensures.prepares) in
     subst (λ (us : List Object). is_process us c.args.gate.process ≡ true) (sym (looked_objects old mid there))
-    (gate_process (objects_in old) c.args.asked.invoked c.args.gate
-    (register_kind old c.requires.sound c.args.invocation.now.process c.args.invocation.now.register c.args.asked.invoked c.requires.asked.invoked) c.requires.gate)
+    (gate_process (objects_in old) c.args.caller.invoked c.args.gate
+    (register_kind old c.requires.sound c.args.invocation.now.process c.args.invocation.now.register c.args.caller.invoked c.requires.asked.invoked) c.requires.gate)
 
 pub enter-requires-clause-calls : goal.enter-requires-clause-calls
 enter-requires-clause-calls g c =
@@ -69,8 +69,8 @@ enter-requires-clause-calls g c =
     let mid = g.F.PresentFrames.parts c.announce.new.store in
     let there : LooksAs old mid = looks_again old now mid looks (prepared_as c.in_ok-announce.ensures.prepares) in
     calls_below mid (looked_sound old mid there c.requires.sound) c.args.gate.process (looked_number old mid there c.args.gate.process (process_known old c.args.gate.process
-    (gate_process (objects_in old) c.args.asked.invoked c.args.gate
-    (register_kind old c.requires.sound c.args.invocation.now.process c.args.invocation.now.register c.args.asked.invoked c.requires.asked.invoked) c.requires.gate)))
+    (gate_process (objects_in old) c.args.caller.invoked c.args.gate
+    (register_kind old c.requires.sound c.args.invocation.now.process c.args.invocation.now.register c.args.caller.invoked c.requires.asked.invoked) c.requires.gate)))
 
 pub enter-requires-clause-current : goal.enter-requires-clause-current
 enter-requires-clause-current g c =
@@ -88,7 +88,7 @@ returns-then-not-can_enter g c =
     let looks : LooksAs old now = looked_as c.in_ok-annex.ensures.looks.aside in
     let i = c.args.invocation.now in
     found_stalled g.F.PresentFrames.parts g.F.PresentFrames.LeadsTo i g.met.F.PresentFrames.leads_twice c.args.store.now c.look_at_process.new.store c.look_at_process.new.store c.in_ok-annex.annex c.in_ok-annex.ensures.looks
-    (gate_stalled old.geometry (objects_in old) i c.args.asked c.args.gate c.requires.asked c.requires.gate
+    (gate_stalled old.geometry (objects_in old) i c.args.caller c.args.gate c.requires.asked c.requires.gate
     (sym (c.if-not-can_enter.ensures ∙ ap (λ (us : List Object). c.args.gate.is_resume || can_start us i c.args.gate.process) (looked_objects old now looks))))
 
 pub returns-in_err-announce : goal.returns-in_err-announce
@@ -102,7 +102,7 @@ returns-in_err-announce g c =
     let p = err_from_is_err_and c.from_residual-in_err-announce.result c.from_residual-in_err-announce.ensures.1 in
     rw (p.1, p.2)
     (unannounced g.F.PresentFrames.parts g.F.PresentFrames.LeadsTo i g.met.F.PresentFrames.leads_twice c.args.store.now c.look_at_process.new.store c.announce.new.store c.in_ok-annex.annex c.in_ok-annex.ensures.looks
-    _ (effect_through os i c.args.gate) (gate_invoked old.geometry os i c.args.asked c.args.gate c.requires.asked c.requires.gate c.requires.key can)
+    _ (effect_through os i c.args.gate) (gate_invoked old.geometry os i c.args.caller c.args.gate c.requires.asked c.requires.gate c.requires.key can)
     (ap (written_through i.operation i.process c.args.gate.process) c.in_ok-annex.ensures.annex.0) _ c.in_err-announce.ensures.prepares)
 
 pub returns : goal.returns
@@ -115,7 +115,7 @@ returns g c =
     let i = c.args.invocation.now in
     let os = objects_in old in
     let can = sym (c.if-not-can_enter.ensures ∙ ap (λ (us : List Object). c.args.gate.is_resume || can_start us i c.args.gate.process) (looked_objects old now looks)) in
-    let invoked = gate_invoked old.geometry os i c.args.asked c.args.gate c.requires.asked c.requires.gate c.requires.key can in
+    let invoked = gate_invoked old.geometry os i c.args.caller c.args.gate c.requires.asked c.requires.gate c.requires.key can in
     let effect = effect_through os i c.args.gate in
     let aside = c.enter.ensures.aside in
     let objects = c.enter.ensures.objects ∙ ap (λ (us : List Object). entered us i c.args.gate c.all_sent-sent.result) (looked_objects old mid there)

@@ -3,10 +3,11 @@ use Rattle.model.specs.declared.capability.Capability.TheVariants.{Void}
 use Rattle.model.specs.declared.order.BankOrder.TheVariants as bank
 use Rattle.model.specs.declared.order.ResultCode.TheVariants as code
 use Rattle.model.specs.Banking.{under}
-use Rattle.model.specs.Revoke.{rescind}
+use Rattle.capability.specs.declared.order.BankChange.TheVariants.{GiveUp}
 use Rattle.capability.specs.Parts.{objects_in}
 use Rattle.space_bank.specs.Banks.{BanksState}
-use Rattle.space_bank.proofs.Plans.{bank_room, destroy_all, destroy_prime, planned_made, planned_refused}
+use Rattle.space_bank.proofs.Making.{may_destroy}
+use Rattle.space_bank.proofs.Plans.{bank_room, destroy_prime, destroy_there, made_as, planned_as, planned_none, refused_as}
 use Rattle.space_bank.proofs.banks.Banks.plan_destroy.Goals as goal
 
 pub returns-then-bank-eq0-clause-planned : goal.returns-then-bank-eq0-clause-planned
@@ -14,9 +15,9 @@ returns-then-bank-eq0-clause-planned g c = λ args.
     let p = g.F.PresentFrames.parts c.args.store.now in
     let os = objects_in p in
     let first = c.args.self.now.listed in
-    planned_refused p c.args.bank bank.Destroy args first first c.refused.result os code.PrimeBank
-    (destroy_prime p.geometry os c.args.bank args c.if-bank-eq0.true)
-    c.refused.ensures refl
+    planned_none p c.args.bank bank.Destroy args first first c.refused.result
+    (refused_as p.geometry os c.args.bank bank.Destroy args c.refused.result code.PrimeBank (λ us frame. destroy_prime p.geometry us c.args.bank args c.if-bank-eq0.true)
+    c.refused.ensures) refl
 
 pub list_under-requires : goal.list_under-requires
 list_under-requires g c =
@@ -31,8 +32,9 @@ returns-clause-planned g c = λ args.
     let p = g.F.PresentFrames.parts c.args.store.now in
     let os = objects_in p in
     let first = c.args.self.now.listed in
-    planned_made p c.args.bank bank.Destroy args first c.list_under.new.self.listed c.given.result
-    (rescind (under os c.args.bank) os) (under os c.args.bank) Void
-    (destroy_all p.geometry os c.args.bank args c.if-bank-eq0.false)
-    c.given.ensures
+    planned_as p c.args.bank bank.Destroy args first c.list_under.new.self.listed c.changed.result (under os c.args.bank)
+    (made_as p.geometry os c.args.bank bank.Destroy args c.changed.result (under os c.args.bank) Void (GiveUp c.owner-above.result)
+    (λ us frame. destroy_there p.geometry os c.args.bank args us frame c.if-bank-eq0.false)
+    (λ us frame now. may_destroy p.geometry os c.args.bank c.requires.bank.bank us frame now c.if-bank-eq0.false c.owner-above.result c.owner-above.ensures)
+    c.changed.ensures)
     (ap (λ (s : BanksState). s.listed) c.list_under.ensures)

@@ -2,11 +2,12 @@ use Rattle.std.proofs.Common.{◌++◌, ◌∙◌, [], ◌∷◌, append_assoc, 
 use Rattle.model.specs.declared.capability.Capability.TheVariants.{Void}
 use Rattle.model.specs.declared.order.BankOrder.TheVariants as bank
 use Rattle.model.specs.declared.order.ResultCode.TheVariants as code
-use Rattle.model.specs.Revoke.{rescind}
+use Rattle.capability.specs.declared.order.BankChange.TheVariants.{GiveUp}
 use Rattle.capability.specs.Parts.{objects_in}
 use Rattle.space_bank.specs.Banks.{BanksState}
 use Rattle.space_bank.specs.Planning.{annex_of}
-use Rattle.space_bank.proofs.Plans.{frees_none, frees_other, frees_own, planned_made, planned_refused, process_room}
+use Rattle.space_bank.proofs.Making.{may_free}
+use Rattle.space_bank.proofs.Plans.{frees_none_there, frees_other_there, frees_own_there, made_as, planned_as, planned_none, process_room, refused_as}
 use Rattle.space_bank.proofs.banks.Banks.plan_free.Goals as goal
 
 pub returns-in-None-clause-planned : goal.returns-in-None-clause-planned
@@ -14,19 +15,20 @@ returns-in-None-clause-planned g c = λ args is.
     let p = g.F.PresentFrames.parts c.args.store.now in
     let os = objects_in p in
     let first = c.args.self.now.listed in
-    planned_refused p c.args.bank bank.Free args first first c.refused.result os code.BadCapability
-    (frees_none p.geometry os c.args.bank args c.args.capability is (c.in-None.ensures os))
-    c.refused.ensures refl
+    planned_none p c.args.bank bank.Free args first first c.refused.result
+    (refused_as p.geometry os c.args.bank bank.Free args c.refused.result code.BadCapability
+    (λ us frame. frees_none_there p.geometry os c.args.bank args us frame c.args.capability is (c.in-None.ensures os)) c.refused.ensures) refl
 
 pub returns-then-owner-bank-clause-planned : goal.returns-then-owner-bank-clause-planned
 returns-then-owner-bank-clause-planned g c = λ args is.
     let p = g.F.PresentFrames.parts c.args.store.now in
     let os = objects_in p in
     let first = c.args.self.now.listed in
-    planned_refused p c.args.bank bank.Free args first first c.refused-then-owner-bank.result os code.NotFromThisBank
-    (frees_other p.geometry os c.args.bank args c.args.capability c.in-Some.object (annex_of os c.args.capability) is (c.in-Some.ensures os)
+    planned_none p c.args.bank bank.Free args first first c.refused-then-owner-bank.result
+    (refused_as p.geometry os c.args.bank bank.Free args c.refused-then-owner-bank.result code.NotFromThisBank
+    (λ us frame. frees_other_there p.geometry os c.args.bank args us frame c.args.capability c.in-Some.object (annex_of os c.args.capability) is (c.in-Some.ensures os)
     (λ e. c.if-owner-bank.true (c.owner.ensures ∙ e)))
-    c.refused-then-owner-bank.ensures refl
+    c.refused-then-owner-bank.ensures) refl
 
 pub list_annex-requires-clause-room : goal.list_annex-requires-clause-room
 list_annex-requires-clause-room g c = λ q is.
@@ -40,10 +42,12 @@ returns-else-owner-bank-clause-planned g c = λ args is.
     let first = c.args.self.now.listed in
     let object = c.in-Some.object in
     let annex = annex_of os c.args.capability in
-    planned_made p c.args.bank bank.Free args first c.list_annex.new.self.listed c.given.result
-    (rescind (object ∷ annex) os) (object ∷ annex) Void
-    (frees_own p.geometry os c.args.bank args c.args.capability object annex is (c.in-Some.ensures os) (sym c.owner.ensures ∙ c.if-owner-bank.false))
-    c.given.ensures
+    let own = sym c.owner.ensures ∙ c.if-owner-bank.false in
+    planned_as p c.args.bank bank.Free args first c.list_annex.new.self.listed c.changed.result (object ∷ annex)
+    (made_as p.geometry os c.args.bank bank.Free args c.changed.result (object ∷ annex) Void (GiveUp c.args.bank)
+    (λ us frame. frees_own_there p.geometry os c.args.bank args us frame c.args.capability object annex is (c.in-Some.ensures os) own)
+    (λ us frame now. may_free p.geometry os c.args.bank c.requires.bank.bank us frame now c.args.capability object annex c.requires.sent.1 (c.in-Some.ensures os) own)
+    c.changed.ensures)
     (ap (λ (s : BanksState). s.listed) c.list_annex.ensures
     ∙ ap (λ (s : BanksState). s.listed ++ annex) c.list.ensures
     ∙ append_assoc first (object ∷ []) annex)

@@ -3,12 +3,13 @@ use Rattle.std.proofs.lemmas.List.{length-append}
 use Rattle.model.specs.declared.capability.Capability.TheVariants.{Void}
 use Rattle.model.specs.declared.order.BankOrder.TheVariants as bank
 use Rattle.model.specs.declared.order.ResultCode.TheVariants as code
-use Rattle.model.specs.Banking.{inherited, owned_by}
-use Rattle.model.specs.Revoke.{rescind}
+use Rattle.model.specs.Banking.{owned_by}
+use Rattle.capability.specs.declared.order.BankChange.TheVariants.{HandOn}
 use Rattle.capability.specs.Parts.{objects_in}
 use Rattle.space_bank.specs.Banks.{BanksState}
+use Rattle.space_bank.proofs.Making.{may_return}
 use Rattle.space_bank.proofs.Missing.{bank_listing}
-use Rattle.space_bank.proofs.Plans.{bank_room, planned_made, planned_refused, return_all, return_prime}
+use Rattle.space_bank.proofs.Plans.{bank_room, made_as, planned_as, planned_none, refused_as, return_prime, return_there}
 use Rattle.space_bank.proofs.banks.Banks.plan_return.Goals as goal
 
 pub returns-then-bank-eq0-clause-planned : goal.returns-then-bank-eq0-clause-planned
@@ -16,9 +17,9 @@ returns-then-bank-eq0-clause-planned g c = λ args.
     let p = g.F.PresentFrames.parts c.args.store.now in
     let os = objects_in p in
     let first = c.args.self.now.listed in
-    planned_refused p c.args.bank bank.ReturnToParent args first first c.refused.result os code.PrimeBank
-    (return_prime p.geometry os c.args.bank args c.if-bank-eq0.true)
-    c.refused.ensures refl
+    planned_none p c.args.bank bank.ReturnToParent args first first c.refused.result
+    (refused_as p.geometry os c.args.bank bank.ReturnToParent args c.refused.result code.PrimeBank (λ us frame. return_prime p.geometry us c.args.bank args c.if-bank-eq0.true)
+    c.refused.ensures) refl
 
 pub list_owned-requires-clause-bank : goal.list_owned-requires-clause-bank
 list_owned-requires-clause-bank g c =
@@ -42,10 +43,11 @@ returns-clause-planned g c = λ args.
     let os = objects_in p in
     let first = c.args.self.now.listed in
     let own = owned_by os c.args.bank in
-    planned_made p c.args.bank bank.ReturnToParent args first c.list_owned.new.self.listed c.given.result
-    (rescind (c.args.bank ∷ []) (inherited os c.args.bank)) (c.args.bank ∷ own) Void
-    (return_all p.geometry os c.args.bank args c.if-bank-eq0.false)
-    c.given.ensures
+    planned_as p c.args.bank bank.ReturnToParent args first c.list_owned.new.self.listed c.changed.result (c.args.bank ∷ own)
+    (made_as p.geometry os c.args.bank bank.ReturnToParent args c.changed.result (c.args.bank ∷ own) Void (HandOn c.args.bank)
+    (λ us frame. return_there p.geometry os c.args.bank args us frame c.if-bank-eq0.false)
+    (λ us frame now. may_return p.geometry os c.args.bank c.requires.bank.bank us frame now c.if-bank-eq0.false)
+    c.changed.ensures)
     (ap (λ (s : BanksState). s.listed) c.list_owned.ensures
     ∙ ap (λ (s : BanksState). s.listed ++ own) c.list.ensures
     ∙ append_assoc first (c.args.bank ∷ []) own)

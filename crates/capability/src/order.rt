@@ -1,0 +1,206 @@
+//! What an order comes to before anything changes: a reply and a change.
+ghost use Rattle.std.specs.Prelude.{◌≡◌, [], ◌∷◌};
+ghost use Rattle.capability.specs.Changes.{reply_of_code, target_of};
+
+use crate::present::Fresh;
+use model::{Capability, Operation, ResultCode, State};
+
+/// What the caller receives.
+#[derive(Clone, Copy, Debug)]
+pub struct Reply {
+    pub code: ResultCode,
+    /// The result words after the code.
+    pub words: [u64; 3],
+    pub capability: Capability,
+}
+
+/// What a bank does with numbers.
+#[derive(Clone, Copy, Debug)]
+pub enum BankChange {
+    /// Makes a free number a page, a node or a bank.
+    Make {
+        number: u64,
+        fresh: Fresh,
+        bank: u64,
+    },
+    /// Makes two free numbers a process: its root and its annex.
+    MakeProcess {
+        root: u64,
+        annex: u64,
+        bank: u64,
+    },
+    /// Gives up the numbers that are listed, which the chain of the bank `above` accounts for.
+    GiveUp {
+        above: u64,
+    },
+    /// Gives a bank up, and hands what it owns on to its own bank.
+    HandOn {
+        bank: u64,
+    },
+}
+
+/// The one change that an order makes.
+#[derive(Clone, Copy, Debug)]
+pub enum Change {
+    Nothing,
+    /// A word of a page.
+    Word {
+        page: u64,
+        index: usize,
+        word: u64,
+    },
+    /// A slot of a node.
+    Slot {
+        node: u64,
+        slot: usize,
+        capability: Capability,
+    },
+    /// A register of a process, which its annex holds.
+    Register {
+        process: u64,
+        annex: u64,
+        register: usize,
+        capability: Capability,
+    },
+    /// One of the words that a process was last delivered.
+    RootWord {
+        process: u64,
+        index: usize,
+        word: u64,
+    },
+    /// The state of a process, and no capability resumes it any more.
+    SetState {
+        process: u64,
+        state: State,
+    },
+    /// The address space of a process.
+    Space {
+        process: u64,
+        capability: Capability,
+    },
+    /// Objects of a bank.
+    Bank(BankChange),
+}
+
+/// What an order comes to: the reply, and the change that it makes.
+#[derive(Clone, Copy, Debug)]
+pub struct OrderPlan {
+    pub reply: Reply,
+    pub change: Change,
+}
+
+/// The process that invokes, and what it invokes, before anything changes.
+#[derive(Clone, Copy, Debug)]
+pub struct Caller {
+    pub process: u64,
+    /// The annex of the process.
+    pub annex: u64,
+    pub operation: Operation,
+    pub invoked: Capability,
+}
+
+impl Change {
+    /// The number that it writes, where it changes one object.
+    pub fn target(&self) -> Option<u64>
+        ensures { result ≡ target_of self.now }
+    {
+        match self {
+            Change::Nothing => None,
+            Change::Word { page, .. } => Some(*page),
+            Change::Slot { node, .. } => Some(*node),
+            Change::Register { annex, .. } => Some(*annex),
+            Change::RootWord { process, .. }
+            | Change::SetState { process, .. }
+            | Change::Space { process, .. } => Some(*process),
+            Change::Bank(_) => None,
+        }
+    }
+}
+
+impl OrderPlan {
+    /// Nothing is done, for that reason.
+    pub fn refused(code: ResultCode) -> OrderPlan
+        ensures { result ≡ record { reply = reply_of_code code; change = Change.Nothing } }
+    {
+        OrderPlan {
+            reply: Reply {
+                code,
+                words: [0; 3],
+                capability: Capability::Void,
+            },
+            change: Change::Nothing,
+        }
+    }
+
+    /// The plan tells three words.
+    pub fn told_three(words: [u64; 3]) -> OrderPlan
+        ensures { result ≡ record {
+          reply = record { code = ResultCode.Done; words = words; capability = Capability.Void };
+          change = Change.Nothing;
+        } }
+    {
+        OrderPlan {
+            reply: Reply {
+                code: ResultCode::Done,
+                words,
+                capability: Capability::Void,
+            },
+            change: Change::Nothing,
+        }
+    }
+
+    /// The plan tells two words.
+    pub fn told(first: u64, second: u64) -> OrderPlan
+        ensures { result ≡ record {
+          reply = record {
+            code = ResultCode.Done;
+            words = first ∷ second ∷ 0 ∷ [];
+            capability = Capability.Void;
+          };
+          change = Change.Nothing;
+        } }
+    {
+        OrderPlan {
+            reply: Reply {
+                code: ResultCode::Done,
+                words: [first, second, 0],
+                capability: Capability::Void,
+            },
+            change: Change::Nothing,
+        }
+    }
+
+    /// The plan makes a change and gives a capability.
+    pub fn made(capability: Capability, change: Change) -> OrderPlan
+        ensures { result ≡ record {
+          reply = record { code = ResultCode.Done; words = 0 ∷ 0 ∷ 0 ∷ []; capability = capability };
+          change = change;
+        } }
+    {
+        OrderPlan {
+            reply: Reply {
+                code: ResultCode::Done,
+                words: [0; 3],
+                capability,
+            },
+            change,
+        }
+    }
+
+    /// The plan gives a capability.
+    pub fn given(capability: Capability) -> OrderPlan
+        ensures { result ≡ record {
+          reply = record { code = ResultCode.Done; words = 0 ∷ 0 ∷ 0 ∷ []; capability = capability };
+          change = Change.Nothing;
+        } }
+    {
+        OrderPlan::made(capability, Change::Nothing)
+    }
+
+    /// The plan makes a change.
+    pub fn changed(change: Change) -> OrderPlan
+        ensures { result ≡ record { reply = reply_of_code ResultCode.Done; change = change } }
+    {
+        OrderPlan::made(Capability::Void, change)
+    }
+}

@@ -1,0 +1,154 @@
+use Rattle.std.proofs.Common.{◌≡◌, ◌+◌, true, List, ap, arith, drop, refl, subst, sym, ◌∙◌, ℕ}
+use Rattle.std.specs.List.{All}
+use Rattle.std.proofs.lemmas.List.Elements.{All-drop}
+use Rattle.model.specs.declared.geometry.Geometry.{Geometry}
+use Rattle.model.specs.declared.object.Object.{Object}
+use Rattle.model.specs.Object.{is_annex}
+use Rattle.model.specs.World.{annex_at, content_at, is_process}
+use Rattle.model_laws.proofs.Usage.{tests_at}
+use Rattle.capability.specs.Changes.{changed}
+use Rattle.capability.specs.Parts.{AreSound, frames_of, objects_in}
+use Rattle.capability.proofs.Frames.{annex_used, root_used}
+use Rattle.capability.proofs.Keeping.{keepable_roles}
+use Rattle.space_bank.specs.Banks.{AreCounted}
+use Rattle.space_bank.specs.Planning.{writer_count}
+use Rattle.space_bank.proofs.Renewing.{renews_after, renews_then}
+use Rattle.gate.specs.Ordering.{answered, state_before}
+use Rattle.gate.specs.Plan.{FitsCap, fetched_of}
+use Rattle.gate.proofs.BankStates.{annex_listed, answered_frame, before_counted, before_frame, before_may, before_sound, counted_on, no_send, process_listed, writers_within}
+use Rattle.gate.proofs.Effects.{frame_before}
+use Rattle.gate.proofs.Fits.{in_geometry}
+use Rattle.gate.proofs.Known.{running_process}
+use Rattle.gate.proofs.Renewing.{free_in_frame}
+use Rattle.gate.proofs.carrying.carry_out.Goals as goal
+
+pub leave-requires-clause-announced : goal.leave-requires-clause-announced
+leave-requires-clause-announced g c other =
+    let caller = c.args.caller in
+    process_listed (g.F.PresentFrames.IsAnnounced c.args.store.now) caller.operation caller.process caller.annex (drop (writer_count caller.operation) c.args.banks.now.listed)
+    c.args.banks.now.listed c.requires.planned.listed other c.requires.announced
+
+pub change-requires : goal.change-requires
+change-requires g c =
+    let old = g.F.PresentFrames.parts c.args.store.now in
+    let mid = g.F.PresentFrames.parts c.leave.new.store in
+    let caller = c.args.caller in
+    let banks = c.args.banks.now in
+    let same = c.leave.ensures.aside.geometry in
+    let sound : AreSound mid = before_sound old mid banks c.requires.sound c.requires.counted caller.operation caller.process c.requires.running c.leave.ensures.objects same
+    (c.leave.ensures.current c.requires.sound.1.current) (c.leave.ensures.keepable c.requires.sound.0 c.requires.sound.1.keepable) in
+    let may = before_may old mid banks c.requires.sound c.requires.counted caller.operation caller.process c.requires.running c.leave.ensures.objects same
+    c.args.invocation.now caller c.args.plan banks.listed c.requires.planned sound in
+    let counts = c.writer_count.ensures in
+    rw counts (record {
+      sound = sound;
+      counted = before_counted old mid banks c.requires.sound c.requires.counted caller.operation caller.process c.requires.running c.leave.ensures.objects same;
+      may = may;
+      within = writers_within caller.operation caller.process caller.annex (drop (writer_count caller.operation) banks.listed) banks.listed c.requires.planned.listed;
+      announced = All-drop (g.F.PresentFrames.IsAnnounced c.leave.new.store) (writer_count caller.operation) banks.listed
+          (λ k d inside. c.leave.ensures.aside.announced _ (c.requires.announced k d inside));
+      fetched = λ k d inside. c.leave.ensures.aside.fetched _ (c.requires.fetched.2 k d inside);
+    })
+
+pub answer-requires-clause-roles : goal.answer-requires-clause-roles
+answer-requires-clause-roles g c =
+    let mid = g.F.PresentFrames.parts c.leave.new.store in
+    let sound = c.requires.sound in
+    let same = c.leave.ensures.aside.geometry in
+    keepable_roles mid.geometry (sound.0 + 1) (frames_of (g.F.PresentFrames.parts c.change.new.store))
+    (c.change.ensures.keepable sound.0 (omega (arith, sound.1.sound.age))
+    (in_geometry mid.geometry (g.F.PresentFrames.parts c.args.store.now).geometry sound.0 (frames_of mid) same (c.leave.ensures.keepable sound.0 sound.1.keepable)))
+
+pub answer-requires-clause-root : goal.answer-requires-clause-root
+answer-requires-clause-root g c call is =
+    let caller = c.args.caller in
+    let used = root_used (content_at (objects_in (g.F.PresentFrames.parts c.change.new.store)) caller.process) is in
+    let announced = process_listed (g.F.PresentFrames.IsAnnounced c.args.store.now) caller.operation caller.process caller.annex (drop (writer_count caller.operation) c.args.banks.now.listed)
+    c.args.banks.now.listed c.requires.planned.listed (no_send caller.operation call) c.requires.announced in (
+      c.change.ensures.aside.fetched caller.process used (c.leave.ensures.aside.fetched caller.process c.requires.fetched.0),
+      c.change.ensures.aside.announced caller.process used (c.leave.ensures.aside.announced caller.process announced),
+    )
+
+pub answer-requires-clause-annex : goal.answer-requires-clause-annex
+answer-requires-clause-annex g c call is =
+    let old = g.F.PresentFrames.parts c.args.store.now in
+    let os = objects_in old in
+    let new = objects_in (g.F.PresentFrames.parts c.change.new.store) in
+    let caller = c.args.caller in
+    let plan = c.args.plan in
+    let listed = c.args.banks.now.listed in
+    let rest = drop (writer_count caller.operation) listed in
+    let us = state_before caller.operation os caller.process in
+    let process = running_process os caller.process c.requires.running in
+    let frame = frame_before caller.operation os caller.process process in
+    let objects : new ≡ changed us rest plan.change =
+    c.change.ensures.objects ∙ ap (λ (k : ℕ). changed (objects_in (g.F.PresentFrames.parts c.leave.new.store)) (drop k listed) plan.change) c.writer_count.ensures
+    ∙ ap (λ (vs : List Object). changed vs rest plan.change) c.leave.ensures.objects in
+    let still : is_process (changed us rest plan.change) caller.process ≡ true = subst (λ (vs : List Object). is_process vs caller.process ≡ true) objects is in
+    let was : is_process us caller.process ≡ true = (tests_at os us frame caller.process).root ∙ process in
+    let same : annex_at new caller.process ≡ caller.annex =
+    ap (λ (vs : List Object). annex_at vs caller.process) objects
+    ∙ c.requires.planned.plans.annex us frame caller.process was still ∙ (frame.alike caller.process).annex ∙ sym c.requires.annex in
+    let after : is_annex (content_at new (annex_at new caller.process)) ≡ true =
+    subst (λ (vs : List Object). is_annex (content_at vs (annex_at vs caller.process)) ≡ true) (sym objects) (c.requires.after.frame.annexes caller.process still).0 in
+    let used = annex_used (content_at new (annex_at new caller.process)) after in
+    let announced = annex_listed (g.F.PresentFrames.IsAnnounced c.args.store.now) caller.operation caller.process caller.annex rest listed c.requires.planned.listed call c.requires.announced in (
+      c.change.ensures.aside.fetched (annex_at new caller.process) used
+          (c.leave.ensures.aside.fetched (annex_at new caller.process) (subst (g.F.PresentFrames.IsFetched c.args.store.now) (sym same) c.requires.fetched.1)),
+      c.change.ensures.aside.announced (annex_at new caller.process) used
+          (c.leave.ensures.aside.announced (annex_at new caller.process) (subst (g.F.PresentFrames.IsAnnounced c.args.store.now) (sym same) announced)),
+    )
+
+pub returns-clause-objects : goal.returns-clause-objects
+returns-clause-objects g c =
+    let mid = objects_in (g.F.PresentFrames.parts c.leave.new.store) in
+    let caller = c.args.caller in
+    let plan = c.args.plan in
+    let listed = c.args.banks.now.listed in
+    c.answer.ensures.objects
+    ∙ ap (λ (us : List Object). answered caller.operation caller.process us plan.reply)
+    (c.change.ensures.objects ∙ ap (λ (k : ℕ). changed mid (drop k listed) plan.change) c.writer_count.ensures
+    ∙ ap (λ (us : List Object). changed us (drop (writer_count caller.operation) listed) plan.change) c.leave.ensures.objects)
+
+pub returns-clause-current : goal.returns-clause-current
+returns-clause-current g c = c.answer.ensures.current c.change.ensures.current
+
+pub returns-clause-counted : goal.returns-clause-counted
+returns-clause-counted g c =
+    let us = objects_in (g.F.PresentFrames.parts c.change.new.store) in
+    let caller = c.args.caller in
+    let old = g.F.PresentFrames.parts c.args.store.now in
+    subst (λ (h : Geometry). AreCounted h (objects_in (g.F.PresentFrames.parts c.answer.new.store)) c.change.new.banks) c.leave.ensures.aside.geometry
+    (subst (λ (vs : List Object). AreCounted (g.F.PresentFrames.parts c.leave.new.store).geometry vs c.change.new.banks) (sym c.answer.ensures.objects)
+    (counted_on (g.F.PresentFrames.parts c.leave.new.store).geometry us _ c.change.new.banks (answered_frame caller.operation us caller.process c.args.plan.reply) c.change.ensures.counted))
+
+pub returns-clause-keepable : goal.returns-clause-keepable
+returns-clause-keepable g c age young fits k =
+    let old = g.F.PresentFrames.parts c.args.store.now in
+    let mid = g.F.PresentFrames.parts c.leave.new.store in
+    let then = g.F.PresentFrames.parts c.change.new.store in
+    let new = g.F.PresentFrames.parts c.answer.new.store in
+    let first = c.leave.ensures.aside.geometry in
+    let second = c.change.ensures.aside.geometry in
+    in_geometry old.geometry then.geometry (age + 1) (frames_of new) (sym (second ∙ first))
+    (c.answer.ensures.keepable (age + 1) (subst (λ (h : Geometry). FitsCap h c.args.plan.reply.capability) (sym (second ∙ first)) fits)
+    (in_geometry then.geometry mid.geometry (age + 1) (frames_of then) second
+    (c.change.ensures.keepable age young (in_geometry mid.geometry old.geometry age (frames_of mid) first (c.leave.ensures.keepable age k)))))
+
+pub returns-clause-beside : goal.returns-clause-beside
+returns-clause-beside g c =
+    let old = g.F.PresentFrames.parts c.args.store.now in
+    let mid = g.F.PresentFrames.parts c.leave.new.store in
+    let then = g.F.PresentFrames.parts c.change.new.store in
+    let new = g.F.PresentFrames.parts c.answer.new.store in
+    let caller = c.args.caller in
+    let frame = before_frame old mid c.args.banks.now c.requires.sound c.requires.counted caller.operation caller.process c.requires.running c.leave.ensures.objects c.leave.ensures.aside.geometry in
+    let freed = free_in_frame then new _ c.answer.ensures.objects (answered_frame caller.operation (objects_in then) caller.process c.args.plan.reply) in
+    record {
+      renews = renews_after old mid new c.leave.ensures.aside.allocations (free_in_frame old mid (objects_in mid) refl frame)
+          (renews_then mid then new c.change.ensures.aside.renews c.answer.ensures.aside.allocations freed);
+      touched = c.answer.ensures.aside.touched ∙ c.change.ensures.aside.touched ∙ c.leave.ensures.aside.touched;
+      geometry = c.answer.ensures.aside.geometry ∙ c.change.ensures.aside.geometry ∙ c.leave.ensures.aside.geometry;
+      failures = c.answer.ensures.aside.failures ∙ c.change.ensures.aside.failures ∙ c.leave.ensures.aside.failures;
+      leads = g.met.F.PresentFrames.leads_twice _ _ _ c.leave.ensures.aside.leads (g.met.F.PresentFrames.leads_twice _ _ _ c.change.ensures.aside.leads c.answer.ensures.aside.leads);
+    }

@@ -1,0 +1,79 @@
+use Rattle.std.proofs.Common.{◌≡◌, List, ap, drop, subst, sym, ◌∙◌, ℕ}
+use Rattle.std.specs.List.{All}
+use Rattle.model.specs.declared.object.Object.{Object}
+use Rattle.model.specs.Object.{is_free}
+use Rattle.model.specs.World.{content_at}
+use Rattle.model_laws.proofs.Usage.{tests_at}
+use Rattle.capability.specs.declared.order.Change.{Change}
+use Rattle.capability.specs.Changes.{target_of, written_of}
+use Rattle.capability.specs.Parts.{objects_in}
+use Rattle.space_bank.specs.Banks.{AreCounted}
+use Rattle.space_bank.proofs.Ending.{aside_alone}
+use Rattle.gate.specs.Plan.{MayChange, MayEdit, fetched_of}
+use Rattle.gate.proofs.BankStates.{counted_on}
+use Rattle.gate.proofs.Plans.{change_edit, edit_fetched, target_all}
+use Rattle.gate.proofs.Roles.{changed_any, changed_frame}
+use Rattle.gate.proofs.Standing.{calls_below}
+use Rattle.gate.proofs.carrying.change.Goals as goal
+
+pub carry_out-requires-clause-may : goal.carry_out-requires-clause-may
+carry_out-requires-clause-may g c =
+    let p = g.F.PresentFrames.parts c.args.store.now in
+    subst (λ (x : Change). MayChange p.geometry (objects_in p) (drop c.args.skip c.args.banks.now.listed) x) c.in-Bank.is c.requires.may
+
+pub carry_out-requires-clause-fetched : goal.carry_out-requires-clause-fetched
+carry_out-requires-clause-fetched g c =
+    subst (λ (x : Change). All (g.F.PresentFrames.IsFetched c.args.store.now) (fetched_of x)) c.in-Bank.is c.requires.fetched
+
+pub returns-in-Bank-clause-objects : goal.returns-in-Bank-clause-objects
+returns-in-Bank-clause-objects g c = rw c.in-Bank.is c.carry_out.ensures.objects
+
+pub make-requires : goal.make-requires
+make-requires g c =
+    let p = g.F.PresentFrames.parts c.args.store.now in
+    let list = drop c.args.skip c.args.banks.now.listed in
+    let x = c.args.change in
+    let edit : MayEdit p.geometry (objects_in p) list x = change_edit p.geometry (objects_in p) list x c.in_default.not-Bank c.requires.may in
+    let fetched = target_all (g.F.PresentFrames.IsFetched c.args.store.now) (target_of x)
+    (subst (λ (ns : List ℕ). All (g.F.PresentFrames.IsFetched c.args.store.now) ns) (edit_fetched x c.in_default.not-Bank) c.requires.fetched) in
+    let announced = target_all (g.F.PresentFrames.IsAnnounced c.args.store.now) (target_of x)
+    (subst (λ (ns : List ℕ). All (g.F.PresentFrames.IsAnnounced c.args.store.now) ns) edit.listed c.requires.announced) in
+    record {
+      within = edit.within;
+      process = edit.process;
+      calls = λ n is. calls_below p c.requires.sound n (g.met.F.PresentFrames.known_announced c.args.store.now n (announced n is)).0;
+      current = c.requires.sound.1.current;
+      fetched = fetched;
+      announced = announced;
+    }
+
+pub returns-in_default-clause-objects : goal.returns-in_default-clause-objects
+returns-in_default-clause-objects g c =
+    let p = g.F.PresentFrames.parts c.args.store.now in
+    let list = drop c.args.skip c.args.banks.now.listed in
+    let edit : MayEdit p.geometry (objects_in p) list c.args.change = change_edit p.geometry (objects_in p) list c.args.change c.in_default.not-Bank c.requires.may in
+    c.make.ensures.objects ∙ changed_any (objects_in p) list c.args.change edit.within
+
+pub returns-in_default-clause-counted : goal.returns-in_default-clause-counted
+returns-in_default-clause-counted g c =
+    let p = g.F.PresentFrames.parts c.args.store.now in
+    let list = drop c.args.skip c.args.banks.now.listed in
+    let edit : MayEdit p.geometry (objects_in p) list c.args.change = change_edit p.geometry (objects_in p) list c.args.change c.in_default.not-Bank c.requires.may in
+    subst (λ (us : List Object). AreCounted p.geometry us c.args.banks.now) (sym c.make.ensures.objects)
+    (counted_on p.geometry (objects_in p) _ c.args.banks.now (changed_frame (objects_in p) c.args.change edit.within edit.process) c.requires.counted)
+
+pub returns-in_default-clause-keepable : goal.returns-in_default-clause-keepable
+returns-in_default-clause-keepable g c age young k =
+    let p = g.F.PresentFrames.parts c.args.store.now in
+    let list = drop c.args.skip c.args.banks.now.listed in
+    let edit : MayEdit p.geometry (objects_in p) list c.args.change = change_edit p.geometry (objects_in p) list c.args.change c.in_default.not-Bank c.requires.may in
+    c.make.ensures.keepable age young edit.holds k
+
+pub returns-in_default-clause-aside : goal.returns-in_default-clause-aside
+returns-in_default-clause-aside g c =
+    let p = g.F.PresentFrames.parts c.args.store.now in
+    let list = drop c.args.skip c.args.banks.now.listed in
+    let edit : MayEdit p.geometry (objects_in p) list c.args.change = change_edit p.geometry (objects_in p) list c.args.change c.in_default.not-Bank c.requires.may in
+    let frame = changed_frame (objects_in p) c.args.change edit.within edit.process in
+    aside_alone g.F.PresentFrames.parts g.F.PresentFrames.IsFetched g.F.PresentFrames.IsAnnounced g.F.PresentFrames.LeadsTo c.args.store.now c.make.new.store c.make.ensures.aside
+    (λ n used. ap (λ (us : List Object). is_free (content_at us n)) c.make.ensures.objects ∙ (tests_at (objects_in p) _ frame n).free ∙ used)

@@ -1,9 +1,0 @@
-use Rattle.std.proofs.Common.{refl}
-use Rattle.model.specs.declared.capability.Capability.TheVariants.{Void}
-use Rattle.gate.specs.Plan.{FitsCap}
-use Rattle.gate.proofs.Listed.{all_four}
-use Rattle.gate.proofs.kernel_object.reply.Goals as goal
-
-pub returns-clause-keepable : goal.returns-clause-keepable
-returns-clause-keepable g c age fits =
-    c.deliver.ensures.keepable age (all_four (FitsCap (g.F.PresentFrames.parts c.args.store.now).geometry) c.args.plan.capability Void Void Void fits refl refl refl)

@@ -1,0 +1,15 @@
+use Rattle.std.proofs.Common.{[], ◌∷◌, List, ℕ, arith, refl, subst, sym}
+use Rattle.std.specs.List.{All, Contains}
+use Rattle.capability.specs.declared.order.BankChange.{BankChange}
+use Rattle.space_bank.specs.Allocating.{numbers_of}
+use Rattle.gate.proofs.Known.{both_known}
+use Rattle.gate.proofs.Listed.{contained}
+use Rattle.gate.proofs.kernel_object.with_new.Goals as goal
+
+pub returns-in-MakeProcess-clause-new : goal.returns-in-MakeProcess-clause-new
+returns-in-MakeProcess-clause-new c =
+    let root = c.in-MakeProcess.root in
+    let annex = c.in-MakeProcess.new_annex in
+    let list : List ℕ = c.args.caller.process ∷ c.args.caller.annex ∷ root ∷ annex ∷ [] in
+    subst (λ (x : BankChange). All (Contains list) (numbers_of x)) (sym c.in-MakeProcess.is)
+    (both_known (Contains list) root annex (contained list 2 root (omega arith) refl) (contained list 3 annex (omega arith) refl))

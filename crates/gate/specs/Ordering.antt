@@ -1,0 +1,69 @@
+-- What an invocation of a kernel object comes to over a store of present frames.
+use Rattle.std.specs.Prelude.{◌≡◌, ℕ, ◌<◌, ◌++◌, true, List, drop, length, if◌then◌else◌, slice_index, slice_index_or}
+use Rattle.std.specs.List.{All}
+use Rattle.model.specs.declared.capability.Capability.{Capability}
+use Rattle.model.specs.declared.capability.Capability.TheVariants.{Void}
+use Rattle.model.specs.declared.command.Invocation.{Invocation}
+use Rattle.model.specs.declared.command.Operation.{Operation}
+use Rattle.model.specs.declared.command.Operation.TheVariants.{Call, Return}
+use Rattle.model.specs.declared.geometry.Geometry.{Geometry}
+use Rattle.model.specs.declared.object.Object.{Object}
+use Rattle.model.specs.declared.object.State.TheVariants.{Available}
+use Rattle.model.specs.declared.order.Arguments.{Arguments}
+use Rattle.model.specs.Invoke.{deliver, sent_by}
+use Rattle.model.specs.Order.{order}
+use Rattle.model.specs.World.{annex_at, is_process, is_running_process, with_state}
+use Rattle.model_laws.proofs.SoundOrders.{IsNow}
+use Rattle.model_laws.proofs.Usage.{SameFrame}
+use Rattle.capability.specs.declared.order.Caller.{Caller}
+use Rattle.capability.specs.declared.order.OrderPlan.{OrderPlan}
+use Rattle.capability.specs.declared.order.Reply.{Reply}
+use Rattle.capability.specs.Changes.{changed, message_of, outcome_by}
+use Rattle.capability.specs.Parts.{Parts, Renews}
+use Rattle.space_bank.specs.Planning.{writer_count, writers}
+use Rattle.gate.specs.Plan.{MayChange}
+
+-- what an order is given by an invocation
+abbrev pub arguments_of : List Object → Invocation → Arguments
+arguments_of os i = record { first = slice_index i.words 1; second = slice_index i.words 2; capability = slice_index_or (sent_by os i) 0 Void }
+
+-- the objects as the order finds them: a process that returns is available
+abbrev pub state_before : Operation → List Object → ℕ → List Object
+state_before operation os p = elim operation [ Return ↦ with_state os p Available | _ ↦ os ]
+
+-- the objects after the reply to a process that called, which is dropped where it doesn't run any more
+abbrev pub answered : Operation → ℕ → List Object → Reply → List Object
+answered operation p os reply = elim operation [ Call ↦ if is_running_process os p then deliver os p (message_of reply) else os | _ ↦ os ]
+
+-- the objects after the order of a caller, which writes the numbers of a list
+abbrev pub ordered_by : List Object → Caller → List ℕ → OrderPlan → List Object
+ordered_by os caller list plan = changed (state_before caller.operation os caller.process) list plan.change
+
+-- and after the reply
+abbrev pub finished : List Object → Caller → List ℕ → OrderPlan → List Object
+finished os caller list plan = answered caller.operation caller.process (ordered_by os caller list plan) plan.reply
+
+-- An order on a capability is planned that writes the numbers of a list. Whatever else changes in words, slots and states
+-- before it is carried out, it makes the change of the plan, and that may be made.
+pub record Plans (g : Geometry) (os : List Object) (c : Capability) (word : ℕ) (args : Arguments) (list : List ℕ) (plan : OrderPlan) : Type 0 where
+  pub here : order g os c word args ≡ outcome_by os list plan
+  pub objects : (us : List Object) → SameFrame os us → (order g us c word args).objects ≡ changed us list plan.change
+  pub written : (us : List Object) → SameFrame os us → (order g us c word args).written ≡ list
+  pub may : (us : List Object) → SameFrame os us → IsNow g us → MayChange g us list plan.change
+  pub annex : (us : List Object) → SameFrame os us → (p : ℕ) → is_process us p ≡ true → is_process (changed us list plan.change) p ≡ true
+      → annex_at (changed us list plan.change) p ≡ annex_at us p
+  pub known : All (λ n. n < length os) list
+
+-- a plan, and what is listed: behind the numbers that the invocation writes itself those that its order writes
+pub record IsPlanned (g : Geometry) (os : List Object) (i : Invocation) (caller : Caller) (plan : OrderPlan) (list : List ℕ) : Type 0 where
+  pub plans : Plans g os caller.invoked (slice_index i.words 0) (arguments_of os i) (drop (writer_count caller.operation) list) plan
+  pub listed : list ≡ writers caller.operation caller.process caller.annex ++ drop (writer_count caller.operation) list
+
+-- What lies beside the objects goes on as it was, and counts of allocations rise where objects are given up. The
+-- parameters are ghost members of a store of present frames.
+pub record GoesOnBeside {S : Type 0} (parts : S → Parts) (Leads : S → S → Type 0) (old new : S) : Type 0 where
+  pub renews : Renews (parts old) (parts new)
+  pub touched : (parts new).touched ≡ (parts old).touched
+  pub geometry : (parts new).geometry ≡ (parts old).geometry
+  pub failures : (parts new).failures ≡ (parts old).failures
+  pub leads : Leads old new

@@ -1,0 +1,200 @@
+// A planned order is carried out.
+ghost use Rattle.std.specs.Prelude.{◌≡◌, ℕ, ◌+◌, ◌<◌, ◌≤◌, ◌^◌, drop, length, IsTrue};
+ghost use Rattle.std.specs.List.{All};
+ghost use Rattle.model.specs.Keepable.{AreCurrent, AreKeepable};
+ghost use Rattle.model.specs.World.{annex_at, is_process, is_running_process};
+ghost use Rattle.model_laws.proofs.SoundOrders.{IsNow};
+ghost use Rattle.capability.specs.Changes.{changed};
+ghost use Rattle.capability.specs.Parts.{AreSound, HaveTheirRoles, KeepsAside, frames_of, objects_in};
+ghost use Rattle.space_bank.specs.Banks.{AreCounted, KeepsObjects};
+ghost use Rattle.space_bank.specs.Planning.{writer_count};
+ghost use Rattle.gate.specs.Ordering.{GoesOnBeside, IsPlanned, answered, finished, ordered_by, state_before};
+ghost use Rattle.gate.specs.Plan.{FitsCap, MayChange, fetched_of};
+
+use crate::change::make;
+use crate::delivery::deliver;
+use capability::{Caller, Change, OrderPlan, PresentFrames, Reply, objects, roots};
+use model::{Capability, Invocation, Message, Operation, State};
+use space_bank::Banks;
+
+// How many numbers an invocation of a kernel object writes itself.
+fn writer_count(operation: Operation) -> usize
+    ensures { result ≡ writer_count operation }
+{
+    match operation {
+        Operation::Call => 2,
+        Operation::Return => 1,
+        Operation::Send => 0,
+    }
+}
+
+// Before the order a process that returns becomes available.
+fn leave<F: PresentFrames>(store: &mut F, caller: Caller)
+    requires process { IsTrue (is_process (objects_in (F.parts store.old)) caller.process) }
+    requires fetched { F.IsFetched store.old caller.process }
+    requires announced { (caller.operation ≡ Operation.Send → ⊥)
+        → F.IsAnnounced store.old caller.process }
+    ensures objects { objects_in (F.parts store.new)
+        ≡ state_before caller.operation (objects_in (F.parts store.old)) caller.process }
+    ensures current { AreCurrent (frames_of (F.parts store.old))
+        → AreCurrent (frames_of (F.parts store.new)) }
+    ensures keepable { (age : ℕ)
+        → AreKeepable (F.parts store.old).geometry age (frames_of (F.parts store.old))
+        → AreKeepable (F.parts store.old).geometry age (frames_of (F.parts store.new)) }
+    ensures aside { KeepsAside F.parts F.IsFetched F.IsAnnounced F.LeadsTo store.old store.new }
+{
+    match caller.operation {
+        Operation::Return => roots::set_state(store, caller.process, State::Available),
+        Operation::Call => {}
+        Operation::Send => {}
+    }
+}
+
+// Makes the change of an order, whose numbers are listed from `skip` on.
+fn change<F: PresentFrames>(store: &mut F, banks: &mut Banks, skip: usize, change: Change)
+    requires sound { AreSound (F.parts store.old) }
+    requires counted { AreCounted (F.parts store.old).geometry
+        (objects_in (F.parts store.old)) banks.old }
+    requires may { MayChange (F.parts store.old).geometry (objects_in (F.parts store.old))
+        (drop skip banks.old.listed) change }
+    requires within { skip ≤ length banks.old.listed }
+    requires announced { All (F.IsAnnounced store.old) (drop skip banks.old.listed) }
+    requires fetched { All (F.IsFetched store.old) (fetched_of change) }
+    ensures objects { objects_in (F.parts store.new)
+        ≡ changed (objects_in (F.parts store.old)) (drop skip banks.old.listed) change }
+    ensures counted { AreCounted (F.parts store.old).geometry
+        (objects_in (F.parts store.new)) banks.new }
+    ensures current { AreCurrent (frames_of (F.parts store.new)) }
+    ensures keepable { (age : ℕ) → age + 1 < 2 ^ 64
+        → AreKeepable (F.parts store.old).geometry age (frames_of (F.parts store.old))
+        → AreKeepable (F.parts store.old).geometry (age + 1) (frames_of (F.parts store.new)) }
+    ensures aside { KeepsObjects F.parts F.IsFetched F.IsAnnounced F.LeadsTo store.old store.new }
+{
+    match change {
+        Change::Bank(made) => banks.carry_out(store, skip, made),
+        _ => make(store, change),
+    }
+}
+
+// Delivers the reply to a process, where it runs.
+#[inline(always)]
+fn deliver_reply<F: PresentFrames>(store: &mut F, process: u64, reply: Reply)
+    requires root_fetched { F.IsFetched store.old process }
+    requires root_announced { F.IsAnnounced store.old process }
+    requires annex_fetched { F.IsFetched store.old
+        (annex_at (objects_in (F.parts store.old)) process) }
+    requires annex_announced { F.IsAnnounced store.old
+        (annex_at (objects_in (F.parts store.old)) process) }
+    ensures objects { objects_in (F.parts store.new)
+        ≡ answered Operation.Call process (objects_in (F.parts store.old)) reply }
+    ensures current { AreCurrent (frames_of (F.parts store.old))
+        → AreCurrent (frames_of (F.parts store.new)) }
+    ensures keepable { (age : ℕ) → FitsCap (F.parts store.old).geometry reply.capability
+        → AreKeepable (F.parts store.old).geometry age (frames_of (F.parts store.old))
+        → AreKeepable (F.parts store.old).geometry age (frames_of (F.parts store.new)) }
+    ensures aside { KeepsAside F.parts F.IsFetched F.IsAnnounced F.LeadsTo store.old store.new }
+{
+    let Some(State::Running) = objects::state(store, process) else {
+        return;
+    };
+    let [first, second, third] = reply.words;
+    let message = Message {
+        words: [reply.code.number(), first, second, third],
+        key: 0,
+        capabilities: [
+            reply.capability,
+            Capability::Void,
+            Capability::Void,
+            Capability::Void,
+        ],
+    };
+    deliver(store, process, message);
+}
+
+// Gives a process that called the reply, where it is still a process and runs.
+fn reply<F: PresentFrames>(store: &mut F, process: u64, reply: Reply)
+    requires roles { HaveTheirRoles (frames_of (F.parts store.old)) }
+    requires root { IsTrue (is_process (objects_in (F.parts store.old)) process)
+        → F.IsFetched store.old process × F.IsAnnounced store.old process }
+    requires annex { IsTrue (is_process (objects_in (F.parts store.old)) process)
+        → F.IsFetched store.old (annex_at (objects_in (F.parts store.old)) process)
+        × F.IsAnnounced store.old (annex_at (objects_in (F.parts store.old)) process) }
+    ensures objects { objects_in (F.parts store.new)
+        ≡ answered Operation.Call process (objects_in (F.parts store.old)) reply }
+    ensures current { AreCurrent (frames_of (F.parts store.old))
+        → AreCurrent (frames_of (F.parts store.new)) }
+    ensures keepable { (age : ℕ) → FitsCap (F.parts store.old).geometry reply.capability
+        → AreKeepable (F.parts store.old).geometry age (frames_of (F.parts store.old))
+        → AreKeepable (F.parts store.old).geometry age (frames_of (F.parts store.new)) }
+    ensures aside { KeepsAside F.parts F.IsFetched F.IsAnnounced F.LeadsTo store.old store.new }
+{
+    if roots::is_process(store, process) {
+        deliver_reply(store, process, reply);
+    }
+}
+
+// After the order a process that called gets the reply.
+fn answer<F: PresentFrames>(store: &mut F, caller: Caller, told: Reply)
+    requires roles { HaveTheirRoles (frames_of (F.parts store.old)) }
+    requires root { caller.operation ≡ Operation.Call
+        → IsTrue (is_process (objects_in (F.parts store.old)) caller.process)
+        → F.IsFetched store.old caller.process × F.IsAnnounced store.old caller.process }
+    requires annex { caller.operation ≡ Operation.Call
+        → IsTrue (is_process (objects_in (F.parts store.old)) caller.process)
+        → F.IsFetched store.old (annex_at (objects_in (F.parts store.old)) caller.process)
+        × F.IsAnnounced store.old (annex_at (objects_in (F.parts store.old)) caller.process) }
+    ensures objects { objects_in (F.parts store.new)
+        ≡ answered caller.operation caller.process (objects_in (F.parts store.old)) told }
+    ensures current { AreCurrent (frames_of (F.parts store.old))
+        → AreCurrent (frames_of (F.parts store.new)) }
+    ensures keepable { (age : ℕ) → FitsCap (F.parts store.old).geometry told.capability
+        → AreKeepable (F.parts store.old).geometry age (frames_of (F.parts store.old))
+        → AreKeepable (F.parts store.old).geometry age (frames_of (F.parts store.new)) }
+    ensures aside { KeepsAside F.parts F.IsFetched F.IsAnnounced F.LeadsTo store.old store.new }
+{
+    match caller.operation {
+        Operation::Call => reply(store, caller.process, told),
+        Operation::Return => {}
+        Operation::Send => {}
+    }
+}
+
+/// Carries out an order that is planned and announced. Before it a process that returns becomes
+/// available; after it one that called gets the reply, where it is still a process and runs.
+pub fn carry_out<F: PresentFrames>(
+    store: &mut F,
+    banks: &mut Banks,
+    invocation: &Invocation,
+    caller: Caller,
+    plan: OrderPlan,
+)
+    requires sound { AreSound (F.parts store.old) }
+    requires counted { AreCounted (F.parts store.old).geometry
+        (objects_in (F.parts store.old)) banks.old }
+    requires running { IsTrue (is_running_process
+        (objects_in (F.parts store.old)) caller.process) }
+    requires annex { caller.annex ≡ annex_at (objects_in (F.parts store.old)) caller.process }
+    requires planned { IsPlanned (F.parts store.old).geometry (objects_in (F.parts store.old))
+        invocation.now caller plan banks.old.listed }
+    requires announced { All (F.IsAnnounced store.old) banks.old.listed }
+    requires fetched { F.IsFetched store.old caller.process × F.IsFetched store.old caller.annex
+        × All (F.IsFetched store.old) (fetched_of plan.change) }
+    requires after { IsNow (F.parts store.old).geometry (ordered_by
+        (objects_in (F.parts store.old)) caller
+        (drop (writer_count caller.operation) banks.old.listed) plan) }
+    ensures objects { objects_in (F.parts store.new)
+        ≡ finished (objects_in (F.parts store.old)) caller
+        (drop (writer_count caller.operation) banks.old.listed) plan }
+    ensures current { AreCurrent (frames_of (F.parts store.new)) }
+    ensures counted { AreCounted (F.parts store.old).geometry
+        (objects_in (F.parts store.new)) banks.new }
+    ensures keepable { (age : ℕ) → age + 1 < 2 ^ 64
+        → FitsCap (F.parts store.old).geometry plan.reply.capability
+        → AreKeepable (F.parts store.old).geometry age (frames_of (F.parts store.old))
+        → AreKeepable (F.parts store.old).geometry (age + 1) (frames_of (F.parts store.new)) }
+    ensures beside { GoesOnBeside F.parts F.LeadsTo store.old store.new }
+{
+    leave(store, caller);
+    change(store, banks, writer_count(caller.operation), plan.change);
+    answer(store, caller, plan.reply);
+}

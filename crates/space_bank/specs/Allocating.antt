@@ -1,0 +1,90 @@
+-- The four orders that allocate, as one.
+use Rattle.std.specs.Prelude.{ℕ, nat_lt, Bool, false, not, if◌then◌else◌, Option, None, Some, List, [], ◌∷◌, length}
+use Rattle.model.specs.declared.capability.Capability.{Capability}
+use Rattle.model.specs.declared.capability.Capability.TheVariants.{Void, Page, Node, Process, Bank}
+use Rattle.model.specs.declared.geometry.Geometry.{Geometry}
+use Rattle.model.specs.declared.object.Object.{Object}
+use Rattle.model.specs.declared.order.Arguments.{Arguments}
+use Rattle.model.specs.declared.order.BankOrder.{BankOrder}
+use Rattle.model.specs.declared.order.BankOrder.TheVariants as order
+use Rattle.model.specs.declared.order.ResultCode.TheVariants as code
+use Rattle.model.specs.Bank.{chain}
+use Rattle.model.specs.Banking.{free_nodes, free_pages, has_room}
+use Rattle.model.specs.Capability.{full}
+use Rattle.model.specs.OrderOutcome.{OrderOutcome, made, refused}
+use Rattle.capability.specs.declared.order.BankChange.{BankChange}
+use Rattle.capability.specs.declared.order.BankChange.TheVariants as bank
+use Rattle.capability.specs.declared.present.Fresh.{Fresh}
+use Rattle.capability.specs.declared.present.Fresh.TheVariants as fresh
+use Rattle.capability.specs.Changes.{bank_changed}
+use Rattle.space_bank.specs.declared.planning_new.New.{New}
+use Rattle.space_bank.specs.declared.planning_new.New.TheVariants as new
+
+-- what an order makes, if it makes something
+abbrev pub new_of : BankOrder → Arguments → Option New
+new_of order.NewPage args = Some new.Page
+new_of order.NewNode args = Some new.Node
+new_of order.NewProcess args = Some new.Process
+new_of order.NewBank args = Some (new.Bank args.first)
+new_of order.Free args = None
+new_of order.Destroy args = None
+new_of order.ReturnToParent args = None
+new_of order.Remaining args = None
+
+-- how many numbers it takes
+abbrev pub count_of : New → ℕ
+count_of new.Page = 1
+count_of new.Node = 1
+count_of new.Process = 2
+count_of (new.Bank limit) = 1
+
+-- what a bank makes of the first free numbers, if there are enough
+abbrev pub new_at : ℕ → Fresh → List ℕ → Option BankChange
+new_at b f [] = None
+new_at b f (n ∷ ns) = Some (bank.Make n f b)
+
+abbrev pub process_at : ℕ → List ℕ → Option BankChange
+process_at b [] = None
+process_at b (r ∷ []) = None
+process_at b (r ∷ a ∷ ns) = Some (bank.MakeProcess r a b)
+
+abbrev pub made_for : Geometry → List Object → ℕ → New → Option BankChange
+made_for g os b new.Page = new_at b fresh.Page (free_pages g os)
+made_for g os b new.Node = new_at b fresh.Node (free_nodes g os)
+made_for g os b new.Process = process_at b (free_nodes g os)
+made_for g os b (new.Bank limit) = new_at b (fresh.Bank limit) (free_nodes g os)
+
+-- its numbers, and the capability to it
+abbrev pub numbers_of : BankChange → List ℕ
+numbers_of (bank.Make n f b) = n ∷ []
+numbers_of (bank.MakeProcess r a b) = r ∷ a ∷ []
+numbers_of (bank.GiveUp above) = []
+numbers_of (bank.HandOn b) = []
+
+abbrev pub given_for : ℕ → Fresh → Capability
+given_for n fresh.Page = Page n full
+given_for n fresh.Node = Node n full
+given_for n (fresh.Bank limit) = Bank n
+given_for n (fresh.Root annex) = Void
+given_for n fresh.Annex = Void
+
+abbrev pub given_by : BankChange → Capability
+given_by (bank.Make n f b) = given_for n f
+given_by (bank.MakeProcess r a b) = Process r
+given_by (bank.GiveUp above) = Void
+given_by (bank.HandOn b) = Void
+
+-- whether it is a bank under a chain of 16 banks
+abbrev pub is_deep : List Object → ℕ → New → Bool
+is_deep os b new.Page = false
+is_deep os b new.Node = false
+is_deep os b new.Process = false
+is_deep os b (new.Bank limit) = not (nat_lt (length (chain os b)) 16)
+
+-- what an order comes to that allocates: no room, no free number, too deep, or done
+abbrev pub allocated_by : List Object → Bool → Option BankChange → OrderOutcome
+allocated_by os deep None = refused os code.NoFrame
+allocated_by os deep (Some c) = if deep then refused os code.TooDeep else made (bank_changed os (numbers_of c) c) (numbers_of c) (given_by c)
+
+abbrev pub allocating : Geometry → List Object → ℕ → New → OrderOutcome
+allocating g os b n = if has_room os b (count_of n) then allocated_by os (is_deep os b n) (made_for g os b n) else refused os code.Limit

@@ -1,0 +1,168 @@
+// What an order that allocates comes to. Nothing but the list is changed.
+ghost use Rattle.std.specs.Prelude.{◌≡◌, ◌+◌, ◌<◌, ◌≤◌, ◌^◌, ◌++◌, IfSome, List, Some, length};
+ghost use Rattle.std.specs.List.{range_with_len};
+ghost use Rattle.model.specs.declared.object.Object.{Object};
+ghost use Rattle.model.specs.declared.order.Arguments.{Arguments};
+ghost use Rattle.model.specs.declared.order.BankOrder.{BankOrder};
+ghost use Rattle.model.specs.Banking.{are_free};
+ghost use Rattle.model.specs.Sound.{object_count};
+ghost use Rattle.capability.specs.Parts.{objects_in};
+ghost use Rattle.space_bank.specs.Allocating.{count_of, given_by, given_for, is_deep, made_for, new_at, new_of, numbers_of, process_at};
+ghost use Rattle.space_bank.specs.Carrying.{IsPlanned};
+ghost use Rattle.space_bank.specs.Counting.{AreMarked};
+ghost use Rattle.space_bank.specs.Planning.{IsBankOf};
+
+use crate::banks::Banks;
+use crate::walking::{MAX_CHAIN, chain_length};
+use capability::{BankChange, Change, Fresh, OrderPlan, PresentFrames};
+use model::{Access, Capability, ResultCode};
+use number_set::NumberSet;
+
+/// What a bank makes.
+#[derive(Clone, Copy, Debug)]
+pub enum New {
+    Page,
+    Node,
+    Process,
+    Bank { limit: u64 },
+}
+
+impl New {
+    // How many numbers it takes.
+    fn count(self) -> u64
+        ensures { result ≡ count_of self }
+    {
+        match self {
+            New::Process => 2,
+            New::Page | New::Node | New::Bank { .. } => 1,
+        }
+    }
+}
+
+// What is made of the least number in a set, whose numbers are counted from a first one.
+fn next_one(numbers: &NumberSet, first: u64, fresh: Fresh, bank: u64) -> Option<BankChange>
+    requires { first + length numbers.now < 2 ^ 64 }
+    ensures made { (os : List Object) → AreMarked os first (length numbers.now) numbers.now
+        → result ≡ new_at bank fresh (are_free os (range_with_len first (length numbers.now))) }
+    ensures few { IfSome result (λ made. length (numbers_of made) ≤ length numbers.now) }
+{
+    match numbers.next(0) {
+        None => None,
+        Some(number) => Some(BankChange::Make {
+            number: first + number as u64,
+            fresh,
+            bank,
+        }),
+    }
+}
+
+// The process that is made of the two least numbers in a set.
+fn next_process(numbers: &NumberSet, bank: u64) -> Option<BankChange>
+    ensures made { (os : List Object) → AreMarked os 0 (length numbers.now) numbers.now
+        → result ≡ process_at bank (are_free os (range_with_len 0 (length numbers.now))) }
+    ensures few { IfSome result (λ made. length (numbers_of made) ≤ length numbers.now) }
+{
+    match numbers.next(0) {
+        None => None,
+        Some(root) => match numbers.next(root + 1) {
+            None => None,
+            Some(annex) => Some(BankChange::MakeProcess {
+                root: root as u64,
+                annex: annex as u64,
+                bank,
+            }),
+        },
+    }
+}
+
+// The capability to what is made.
+fn given_by(change: BankChange) -> Capability
+    ensures { result ≡ given_by change }
+{
+    match change {
+        BankChange::Make { number, fresh, .. } => given_for(number, fresh),
+        BankChange::MakeProcess { root, .. } => Capability::Process(root),
+        BankChange::GiveUp { .. } | BankChange::HandOn { .. } => Capability::Void,
+    }
+}
+
+// The capability to a new object.
+fn given_for(number: u64, fresh: Fresh) -> Capability
+    ensures { result ≡ given_for number fresh }
+{
+    let object = number;
+    let access = Access::full();
+    match fresh {
+        Fresh::Page => Capability::Page { object, access },
+        Fresh::Node => Capability::Node { object, access },
+        Fresh::Bank { .. } => Capability::Bank(number),
+        Fresh::Root { .. } | Fresh::Annex => Capability::Void,
+    }
+}
+
+// Whether a new object is a bank, under a chain that is as long as it may be.
+fn is_deep<F: PresentFrames>(store: &F, bank: u64, new: New) -> bool
+    ensures { result ≡ is_deep (objects_in (F.parts store.now)) bank new }
+{
+    match new {
+        New::Bank { .. } => chain_length(store, bank) >= MAX_CHAIN,
+        New::Page | New::Node | New::Process => false,
+    }
+}
+
+impl Banks {
+    // What is made of the least free numbers, if enough are free.
+    fn next_free<F: PresentFrames>(&self, store: &F, bank: u64, new: New) -> Option<BankChange>
+        requires { IsBankOf (F.parts store.now) self.now bank }
+        ensures made { result ≡ made_for (F.parts store.now).geometry
+            (objects_in (F.parts store.now)) bank new }
+        ensures few { IfSome result
+            (λ made. length (numbers_of made) ≤ object_count (F.parts store.now).geometry) }
+    {
+        match new {
+            New::Page => next_one(&self.pages, store.geometry().nodes, Fresh::Page, bank),
+            New::Node => next_one(&self.nodes, 0, Fresh::Node, bank),
+            New::Process => next_process(&self.nodes, bank),
+            New::Bank { limit } => next_one(&self.nodes, 0, Fresh::Bank { limit }, bank),
+        }
+    }
+
+    // Lists the numbers of what is made.
+    fn list_new(&mut self, change: BankChange)
+        requires { length self.old.listed + length (numbers_of change) ≤ self.old.room }
+        ensures { self.new ≡ record self.old { listed = self.old.listed ++ numbers_of change } }
+    {
+        match change {
+            BankChange::Make { number, .. } => self.list(number),
+            BankChange::MakeProcess { root, annex, .. } => {
+                self.list(root);
+                self.list(annex);
+            }
+            BankChange::GiveUp { .. } | BankChange::HandOn { .. } => {}
+        }
+    }
+
+    // A new object, at the least free number of its kind. A process takes two, its root and its
+    // annex, and a bank a chain that isn't as long as it may be.
+    pub(crate) fn plan_new<F: PresentFrames>(&mut self, store: &F, bank: u64, new: New) -> OrderPlan
+        requires bank { IsBankOf (F.parts store.now) self.old bank }
+        requires few { length self.old.listed ≤ 2 }
+        ensures planned { (order : BankOrder) (args : Arguments) → new_of order args ≡ Some new
+            → IsPlanned (F.parts store.now) bank order args self.old.listed result self.new.listed }
+        ensures kept { self.new ≡ record self.old { listed = self.new.listed } }
+    {
+        if !self.has_room(store, bank, new.count()) {
+            return OrderPlan::refused(ResultCode::Limit);
+        }
+        match self.next_free(store, bank, new) {
+            None => OrderPlan::refused(ResultCode::NoFrame),
+            Some(change) => {
+                if is_deep(store, bank, new) {
+                    return OrderPlan::refused(ResultCode::TooDeep);
+                }
+                self.list_new(change);
+                OrderPlan::made(given_by(change), Change::Bank(change))
+            }
+        }
+    }
+}
