@@ -19,8 +19,7 @@ use crate::table::{Place, Table};
 use checkpoint::CheckpointFault;
 use ckpt_log::Log;
 use device::{Device, Failed};
-use home_ranges::Home;
-use layout::{CheckpointHeader, Entry};
+use layout::{CheckpointHeader, Entry, Superblock};
 use model::{Cap, Content, ObjectHeader};
 use std::marker::Model;
 use std::mem;
@@ -37,8 +36,7 @@ pub use open::Opened;
 #[derive(Drop)]
 pub struct Durable<D: Device> {
     device: D,
-    log: Log,
-    home: Home,
+    plan: Superblock,
     header: CheckpointHeader,
     /// As many entries as a half of the log has slots, of which the header tells how many are used.
     directory: Vec<Entry>,
@@ -61,16 +59,15 @@ impl<D: Device> Model for Durable<D> {
 
     ghost view = { λ s. record {
       beneath = s.device;
-      books = books_of s.log s.header s.directory.items s.moved s.frozen s.size s.working s.buffer;
+      books = books_of s.plan s.header s.directory.items s.moved s.frozen s.size s.working s.buffer;
     } };
 
     ghost invariant = { λ s. IsKept (D.disk s.device).sectors (seen_by (D.disk s.device).seen
-        (books_of s.log s.header s.directory.items s.moved s.frozen s.size s.working s.buffer))
-        (books_of s.log s.header s.directory.items s.moved s.frozen s.size s.working s.buffer)
-        × (s.home ≡ s.log)
-        × (length s.directory.items ≡ s.log.geometry.log)
-        × (length s.spare.items ≡ s.log.geometry.log)
-        × MayHaveUnwritten (books_of s.log s.header s.directory.items s.moved s.frozen s.size
+        (books_of s.plan s.header s.directory.items s.moved s.frozen s.size s.working s.buffer))
+        (books_of s.plan s.header s.directory.items s.moved s.frozen s.size s.working s.buffer)
+        × (length s.directory.items ≡ s.plan.geometry.log)
+        × (length s.spare.items ≡ s.plan.geometry.log)
+        × MayHaveUnwritten (books_of s.plan s.header s.directory.items s.moved s.frozen s.size
         s.working s.buffer) s.buffer };
 }
 
@@ -78,7 +75,7 @@ impl<D: Device> Model for Durable<D> {
 // After `Failed` the slot may hold any bytes.
 fn put_frame<D: Device>(
     device: &mut D,
-    log: &Log,
+    plan: &Superblock,
     table: &mut Table,
     generation: u64,
     number: u64,
@@ -86,21 +83,22 @@ fn put_frame<D: Device>(
     content: &Content<Cap>,
 ) -> Result<(), Failed>
     requires known { number < length table.old }
-    requires room { slot_for table.old number < log.now.geometry.log }
-    requires inside { log.now.total ≤ (D.disk device.old).sectors }
+    requires room { slot_for table.old number < plan.now.geometry.log }
+    requires inside { plan.now.total ≤ (D.disk device.old).sectors }
     ensures whole { OnOk result (table.new
         ≡ slice_set table.old number (Place.Whole (slot_for table.old number))) }
     ensures torn { OnErr result (table.new
         ≡ slice_set table.old number (Place.Torn (slot_for table.old number))) }
     ensures written { OnOk result
-        (slot_bytes (D.disk device.new).seen log.now generation (slot_for table.old number) number
-        ≡ frame_bytes log.now.geometry number (record { header = header; content = content.now })) }
-    ensures writes { WritesAt (slot_sector log.now generation (slot_for table.old number))
-        (place_length log.now number) (D.disk device.old) (D.disk device.new) }
+        (slot_bytes (D.disk device.new).seen plan.now generation (slot_for table.old number) number
+        ≡ frame_bytes plan.now.geometry number (record { header = header; content = content.now })) }
+    ensures writes { WritesAt (slot_sector plan.now generation (slot_for table.old number))
+        (place_length plan.now number) (D.disk device.old) (D.disk device.new) }
     ensures cause { Counts (D.disk device.old) (D.disk device.new) result }
 {
     let slot = table.slot_for(number);
     table.set(number, Place::Torn(slot));
+    let log = Log::new(plan);
     log.write_slot(device, generation, slot, number, header, content)?;
     table.set(number, Place::Whole(slot));
     Ok(())
@@ -143,7 +141,7 @@ impl<D: Device> Durable<D> {
         let generation = self.working_generation();
         put_frame(
             &mut self.device,
-            &self.log,
+            &self.plan,
             &mut self.working,
             generation,
             number,
@@ -198,7 +196,7 @@ impl<D: Device> Durable<D> {
         let generation = self.header.generation + 1;
         put_frame(
             &mut self.device,
-            &self.log,
+            &self.plan,
             &mut self.frozen,
             generation,
             number,
@@ -332,12 +330,11 @@ impl<D: Device> Durable<D> {
         let count = self.frozen.fill(&mut self.spare);
         self.buffer.complete(
             &mut self.device,
-            &self.log,
-            &self.home,
+            &self.plan,
             header.generation,
             &self.spare[..count],
         )?;
-        save(&mut self.device, &self.log, header, &self.spare[..count])?;
+        save(&mut self.device, &self.plan, header, &self.spare[..count])?;
         mem::swap(&mut self.directory, &mut self.spare);
         self.header = header;
         self.moved = 0;

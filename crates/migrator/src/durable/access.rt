@@ -12,6 +12,7 @@ use crate::durable::Durable;
 use crate::read::{read_again, read_put};
 use crate::table::Place;
 use checkpoint::Checkpoint;
+use ckpt_log::Log;
 use device::{Device, Failed};
 use layout::{Body, Entry, Room, Superblock};
 use model::{Geometry, ObjectHeader};
@@ -22,14 +23,14 @@ impl<D: Device> Durable<D> {
         ensures geometry { result ≡ (stored_of D.disk self.now).saved.geometry }
         ensures few { result.nodes + result.pages ≤ 8192 }
     {
-        self.home.geometry()
+        self.plan.geometry()
     }
 
     /// The superblock of the device.
     pub fn superblock(&self) -> &Superblock
         ensures { result.now ≡ self.now.books.plan }
     {
-        self.home.superblock()
+        &self.plan
     }
 
     /// The directory of the committed checkpoint: which objects it names, and the slots of the log
@@ -80,15 +81,7 @@ impl<D: Device> Durable<D> {
     {
         let header = self.header;
         let named = &self.directory[..header.entries as usize];
-        read_again(
-            &mut self.device,
-            &self.log,
-            &self.home,
-            header,
-            named,
-            number,
-            room,
-        )
+        read_again(&mut self.device, &self.plan, header, named, number, room)
     }
 
     // Reads the frozen frame of an object, which was put into a slot: from the buffer where the
@@ -108,12 +101,13 @@ impl<D: Device> Durable<D> {
         ensures cause { Counts (D.disk self.old.beneath) (D.disk self.new.beneath) result }
     {
         let generation = self.header.generation + 1;
-        let sector = self.log.slot_sector(generation, slot);
+        let log = Log::new(&self.plan);
+        let sector = log.slot_sector(generation, slot);
         if self.buffer.is_for(sector) {
-            let shape = self.home.shape(number);
+            let shape = self.plan.shape(number);
             return Ok(self.buffer.read(shape, self.geometry(), number, room));
         }
-        read_put(&mut self.device, &self.log, generation, slot, number, room)
+        read_put(&mut self.device, &self.plan, generation, slot, number, room)
     }
 
     // Reads the frozen frame of an object, or else the saved one.
@@ -154,7 +148,7 @@ impl<D: Device> Durable<D> {
         match self.working.place(number) {
             Place::Whole(slot) => read_put(
                 &mut self.device,
-                &self.log,
+                &self.plan,
                 generation,
                 slot,
                 number,

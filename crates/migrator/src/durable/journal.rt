@@ -13,7 +13,9 @@ use crate::durable::Durable;
 use crate::read::read_header_of;
 use crate::save::save;
 use checkpoint::CheckpointFault;
+use ckpt_log::Log;
 use device::{Device, Failed};
+use home_ranges::Home;
 use layout::{CheckpointHeader, Entry};
 use model::{ObjectHeader, Words};
 use std::mem;
@@ -30,8 +32,9 @@ impl<D: Device> Durable<D> {
         ensures reads { ReadsStore D.disk self.old self.new }
         ensures cause { Counts (D.disk self.old.beneath) (D.disk self.new.beneath) result }
     {
-        let at = self.home.place(number);
-        read_header_of(&mut self.device, at, self.home.shape(number))
+        let home = Home::new(&self.plan);
+        let at = home.place(number);
+        read_header_of(&mut self.device, at, self.plan.shape(number))
     }
 
     // Writes a page with other words, under the header that is saved, into the first slot of the
@@ -54,8 +57,8 @@ impl<D: Device> Durable<D> {
         let _ = &self.device;
         let header = self.saved_header(number)?;
         let generation = self.header.generation;
-        self.log
-            .write_page(&mut self.device, generation, 0, header, words)
+        let log = Log::new(&self.plan);
+        log.write_page(&mut self.device, generation, 0, header, words)
     }
 
     // The header under which one object is saved anew, at an age.
@@ -101,7 +104,7 @@ impl<D: Device> Durable<D> {
             object: number,
             slot: 0,
         };
-        save(&mut self.device, &self.log, header, &self.spare[..1])?;
+        save(&mut self.device, &self.plan, header, &self.spare[..1])?;
         mem::swap(&mut self.directory, &mut self.spare);
         self.header = header;
         self.moved = 0;

@@ -22,12 +22,12 @@ impl<D: Device> Durable<D> {
         let entry = self.directory[self.moved as usize];
         let generation = self.header.generation;
         let directory = &self.directory[..self.header.entries as usize];
-        let (log, home) = (&self.log, &self.home);
-        if !is_first(home, directory, self.moved as usize) {
+        let plan = &self.plan;
+        if !is_first(plan, directory, self.moved as usize) {
             self.moved += 1;
             return Ok(());
         }
-        copy_home(&mut self.device, log, home, generation, directory, entry)?;
+        copy_home(&mut self.device, plan, generation, directory, entry)?;
         self.moved += 1;
         Ok(())
     }
@@ -53,7 +53,7 @@ impl<D: Device> Durable<D> {
             entries: 0,
             age: self.header.age,
         };
-        save(&mut self.device, &self.log, header, &[])?;
+        save(&mut self.device, &self.plan, header, &[])?;
         self.header = header;
         self.moved = 0;
         Ok(())

@@ -13,14 +13,14 @@ told image b size left is same = ap (λ o. option_map left_of (option_map (froze
 
 pub overflow_sub-left : goal.overflow_sub-left
 overflow_sub-left g c =
-    let b : Books = (books_of c.self.inside.log c.self.inside.header c.self.inside.directory.items c.self.inside.moved c.self.inside.frozen c.self.inside.size c.self.inside.working c.self.inside.buffer) in
+    let b : Books = (books_of c.self.inside.plan c.self.inside.header c.self.inside.directory.items c.self.inside.moved c.self.inside.frozen c.self.inside.size c.self.inside.working c.self.inside.buffer) in
     let was = subst (IsRunning b) c.in-Some.is c.self.invariant.0.running in
     let less = whole_taken c.self.inside.frozen in
     omega (arith, was.1, less, c.whole.ensures)
 
 pub returns-then-left-ne0-clause-answer : goal.returns-then-left-ne0-clause-answer
 returns-then-left-ne0-clause-answer g c =
-    let b : Books = (books_of c.self.inside.log c.self.inside.header c.self.inside.directory.items c.self.inside.moved c.self.inside.frozen c.self.inside.size c.self.inside.working c.self.inside.buffer) in
+    let b : Books = (books_of c.self.inside.plan c.self.inside.header c.self.inside.directory.items c.self.inside.moved c.self.inside.frozen c.self.inside.size c.self.inside.working c.self.inside.buffer) in
     let size = ap (λ t. t.books.size) (sym c.self.view_is) ∙ c.in-Some.is in
     let some : 0 < c.in-Some.size - c.whole.result = search rules in
     let kept = kept_whole (mended (g.D.Device.disk c.self.inside.device).seen c.self.inside.buffer) b.plan (frozen_generation b) b.frozen c.self.invariant.0.frozen.count in
@@ -41,7 +41,7 @@ commit_running-requires-clause-most g c =
 
 pub commit_running-requires-clause-keepable : goal.commit_running-requires-clause-keepable
 commit_running-requires-clause-keepable g c =
-    let b : Books = (books_of c.self.inside.log c.self.inside.header c.self.inside.directory.items c.self.inside.moved c.self.inside.frozen c.self.inside.size c.self.inside.working c.self.inside.buffer) in
+    let b : Books = (books_of c.self.inside.plan c.self.inside.header c.self.inside.directory.items c.self.inside.moved c.self.inside.frozen c.self.inside.size c.self.inside.working c.self.inside.buffer) in
     let size = ap (λ t. t.books.size) (sym c.self.view_is) ∙ c.in-Some.is in
     let none : c.in-Some.size - c.whole.result ≡ 0 = search rules in
     let kept = kept_whole (mended (g.D.Device.disk c.self.inside.device).seen c.self.inside.buffer) b.plan (frozen_generation b) b.frozen c.self.invariant.0.frozen.count in
@@ -51,7 +51,7 @@ commit_running-requires-clause-keepable g c =
 
 pub returns-clause-stable : goal.returns-clause-stable
 returns-clause-stable g c =
-    let b : Books = (books_of c.self.inside.log c.self.inside.header c.self.inside.directory.items c.self.inside.moved c.self.inside.frozen c.self.inside.size c.self.inside.working c.self.inside.buffer) in
+    let b : Books = (books_of c.self.inside.plan c.self.inside.header c.self.inside.directory.items c.self.inside.moved c.self.inside.frozen c.self.inside.size c.self.inside.working c.self.inside.buffer) in
     let size = ap (λ t. t.books.size) (sym c.self.view_is) ∙ c.in-Some.is in
     let none : c.in-Some.size - c.whole.result ≡ 0 = search rules in
     let kept = kept_whole (mended (g.D.Device.disk c.self.inside.device).seen c.self.inside.buffer) b.plan (frozen_generation b) b.frozen c.self.invariant.0.frozen.count in
@@ -63,7 +63,7 @@ returns-clause-stable g c =
 
 pub returns-clause-answer : goal.returns-clause-answer
 returns-clause-answer g c =
-    let b : Books = (books_of c.self.inside.log c.self.inside.header c.self.inside.directory.items c.self.inside.moved c.self.inside.frozen c.self.inside.size c.self.inside.working c.self.inside.buffer) in
+    let b : Books = (books_of c.self.inside.plan c.self.inside.header c.self.inside.directory.items c.self.inside.moved c.self.inside.frozen c.self.inside.size c.self.inside.working c.self.inside.buffer) in
     let size = ap (λ t. t.books.size) (sym c.self.view_is) ∙ c.in-Some.is in
     let none : c.in-Some.size - c.whole.result ≡ 0 = search rules in
     let kept = kept_whole (mended (g.D.Device.disk c.self.inside.device).seen c.self.inside.buffer) b.plan (frozen_generation b) b.frozen c.self.invariant.0.frozen.count in
@@ -73,7 +73,7 @@ returns-clause-answer g c =
 
 pub returns-in_default-commit_running-clause-answer : goal.returns-in_default-commit_running-clause-answer
 returns-in_default-commit_running-clause-answer g c =
-    let b : Books = (books_of c.self.inside.log c.self.inside.header c.self.inside.directory.items c.self.inside.moved c.self.inside.frozen c.self.inside.size c.self.inside.working c.self.inside.buffer) in
+    let b : Books = (books_of c.self.inside.plan c.self.inside.header c.self.inside.directory.items c.self.inside.moved c.self.inside.frozen c.self.inside.size c.self.inside.working c.self.inside.buffer) in
     let size = ap (λ t. t.books.size) (sym c.self.view_is) ∙ c.in-Some.is in
     let none : c.in-Some.size - c.whole.result ≡ 0 = search rules in
     let kept = kept_whole (mended (g.D.Device.disk c.self.inside.device).seen c.self.inside.buffer) b.plan (frozen_generation b) b.frozen c.self.invariant.0.frozen.count in

@@ -17,7 +17,7 @@ use Rattle.migrator.proofs.durable.Durable.commit_running.Goals as goal
 
 pub complete-requires-clause-directory : goal.complete-requires-clause-directory
 complete-requires-clause-directory g c =
-    let b : Books = (books_of c.self.inside.log c.self.inside.header c.self.inside.directory.items c.self.inside.moved c.self.inside.frozen c.self.inside.size c.self.inside.working c.self.inside.buffer) in
+    let b : Books = (books_of c.self.inside.plan c.self.inside.header c.self.inside.directory.items c.self.inside.moved c.self.inside.frozen c.self.inside.size c.self.inside.working c.self.inside.buffer) in
     let kept = c.self.invariant.0 in
     let running = ap (λ t. t.books.size) c.self.view_is ∙ c.requires.running in
     let stable = subst (λ t. c.args.size ≤ whole_count t.books.frozen) (sym c.self.view_is) c.requires.stable in
@@ -29,16 +29,16 @@ complete-requires-clause-directory g c =
 
 pub complete-requires-clause-unwritten : goal.complete-requires-clause-unwritten
 complete-requires-clause-unwritten g c =
-    let b : Books = (books_of c.self.inside.log c.self.inside.header c.self.inside.directory.items c.self.inside.moved c.self.inside.frozen c.self.inside.size c.self.inside.working c.self.inside.buffer) in
+    let b : Books = (books_of c.self.inside.plan c.self.inside.header c.self.inside.directory.items c.self.inside.moved c.self.inside.frozen c.self.inside.size c.self.inside.working c.self.inside.buffer) in
     let header = c.next_header-header.ensures ∙ ap (λ t. next_header c.args.age t.books) (sym c.self.view_is) in
     let long = c.fill-count.ensures.length ∙ ap length c.deref_mut.ensures.value in
     let spare = rewritten c.self.inside.spare.items c.fill-count.new.into c.self.inside.spare.len long c.self.inside.spare.ok.0 in
     let entries = ap (λ (es : List Entry). take c.fill-count.result es) (c.deref.ensures.value ∙ spare) ∙ c.fill-count.ensures.entries in
-    rw (ap (λ (h : CheckpointHeader). h.generation) header, entries) (entry_of b c.self.inside.buffer c.self.invariant.4)
+    rw (ap (λ (h : CheckpointHeader). h.generation) header, entries) (entry_of b c.self.inside.buffer c.self.invariant.3)
 
 pub invariant_of-self : goal.invariant_of-self
 invariant_of-self g c =
-    let b : Books = (books_of c.self.inside.log c.self.inside.header c.self.inside.directory.items c.self.inside.moved c.self.inside.frozen c.self.inside.size c.self.inside.working c.self.inside.buffer) in
+    let b : Books = (books_of c.self.inside.plan c.self.inside.header c.self.inside.directory.items c.self.inside.moved c.self.inside.frozen c.self.inside.size c.self.inside.working c.self.inside.buffer) in
     let kept = c.self.invariant.0 in
     let running = ap (λ t. t.books.size) c.self.view_is ∙ c.requires.running in
     let stable = subst (λ t. c.args.size ≤ whole_count t.books.frozen) (sym c.self.view_is) c.requires.stable in
@@ -46,17 +46,16 @@ invariant_of-self g c =
     let long = c.fill-count.ensures.length ∙ ap length c.deref_mut.ensures.value in
     let spare = rewritten c.self.inside.spare.items c.fill-count.new.into c.self.inside.spare.len long c.self.inside.spare.ok.0 in
     let entries = ap (λ (es : List Entry). take c.fill-count.result es) (c.deref.ensures.value ∙ spare) ∙ c.fill-count.ensures.entries in
-    let keeps = keeps_at b (g.D.Device.disk c.self.inside.device) (g.D.Device.disk c.complete.new.device) c.self.inside.buffer c.complete.new.self c.self.inside.log c.next_header-header.result (take c.fill-count.result c.deref.result.now) refl header entries c.complete.ensures.keeps in (
+    let keeps = keeps_at b (g.D.Device.disk c.self.inside.device) (g.D.Device.disk c.complete.new.device) c.self.inside.buffer c.complete.new.self c.self.inside.plan c.next_header-header.result (take c.fill-count.result c.deref.result.now) refl header entries c.complete.ensures.keeps in (
       kept_with (g.D.Device.disk c.complete.new.device).sectors (mended (g.D.Device.disk c.complete.new.device).seen c.complete.new.self) b c.complete.new.self (mid_kept (g.D.Device.disk c.self.inside.device) (g.D.Device.disk c.complete.new.device) b c.self.inside.buffer c.complete.new.self c.args.size kept running keeps),
       c.self.invariant.1,
-      c.self.invariant.2,
-      ap length spare ∙ long ∙ c.self.invariant.3,
+      ap length spare ∙ long ∙ c.self.invariant.2,
       has_after (g.D.Device.disk c.self.inside.device) (g.D.Device.disk c.complete.new.device) b c.self.inside.buffer c.complete.new.self c.args.size kept running keeps (record b { unwritten = c.complete.new.self }) refl refl refl refl,
     )
 
 pub returns-in_err-complete-clause-unchanged : goal.returns-in_err-complete-clause-unchanged
 returns-in_err-complete-clause-unchanged g c =
-    let b : Books = (books_of c.self.inside.log c.self.inside.header c.self.inside.directory.items c.self.inside.moved c.self.inside.frozen c.self.inside.size c.self.inside.working c.self.inside.buffer) in
+    let b : Books = (books_of c.self.inside.plan c.self.inside.header c.self.inside.directory.items c.self.inside.moved c.self.inside.frozen c.self.inside.size c.self.inside.working c.self.inside.buffer) in
     let kept = c.self.invariant.0 in
     let running = ap (λ t. t.books.size) c.self.view_is ∙ c.requires.running in
     let stable = subst (λ t. c.args.size ≤ whole_count t.books.frozen) (sym c.self.view_is) c.requires.stable in
@@ -64,12 +63,12 @@ returns-in_err-complete-clause-unchanged g c =
     let long = c.fill-count.ensures.length ∙ ap length c.deref_mut.ensures.value in
     let spare = rewritten c.self.inside.spare.items c.fill-count.new.into c.self.inside.spare.len long c.self.inside.spare.ok.0 in
     let entries = ap (λ (es : List Entry). take c.fill-count.result es) (c.deref.ensures.value ∙ spare) ∙ c.fill-count.ensures.entries in
-    let keeps = keeps_at b (g.D.Device.disk c.self.inside.device) (g.D.Device.disk c.complete.new.device) c.self.inside.buffer c.complete.new.self c.self.inside.log c.next_header-header.result (take c.fill-count.result c.deref.result.now) refl header entries c.complete.ensures.keeps in
+    let keeps = keeps_at b (g.D.Device.disk c.self.inside.device) (g.D.Device.disk c.complete.new.device) c.self.inside.buffer c.complete.new.self c.self.inside.plan c.next_header-header.result (take c.fill-count.result c.deref.result.now) refl header entries c.complete.ensures.keeps in
     on_err c.from_residual.result (subst (λ t. stored_in (mended (g.D.Device.disk c.complete.new.device).seen c.complete.new.self) b ≡ stored_of g.D.Device.disk t) c.self.view_is (stored_after (g.D.Device.disk c.self.inside.device) (g.D.Device.disk c.complete.new.device) b c.self.inside.buffer c.complete.new.self c.args.size kept running keeps))
 
 pub returns-in_err-complete-clause-any_moment : goal.returns-in_err-complete-clause-any_moment
 returns-in_err-complete-clause-any_moment g c =
-    let b : Books = (books_of c.self.inside.log c.self.inside.header c.self.inside.directory.items c.self.inside.moved c.self.inside.frozen c.self.inside.size c.self.inside.working c.self.inside.buffer) in
+    let b : Books = (books_of c.self.inside.plan c.self.inside.header c.self.inside.directory.items c.self.inside.moved c.self.inside.frozen c.self.inside.size c.self.inside.working c.self.inside.buffer) in
     let kept = c.self.invariant.0 in
     let running = ap (λ t. t.books.size) c.self.view_is ∙ c.requires.running in
     let stable = subst (λ t. c.args.size ≤ whole_count t.books.frozen) (sym c.self.view_is) c.requires.stable in
@@ -78,14 +77,14 @@ returns-in_err-complete-clause-any_moment g c =
     let long = c.fill-count.ensures.length ∙ ap length c.deref_mut.ensures.value in
     let spare = rewritten c.self.inside.spare.items c.fill-count.new.into c.self.inside.spare.len long c.self.inside.spare.ok.0 in
     let entries = ap (λ (es : List Entry). take c.fill-count.result es) (c.deref.ensures.value ∙ spare) ∙ c.fill-count.ensures.entries in
-    let keeps = keeps_at b (g.D.Device.disk c.self.inside.device) (g.D.Device.disk c.complete.new.device) c.self.inside.buffer c.complete.new.self c.self.inside.log c.next_header-header.result (take c.fill-count.result c.deref.result.now) refl header entries c.complete.ensures.keeps in
+    let keeps = keeps_at b (g.D.Device.disk c.self.inside.device) (g.D.Device.disk c.complete.new.device) c.self.inside.buffer c.complete.new.self c.self.inside.plan c.next_header-header.result (take c.fill-count.result c.deref.result.now) refl header entries c.complete.ensures.keeps in
     subst (λ t. LeavesEither (g.D.Device.disk t.beneath) (g.D.Device.disk c.complete.new.device) (stored_of g.D.Device.disk t).saved (next_saved c.args.age (frozen_of (seen_of g.D.Device.disk t) t.books c.args.size) (stored_of g.D.Device.disk t).saved)) c.self.view_is
     (either_first (g.D.Device.disk c.self.inside.device) (g.D.Device.disk c.complete.new.device) (stored_in (mended (g.D.Device.disk c.self.inside.device).seen c.self.inside.buffer) b).saved (next_saved c.args.age (frozen_of (mended (g.D.Device.disk c.self.inside.device).seen c.self.inside.buffer) b c.args.size) (stored_in (mended (g.D.Device.disk c.self.inside.device).seen c.self.inside.buffer) b).saved)
     (unready_moments (g.D.Device.disk c.self.inside.device) (g.D.Device.disk c.complete.new.device) b c.self.inside.buffer c.complete.new.self c.args.size kept running keeps sound))
 
 pub save-requires : goal.save-requires
 save-requires g c =
-    let b : Books = (books_of c.self.inside.log c.self.inside.header c.self.inside.directory.items c.self.inside.moved c.self.inside.frozen c.self.inside.size c.self.inside.working c.self.inside.buffer) in
+    let b : Books = (books_of c.self.inside.plan c.self.inside.header c.self.inside.directory.items c.self.inside.moved c.self.inside.frozen c.self.inside.size c.self.inside.working c.self.inside.buffer) in
     let kept = c.self.invariant.0 in
     let running = ap (λ t. t.books.size) c.self.view_is ∙ c.requires.running in
     let stable = subst (λ t. c.args.size ≤ whole_count t.books.frozen) (sym c.self.view_is) c.requires.stable in
@@ -94,10 +93,10 @@ save-requires g c =
     let long = c.fill-count.ensures.length ∙ ap length c.deref_mut.ensures.value in
     let spare = rewritten c.self.inside.spare.items c.fill-count.new.into c.self.inside.spare.len long c.self.inside.spare.ok.0 in
     let entries = ap (λ (es : List Entry). take c.fill-count.result es) (c.deref.ensures.value ∙ spare) ∙ c.fill-count.ensures.entries in
-    let keeps = keeps_at b (g.D.Device.disk c.self.inside.device) (g.D.Device.disk c.complete.new.device) c.self.inside.buffer c.complete.new.self c.self.inside.log c.next_header-header.result (take c.fill-count.result c.deref.result.now) refl header entries c.complete.ensures.keeps in
+    let keeps = keeps_at b (g.D.Device.disk c.self.inside.device) (g.D.Device.disk c.complete.new.device) c.self.inside.buffer c.complete.new.self c.self.inside.plan c.next_header-header.result (take c.fill-count.result c.deref.result.now) refl header entries c.complete.ensures.keeps in
     let none = c.in_ok-complete.ensures.none in
     let mid = ready (g.D.Device.disk c.self.inside.device) (g.D.Device.disk c.complete.new.device) b c.self.inside.buffer c.complete.new.self c.args.size kept running keeps none in
-    let complete = complete_at b (g.D.Device.disk c.complete.new.device).seen c.self.inside.log c.next_header-header.result (take c.fill-count.result c.deref.result.now) refl header entries c.in_ok-complete.ensures.complete in
+    let complete = complete_at b (g.D.Device.disk c.complete.new.device).seen c.self.inside.plan c.next_header-header.result (take c.fill-count.result c.deref.result.now) refl header entries c.in_ok-complete.ensures.complete in
     let later = subst (λ t. (stored_of g.D.Device.disk t).saved.age < c.args.age) (sym c.self.view_is) c.requires.later in
     let keepable = keepable_at c.args.age (g.D.Device.disk c.self.inside.device) (mended (g.D.Device.disk c.self.inside.device).seen c.self.inside.buffer) b c.args.size (g.D.Device.disk c.complete.new.device) mid (subst (λ t. AreKeepable t.books.plan.geometry c.args.age (next_saved c.args.age (frozen_of (seen_of g.D.Device.disk t) t.books c.args.size) (stored_of g.D.Device.disk t).saved).frames) (sym c.self.view_is) c.requires.keepable) in
     let entries2 = ap (λ (es : List Entry). take c.fill-count.result es) (c.deref-2.ensures.value ∙ spare) ∙ c.fill-count.ensures.entries in
@@ -105,7 +104,7 @@ save-requires g c =
 
 pub invariant_of-self-in_err-save : goal.invariant_of-self-in_err-save
 invariant_of-self-in_err-save g c =
-    let b : Books = (books_of c.self.inside.log c.self.inside.header c.self.inside.directory.items c.self.inside.moved c.self.inside.frozen c.self.inside.size c.self.inside.working c.self.inside.buffer) in
+    let b : Books = (books_of c.self.inside.plan c.self.inside.header c.self.inside.directory.items c.self.inside.moved c.self.inside.frozen c.self.inside.size c.self.inside.working c.self.inside.buffer) in
     let kept = c.self.invariant.0 in
     let running = ap (λ t. t.books.size) c.self.view_is ∙ c.requires.running in
     let stable = subst (λ t. c.args.size ≤ whole_count t.books.frozen) (sym c.self.view_is) c.requires.stable in
@@ -113,10 +112,10 @@ invariant_of-self-in_err-save g c =
     let long = c.fill-count.ensures.length ∙ ap length c.deref_mut.ensures.value in
     let spare = rewritten c.self.inside.spare.items c.fill-count.new.into c.self.inside.spare.len long c.self.inside.spare.ok.0 in
     let entries = ap (λ (es : List Entry). take c.fill-count.result es) (c.deref.ensures.value ∙ spare) ∙ c.fill-count.ensures.entries in
-    let keeps = keeps_at b (g.D.Device.disk c.self.inside.device) (g.D.Device.disk c.complete.new.device) c.self.inside.buffer c.complete.new.self c.self.inside.log c.next_header-header.result (take c.fill-count.result c.deref.result.now) refl header entries c.complete.ensures.keeps in
+    let keeps = keeps_at b (g.D.Device.disk c.self.inside.device) (g.D.Device.disk c.complete.new.device) c.self.inside.buffer c.complete.new.self c.self.inside.plan c.next_header-header.result (take c.fill-count.result c.deref.result.now) refl header entries c.complete.ensures.keeps in
     let none = c.in_ok-complete.ensures.none in
     let mid = ready (g.D.Device.disk c.self.inside.device) (g.D.Device.disk c.complete.new.device) b c.self.inside.buffer c.complete.new.self c.args.size kept running keeps none in
-    let complete = complete_at b (g.D.Device.disk c.complete.new.device).seen c.self.inside.log c.next_header-header.result (take c.fill-count.result c.deref.result.now) refl header entries c.in_ok-complete.ensures.complete in
+    let complete = complete_at b (g.D.Device.disk c.complete.new.device).seen c.self.inside.plan c.next_header-header.result (take c.fill-count.result c.deref.result.now) refl header entries c.in_ok-complete.ensures.complete in
     let later = subst (λ t. (stored_of g.D.Device.disk t).saved.age < c.args.age) (sym c.self.view_is) c.requires.later in
     let keepable = keepable_at c.args.age (g.D.Device.disk c.self.inside.device) (mended (g.D.Device.disk c.self.inside.device).seen c.self.inside.buffer) b c.args.size (g.D.Device.disk c.complete.new.device) mid (subst (λ t. AreKeepable t.books.plan.geometry c.args.age (next_saved c.args.age (frozen_of (seen_of g.D.Device.disk t) t.books c.args.size) (stored_of g.D.Device.disk t).saved).frames) (sym c.self.view_is) c.requires.keepable) in
     let entries2 = ap (λ (es : List Entry). take c.fill-count.result es) (c.deref-2.ensures.value ∙ spare) ∙ c.fill-count.ensures.entries in
@@ -124,14 +123,13 @@ invariant_of-self-in_err-save g c =
       subst (λ (o : Option Unwritten). IsKept (g.D.Device.disk c.save.new.device).sectors (mended (g.D.Device.disk c.save.new.device).seen o) (record b { unwritten = c.complete.new.self })) (sym none)
           (kept_with (g.D.Device.disk c.save.new.device).sectors (g.D.Device.disk c.save.new.device).seen b c.complete.new.self (subst (λ k. IsKept k (g.D.Device.disk c.save.new.device).seen b) (sym c.save.ensures.size) (failed_kept (g.D.Device.disk c.complete.new.device) b c.args.size mid.kept running stable complete c.args.age later c.requires.most keepable (g.D.Device.disk c.save.new.device).seen only))),
       c.self.invariant.1,
-      c.self.invariant.2,
-      ap length spare ∙ long ∙ c.self.invariant.3,
+      ap length spare ∙ long ∙ c.self.invariant.2,
       without (record b { unwritten = c.complete.new.self }) c.complete.new.self none,
     )
 
 pub returns-in_err-save-clause-unchanged : goal.returns-in_err-save-clause-unchanged
 returns-in_err-save-clause-unchanged g c =
-    let b : Books = (books_of c.self.inside.log c.self.inside.header c.self.inside.directory.items c.self.inside.moved c.self.inside.frozen c.self.inside.size c.self.inside.working c.self.inside.buffer) in
+    let b : Books = (books_of c.self.inside.plan c.self.inside.header c.self.inside.directory.items c.self.inside.moved c.self.inside.frozen c.self.inside.size c.self.inside.working c.self.inside.buffer) in
     let kept = c.self.invariant.0 in
     let running = ap (λ t. t.books.size) c.self.view_is ∙ c.requires.running in
     let stable = subst (λ t. c.args.size ≤ whole_count t.books.frozen) (sym c.self.view_is) c.requires.stable in
@@ -139,10 +137,10 @@ returns-in_err-save-clause-unchanged g c =
     let long = c.fill-count.ensures.length ∙ ap length c.deref_mut.ensures.value in
     let spare = rewritten c.self.inside.spare.items c.fill-count.new.into c.self.inside.spare.len long c.self.inside.spare.ok.0 in
     let entries = ap (λ (es : List Entry). take c.fill-count.result es) (c.deref.ensures.value ∙ spare) ∙ c.fill-count.ensures.entries in
-    let keeps = keeps_at b (g.D.Device.disk c.self.inside.device) (g.D.Device.disk c.complete.new.device) c.self.inside.buffer c.complete.new.self c.self.inside.log c.next_header-header.result (take c.fill-count.result c.deref.result.now) refl header entries c.complete.ensures.keeps in
+    let keeps = keeps_at b (g.D.Device.disk c.self.inside.device) (g.D.Device.disk c.complete.new.device) c.self.inside.buffer c.complete.new.self c.self.inside.plan c.next_header-header.result (take c.fill-count.result c.deref.result.now) refl header entries c.complete.ensures.keeps in
     let none = c.in_ok-complete.ensures.none in
     let mid = ready (g.D.Device.disk c.self.inside.device) (g.D.Device.disk c.complete.new.device) b c.self.inside.buffer c.complete.new.self c.args.size kept running keeps none in
-    let complete = complete_at b (g.D.Device.disk c.complete.new.device).seen c.self.inside.log c.next_header-header.result (take c.fill-count.result c.deref.result.now) refl header entries c.in_ok-complete.ensures.complete in
+    let complete = complete_at b (g.D.Device.disk c.complete.new.device).seen c.self.inside.plan c.next_header-header.result (take c.fill-count.result c.deref.result.now) refl header entries c.in_ok-complete.ensures.complete in
     let later = subst (λ t. (stored_of g.D.Device.disk t).saved.age < c.args.age) (sym c.self.view_is) c.requires.later in
     let keepable = keepable_at c.args.age (g.D.Device.disk c.self.inside.device) (mended (g.D.Device.disk c.self.inside.device).seen c.self.inside.buffer) b c.args.size (g.D.Device.disk c.complete.new.device) mid (subst (λ t. AreKeepable t.books.plan.geometry c.args.age (next_saved c.args.age (frozen_of (seen_of g.D.Device.disk t) t.books c.args.size) (stored_of g.D.Device.disk t).saved).frames) (sym c.self.view_is) c.requires.keepable) in
     let entries2 = ap (λ (es : List Entry). take c.fill-count.result es) (c.deref-2.ensures.value ∙ spare) ∙ c.fill-count.ensures.entries in
@@ -152,7 +150,7 @@ returns-in_err-save-clause-unchanged g c =
 
 pub returns-in_err-save-clause-any_moment : goal.returns-in_err-save-clause-any_moment
 returns-in_err-save-clause-any_moment g c =
-    let b : Books = (books_of c.self.inside.log c.self.inside.header c.self.inside.directory.items c.self.inside.moved c.self.inside.frozen c.self.inside.size c.self.inside.working c.self.inside.buffer) in
+    let b : Books = (books_of c.self.inside.plan c.self.inside.header c.self.inside.directory.items c.self.inside.moved c.self.inside.frozen c.self.inside.size c.self.inside.working c.self.inside.buffer) in
     let kept = c.self.invariant.0 in
     let running = ap (λ t. t.books.size) c.self.view_is ∙ c.requires.running in
     let stable = subst (λ t. c.args.size ≤ whole_count t.books.frozen) (sym c.self.view_is) c.requires.stable in
@@ -161,10 +159,10 @@ returns-in_err-save-clause-any_moment g c =
     let long = c.fill-count.ensures.length ∙ ap length c.deref_mut.ensures.value in
     let spare = rewritten c.self.inside.spare.items c.fill-count.new.into c.self.inside.spare.len long c.self.inside.spare.ok.0 in
     let entries = ap (λ (es : List Entry). take c.fill-count.result es) (c.deref.ensures.value ∙ spare) ∙ c.fill-count.ensures.entries in
-    let keeps = keeps_at b (g.D.Device.disk c.self.inside.device) (g.D.Device.disk c.complete.new.device) c.self.inside.buffer c.complete.new.self c.self.inside.log c.next_header-header.result (take c.fill-count.result c.deref.result.now) refl header entries c.complete.ensures.keeps in
+    let keeps = keeps_at b (g.D.Device.disk c.self.inside.device) (g.D.Device.disk c.complete.new.device) c.self.inside.buffer c.complete.new.self c.self.inside.plan c.next_header-header.result (take c.fill-count.result c.deref.result.now) refl header entries c.complete.ensures.keeps in
     let none = c.in_ok-complete.ensures.none in
     let mid = ready (g.D.Device.disk c.self.inside.device) (g.D.Device.disk c.complete.new.device) b c.self.inside.buffer c.complete.new.self c.args.size kept running keeps none in
-    let complete = complete_at b (g.D.Device.disk c.complete.new.device).seen c.self.inside.log c.next_header-header.result (take c.fill-count.result c.deref.result.now) refl header entries c.in_ok-complete.ensures.complete in
+    let complete = complete_at b (g.D.Device.disk c.complete.new.device).seen c.self.inside.plan c.next_header-header.result (take c.fill-count.result c.deref.result.now) refl header entries c.in_ok-complete.ensures.complete in
     let later = subst (λ t. (stored_of g.D.Device.disk t).saved.age < c.args.age) (sym c.self.view_is) c.requires.later in
     let keepable = keepable_at c.args.age (g.D.Device.disk c.self.inside.device) (mended (g.D.Device.disk c.self.inside.device).seen c.self.inside.buffer) b c.args.size (g.D.Device.disk c.complete.new.device) mid (subst (λ t. AreKeepable t.books.plan.geometry c.args.age (next_saved c.args.age (frozen_of (seen_of g.D.Device.disk t) t.books c.args.size) (stored_of g.D.Device.disk t).saved).frames) (sym c.self.view_is) c.requires.keepable) in
     let entries2 = ap (λ (es : List Entry). take c.fill-count.result es) (c.deref-2.ensures.value ∙ spare) ∙ c.fill-count.ensures.entries in
@@ -174,7 +172,7 @@ returns-in_err-save-clause-any_moment g c =
 
 pub invariant_of-self-2 : goal.invariant_of-self-2
 invariant_of-self-2 g c =
-    let b : Books = (books_of c.self.inside.log c.self.inside.header c.self.inside.directory.items c.self.inside.moved c.self.inside.frozen c.self.inside.size c.self.inside.working c.self.inside.buffer) in
+    let b : Books = (books_of c.self.inside.plan c.self.inside.header c.self.inside.directory.items c.self.inside.moved c.self.inside.frozen c.self.inside.size c.self.inside.working c.self.inside.buffer) in
     let kept = c.self.invariant.0 in
     let running = ap (λ t. t.books.size) c.self.view_is ∙ c.requires.running in
     let stable = subst (λ t. c.args.size ≤ whole_count t.books.frozen) (sym c.self.view_is) c.requires.stable in
@@ -182,10 +180,10 @@ invariant_of-self-2 g c =
     let long = c.fill-count.ensures.length ∙ ap length c.deref_mut.ensures.value in
     let spare = rewritten c.self.inside.spare.items c.fill-count.new.into c.self.inside.spare.len long c.self.inside.spare.ok.0 in
     let entries = ap (λ (es : List Entry). take c.fill-count.result es) (c.deref.ensures.value ∙ spare) ∙ c.fill-count.ensures.entries in
-    let keeps = keeps_at b (g.D.Device.disk c.self.inside.device) (g.D.Device.disk c.complete.new.device) c.self.inside.buffer c.complete.new.self c.self.inside.log c.next_header-header.result (take c.fill-count.result c.deref.result.now) refl header entries c.complete.ensures.keeps in
+    let keeps = keeps_at b (g.D.Device.disk c.self.inside.device) (g.D.Device.disk c.complete.new.device) c.self.inside.buffer c.complete.new.self c.self.inside.plan c.next_header-header.result (take c.fill-count.result c.deref.result.now) refl header entries c.complete.ensures.keeps in
     let none = c.in_ok-complete.ensures.none in
     let mid = ready (g.D.Device.disk c.self.inside.device) (g.D.Device.disk c.complete.new.device) b c.self.inside.buffer c.complete.new.self c.args.size kept running keeps none in
-    let complete = complete_at b (g.D.Device.disk c.complete.new.device).seen c.self.inside.log c.next_header-header.result (take c.fill-count.result c.deref.result.now) refl header entries c.in_ok-complete.ensures.complete in
+    let complete = complete_at b (g.D.Device.disk c.complete.new.device).seen c.self.inside.plan c.next_header-header.result (take c.fill-count.result c.deref.result.now) refl header entries c.in_ok-complete.ensures.complete in
     let later = subst (λ t. (stored_of g.D.Device.disk t).saved.age < c.args.age) (sym c.self.view_is) c.requires.later in
     let keepable = keepable_at c.args.age (g.D.Device.disk c.self.inside.device) (mended (g.D.Device.disk c.self.inside.device).seen c.self.inside.buffer) b c.args.size (g.D.Device.disk c.complete.new.device) mid (subst (λ t. AreKeepable t.books.plan.geometry c.args.age (next_saved c.args.age (frozen_of (seen_of g.D.Device.disk t) t.books c.args.size) (stored_of g.D.Device.disk t).saved).frames) (sym c.self.view_is) c.requires.keepable) in
     let entries2 = ap (λ (es : List Entry). take c.fill-count.result es) (c.deref-2.ensures.value ∙ spare) ∙ c.fill-count.ensures.entries in
@@ -195,15 +193,14 @@ invariant_of-self-2 g c =
       subst (λ (x : Books). IsKept (g.D.Device.disk c.save.new.device).sectors (mended (g.D.Device.disk c.save.new.device).seen c.complete.new.self) x) (sym books)
           (subst (λ (o : Option Unwritten). IsKept (g.D.Device.disk c.save.new.device).sectors (mended (g.D.Device.disk c.save.new.device).seen o) (committed_books c.args.age b c.clear.new.self)) (sym none)
           (subst (λ k. IsKept k (g.D.Device.disk c.save.new.device).seen (committed_books c.args.age b c.clear.new.self)) (sym c.save.ensures.size) (done_kept (g.D.Device.disk c.complete.new.device) b c.args.size mid.kept running stable complete c.args.age later c.requires.most keepable c.clear.new.self c.clear.ensures (g.D.Device.disk c.save.new.device).seen only))),
-      c.self.invariant.1,
-      ap (λ v. length v.items) c.swap.ensures.x_after ∙ ap length spare ∙ long ∙ c.self.invariant.3,
-      ap (λ v. length v.items) c.swap.ensures.y_after ∙ c.self.invariant.2,
+      ap (λ v. length v.items) c.swap.ensures.x_after ∙ ap length spare ∙ long ∙ c.self.invariant.2,
+      ap (λ v. length v.items) c.swap.ensures.y_after ∙ c.self.invariant.1,
       subst (λ (x : Books). MayHaveUnwritten x c.complete.new.self) (sym books) (without (committed_books c.args.age b c.clear.new.self) c.complete.new.self none),
     )
 
 pub returns-clause-committed : goal.returns-clause-committed
 returns-clause-committed g c =
-    let b : Books = (books_of c.self.inside.log c.self.inside.header c.self.inside.directory.items c.self.inside.moved c.self.inside.frozen c.self.inside.size c.self.inside.working c.self.inside.buffer) in
+    let b : Books = (books_of c.self.inside.plan c.self.inside.header c.self.inside.directory.items c.self.inside.moved c.self.inside.frozen c.self.inside.size c.self.inside.working c.self.inside.buffer) in
     let kept = c.self.invariant.0 in
     let running = ap (λ t. t.books.size) c.self.view_is ∙ c.requires.running in
     let stable = subst (λ t. c.args.size ≤ whole_count t.books.frozen) (sym c.self.view_is) c.requires.stable in
@@ -211,10 +208,10 @@ returns-clause-committed g c =
     let long = c.fill-count.ensures.length ∙ ap length c.deref_mut.ensures.value in
     let spare = rewritten c.self.inside.spare.items c.fill-count.new.into c.self.inside.spare.len long c.self.inside.spare.ok.0 in
     let entries = ap (λ (es : List Entry). take c.fill-count.result es) (c.deref.ensures.value ∙ spare) ∙ c.fill-count.ensures.entries in
-    let keeps = keeps_at b (g.D.Device.disk c.self.inside.device) (g.D.Device.disk c.complete.new.device) c.self.inside.buffer c.complete.new.self c.self.inside.log c.next_header-header.result (take c.fill-count.result c.deref.result.now) refl header entries c.complete.ensures.keeps in
+    let keeps = keeps_at b (g.D.Device.disk c.self.inside.device) (g.D.Device.disk c.complete.new.device) c.self.inside.buffer c.complete.new.self c.self.inside.plan c.next_header-header.result (take c.fill-count.result c.deref.result.now) refl header entries c.complete.ensures.keeps in
     let none = c.in_ok-complete.ensures.none in
     let mid = ready (g.D.Device.disk c.self.inside.device) (g.D.Device.disk c.complete.new.device) b c.self.inside.buffer c.complete.new.self c.args.size kept running keeps none in
-    let complete = complete_at b (g.D.Device.disk c.complete.new.device).seen c.self.inside.log c.next_header-header.result (take c.fill-count.result c.deref.result.now) refl header entries c.in_ok-complete.ensures.complete in
+    let complete = complete_at b (g.D.Device.disk c.complete.new.device).seen c.self.inside.plan c.next_header-header.result (take c.fill-count.result c.deref.result.now) refl header entries c.in_ok-complete.ensures.complete in
     let later = subst (λ t. (stored_of g.D.Device.disk t).saved.age < c.args.age) (sym c.self.view_is) c.requires.later in
     let keepable = keepable_at c.args.age (g.D.Device.disk c.self.inside.device) (mended (g.D.Device.disk c.self.inside.device).seen c.self.inside.buffer) b c.args.size (g.D.Device.disk c.complete.new.device) mid (subst (λ t. AreKeepable t.books.plan.geometry c.args.age (next_saved c.args.age (frozen_of (seen_of g.D.Device.disk t) t.books c.args.size) (stored_of g.D.Device.disk t).saved).frames) (sym c.self.view_is) c.requires.keepable) in
     let entries2 = ap (λ (es : List Entry). take c.fill-count.result es) (c.deref-2.ensures.value ∙ spare) ∙ c.fill-count.ensures.entries in
@@ -228,7 +225,7 @@ returns-clause-committed g c =
 
 pub returns-clause-sound : goal.returns-clause-sound
 returns-clause-sound g c =
-    let b : Books = (books_of c.self.inside.log c.self.inside.header c.self.inside.directory.items c.self.inside.moved c.self.inside.frozen c.self.inside.size c.self.inside.working c.self.inside.buffer) in
+    let b : Books = (books_of c.self.inside.plan c.self.inside.header c.self.inside.directory.items c.self.inside.moved c.self.inside.frozen c.self.inside.size c.self.inside.working c.self.inside.buffer) in
     let kept = c.self.invariant.0 in
     let running = ap (λ t. t.books.size) c.self.view_is ∙ c.requires.running in
     let stable = subst (λ t. c.args.size ≤ whole_count t.books.frozen) (sym c.self.view_is) c.requires.stable in
@@ -237,10 +234,10 @@ returns-clause-sound g c =
     let long = c.fill-count.ensures.length ∙ ap length c.deref_mut.ensures.value in
     let spare = rewritten c.self.inside.spare.items c.fill-count.new.into c.self.inside.spare.len long c.self.inside.spare.ok.0 in
     let entries = ap (λ (es : List Entry). take c.fill-count.result es) (c.deref.ensures.value ∙ spare) ∙ c.fill-count.ensures.entries in
-    let keeps = keeps_at b (g.D.Device.disk c.self.inside.device) (g.D.Device.disk c.complete.new.device) c.self.inside.buffer c.complete.new.self c.self.inside.log c.next_header-header.result (take c.fill-count.result c.deref.result.now) refl header entries c.complete.ensures.keeps in
+    let keeps = keeps_at b (g.D.Device.disk c.self.inside.device) (g.D.Device.disk c.complete.new.device) c.self.inside.buffer c.complete.new.self c.self.inside.plan c.next_header-header.result (take c.fill-count.result c.deref.result.now) refl header entries c.complete.ensures.keeps in
     let none = c.in_ok-complete.ensures.none in
     let mid = ready (g.D.Device.disk c.self.inside.device) (g.D.Device.disk c.complete.new.device) b c.self.inside.buffer c.complete.new.self c.args.size kept running keeps none in
-    let complete = complete_at b (g.D.Device.disk c.complete.new.device).seen c.self.inside.log c.next_header-header.result (take c.fill-count.result c.deref.result.now) refl header entries c.in_ok-complete.ensures.complete in
+    let complete = complete_at b (g.D.Device.disk c.complete.new.device).seen c.self.inside.plan c.next_header-header.result (take c.fill-count.result c.deref.result.now) refl header entries c.in_ok-complete.ensures.complete in
     let later = subst (λ t. (stored_of g.D.Device.disk t).saved.age < c.args.age) (sym c.self.view_is) c.requires.later in
     let keepable = keepable_at c.args.age (g.D.Device.disk c.self.inside.device) (mended (g.D.Device.disk c.self.inside.device).seen c.self.inside.buffer) b c.args.size (g.D.Device.disk c.complete.new.device) mid (subst (λ t. AreKeepable t.books.plan.geometry c.args.age (next_saved c.args.age (frozen_of (seen_of g.D.Device.disk t) t.books c.args.size) (stored_of g.D.Device.disk t).saved).frames) (sym c.self.view_is) c.requires.keepable) in
     let entries2 = ap (λ (es : List Entry). take c.fill-count.result es) (c.deref-2.ensures.value ∙ spare) ∙ c.fill-count.ensures.entries in
@@ -254,7 +251,7 @@ returns-clause-sound g c =
 
 pub returns-clause-any_moment : goal.returns-clause-any_moment
 returns-clause-any_moment g c =
-    let b : Books = (books_of c.self.inside.log c.self.inside.header c.self.inside.directory.items c.self.inside.moved c.self.inside.frozen c.self.inside.size c.self.inside.working c.self.inside.buffer) in
+    let b : Books = (books_of c.self.inside.plan c.self.inside.header c.self.inside.directory.items c.self.inside.moved c.self.inside.frozen c.self.inside.size c.self.inside.working c.self.inside.buffer) in
     let kept = c.self.invariant.0 in
     let running = ap (λ t. t.books.size) c.self.view_is ∙ c.requires.running in
     let stable = subst (λ t. c.args.size ≤ whole_count t.books.frozen) (sym c.self.view_is) c.requires.stable in
@@ -263,10 +260,10 @@ returns-clause-any_moment g c =
     let long = c.fill-count.ensures.length ∙ ap length c.deref_mut.ensures.value in
     let spare = rewritten c.self.inside.spare.items c.fill-count.new.into c.self.inside.spare.len long c.self.inside.spare.ok.0 in
     let entries = ap (λ (es : List Entry). take c.fill-count.result es) (c.deref.ensures.value ∙ spare) ∙ c.fill-count.ensures.entries in
-    let keeps = keeps_at b (g.D.Device.disk c.self.inside.device) (g.D.Device.disk c.complete.new.device) c.self.inside.buffer c.complete.new.self c.self.inside.log c.next_header-header.result (take c.fill-count.result c.deref.result.now) refl header entries c.complete.ensures.keeps in
+    let keeps = keeps_at b (g.D.Device.disk c.self.inside.device) (g.D.Device.disk c.complete.new.device) c.self.inside.buffer c.complete.new.self c.self.inside.plan c.next_header-header.result (take c.fill-count.result c.deref.result.now) refl header entries c.complete.ensures.keeps in
     let none = c.in_ok-complete.ensures.none in
     let mid = ready (g.D.Device.disk c.self.inside.device) (g.D.Device.disk c.complete.new.device) b c.self.inside.buffer c.complete.new.self c.args.size kept running keeps none in
-    let complete = complete_at b (g.D.Device.disk c.complete.new.device).seen c.self.inside.log c.next_header-header.result (take c.fill-count.result c.deref.result.now) refl header entries c.in_ok-complete.ensures.complete in
+    let complete = complete_at b (g.D.Device.disk c.complete.new.device).seen c.self.inside.plan c.next_header-header.result (take c.fill-count.result c.deref.result.now) refl header entries c.in_ok-complete.ensures.complete in
     let later = subst (λ t. (stored_of g.D.Device.disk t).saved.age < c.args.age) (sym c.self.view_is) c.requires.later in
     let keepable = keepable_at c.args.age (g.D.Device.disk c.self.inside.device) (mended (g.D.Device.disk c.self.inside.device).seen c.self.inside.buffer) b c.args.size (g.D.Device.disk c.complete.new.device) mid (subst (λ t. AreKeepable t.books.plan.geometry c.args.age (next_saved c.args.age (frozen_of (seen_of g.D.Device.disk t) t.books c.args.size) (stored_of g.D.Device.disk t).saved).frames) (sym c.self.view_is) c.requires.keepable) in
     let entries2 = ap (λ (es : List Entry). take c.fill-count.result es) (c.deref-2.ensures.value ∙ spare) ∙ c.fill-count.ensures.entries in

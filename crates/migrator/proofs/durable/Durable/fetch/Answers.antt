@@ -10,7 +10,7 @@ use Rattle.migrator.proofs.durable.Durable.fetch.Goals as goal
 
 pub returns-clause-found : goal.returns-clause-found
 returns-clause-found g c =
-    let b : Books = (books_of c.self.inside.log c.self.inside.header c.self.inside.directory.items c.self.inside.moved c.self.inside.frozen c.self.inside.size c.self.inside.working c.self.inside.buffer) in
+    let b : Books = (books_of c.self.inside.plan c.self.inside.header c.self.inside.directory.items c.self.inside.moved c.self.inside.frozen c.self.inside.size c.self.inside.working c.self.inside.buffer) in
     let object = subst (λ t. IsObject t.books.plan.geometry c.args.number) (sym c.self.view_is) c.requires in
     let same = subst (λ t. put_or (put_of (seen_of g.D.Device.disk t) t.books.plan (working_generation t.books) c.args.number (place_at t.books.working c.args.number)) (put_or (put_of (seen_of g.D.Device.disk t) t.books.plan (frozen_generation t.books) c.args.number (place_at t.books.frozen c.args.number)) (frame_at (stored_of g.D.Device.disk t).saved.frames c.args.number)) ≡ newest (stored_of g.D.Device.disk t) c.args.number) c.self.view_is
     (newest_is (g.D.Device.disk c.self.inside.device).sectors (mended (g.D.Device.disk c.self.inside.device).seen c.self.inside.buffer) b c.args.number object c.self.invariant.0) in

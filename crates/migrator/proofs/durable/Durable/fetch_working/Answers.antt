@@ -16,36 +16,36 @@ use Rattle.migrator.proofs.durable.Durable.fetch_working.Goals as goal
 
 pub read_put-requires-clause-slot : goal.read_put-requires-clause-slot
 read_put-requires-clause-slot g c =
-    let b : Books = (books_of c.self.inside.log c.self.inside.header c.self.inside.directory.items c.self.inside.moved c.self.inside.frozen c.self.inside.size c.self.inside.working c.self.inside.buffer) in
+    let b : Books = (books_of c.self.inside.plan c.self.inside.header c.self.inside.directory.items c.self.inside.moved c.self.inside.frozen c.self.inside.size c.self.inside.working c.self.inside.buffer) in
     whole_low (mended (g.D.Device.disk c.self.inside.device).seen c.self.inside.buffer) b.plan (working_generation b) b.working c.args.number c.in-Whole.slot c.place.result c.self.invariant.0.working c.place.ensures c.in-Whole.is
 
 pub invariant_of-self : goal.invariant_of-self
 invariant_of-self g c =
-    let b : Books = (books_of c.self.inside.log c.self.inside.header c.self.inside.directory.items c.self.inside.moved c.self.inside.frozen c.self.inside.size c.self.inside.working c.self.inside.buffer) in
-    (fetched_mended (g.D.Device.disk c.self.inside.device) (g.D.Device.disk c.read_put.new.device) c.self.inside.buffer b c.read_put.ensures.reads c.self.invariant.0, c.self.invariant.1, c.self.invariant.2, c.self.invariant.3, c.self.invariant.4)
+    let b : Books = (books_of c.self.inside.plan c.self.inside.header c.self.inside.directory.items c.self.inside.moved c.self.inside.frozen c.self.inside.size c.self.inside.working c.self.inside.buffer) in
+    (fetched_mended (g.D.Device.disk c.self.inside.device) (g.D.Device.disk c.read_put.new.device) c.self.inside.buffer b c.read_put.ensures.reads c.self.invariant.0, c.self.invariant.1, c.self.invariant.2, c.self.invariant.3)
 
 pub returns-in-Whole-clause-reads : goal.returns-in-Whole-clause-reads
 returns-in-Whole-clause-reads g c =
-    let b : Books = (books_of c.self.inside.log c.self.inside.header c.self.inside.directory.items c.self.inside.moved c.self.inside.frozen c.self.inside.size c.self.inside.working c.self.inside.buffer) in
+    let b : Books = (books_of c.self.inside.plan c.self.inside.header c.self.inside.directory.items c.self.inside.moved c.self.inside.frozen c.self.inside.size c.self.inside.working c.self.inside.buffer) in
     subst (λ t. ReadsStore g.D.Device.disk t (record { beneath = c.read_put.new.device; books = b })) c.self.view_is
     (reads_store g.D.Device.disk (record { beneath = c.self.inside.device; books = b }) c.read_put.new.device c.read_put.ensures.reads)
 
 pub read_put-requires-clause-spelt : goal.read_put-requires-clause-spelt
 read_put-requires-clause-spelt g c =
-    let b : Books = (books_of c.self.inside.log c.self.inside.header c.self.inside.directory.items c.self.inside.moved c.self.inside.frozen c.self.inside.size c.self.inside.working c.self.inside.buffer) in
+    let b : Books = (books_of c.self.inside.plan c.self.inside.header c.self.inside.directory.items c.self.inside.moved c.self.inside.frozen c.self.inside.size c.self.inside.working c.self.inside.buffer) in
     let generation = sym (c.working_generation-generation.ensures ∙ ap (λ t. working_generation t.books) (sym c.self.view_is)) in
     let object = subst (λ t. IsObject t.books.plan.geometry c.args.number) (sym c.self.view_is) c.requires in
     let low = whole_low (mended (g.D.Device.disk c.self.inside.device).seen c.self.inside.buffer) b.plan (working_generation b) b.working c.args.number c.in-Whole.slot c.place.result c.self.invariant.0.working c.place.ensures c.in-Whole.is in
-    let raw = working_again (g.D.Device.disk c.self.inside.device).sectors (g.D.Device.disk c.self.inside.device).seen b (g.D.Device.disk c.self.inside.device).seen c.self.inside.buffer c.self.invariant.0 c.self.invariant.4 c.in-Whole.slot c.args.number low in
+    let raw = working_again (g.D.Device.disk c.self.inside.device).sectors (g.D.Device.disk c.self.inside.device).seen b (g.D.Device.disk c.self.inside.device).seen c.self.inside.buffer c.self.invariant.0 c.self.invariant.3 c.in-Whole.slot c.args.number low in
     subst (λ (k : ℕ). IsFrameOf b.plan.geometry most c.args.number (slot_bytes (g.D.Device.disk c.self.inside.device).seen b.plan k c.in-Whole.slot c.args.number) (slot_frame (g.D.Device.disk c.self.inside.device).seen b.plan k c.in-Whole.slot c.args.number)) generation
     (subst (λ (bytes : List ℕ). IsFrameOf b.plan.geometry most c.args.number bytes (frame_from b.plan.geometry c.args.number bytes)) raw (c.self.invariant.0.working.spelt c.args.number c.in-Whole.slot object (sym c.place.ensures ∙ c.in-Whole.is)))
 
 pub returns-in-Whole-clause-found : goal.returns-in-Whole-clause-found
 returns-in-Whole-clause-found g c =
-    let b : Books = (books_of c.self.inside.log c.self.inside.header c.self.inside.directory.items c.self.inside.moved c.self.inside.frozen c.self.inside.size c.self.inside.working c.self.inside.buffer) in
+    let b : Books = (books_of c.self.inside.plan c.self.inside.header c.self.inside.directory.items c.self.inside.moved c.self.inside.frozen c.self.inside.size c.self.inside.working c.self.inside.buffer) in
     let generation = c.working_generation-generation.ensures ∙ ap (λ t. working_generation t.books) (sym c.self.view_is) in
     let low = whole_low (mended (g.D.Device.disk c.self.inside.device).seen c.self.inside.buffer) b.plan (working_generation b) b.working c.args.number c.in-Whole.slot c.place.result c.self.invariant.0.working c.place.ensures c.in-Whole.is in
-    let raw = working_again (g.D.Device.disk c.self.inside.device).sectors (g.D.Device.disk c.self.inside.device).seen b (g.D.Device.disk c.self.inside.device).seen c.self.inside.buffer c.self.invariant.0 c.self.invariant.4 c.in-Whole.slot c.args.number low in
+    let raw = working_again (g.D.Device.disk c.self.inside.device).sectors (g.D.Device.disk c.self.inside.device).seen b (g.D.Device.disk c.self.inside.device).seen c.self.inside.buffer c.self.invariant.0 c.self.invariant.3 c.in-Whole.slot c.args.number low in
     let found = rw generation at c.read_put.ensures.found in
     let at = sym c.place.ensures ∙ c.in-Whole.is in
     subst (λ t. IfOk c.read_put.result (λ read. frame_of read c.read_put.new.room

@@ -11,9 +11,9 @@ use Rattle.migrator.proofs.durable.Durable.finish.Goals as goal
 
 pub save-requires : goal.save-requires
 save-requires g c =
-    let b : Books = (books_of c.self.inside.log c.self.inside.header c.self.inside.directory.items c.self.inside.moved c.self.inside.frozen c.self.inside.size c.self.inside.working c.self.inside.buffer) in
+    let b : Books = (books_of c.self.inside.plan c.self.inside.header c.self.inside.directory.items c.self.inside.moved c.self.inside.frozen c.self.inside.size c.self.inside.working c.self.inside.buffer) in
     let some = subst (λ t. 0 < t.books.header.entries) (sym c.self.view_is) c.requires.some in
-    let none = none_idle b c.self.inside.buffer c.self.invariant.4 (no_checkpoint (g.D.Device.disk c.self.inside.device).sectors (mended (g.D.Device.disk c.self.inside.device).seen c.self.inside.buffer) b c.self.invariant.0 some) in
+    let none = none_idle b c.self.inside.buffer c.self.invariant.3 (no_checkpoint (g.D.Device.disk c.self.inside.device).sectors (mended (g.D.Device.disk c.self.inside.device).seen c.self.inside.buffer) b c.self.invariant.0 some) in
     let kept = subst (λ (o : Option Unwritten). IsKept (g.D.Device.disk c.self.inside.device).sectors (mended (g.D.Device.disk c.self.inside.device).seen o) b) none c.self.invariant.0 in
     let all = subst (λ t. t.books.moved ≡ t.books.header.entries) (sym c.self.view_is) c.requires.all in
     let sound = subst (λ (o : Option Unwritten). LeavesState (g.D.Device.disk c.self.inside.device) (saved_state (mended (g.D.Device.disk c.self.inside.device).seen o) b)) none (subst (λ t. is_sound g.D.Device.disk t) (sym c.self.view_is) c.requires.sound) in
@@ -21,19 +21,19 @@ save-requires g c =
 
 pub invariant_of-self : goal.invariant_of-self
 invariant_of-self g c =
-    let b : Books = (books_of c.self.inside.log c.self.inside.header c.self.inside.directory.items c.self.inside.moved c.self.inside.frozen c.self.inside.size c.self.inside.working c.self.inside.buffer) in
+    let b : Books = (books_of c.self.inside.plan c.self.inside.header c.self.inside.directory.items c.self.inside.moved c.self.inside.frozen c.self.inside.size c.self.inside.working c.self.inside.buffer) in
     let some = subst (λ t. 0 < t.books.header.entries) (sym c.self.view_is) c.requires.some in
-    let none = none_idle b c.self.inside.buffer c.self.invariant.4 (no_checkpoint (g.D.Device.disk c.self.inside.device).sectors (mended (g.D.Device.disk c.self.inside.device).seen c.self.inside.buffer) b c.self.invariant.0 some) in
+    let none = none_idle b c.self.inside.buffer c.self.invariant.3 (no_checkpoint (g.D.Device.disk c.self.inside.device).sectors (mended (g.D.Device.disk c.self.inside.device).seen c.self.inside.buffer) b c.self.invariant.0 some) in
     let kept = subst (λ (o : Option Unwritten). IsKept (g.D.Device.disk c.self.inside.device).sectors (mended (g.D.Device.disk c.self.inside.device).seen o) b) none c.self.invariant.0 in
     let all = subst (λ t. t.books.moved ≡ t.books.header.entries) (sym c.self.view_is) c.requires.all in
     let sound = subst (λ (o : Option Unwritten). LeavesState (g.D.Device.disk c.self.inside.device) (saved_state (mended (g.D.Device.disk c.self.inside.device).seen o) b)) none (subst (λ t. is_sound g.D.Device.disk t) (sym c.self.view_is) c.requires.sound) in
-    (subst (λ (o : Option Unwritten). IsKept (g.D.Device.disk c.save.new.device).sectors (mended (g.D.Device.disk c.save.new.device).seen o) b) (sym none) (subst (λ k. IsKept k (g.D.Device.disk c.save.new.device).seen b) (sym c.save.ensures.size) (unfinished_kept (g.D.Device.disk c.self.inside.device) b kept some all (g.D.Device.disk c.save.new.device).seen c.save.ensures.only)), c.self.invariant.1, c.self.invariant.2, c.self.invariant.3, without b c.self.inside.buffer none)
+    (subst (λ (o : Option Unwritten). IsKept (g.D.Device.disk c.save.new.device).sectors (mended (g.D.Device.disk c.save.new.device).seen o) b) (sym none) (subst (λ k. IsKept k (g.D.Device.disk c.save.new.device).seen b) (sym c.save.ensures.size) (unfinished_kept (g.D.Device.disk c.self.inside.device) b kept some all (g.D.Device.disk c.save.new.device).seen c.save.ensures.only)), c.self.invariant.1, c.self.invariant.2, without b c.self.inside.buffer none)
 
 pub returns-in_err-save-clause-unchanged : goal.returns-in_err-save-clause-unchanged
 returns-in_err-save-clause-unchanged g c =
-    let b : Books = (books_of c.self.inside.log c.self.inside.header c.self.inside.directory.items c.self.inside.moved c.self.inside.frozen c.self.inside.size c.self.inside.working c.self.inside.buffer) in
+    let b : Books = (books_of c.self.inside.plan c.self.inside.header c.self.inside.directory.items c.self.inside.moved c.self.inside.frozen c.self.inside.size c.self.inside.working c.self.inside.buffer) in
     let some = subst (λ t. 0 < t.books.header.entries) (sym c.self.view_is) c.requires.some in
-    let none = none_idle b c.self.inside.buffer c.self.invariant.4 (no_checkpoint (g.D.Device.disk c.self.inside.device).sectors (mended (g.D.Device.disk c.self.inside.device).seen c.self.inside.buffer) b c.self.invariant.0 some) in
+    let none = none_idle b c.self.inside.buffer c.self.invariant.3 (no_checkpoint (g.D.Device.disk c.self.inside.device).sectors (mended (g.D.Device.disk c.self.inside.device).seen c.self.inside.buffer) b c.self.invariant.0 some) in
     let kept = subst (λ (o : Option Unwritten). IsKept (g.D.Device.disk c.self.inside.device).sectors (mended (g.D.Device.disk c.self.inside.device).seen o) b) none c.self.invariant.0 in
     let all = subst (λ t. t.books.moved ≡ t.books.header.entries) (sym c.self.view_is) c.requires.all in
     let sound = subst (λ (o : Option Unwritten). LeavesState (g.D.Device.disk c.self.inside.device) (saved_state (mended (g.D.Device.disk c.self.inside.device).seen o) b)) none (subst (λ t. is_sound g.D.Device.disk t) (sym c.self.view_is) c.requires.sound) in
@@ -42,9 +42,9 @@ returns-in_err-save-clause-unchanged g c =
 
 pub returns-in_err-save-clause-any_moment : goal.returns-in_err-save-clause-any_moment
 returns-in_err-save-clause-any_moment g c =
-    let b : Books = (books_of c.self.inside.log c.self.inside.header c.self.inside.directory.items c.self.inside.moved c.self.inside.frozen c.self.inside.size c.self.inside.working c.self.inside.buffer) in
+    let b : Books = (books_of c.self.inside.plan c.self.inside.header c.self.inside.directory.items c.self.inside.moved c.self.inside.frozen c.self.inside.size c.self.inside.working c.self.inside.buffer) in
     let some = subst (λ t. 0 < t.books.header.entries) (sym c.self.view_is) c.requires.some in
-    let none = none_idle b c.self.inside.buffer c.self.invariant.4 (no_checkpoint (g.D.Device.disk c.self.inside.device).sectors (mended (g.D.Device.disk c.self.inside.device).seen c.self.inside.buffer) b c.self.invariant.0 some) in
+    let none = none_idle b c.self.inside.buffer c.self.invariant.3 (no_checkpoint (g.D.Device.disk c.self.inside.device).sectors (mended (g.D.Device.disk c.self.inside.device).seen c.self.inside.buffer) b c.self.invariant.0 some) in
     let kept = subst (λ (o : Option Unwritten). IsKept (g.D.Device.disk c.self.inside.device).sectors (mended (g.D.Device.disk c.self.inside.device).seen o) b) none c.self.invariant.0 in
     let all = subst (λ t. t.books.moved ≡ t.books.header.entries) (sym c.self.view_is) c.requires.all in
     let sound = subst (λ (o : Option Unwritten). LeavesState (g.D.Device.disk c.self.inside.device) (saved_state (mended (g.D.Device.disk c.self.inside.device).seen o) b)) none (subst (λ t. is_sound g.D.Device.disk t) (sym c.self.view_is) c.requires.sound) in
@@ -54,19 +54,19 @@ returns-in_err-save-clause-any_moment g c =
 
 pub invariant_of-self-2 : goal.invariant_of-self-2
 invariant_of-self-2 g c =
-    let b : Books = (books_of c.self.inside.log c.self.inside.header c.self.inside.directory.items c.self.inside.moved c.self.inside.frozen c.self.inside.size c.self.inside.working c.self.inside.buffer) in
+    let b : Books = (books_of c.self.inside.plan c.self.inside.header c.self.inside.directory.items c.self.inside.moved c.self.inside.frozen c.self.inside.size c.self.inside.working c.self.inside.buffer) in
     let some = subst (λ t. 0 < t.books.header.entries) (sym c.self.view_is) c.requires.some in
-    let none = none_idle b c.self.inside.buffer c.self.invariant.4 (no_checkpoint (g.D.Device.disk c.self.inside.device).sectors (mended (g.D.Device.disk c.self.inside.device).seen c.self.inside.buffer) b c.self.invariant.0 some) in
+    let none = none_idle b c.self.inside.buffer c.self.invariant.3 (no_checkpoint (g.D.Device.disk c.self.inside.device).sectors (mended (g.D.Device.disk c.self.inside.device).seen c.self.inside.buffer) b c.self.invariant.0 some) in
     let kept = subst (λ (o : Option Unwritten). IsKept (g.D.Device.disk c.self.inside.device).sectors (mended (g.D.Device.disk c.self.inside.device).seen o) b) none c.self.invariant.0 in
     let all = subst (λ t. t.books.moved ≡ t.books.header.entries) (sym c.self.view_is) c.requires.all in
     let sound = subst (λ (o : Option Unwritten). LeavesState (g.D.Device.disk c.self.inside.device) (saved_state (mended (g.D.Device.disk c.self.inside.device).seen o) b)) none (subst (λ t. is_sound g.D.Device.disk t) (sym c.self.view_is) c.requires.sound) in
-    (subst (λ (o : Option Unwritten). IsKept (g.D.Device.disk c.save.new.device).sectors (mended (g.D.Device.disk c.save.new.device).seen o) (home_books b)) (sym none) (subst (λ k. IsKept k (g.D.Device.disk c.save.new.device).seen (home_books b)) (sym c.save.ensures.size) (finished_kept (g.D.Device.disk c.self.inside.device) b kept some all (g.D.Device.disk c.save.new.device).seen c.save.ensures.only)), c.self.invariant.1, c.self.invariant.2, c.self.invariant.3, without (home_books b) c.self.inside.buffer none)
+    (subst (λ (o : Option Unwritten). IsKept (g.D.Device.disk c.save.new.device).sectors (mended (g.D.Device.disk c.save.new.device).seen o) (home_books b)) (sym none) (subst (λ k. IsKept k (g.D.Device.disk c.save.new.device).seen (home_books b)) (sym c.save.ensures.size) (finished_kept (g.D.Device.disk c.self.inside.device) b kept some all (g.D.Device.disk c.save.new.device).seen c.save.ensures.only)), c.self.invariant.1, c.self.invariant.2, without (home_books b) c.self.inside.buffer none)
 
 pub returns-clause-finished : goal.returns-clause-finished
 returns-clause-finished g c =
-    let b : Books = (books_of c.self.inside.log c.self.inside.header c.self.inside.directory.items c.self.inside.moved c.self.inside.frozen c.self.inside.size c.self.inside.working c.self.inside.buffer) in
+    let b : Books = (books_of c.self.inside.plan c.self.inside.header c.self.inside.directory.items c.self.inside.moved c.self.inside.frozen c.self.inside.size c.self.inside.working c.self.inside.buffer) in
     let some = subst (λ t. 0 < t.books.header.entries) (sym c.self.view_is) c.requires.some in
-    let none = none_idle b c.self.inside.buffer c.self.invariant.4 (no_checkpoint (g.D.Device.disk c.self.inside.device).sectors (mended (g.D.Device.disk c.self.inside.device).seen c.self.inside.buffer) b c.self.invariant.0 some) in
+    let none = none_idle b c.self.inside.buffer c.self.invariant.3 (no_checkpoint (g.D.Device.disk c.self.inside.device).sectors (mended (g.D.Device.disk c.self.inside.device).seen c.self.inside.buffer) b c.self.invariant.0 some) in
     let kept = subst (λ (o : Option Unwritten). IsKept (g.D.Device.disk c.self.inside.device).sectors (mended (g.D.Device.disk c.self.inside.device).seen o) b) none c.self.invariant.0 in
     let all = subst (λ t. t.books.moved ≡ t.books.header.entries) (sym c.self.view_is) c.requires.all in
     let sound = subst (λ (o : Option Unwritten). LeavesState (g.D.Device.disk c.self.inside.device) (saved_state (mended (g.D.Device.disk c.self.inside.device).seen o) b)) none (subst (λ t. is_sound g.D.Device.disk t) (sym c.self.view_is) c.requires.sound) in
@@ -75,9 +75,9 @@ returns-clause-finished g c =
 
 pub returns-clause-sound : goal.returns-clause-sound
 returns-clause-sound g c =
-    let b : Books = (books_of c.self.inside.log c.self.inside.header c.self.inside.directory.items c.self.inside.moved c.self.inside.frozen c.self.inside.size c.self.inside.working c.self.inside.buffer) in
+    let b : Books = (books_of c.self.inside.plan c.self.inside.header c.self.inside.directory.items c.self.inside.moved c.self.inside.frozen c.self.inside.size c.self.inside.working c.self.inside.buffer) in
     let some = subst (λ t. 0 < t.books.header.entries) (sym c.self.view_is) c.requires.some in
-    let none = none_idle b c.self.inside.buffer c.self.invariant.4 (no_checkpoint (g.D.Device.disk c.self.inside.device).sectors (mended (g.D.Device.disk c.self.inside.device).seen c.self.inside.buffer) b c.self.invariant.0 some) in
+    let none = none_idle b c.self.inside.buffer c.self.invariant.3 (no_checkpoint (g.D.Device.disk c.self.inside.device).sectors (mended (g.D.Device.disk c.self.inside.device).seen c.self.inside.buffer) b c.self.invariant.0 some) in
     let kept = subst (λ (o : Option Unwritten). IsKept (g.D.Device.disk c.self.inside.device).sectors (mended (g.D.Device.disk c.self.inside.device).seen o) b) none c.self.invariant.0 in
     let all = subst (λ t. t.books.moved ≡ t.books.header.entries) (sym c.self.view_is) c.requires.all in
     let sound = subst (λ (o : Option Unwritten). LeavesState (g.D.Device.disk c.self.inside.device) (saved_state (mended (g.D.Device.disk c.self.inside.device).seen o) b)) none (subst (λ t. is_sound g.D.Device.disk t) (sym c.self.view_is) c.requires.sound) in
@@ -86,9 +86,9 @@ returns-clause-sound g c =
 
 pub returns-clause-any_moment : goal.returns-clause-any_moment
 returns-clause-any_moment g c =
-    let b : Books = (books_of c.self.inside.log c.self.inside.header c.self.inside.directory.items c.self.inside.moved c.self.inside.frozen c.self.inside.size c.self.inside.working c.self.inside.buffer) in
+    let b : Books = (books_of c.self.inside.plan c.self.inside.header c.self.inside.directory.items c.self.inside.moved c.self.inside.frozen c.self.inside.size c.self.inside.working c.self.inside.buffer) in
     let some = subst (λ t. 0 < t.books.header.entries) (sym c.self.view_is) c.requires.some in
-    let none = none_idle b c.self.inside.buffer c.self.invariant.4 (no_checkpoint (g.D.Device.disk c.self.inside.device).sectors (mended (g.D.Device.disk c.self.inside.device).seen c.self.inside.buffer) b c.self.invariant.0 some) in
+    let none = none_idle b c.self.inside.buffer c.self.invariant.3 (no_checkpoint (g.D.Device.disk c.self.inside.device).sectors (mended (g.D.Device.disk c.self.inside.device).seen c.self.inside.buffer) b c.self.invariant.0 some) in
     let kept = subst (λ (o : Option Unwritten). IsKept (g.D.Device.disk c.self.inside.device).sectors (mended (g.D.Device.disk c.self.inside.device).seen o) b) none c.self.invariant.0 in
     let all = subst (λ t. t.books.moved ≡ t.books.header.entries) (sym c.self.view_is) c.requires.all in
     let sound = subst (λ (o : Option Unwritten). LeavesState (g.D.Device.disk c.self.inside.device) (saved_state (mended (g.D.Device.disk c.self.inside.device).seen o) b)) none (subst (λ t. is_sound g.D.Device.disk t) (sym c.self.view_is) c.requires.sound) in

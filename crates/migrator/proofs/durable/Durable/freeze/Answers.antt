@@ -8,7 +8,7 @@ use Rattle.migrator.proofs.durable.Durable.freeze.Goals as goal
 
 pub invariant_of-self : goal.invariant_of-self
 invariant_of-self g c =
-    let b : Books = (books_of c.self.inside.log c.self.inside.header c.self.inside.directory.items c.self.inside.moved c.self.inside.frozen c.self.inside.size c.self.inside.working c.self.inside.buffer) in
+    let b : Books = (books_of c.self.inside.plan c.self.inside.header c.self.inside.directory.items c.self.inside.moved c.self.inside.frozen c.self.inside.size c.self.inside.working c.self.inside.buffer) in
     let none : c.self.inside.size ≡ None = search rules in
     let home : c.self.inside.header.entries ≡ 0 = search rules in
     let enough = subst (λ t. sum_of held_slot (stored_of g.D.Device.disk t).working ≤ c.args.size) (sym c.self.view_is) c.requires.enough in
@@ -17,13 +17,12 @@ invariant_of-self g c =
       rw (c.swap.ensures.x_after, c.swap.ensures.y_after) kept,
       c.self.invariant.1,
       c.self.invariant.2,
-      c.self.invariant.3,
-      rw (c.swap.ensures.x_after, c.swap.ensures.y_after) (without (frozen_books b c.args.size) c.self.inside.buffer (none_idle b c.self.inside.buffer c.self.invariant.4 none)),
+      rw (c.swap.ensures.x_after, c.swap.ensures.y_after) (without (frozen_books b c.args.size) c.self.inside.buffer (none_idle b c.self.inside.buffer c.self.invariant.3 none)),
     )
 
 pub returns-clause-frozen : goal.returns-clause-frozen
 returns-clause-frozen g c =
-    let b : Books = (books_of c.self.inside.log c.self.inside.header c.self.inside.directory.items c.self.inside.moved c.self.inside.frozen c.self.inside.size c.self.inside.working c.self.inside.buffer) in
+    let b : Books = (books_of c.self.inside.plan c.self.inside.header c.self.inside.directory.items c.self.inside.moved c.self.inside.frozen c.self.inside.size c.self.inside.working c.self.inside.buffer) in
     let none : c.self.inside.size ≡ None = search rules in
     let same = freeze_stored (g.D.Device.disk c.self.inside.device).sectors (mended (g.D.Device.disk c.self.inside.device).seen c.self.inside.buffer) b c.args.size none c.self.invariant.0 in
     rw (c.swap.ensures.x_after, c.swap.ensures.y_after) (subst (λ t. stored_in (mended (g.D.Device.disk c.self.inside.device).seen c.self.inside.buffer) (frozen_books b c.args.size) ≡ freezing c.args.size (stored_of g.D.Device.disk t)) c.self.view_is same)

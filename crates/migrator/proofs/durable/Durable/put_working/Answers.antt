@@ -20,7 +20,7 @@ use Rattle.migrator.proofs.durable.Durable.put_working.Goals as goal
 
 pub put_frame-requires-clause-room : goal.put_frame-requires-clause-room
 put_frame-requires-clause-room g c =
-    let b : Books = (books_of c.self.inside.log c.self.inside.header c.self.inside.directory.items c.self.inside.moved c.self.inside.frozen c.self.inside.size c.self.inside.working c.self.inside.buffer) in
+    let b : Books = (books_of c.self.inside.plan c.self.inside.header c.self.inside.directory.items c.self.inside.moved c.self.inside.frozen c.self.inside.size c.self.inside.working c.self.inside.buffer) in
     let object : c.args.number < count_of b.plan = subst (λ t. IsObject t.books.plan.geometry c.args.number) (sym c.self.view_is) c.requires.object in
     let kept = c.self.invariant.0 in
     let has = subst (λ t. HasRoom t.books.plan.geometry.log (stored_of g.D.Device.disk t).working c.args.number) (sym c.self.view_is) c.requires.room in
@@ -29,7 +29,7 @@ put_frame-requires-clause-room g c =
 
 pub invariant_of-self : goal.invariant_of-self
 invariant_of-self g c =
-    let b : Books = (books_of c.self.inside.log c.self.inside.header c.self.inside.directory.items c.self.inside.moved c.self.inside.frozen c.self.inside.size c.self.inside.working c.self.inside.buffer) in
+    let b : Books = (books_of c.self.inside.plan c.self.inside.header c.self.inside.directory.items c.self.inside.moved c.self.inside.frozen c.self.inside.size c.self.inside.working c.self.inside.buffer) in
     let object : c.args.number < count_of b.plan = subst (λ t. IsObject t.books.plan.geometry c.args.number) (sym c.self.view_is) c.requires.object in
     let kept = c.self.invariant.0 in
     let has = subst (λ t. HasRoom t.books.plan.geometry.log (stored_of g.D.Device.disk t).working c.args.number) (sym c.self.view_is) c.requires.room in
@@ -37,15 +37,15 @@ invariant_of-self g c =
     let generation = c.working_generation-generation.ensures ∙ ap (λ t. working_generation t.books) (sym c.self.view_is) in
     let writes = writes_mended (slot_sector b.plan (working_generation b) (slot_for b.working c.args.number)) (place_length b.plan c.args.number) (g.D.Device.disk c.self.inside.device) (g.D.Device.disk c.put_frame.new.device) c.self.inside.buffer (rw generation at c.put_frame.ensures.writes) in
     let written = on_ok_with c.put_frame.result
-    (λ is. working_again (g.D.Device.disk c.self.inside.device).sectors (g.D.Device.disk c.self.inside.device).seen b (g.D.Device.disk c.put_frame.new.device).seen c.self.inside.buffer kept c.self.invariant.4 (slot_for b.working c.args.number) c.args.number room ∙ is) (rw generation at c.put_frame.ensures.written) in
+    (λ is. working_again (g.D.Device.disk c.self.inside.device).sectors (g.D.Device.disk c.self.inside.device).seen b (g.D.Device.disk c.put_frame.new.device).seen c.self.inside.buffer kept c.self.invariant.3 (slot_for b.working c.args.number) c.args.number room ∙ is) (rw generation at c.put_frame.ensures.written) in
     let keepable = subst (λ t. IsKeepable t.books.plan.geometry most c.args.number (record { header = c.args.header; content = c.args.content.now })) (sym c.self.view_is) c.requires.keepable in
     let both = put_either (mended_disk (g.D.Device.disk c.self.inside.device) c.self.inside.buffer) (mended_disk (g.D.Device.disk c.put_frame.new.device) c.self.inside.buffer) b c.args.number (record { header = c.args.header; content = c.args.content.now }) kept object room writes
     c.put_frame.result c.put_frame.new.table keepable c.put_frame.ensures.whole c.put_frame.ensures.torn written in
-    (both.0, c.self.invariant.1, c.self.invariant.2, c.self.invariant.3, held_working b c.self.inside.buffer c.put_frame.new.table c.self.invariant.4)
+    (both.0, c.self.invariant.1, c.self.invariant.2, held_working b c.self.inside.buffer c.put_frame.new.table c.self.invariant.3)
 
 pub returns-clause-put : goal.returns-clause-put
 returns-clause-put g c =
-    let b : Books = (books_of c.self.inside.log c.self.inside.header c.self.inside.directory.items c.self.inside.moved c.self.inside.frozen c.self.inside.size c.self.inside.working c.self.inside.buffer) in
+    let b : Books = (books_of c.self.inside.plan c.self.inside.header c.self.inside.directory.items c.self.inside.moved c.self.inside.frozen c.self.inside.size c.self.inside.working c.self.inside.buffer) in
     let object : c.args.number < count_of b.plan = subst (λ t. IsObject t.books.plan.geometry c.args.number) (sym c.self.view_is) c.requires.object in
     let kept = c.self.invariant.0 in
     let has = subst (λ t. HasRoom t.books.plan.geometry.log (stored_of g.D.Device.disk t).working c.args.number) (sym c.self.view_is) c.requires.room in
@@ -53,7 +53,7 @@ returns-clause-put g c =
     let generation = c.working_generation-generation.ensures ∙ ap (λ t. working_generation t.books) (sym c.self.view_is) in
     let writes = writes_mended (slot_sector b.plan (working_generation b) (slot_for b.working c.args.number)) (place_length b.plan c.args.number) (g.D.Device.disk c.self.inside.device) (g.D.Device.disk c.put_frame.new.device) c.self.inside.buffer (rw generation at c.put_frame.ensures.writes) in
     let written = on_ok_with c.put_frame.result
-    (λ is. working_again (g.D.Device.disk c.self.inside.device).sectors (g.D.Device.disk c.self.inside.device).seen b (g.D.Device.disk c.put_frame.new.device).seen c.self.inside.buffer kept c.self.invariant.4 (slot_for b.working c.args.number) c.args.number room ∙ is) (rw generation at c.put_frame.ensures.written) in
+    (λ is. working_again (g.D.Device.disk c.self.inside.device).sectors (g.D.Device.disk c.self.inside.device).seen b (g.D.Device.disk c.put_frame.new.device).seen c.self.inside.buffer kept c.self.invariant.3 (slot_for b.working c.args.number) c.args.number room ∙ is) (rw generation at c.put_frame.ensures.written) in
     let keepable = subst (λ t. IsKeepable t.books.plan.geometry most c.args.number (record { header = c.args.header; content = c.args.content.now })) (sym c.self.view_is) c.requires.keepable in
     let both = put_either (mended_disk (g.D.Device.disk c.self.inside.device) c.self.inside.buffer) (mended_disk (g.D.Device.disk c.put_frame.new.device) c.self.inside.buffer) b c.args.number (record { header = c.args.header; content = c.args.content.now }) kept object room writes
     c.put_frame.result c.put_frame.new.table keepable c.put_frame.ensures.whole c.put_frame.ensures.torn written in
@@ -61,7 +61,7 @@ returns-clause-put g c =
 
 pub returns-clause-broken : goal.returns-clause-broken
 returns-clause-broken g c =
-    let b : Books = (books_of c.self.inside.log c.self.inside.header c.self.inside.directory.items c.self.inside.moved c.self.inside.frozen c.self.inside.size c.self.inside.working c.self.inside.buffer) in
+    let b : Books = (books_of c.self.inside.plan c.self.inside.header c.self.inside.directory.items c.self.inside.moved c.self.inside.frozen c.self.inside.size c.self.inside.working c.self.inside.buffer) in
     let object : c.args.number < count_of b.plan = subst (λ t. IsObject t.books.plan.geometry c.args.number) (sym c.self.view_is) c.requires.object in
     let kept = c.self.invariant.0 in
     let has = subst (λ t. HasRoom t.books.plan.geometry.log (stored_of g.D.Device.disk t).working c.args.number) (sym c.self.view_is) c.requires.room in
@@ -69,7 +69,7 @@ returns-clause-broken g c =
     let generation = c.working_generation-generation.ensures ∙ ap (λ t. working_generation t.books) (sym c.self.view_is) in
     let writes = writes_mended (slot_sector b.plan (working_generation b) (slot_for b.working c.args.number)) (place_length b.plan c.args.number) (g.D.Device.disk c.self.inside.device) (g.D.Device.disk c.put_frame.new.device) c.self.inside.buffer (rw generation at c.put_frame.ensures.writes) in
     let written = on_ok_with c.put_frame.result
-    (λ is. working_again (g.D.Device.disk c.self.inside.device).sectors (g.D.Device.disk c.self.inside.device).seen b (g.D.Device.disk c.put_frame.new.device).seen c.self.inside.buffer kept c.self.invariant.4 (slot_for b.working c.args.number) c.args.number room ∙ is) (rw generation at c.put_frame.ensures.written) in
+    (λ is. working_again (g.D.Device.disk c.self.inside.device).sectors (g.D.Device.disk c.self.inside.device).seen b (g.D.Device.disk c.put_frame.new.device).seen c.self.inside.buffer kept c.self.invariant.3 (slot_for b.working c.args.number) c.args.number room ∙ is) (rw generation at c.put_frame.ensures.written) in
     let keepable = subst (λ t. IsKeepable t.books.plan.geometry most c.args.number (record { header = c.args.header; content = c.args.content.now })) (sym c.self.view_is) c.requires.keepable in
     let both = put_either (mended_disk (g.D.Device.disk c.self.inside.device) c.self.inside.buffer) (mended_disk (g.D.Device.disk c.put_frame.new.device) c.self.inside.buffer) b c.args.number (record { header = c.args.header; content = c.args.content.now }) kept object room writes
     c.put_frame.result c.put_frame.new.table keepable c.put_frame.ensures.whole c.put_frame.ensures.torn written in
@@ -77,7 +77,7 @@ returns-clause-broken g c =
 
 pub returns-clause-goes_on : goal.returns-clause-goes_on
 returns-clause-goes_on g c =
-    let b : Books = (books_of c.self.inside.log c.self.inside.header c.self.inside.directory.items c.self.inside.moved c.self.inside.frozen c.self.inside.size c.self.inside.working c.self.inside.buffer) in
+    let b : Books = (books_of c.self.inside.plan c.self.inside.header c.self.inside.directory.items c.self.inside.moved c.self.inside.frozen c.self.inside.size c.self.inside.working c.self.inside.buffer) in
     let object : c.args.number < count_of b.plan = subst (λ t. IsObject t.books.plan.geometry c.args.number) (sym c.self.view_is) c.requires.object in
     let kept = c.self.invariant.0 in
     let has = subst (λ t. HasRoom t.books.plan.geometry.log (stored_of g.D.Device.disk t).working c.args.number) (sym c.self.view_is) c.requires.room in

@@ -21,7 +21,7 @@ use Rattle.migrator.proofs.durable.Durable.put_written.Goals as goal
 
 pub put_frame-requires-clause-room : goal.put_frame-requires-clause-room
 put_frame-requires-clause-room g c =
-    let b : Books = (books_of c.self.inside.log c.self.inside.header c.self.inside.directory.items c.self.inside.moved c.self.inside.frozen c.self.inside.size c.self.inside.working c.self.inside.buffer) in
+    let b : Books = (books_of c.self.inside.plan c.self.inside.header c.self.inside.directory.items c.self.inside.moved c.self.inside.frozen c.self.inside.size c.self.inside.working c.self.inside.buffer) in
     let object : c.args.number < count_of b.plan = subst (λ t. IsObject t.books.plan.geometry c.args.number) (sym c.self.view_is) c.requires.object in
     let kept = c.self.invariant.0 in
     let size = ap (λ t. t.books.size) c.self.view_is ∙ c.requires.running in
@@ -32,7 +32,7 @@ put_frame-requires-clause-room g c =
 
 pub invariant_of-self : goal.invariant_of-self
 invariant_of-self g c =
-    let b : Books = (books_of c.self.inside.log c.self.inside.header c.self.inside.directory.items c.self.inside.moved c.self.inside.frozen c.self.inside.size c.self.inside.working c.self.inside.buffer) in
+    let b : Books = (books_of c.self.inside.plan c.self.inside.header c.self.inside.directory.items c.self.inside.moved c.self.inside.frozen c.self.inside.size c.self.inside.working c.self.inside.buffer) in
     let object : c.args.number < count_of b.plan = subst (λ t. IsObject t.books.plan.geometry c.args.number) (sym c.self.view_is) c.requires.object in
     let kept = c.self.invariant.0 in
     let size = ap (λ t. t.books.size) c.self.view_is ∙ c.requires.running in
@@ -46,11 +46,11 @@ invariant_of-self g c =
     let keepable = subst (λ t. IsKeepable t.books.plan.geometry most c.args.number (record { header = c.args.header; content = c.args.content.now })) (sym c.self.view_is) c.requires.keepable in
     let both = put_either (mended_disk (g.D.Device.disk c.self.inside.device) c.self.inside.buffer) (mended_disk (g.D.Device.disk c.put_frame.new.device) c.self.inside.buffer) b c.args.number (record { header = c.args.header; content = c.args.content.now }) kept object c.args.size size low writes
     c.put_frame.result c.put_frame.new.table keepable c.put_frame.ensures.whole c.put_frame.ensures.torn written in
-    (both.0, c.self.invariant.1, c.self.invariant.2, c.self.invariant.3, without (record b { frozen = c.put_frame.new.table }) c.self.inside.buffer none)
+    (both.0, c.self.invariant.1, c.self.invariant.2, without (record b { frozen = c.put_frame.new.table }) c.self.inside.buffer none)
 
 pub returns-clause-put : goal.returns-clause-put
 returns-clause-put g c =
-    let b : Books = (books_of c.self.inside.log c.self.inside.header c.self.inside.directory.items c.self.inside.moved c.self.inside.frozen c.self.inside.size c.self.inside.working c.self.inside.buffer) in
+    let b : Books = (books_of c.self.inside.plan c.self.inside.header c.self.inside.directory.items c.self.inside.moved c.self.inside.frozen c.self.inside.size c.self.inside.working c.self.inside.buffer) in
     let object : c.args.number < count_of b.plan = subst (λ t. IsObject t.books.plan.geometry c.args.number) (sym c.self.view_is) c.requires.object in
     let kept = c.self.invariant.0 in
     let size = ap (λ t. t.books.size) c.self.view_is ∙ c.requires.running in
@@ -68,7 +68,7 @@ returns-clause-put g c =
 
 pub returns-clause-broken : goal.returns-clause-broken
 returns-clause-broken g c =
-    let b : Books = (books_of c.self.inside.log c.self.inside.header c.self.inside.directory.items c.self.inside.moved c.self.inside.frozen c.self.inside.size c.self.inside.working c.self.inside.buffer) in
+    let b : Books = (books_of c.self.inside.plan c.self.inside.header c.self.inside.directory.items c.self.inside.moved c.self.inside.frozen c.self.inside.size c.self.inside.working c.self.inside.buffer) in
     let object : c.args.number < count_of b.plan = subst (λ t. IsObject t.books.plan.geometry c.args.number) (sym c.self.view_is) c.requires.object in
     let kept = c.self.invariant.0 in
     let size = ap (λ t. t.books.size) c.self.view_is ∙ c.requires.running in
@@ -86,7 +86,7 @@ returns-clause-broken g c =
 
 pub returns-clause-goes_on : goal.returns-clause-goes_on
 returns-clause-goes_on g c =
-    let b : Books = (books_of c.self.inside.log c.self.inside.header c.self.inside.directory.items c.self.inside.moved c.self.inside.frozen c.self.inside.size c.self.inside.working c.self.inside.buffer) in
+    let b : Books = (books_of c.self.inside.plan c.self.inside.header c.self.inside.directory.items c.self.inside.moved c.self.inside.frozen c.self.inside.size c.self.inside.working c.self.inside.buffer) in
     let object : c.args.number < count_of b.plan = subst (λ t. IsObject t.books.plan.geometry c.args.number) (sym c.self.view_is) c.requires.object in
     let kept = c.self.invariant.0 in
     let size = ap (λ t. t.books.size) c.self.view_is ∙ c.requires.running in

@@ -14,9 +14,9 @@ use Rattle.migrator.proofs.durable.Durable.save_first.Goals as goal
 
 pub save-requires : goal.save-requires
 save-requires g c =
-    let b : Books = (books_of c.self.inside.log c.self.inside.header c.self.inside.directory.items c.self.inside.moved c.self.inside.frozen c.self.inside.size c.self.inside.working c.self.inside.buffer) in
+    let b : Books = (books_of c.self.inside.plan c.self.inside.header c.self.inside.directory.items c.self.inside.moved c.self.inside.frozen c.self.inside.size c.self.inside.working c.self.inside.buffer) in
     let free = ap (λ t. t.books.size) c.self.view_is ∙ c.requires.free in
-    let none = none_idle b c.self.inside.buffer c.self.invariant.4 free in
+    let none = none_idle b c.self.inside.buffer c.self.invariant.3 free in
     let kept = subst (λ (o : Option Unwritten). IsKept (g.D.Device.disk c.self.inside.device).sectors (mended (g.D.Device.disk c.self.inside.device).seen o) b) none c.self.invariant.0 in
     let home = ap (λ t. t.books.header.entries) c.self.view_is ∙ c.requires.home in
     let object = subst (λ t. IsObject t.books.plan.geometry c.args.number) (sym c.self.view_is) c.requires.object in
@@ -25,16 +25,16 @@ save-requires g c =
     let sound = subst (λ (o : Option Unwritten). LeavesState (g.D.Device.disk c.self.inside.device) (saved_state (mended (g.D.Device.disk c.self.inside.device).seen o) b)) none (subst (λ t. is_sound g.D.Device.disk t) (sym c.self.view_is) c.requires.sound) in
     let later = subst (λ t. (stored_of g.D.Device.disk t).saved.age < c.args.age) (sym c.self.view_is) c.requires.later in
     let header = c.replaced_header-header.ensures ∙ ap (λ t. replaced_header c.args.age t.books) (sym c.self.view_is) in
-    let first : 0 < length c.self.inside.spare.items = omega (arith, c.self.invariant.3, kept.plan.geometry.least_log) in
+    let first : 0 < length c.self.inside.spare.items = omega (arith, c.self.invariant.2, kept.plan.geometry.least_log) in
     let entry = first_set c.self.inside.spare.items (record { object = c.args.number; slot = 0 }) first in
     let entries = ap (λ (es : List Entry). take 1 es) c.deref.ensures.value ∙ entry in
     (b.header, b.directory, rw (header, entries) (may_replace (g.D.Device.disk c.self.inside.device) b kept free home c.args.number object page c.args.age later c.requires.most spelt sound))
 
 pub invariant_of-self : goal.invariant_of-self
 invariant_of-self g c =
-    let b : Books = (books_of c.self.inside.log c.self.inside.header c.self.inside.directory.items c.self.inside.moved c.self.inside.frozen c.self.inside.size c.self.inside.working c.self.inside.buffer) in
+    let b : Books = (books_of c.self.inside.plan c.self.inside.header c.self.inside.directory.items c.self.inside.moved c.self.inside.frozen c.self.inside.size c.self.inside.working c.self.inside.buffer) in
     let free = ap (λ t. t.books.size) c.self.view_is ∙ c.requires.free in
-    let none = none_idle b c.self.inside.buffer c.self.invariant.4 free in
+    let none = none_idle b c.self.inside.buffer c.self.invariant.3 free in
     let kept = subst (λ (o : Option Unwritten). IsKept (g.D.Device.disk c.self.inside.device).sectors (mended (g.D.Device.disk c.self.inside.device).seen o) b) none c.self.invariant.0 in
     let home = ap (λ t. t.books.header.entries) c.self.view_is ∙ c.requires.home in
     let object = subst (λ t. IsObject t.books.plan.geometry c.args.number) (sym c.self.view_is) c.requires.object in
@@ -43,22 +43,21 @@ invariant_of-self g c =
     let sound = subst (λ (o : Option Unwritten). LeavesState (g.D.Device.disk c.self.inside.device) (saved_state (mended (g.D.Device.disk c.self.inside.device).seen o) b)) none (subst (λ t. is_sound g.D.Device.disk t) (sym c.self.view_is) c.requires.sound) in
     let later = subst (λ t. (stored_of g.D.Device.disk t).saved.age < c.args.age) (sym c.self.view_is) c.requires.later in
     let header = c.replaced_header-header.ensures ∙ ap (λ t. replaced_header c.args.age t.books) (sym c.self.view_is) in
-    let first : 0 < length c.self.inside.spare.items = omega (arith, c.self.invariant.3, kept.plan.geometry.least_log) in
+    let first : 0 < length c.self.inside.spare.items = omega (arith, c.self.invariant.2, kept.plan.geometry.least_log) in
     let entry = first_set c.self.inside.spare.items (record { object = c.args.number; slot = 0 }) first in
     let entries = ap (λ (es : List Entry). take 1 es) c.deref.ensures.value ∙ entry in
     let only = rw header at c.save.ensures.only in (
       subst (λ (o : Option Unwritten). IsKept (g.D.Device.disk c.save.new.device).sectors (mended (g.D.Device.disk c.save.new.device).seen o) b) (sym none) (subst (λ k. IsKept k (g.D.Device.disk c.save.new.device).seen b) (sym c.save.ensures.size) (failed_kept (g.D.Device.disk c.self.inside.device) b kept free home c.args.number object page c.args.age later c.requires.most spelt (g.D.Device.disk c.save.new.device).seen only)),
       c.self.invariant.1,
-      c.self.invariant.2,
-      length-set c.self.inside.spare.items 0 (record { object = c.args.number; slot = 0 }) ∙ c.self.invariant.3,
-      c.self.invariant.4,
+      length-set c.self.inside.spare.items 0 (record { object = c.args.number; slot = 0 }) ∙ c.self.invariant.2,
+      c.self.invariant.3,
     )
 
 pub returns-in_err-save-clause-unchanged : goal.returns-in_err-save-clause-unchanged
 returns-in_err-save-clause-unchanged g c =
-    let b : Books = (books_of c.self.inside.log c.self.inside.header c.self.inside.directory.items c.self.inside.moved c.self.inside.frozen c.self.inside.size c.self.inside.working c.self.inside.buffer) in
+    let b : Books = (books_of c.self.inside.plan c.self.inside.header c.self.inside.directory.items c.self.inside.moved c.self.inside.frozen c.self.inside.size c.self.inside.working c.self.inside.buffer) in
     let free = ap (λ t. t.books.size) c.self.view_is ∙ c.requires.free in
-    let none = none_idle b c.self.inside.buffer c.self.invariant.4 free in
+    let none = none_idle b c.self.inside.buffer c.self.invariant.3 free in
     let kept = subst (λ (o : Option Unwritten). IsKept (g.D.Device.disk c.self.inside.device).sectors (mended (g.D.Device.disk c.self.inside.device).seen o) b) none c.self.invariant.0 in
     let home = ap (λ t. t.books.header.entries) c.self.view_is ∙ c.requires.home in
     let object = subst (λ t. IsObject t.books.plan.geometry c.args.number) (sym c.self.view_is) c.requires.object in
@@ -67,7 +66,7 @@ returns-in_err-save-clause-unchanged g c =
     let sound = subst (λ (o : Option Unwritten). LeavesState (g.D.Device.disk c.self.inside.device) (saved_state (mended (g.D.Device.disk c.self.inside.device).seen o) b)) none (subst (λ t. is_sound g.D.Device.disk t) (sym c.self.view_is) c.requires.sound) in
     let later = subst (λ t. (stored_of g.D.Device.disk t).saved.age < c.args.age) (sym c.self.view_is) c.requires.later in
     let header = c.replaced_header-header.ensures ∙ ap (λ t. replaced_header c.args.age t.books) (sym c.self.view_is) in
-    let first : 0 < length c.self.inside.spare.items = omega (arith, c.self.invariant.3, kept.plan.geometry.least_log) in
+    let first : 0 < length c.self.inside.spare.items = omega (arith, c.self.invariant.2, kept.plan.geometry.least_log) in
     let entry = first_set c.self.inside.spare.items (record { object = c.args.number; slot = 0 }) first in
     let entries = ap (λ (es : List Entry). take 1 es) c.deref.ensures.value ∙ entry in
     let only = rw header at c.save.ensures.only in
@@ -76,9 +75,9 @@ returns-in_err-save-clause-unchanged g c =
 
 pub returns-in_err-save-clause-any_moment : goal.returns-in_err-save-clause-any_moment
 returns-in_err-save-clause-any_moment g c =
-    let b : Books = (books_of c.self.inside.log c.self.inside.header c.self.inside.directory.items c.self.inside.moved c.self.inside.frozen c.self.inside.size c.self.inside.working c.self.inside.buffer) in
+    let b : Books = (books_of c.self.inside.plan c.self.inside.header c.self.inside.directory.items c.self.inside.moved c.self.inside.frozen c.self.inside.size c.self.inside.working c.self.inside.buffer) in
     let free = ap (λ t. t.books.size) c.self.view_is ∙ c.requires.free in
-    let none = none_idle b c.self.inside.buffer c.self.invariant.4 free in
+    let none = none_idle b c.self.inside.buffer c.self.invariant.3 free in
     let kept = subst (λ (o : Option Unwritten). IsKept (g.D.Device.disk c.self.inside.device).sectors (mended (g.D.Device.disk c.self.inside.device).seen o) b) none c.self.invariant.0 in
     let home = ap (λ t. t.books.header.entries) c.self.view_is ∙ c.requires.home in
     let object = subst (λ t. IsObject t.books.plan.geometry c.args.number) (sym c.self.view_is) c.requires.object in
@@ -87,7 +86,7 @@ returns-in_err-save-clause-any_moment g c =
     let sound = subst (λ (o : Option Unwritten). LeavesState (g.D.Device.disk c.self.inside.device) (saved_state (mended (g.D.Device.disk c.self.inside.device).seen o) b)) none (subst (λ t. is_sound g.D.Device.disk t) (sym c.self.view_is) c.requires.sound) in
     let later = subst (λ t. (stored_of g.D.Device.disk t).saved.age < c.args.age) (sym c.self.view_is) c.requires.later in
     let header = c.replaced_header-header.ensures ∙ ap (λ t. replaced_header c.args.age t.books) (sym c.self.view_is) in
-    let first : 0 < length c.self.inside.spare.items = omega (arith, c.self.invariant.3, kept.plan.geometry.least_log) in
+    let first : 0 < length c.self.inside.spare.items = omega (arith, c.self.invariant.2, kept.plan.geometry.least_log) in
     let entry = first_set c.self.inside.spare.items (record { object = c.args.number; slot = 0 }) first in
     let entries = ap (λ (es : List Entry). take 1 es) c.deref.ensures.value ∙ entry in
     let run = (rw (header, entries) at c.save.ensures.any_moment) b.header b.directory (may_replace (g.D.Device.disk c.self.inside.device) b kept free home c.args.number object page c.args.age later c.requires.most spelt sound) in
@@ -97,9 +96,9 @@ returns-in_err-save-clause-any_moment g c =
 
 pub invariant_of-self-2 : goal.invariant_of-self-2
 invariant_of-self-2 g c =
-    let b : Books = (books_of c.self.inside.log c.self.inside.header c.self.inside.directory.items c.self.inside.moved c.self.inside.frozen c.self.inside.size c.self.inside.working c.self.inside.buffer) in
+    let b : Books = (books_of c.self.inside.plan c.self.inside.header c.self.inside.directory.items c.self.inside.moved c.self.inside.frozen c.self.inside.size c.self.inside.working c.self.inside.buffer) in
     let free = ap (λ t. t.books.size) c.self.view_is ∙ c.requires.free in
-    let none = none_idle b c.self.inside.buffer c.self.invariant.4 free in
+    let none = none_idle b c.self.inside.buffer c.self.invariant.3 free in
     let kept = subst (λ (o : Option Unwritten). IsKept (g.D.Device.disk c.self.inside.device).sectors (mended (g.D.Device.disk c.self.inside.device).seen o) b) none c.self.invariant.0 in
     let home = ap (λ t. t.books.header.entries) c.self.view_is ∙ c.requires.home in
     let object = subst (λ t. IsObject t.books.plan.geometry c.args.number) (sym c.self.view_is) c.requires.object in
@@ -108,7 +107,7 @@ invariant_of-self-2 g c =
     let sound = subst (λ (o : Option Unwritten). LeavesState (g.D.Device.disk c.self.inside.device) (saved_state (mended (g.D.Device.disk c.self.inside.device).seen o) b)) none (subst (λ t. is_sound g.D.Device.disk t) (sym c.self.view_is) c.requires.sound) in
     let later = subst (λ t. (stored_of g.D.Device.disk t).saved.age < c.args.age) (sym c.self.view_is) c.requires.later in
     let header = c.replaced_header-header.ensures ∙ ap (λ t. replaced_header c.args.age t.books) (sym c.self.view_is) in
-    let first : 0 < length c.self.inside.spare.items = omega (arith, c.self.invariant.3, kept.plan.geometry.least_log) in
+    let first : 0 < length c.self.inside.spare.items = omega (arith, c.self.invariant.2, kept.plan.geometry.least_log) in
     let entry = first_set c.self.inside.spare.items (record { object = c.args.number; slot = 0 }) first in
     let entries = ap (λ (es : List Entry). take 1 es) c.deref.ensures.value ∙ entry in
     let only = rw header at c.save.ensures.only in
@@ -117,17 +116,16 @@ invariant_of-self-2 g c =
       subst (λ (x : Books). IsKept (g.D.Device.disk c.save.new.device).sectors (mended (g.D.Device.disk c.save.new.device).seen c.self.inside.buffer) x) (sym books)
           (subst (λ (o : Option Unwritten). IsKept (g.D.Device.disk c.save.new.device).sectors (mended (g.D.Device.disk c.save.new.device).seen o) (replaced_books c.args.age c.args.number b)) (sym none)
           (subst (λ k. IsKept k (g.D.Device.disk c.save.new.device).seen (replaced_books c.args.age c.args.number b)) (sym c.save.ensures.size) (done_kept (g.D.Device.disk c.self.inside.device) b kept free home c.args.number object page c.args.age later c.requires.most spelt (g.D.Device.disk c.save.new.device).seen only))),
-      c.self.invariant.1,
-      ap (λ v. length v.items) c.swap.ensures.x_after ∙ length-set c.self.inside.spare.items 0 (record { object = c.args.number; slot = 0 }) ∙ c.self.invariant.3,
-      ap (λ v. length v.items) c.swap.ensures.y_after ∙ c.self.invariant.2,
+      ap (λ v. length v.items) c.swap.ensures.x_after ∙ length-set c.self.inside.spare.items 0 (record { object = c.args.number; slot = 0 }) ∙ c.self.invariant.2,
+      ap (λ v. length v.items) c.swap.ensures.y_after ∙ c.self.invariant.1,
       subst (λ (x : Books). MayHaveUnwritten x c.self.inside.buffer) (sym books) (without (replaced_books c.args.age c.args.number b) c.self.inside.buffer none),
     )
 
 pub returns-clause-saved : goal.returns-clause-saved
 returns-clause-saved g c =
-    let b : Books = (books_of c.self.inside.log c.self.inside.header c.self.inside.directory.items c.self.inside.moved c.self.inside.frozen c.self.inside.size c.self.inside.working c.self.inside.buffer) in
+    let b : Books = (books_of c.self.inside.plan c.self.inside.header c.self.inside.directory.items c.self.inside.moved c.self.inside.frozen c.self.inside.size c.self.inside.working c.self.inside.buffer) in
     let free = ap (λ t. t.books.size) c.self.view_is ∙ c.requires.free in
-    let none = none_idle b c.self.inside.buffer c.self.invariant.4 free in
+    let none = none_idle b c.self.inside.buffer c.self.invariant.3 free in
     let kept = subst (λ (o : Option Unwritten). IsKept (g.D.Device.disk c.self.inside.device).sectors (mended (g.D.Device.disk c.self.inside.device).seen o) b) none c.self.invariant.0 in
     let home = ap (λ t. t.books.header.entries) c.self.view_is ∙ c.requires.home in
     let object = subst (λ t. IsObject t.books.plan.geometry c.args.number) (sym c.self.view_is) c.requires.object in
@@ -136,7 +134,7 @@ returns-clause-saved g c =
     let sound = subst (λ (o : Option Unwritten). LeavesState (g.D.Device.disk c.self.inside.device) (saved_state (mended (g.D.Device.disk c.self.inside.device).seen o) b)) none (subst (λ t. is_sound g.D.Device.disk t) (sym c.self.view_is) c.requires.sound) in
     let later = subst (λ t. (stored_of g.D.Device.disk t).saved.age < c.args.age) (sym c.self.view_is) c.requires.later in
     let header = c.replaced_header-header.ensures ∙ ap (λ t. replaced_header c.args.age t.books) (sym c.self.view_is) in
-    let first : 0 < length c.self.inside.spare.items = omega (arith, c.self.invariant.3, kept.plan.geometry.least_log) in
+    let first : 0 < length c.self.inside.spare.items = omega (arith, c.self.invariant.2, kept.plan.geometry.least_log) in
     let entry = first_set c.self.inside.spare.items (record { object = c.args.number; slot = 0 }) first in
     let entries = ap (λ (es : List Entry). take 1 es) c.deref.ensures.value ∙ entry in
     let only = rw header at c.save.ensures.only in
@@ -149,9 +147,9 @@ returns-clause-saved g c =
 
 pub returns-clause-sound : goal.returns-clause-sound
 returns-clause-sound g c =
-    let b : Books = (books_of c.self.inside.log c.self.inside.header c.self.inside.directory.items c.self.inside.moved c.self.inside.frozen c.self.inside.size c.self.inside.working c.self.inside.buffer) in
+    let b : Books = (books_of c.self.inside.plan c.self.inside.header c.self.inside.directory.items c.self.inside.moved c.self.inside.frozen c.self.inside.size c.self.inside.working c.self.inside.buffer) in
     let free = ap (λ t. t.books.size) c.self.view_is ∙ c.requires.free in
-    let none = none_idle b c.self.inside.buffer c.self.invariant.4 free in
+    let none = none_idle b c.self.inside.buffer c.self.invariant.3 free in
     let kept = subst (λ (o : Option Unwritten). IsKept (g.D.Device.disk c.self.inside.device).sectors (mended (g.D.Device.disk c.self.inside.device).seen o) b) none c.self.invariant.0 in
     let home = ap (λ t. t.books.header.entries) c.self.view_is ∙ c.requires.home in
     let object = subst (λ t. IsObject t.books.plan.geometry c.args.number) (sym c.self.view_is) c.requires.object in
@@ -160,7 +158,7 @@ returns-clause-sound g c =
     let sound = subst (λ (o : Option Unwritten). LeavesState (g.D.Device.disk c.self.inside.device) (saved_state (mended (g.D.Device.disk c.self.inside.device).seen o) b)) none (subst (λ t. is_sound g.D.Device.disk t) (sym c.self.view_is) c.requires.sound) in
     let later = subst (λ t. (stored_of g.D.Device.disk t).saved.age < c.args.age) (sym c.self.view_is) c.requires.later in
     let header = c.replaced_header-header.ensures ∙ ap (λ t. replaced_header c.args.age t.books) (sym c.self.view_is) in
-    let first : 0 < length c.self.inside.spare.items = omega (arith, c.self.invariant.3, kept.plan.geometry.least_log) in
+    let first : 0 < length c.self.inside.spare.items = omega (arith, c.self.invariant.2, kept.plan.geometry.least_log) in
     let entry = first_set c.self.inside.spare.items (record { object = c.args.number; slot = 0 }) first in
     let entries = ap (λ (es : List Entry). take 1 es) c.deref.ensures.value ∙ entry in
     let only = rw header at c.save.ensures.only in
@@ -173,9 +171,9 @@ returns-clause-sound g c =
 
 pub returns-clause-any_moment : goal.returns-clause-any_moment
 returns-clause-any_moment g c =
-    let b : Books = (books_of c.self.inside.log c.self.inside.header c.self.inside.directory.items c.self.inside.moved c.self.inside.frozen c.self.inside.size c.self.inside.working c.self.inside.buffer) in
+    let b : Books = (books_of c.self.inside.plan c.self.inside.header c.self.inside.directory.items c.self.inside.moved c.self.inside.frozen c.self.inside.size c.self.inside.working c.self.inside.buffer) in
     let free = ap (λ t. t.books.size) c.self.view_is ∙ c.requires.free in
-    let none = none_idle b c.self.inside.buffer c.self.invariant.4 free in
+    let none = none_idle b c.self.inside.buffer c.self.invariant.3 free in
     let kept = subst (λ (o : Option Unwritten). IsKept (g.D.Device.disk c.self.inside.device).sectors (mended (g.D.Device.disk c.self.inside.device).seen o) b) none c.self.invariant.0 in
     let home = ap (λ t. t.books.header.entries) c.self.view_is ∙ c.requires.home in
     let object = subst (λ t. IsObject t.books.plan.geometry c.args.number) (sym c.self.view_is) c.requires.object in
@@ -184,7 +182,7 @@ returns-clause-any_moment g c =
     let sound = subst (λ (o : Option Unwritten). LeavesState (g.D.Device.disk c.self.inside.device) (saved_state (mended (g.D.Device.disk c.self.inside.device).seen o) b)) none (subst (λ t. is_sound g.D.Device.disk t) (sym c.self.view_is) c.requires.sound) in
     let later = subst (λ t. (stored_of g.D.Device.disk t).saved.age < c.args.age) (sym c.self.view_is) c.requires.later in
     let header = c.replaced_header-header.ensures ∙ ap (λ t. replaced_header c.args.age t.books) (sym c.self.view_is) in
-    let first : 0 < length c.self.inside.spare.items = omega (arith, c.self.invariant.3, kept.plan.geometry.least_log) in
+    let first : 0 < length c.self.inside.spare.items = omega (arith, c.self.invariant.2, kept.plan.geometry.least_log) in
     let entry = first_set c.self.inside.spare.items (record { object = c.args.number; slot = 0 }) first in
     let entries = ap (λ (es : List Entry). take 1 es) c.deref.ensures.value ∙ entry in
     let run = (rw (header, entries) at c.save.ensures.any_moment) b.header b.directory (may_replace (g.D.Device.disk c.self.inside.device) b kept free home c.args.number object page c.args.age later c.requires.most spelt sound) in

@@ -18,39 +18,38 @@ use Rattle.migrator.proofs.durable.Durable.tear.Goals as goal
 
 pub write-requires : goal.write-requires
 write-requires g c =
-    let b : Books = (books_of c.self.inside.log c.self.inside.header c.self.inside.directory.items c.self.inside.moved c.self.inside.frozen c.self.inside.size c.self.inside.working c.self.inside.buffer) in
+    let b : Books = (books_of c.self.inside.plan c.self.inside.header c.self.inside.directory.items c.self.inside.moved c.self.inside.frozen c.self.inside.size c.self.inside.working c.self.inside.buffer) in
     let kept = c.self.invariant.0 in
-    record { inside = λ u is. let inside = unwritten_inside b.plan (frozen_generation b) (entries_of b.frozen) c.self.inside.buffer u kept.plan (frozen_fits (g.D.Device.disk c.self.inside.device).sectors (mended (g.D.Device.disk c.self.inside.device).seen c.self.inside.buffer) b kept) (entry_of b c.self.inside.buffer c.self.invariant.4) is in omega (arith, inside, kept.inside) }
+    record { inside = λ u is. let inside = unwritten_inside b.plan (frozen_generation b) (entries_of b.frozen) c.self.inside.buffer u kept.plan (frozen_fits (g.D.Device.disk c.self.inside.device).sectors (mended (g.D.Device.disk c.self.inside.device).seen c.self.inside.buffer) b kept) (entry_of b c.self.inside.buffer c.self.invariant.3) is in omega (arith, inside, kept.inside) }
 
 pub invariant_of-self : goal.invariant_of-self
 invariant_of-self g c =
-    let b : Books = (books_of c.self.inside.log c.self.inside.header c.self.inside.directory.items c.self.inside.moved c.self.inside.frozen c.self.inside.size c.self.inside.working c.self.inside.buffer) in
+    let b : Books = (books_of c.self.inside.plan c.self.inside.header c.self.inside.directory.items c.self.inside.moved c.self.inside.frozen c.self.inside.size c.self.inside.working c.self.inside.buffer) in
     let object : c.args.number < count_of b.plan = subst (λ t. IsObject t.books.plan.geometry c.args.number) (sym c.self.view_is) c.requires.object in
     let kept = c.self.invariant.0 in
     let size = ap (λ t. t.books.size) c.self.view_is ∙ c.requires.running in
     let has = subst (λ t. HasRoom c.args.size (puts_in (seen_of g.D.Device.disk t) t.books.plan (frozen_generation t.books) t.books.frozen) c.args.number) (sym c.self.view_is) c.requires.room in
     let was = subst (IsRunning b) size kept.running in
     let low = slot_room (mended (g.D.Device.disk c.self.inside.device).seen c.self.inside.buffer) b.plan (frozen_generation b) c.args.size b.frozen c.args.number kept.frozen.count object kept.frozen.table was.1 has in
-    let keeps = keeps_written b.plan (frozen_generation b) (entries_of b.frozen) (g.D.Device.disk c.self.inside.device) (g.D.Device.disk c.write.new.device) c.self.inside.buffer c.write.new.self (g.met.D.Device.only_now c.self.inside.device) (frozen_fits (g.D.Device.disk c.self.inside.device).sectors (mended (g.D.Device.disk c.self.inside.device).seen c.self.inside.buffer) b kept) (entry_of b c.self.inside.buffer c.self.invariant.4)
+    let keeps = keeps_written b.plan (frozen_generation b) (entries_of b.frozen) (g.D.Device.disk c.self.inside.device) (g.D.Device.disk c.write.new.device) c.self.inside.buffer c.write.new.self (g.met.D.Device.only_now c.self.inside.device) (frozen_fits (g.D.Device.disk c.self.inside.device).sectors (mended (g.D.Device.disk c.self.inside.device).seen c.self.inside.buffer) b kept) (entry_of b c.self.inside.buffer c.self.invariant.3)
     c.write.ensures.seen c.write.ensures.touches (λ none. ap g.D.Device.disk (c.write.ensures.nothing none)) (either_of c.write.result c.write.ensures.written c.write.ensures.kept) in
     let mid = mid_kept (g.D.Device.disk c.self.inside.device) (g.D.Device.disk c.write.new.device) b c.self.inside.buffer c.write.new.self c.args.size kept size keeps in (
       rw (c.set.ensures, c.slot_for-slot.ensures) (kept_with (g.D.Device.disk c.write.new.device).sectors (mended (g.D.Device.disk c.write.new.device).seen c.write.new.self) (record b { frozen = set b.frozen c.args.number (Torn (slot_for b.frozen c.args.number)) }) c.write.new.self (tear_kept (g.D.Device.disk c.write.new.device).sectors (mended (g.D.Device.disk c.write.new.device).seen c.write.new.self) b c.args.number mid object c.args.size size low)),
       c.self.invariant.1,
       c.self.invariant.2,
-      c.self.invariant.3,
-      rw (c.set.ensures, c.slot_for-slot.ensures) (held_after b c.self.inside.buffer c.write.new.self c.args.number (Torn (slot_for b.frozen c.args.number)) (omega (arith, object, kept.frozen.count)) refl c.self.invariant.4 (either_of c.write.result c.write.ensures.written c.write.ensures.kept)),
+      rw (c.set.ensures, c.slot_for-slot.ensures) (held_after b c.self.inside.buffer c.write.new.self c.args.number (Torn (slot_for b.frozen c.args.number)) (omega (arith, object, kept.frozen.count)) refl c.self.invariant.3 (either_of c.write.result c.write.ensures.written c.write.ensures.kept)),
     )
 
 pub returns-clause-torn : goal.returns-clause-torn
 returns-clause-torn g c =
-    let b : Books = (books_of c.self.inside.log c.self.inside.header c.self.inside.directory.items c.self.inside.moved c.self.inside.frozen c.self.inside.size c.self.inside.working c.self.inside.buffer) in
+    let b : Books = (books_of c.self.inside.plan c.self.inside.header c.self.inside.directory.items c.self.inside.moved c.self.inside.frozen c.self.inside.size c.self.inside.working c.self.inside.buffer) in
     let object : c.args.number < count_of b.plan = subst (λ t. IsObject t.books.plan.geometry c.args.number) (sym c.self.view_is) c.requires.object in
     let kept = c.self.invariant.0 in
     let size = ap (λ t. t.books.size) c.self.view_is ∙ c.requires.running in
     let has = subst (λ t. HasRoom c.args.size (puts_in (seen_of g.D.Device.disk t) t.books.plan (frozen_generation t.books) t.books.frozen) c.args.number) (sym c.self.view_is) c.requires.room in
     let was = subst (IsRunning b) size kept.running in
     let low = slot_room (mended (g.D.Device.disk c.self.inside.device).seen c.self.inside.buffer) b.plan (frozen_generation b) c.args.size b.frozen c.args.number kept.frozen.count object kept.frozen.table was.1 has in
-    let keeps = keeps_written b.plan (frozen_generation b) (entries_of b.frozen) (g.D.Device.disk c.self.inside.device) (g.D.Device.disk c.write.new.device) c.self.inside.buffer c.write.new.self (g.met.D.Device.only_now c.self.inside.device) (frozen_fits (g.D.Device.disk c.self.inside.device).sectors (mended (g.D.Device.disk c.self.inside.device).seen c.self.inside.buffer) b kept) (entry_of b c.self.inside.buffer c.self.invariant.4)
+    let keeps = keeps_written b.plan (frozen_generation b) (entries_of b.frozen) (g.D.Device.disk c.self.inside.device) (g.D.Device.disk c.write.new.device) c.self.inside.buffer c.write.new.self (g.met.D.Device.only_now c.self.inside.device) (frozen_fits (g.D.Device.disk c.self.inside.device).sectors (mended (g.D.Device.disk c.self.inside.device).seen c.self.inside.buffer) b kept) (entry_of b c.self.inside.buffer c.self.invariant.3)
     c.write.ensures.seen c.write.ensures.touches (λ none. ap g.D.Device.disk (c.write.ensures.nothing none)) (either_of c.write.result c.write.ensures.written c.write.ensures.kept) in
     let mid = mid_kept (g.D.Device.disk c.self.inside.device) (g.D.Device.disk c.write.new.device) b c.self.inside.buffer c.write.new.self c.args.size kept size keeps in
     rw (c.set.ensures, c.slot_for-slot.ensures) (subst (λ t. stored_in (mended (g.D.Device.disk c.write.new.device).seen c.write.new.self) (record b { frozen = set b.frozen c.args.number (Torn (slot_for b.frozen c.args.number)) }) ≡ with_frozen c.args.number Broken (stored_of g.D.Device.disk t)) c.self.view_is
@@ -58,14 +57,14 @@ returns-clause-torn g c =
 
 pub returns-clause-goes_on : goal.returns-clause-goes_on
 returns-clause-goes_on g c =
-    let b : Books = (books_of c.self.inside.log c.self.inside.header c.self.inside.directory.items c.self.inside.moved c.self.inside.frozen c.self.inside.size c.self.inside.working c.self.inside.buffer) in
+    let b : Books = (books_of c.self.inside.plan c.self.inside.header c.self.inside.directory.items c.self.inside.moved c.self.inside.frozen c.self.inside.size c.self.inside.working c.self.inside.buffer) in
     let object : c.args.number < count_of b.plan = subst (λ t. IsObject t.books.plan.geometry c.args.number) (sym c.self.view_is) c.requires.object in
     let kept = c.self.invariant.0 in
     let size = ap (λ t. t.books.size) c.self.view_is ∙ c.requires.running in
     let has = subst (λ t. HasRoom c.args.size (puts_in (seen_of g.D.Device.disk t) t.books.plan (frozen_generation t.books) t.books.frozen) c.args.number) (sym c.self.view_is) c.requires.room in
     let was = subst (IsRunning b) size kept.running in
     let low = slot_room (mended (g.D.Device.disk c.self.inside.device).seen c.self.inside.buffer) b.plan (frozen_generation b) c.args.size b.frozen c.args.number kept.frozen.count object kept.frozen.table was.1 has in
-    let keeps = keeps_written b.plan (frozen_generation b) (entries_of b.frozen) (g.D.Device.disk c.self.inside.device) (g.D.Device.disk c.write.new.device) c.self.inside.buffer c.write.new.self (g.met.D.Device.only_now c.self.inside.device) (frozen_fits (g.D.Device.disk c.self.inside.device).sectors (mended (g.D.Device.disk c.self.inside.device).seen c.self.inside.buffer) b kept) (entry_of b c.self.inside.buffer c.self.invariant.4)
+    let keeps = keeps_written b.plan (frozen_generation b) (entries_of b.frozen) (g.D.Device.disk c.self.inside.device) (g.D.Device.disk c.write.new.device) c.self.inside.buffer c.write.new.self (g.met.D.Device.only_now c.self.inside.device) (frozen_fits (g.D.Device.disk c.self.inside.device).sectors (mended (g.D.Device.disk c.self.inside.device).seen c.self.inside.buffer) b kept) (entry_of b c.self.inside.buffer c.self.invariant.3)
     c.write.ensures.seen c.write.ensures.touches (λ none. ap g.D.Device.disk (c.write.ensures.nothing none)) (either_of c.write.result c.write.ensures.written c.write.ensures.kept) in
     let mid = mid_kept (g.D.Device.disk c.self.inside.device) (g.D.Device.disk c.write.new.device) b c.self.inside.buffer c.write.new.self c.args.size kept size keeps in
     subst (λ t. GoesOn g.D.Device.disk t (record { beneath = c.write.new.device; books = record b { frozen = c.set.new.self; unwritten = c.write.new.self } })) c.self.view_is
