@@ -16,7 +16,7 @@ use Rattle.layout.specs.Superblock.{Plan, IsPlan}
 use Rattle.layout.proofs.Clusters.{length-zeros}
 use Rattle.frame_io.specs.Calls.{ReadsOnly, WritesAt}
 use Rattle.frame_io.specs.Frames.{IsObject}
-use Rattle.home_ranges.specs.Home.{HaveHome, HoldsHome}
+use Rattle.home_ranges.specs.Home.{HaveHome}
 use Rattle.home_ranges.proofs.Places.{IsOwn, alone, ranked}
 use Rattle.migrator.specs.Gathered.{IsGathered, IsCopied}
 use Rattle.migrator.specs.Spared.{Touches}
@@ -72,10 +72,6 @@ all_in image p generation es number n cluster fits is first have so_far a is_a s
     ap (λ (s : Shape). shape_bytes s cluster) at.2 ∙ so_far (a - number) (omega (arith, few, at.0)) ∙ ap (frame_in image p generation es) one
 
 -- ---- a home
-
--- what was gathered lies at home once it is written there
-pub gathered_home : (old new : Image) (p : Plan) (generation : ℕ) (es : List Entry) (number : ℕ) (bytes : List ℕ) → IsGathered old p generation es number bytes → HoldsHome p number bytes new → IsCopied old new p generation es number
-gathered_home old new p generation es number bytes gathered held n is same = held n is same ∙ gathered n is same
 
 -- of a number whose home is its own only that one is copied
 own_copied : (old new : Image) (p : Plan) (generation : ℕ) (es : List Entry) (number slot : ℕ) → IsPlan p → IsObject p.geometry number → IsOwn (shape_of p number) → slot_in es number ≡ Some slot

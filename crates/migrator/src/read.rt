@@ -92,8 +92,9 @@ pub(crate) fn read_header_of<D: Device>(
     Ok(header_in(&node))
 }
 
-/// Reads the saved frame of an object, which lies in the log where the directory gives it a slot or
-/// one to a node of its cluster, and else at home. The slots of a node or an annex and the words of a page are left in `room`.
+/// Reads the saved frame of an object: from the slot that the directory gives it, or gives a node of
+/// its cluster, else from its home. The slots of a node or an annex and the words of a page are left
+/// in `room`.
 pub(crate) fn read_saved<D: Device>(
     device: &mut D,
     plan: &Superblock,

@@ -1,5 +1,5 @@
 // Opening a device.
-ghost use Rattle.std.specs.Prelude.{◌≡◌, ◌+◌, ◌≤◌, length, replicate, IfOk, IfErr, OnOk};
+ghost use Rattle.std.specs.Prelude.{◌≡◌, ◌+◌, ◌≤◌, length, replicate, vec_capacity, IfOk, IfErr, OnOk};
 ghost use Rattle.device.specs.Calls.{Only};
 ghost use Rattle.layout.specs.Image.{HasPlan};
 ghost use Rattle.layout.specs.Superblock.{Plan};
@@ -8,7 +8,9 @@ ghost use Rattle.migrator.specs.Opened.{IsRead, OpensDurable};
 ghost use Rattle.checkpoint.specs.Opened.{IsBadFor, CountsOpen, Looks, Refuses};
 ghost use Rattle.migrator.specs.Reserve.{IsReserve, IsTables};
 
+use crate::books::Books;
 use crate::cluster_buffer::ClusterBuffer;
+use crate::directory::{Directory, blank_entries};
 use crate::durable::Durable;
 use crate::image::{read_image, read_plan};
 use crate::table::{Place, Table};
@@ -25,11 +27,11 @@ pub struct Opened<D: Device> {
     pub headers: Vec<ObjectHeader>,
 }
 
-// Room for the saved directory, and for another.
+// Memory for the saved directory, and for another.
 #[derive(Drop)]
 struct Directories {
     saved: Vec<Entry>,
-    spare: Vec<Entry>,
+    spare: Directory,
 }
 
 // The places of the frozen frames, and of those put since.
@@ -56,23 +58,14 @@ struct Parts {
     reserve: Reserve,
 }
 
-// So many entries.
-fn blank_entries(alloc: Global, count: u64) -> Result<Vec<Entry>, AllocError>
-    ensures { IfOk result (λ entries. length entries.items ≡ count) }
-{
-    let mut entries = Vec::with_capacity(alloc, count as usize)?;
-    entries.resize(count as usize, Entry { object: 0, slot: 0 })?;
-    Ok(entries)
-}
-
 impl Directories {
     fn new(alloc: Global, count: u64) -> Result<Directories, AllocError>
-        ensures saved { IfOk result (λ two. length two.saved.items ≡ count) }
-        ensures spare { IfOk result (λ two. length two.spare.items ≡ count) }
+        ensures length { IfOk result (λ two. length two.saved.items ≡ count) }
+        ensures room { IfOk result (λ two. 4096 ≤ vec_capacity two.saved) }
     {
         Ok(Directories {
             saved: blank_entries(alloc, count)?,
-            spare: blank_entries(alloc, count)?,
+            spare: Directory::new(alloc)?,
         })
     }
 }
@@ -234,17 +227,20 @@ impl<D: Device> Durable<D> {
                     buffer,
                     headers,
                 } = reserve;
-                let store = Durable {
-                    device,
+                let books = Books {
                     plan,
                     header,
-                    directory: directories.saved,
-                    spare: directories.spare,
+                    directory: Directory::of(directories.saved, header.entries),
                     moved: 0,
                     frozen: tables.frozen,
                     size: None,
                     working: tables.working,
-                    buffer,
+                    unwritten: buffer,
+                };
+                let store = Durable {
+                    device,
+                    books,
+                    spare: directories.spare,
                 };
                 Ok(Opened { store, headers })
             }
