@@ -1,10 +1,10 @@
 -- What is committed while the gates of both headers are closed, the lesser header's first.
-use Rattle.std.proofs.Common.{◌≡◌, ◌⊎◌, ◌<◌, ◌+◌, ◌*◌, ◌%◌, ℕ, zero, suc, Bool, true, false, Option, Some, None, List, refl, sym, ap, subst, ◌∙◌, inl, inr, ⊎_elim, arith}
+use Rattle.std.proofs.Common.{◌≡◌, ◌⊎◌, ◌%◌, ℕ, zero, suc, Bool, true, false, Option, Some, None, List, refl, sym, ap, subst, ◌∙◌, inl, inr, ⊎_elim, arith}
 use Rattle.std.proofs.lemmas.Bool.{cases_lt}
 use Rattle.std.specs.Prelude.{nat_lt, if◌then◌else◌, ◌==◌, ◌&&◌}
 use Rattle.layout.specs.Gate.{is_open, gate_bytes}
 use Rattle.layout.specs.declared.gate.Gate.TheVariants.{Closed}
-use Rattle.layout.specs.Image.{HasNoHeader, committed_bytes, committed_of, committed_slot, does_count, option_at, sequence_in}
+use Rattle.layout.specs.Image.{HasNoHeader, committed_of, committed_slot, does_count, option_at, sequence_in}
 use Rattle.device.specs.Disk.{Image, Disk}
 use Rattle.device.specs.Moments.{LeavesOnly, Peeks}
 use Rattle.device.proofs.Images.{agrees_is}

@@ -1,5 +1,5 @@
 -- Where slots and directories lie in a half of the log.
-use Rattle.std.proofs.Common.{◌≤◌, inl, inr, arith}
+use Rattle.std.proofs.Common.{inl, inr, arith}
 use Rattle.std.proofs.lemmas.Bool.{cases_lt}
 use Rattle.layout.specs.Homes.{shape_of}
 use Rattle.layout.proofs.Halves.{half_within, half_apart}

@@ -64,7 +64,7 @@ fn choose(
     }
 }
 
-impl Log {
+impl<'a> Log<'a> {
     // The committed header.
     fn find_header<D: Device>(&self, device: &mut D) -> Result<CheckpointHeader, ReadFault>
         requires inside { self.now.total ≤ (D.disk device.old).sectors }

@@ -42,7 +42,7 @@ fn entries_in(bytes: &[u8], geometry: Geometry, into: &mut [Entry]) -> Result<()
     decode_directory(&bytes[..ENTRY_BYTES * into.len()], geometry, into)
 }
 
-impl Log {
+impl<'a> Log<'a> {
     /// Writes the directory of the half of a generation, and touches its sectors alone: a crash at
     /// any moment leaves all other sectors as they could have been left before. The bytes behind the
     /// last entry of its last sector are 0. It is refused exactly where the device fails, and the

@@ -9,29 +9,26 @@ use layout::{Half, Shape, Superblock};
 use model::Geometry;
 use std::marker::Model;
 
-/// Where the log of a device lies, and for how many objects it has room. The device is lent to it
-/// in each call.
+/// Where a superblock places the log, and how many slots a half has. Each call is lent the device.
 #[derive(Drop)]
-pub struct Log {
-    superblock: Superblock,
+pub struct Log<'a> {
+    superblock: &'a Superblock,
 }
 
-impl Model for Log {
+impl<'a> Model for Log<'a> {
     ghost use Rattle.layout.specs.Superblock.{Plan};
 
     ghost Value = { Plan };
 
-    ghost view = { λ log. log.superblock };
+    ghost view = { λ log. log.superblock.now };
 }
 
-impl Log {
+impl<'a> Log<'a> {
     /// The log of a device with this superblock.
-    pub fn new(superblock: &Superblock) -> Log
+    pub fn new(superblock: &'a Superblock) -> Log<'a>
         ensures { result ≡ superblock.now }
     {
-        Log {
-            superblock: superblock.copy(),
-        }
+        Log { superblock }
     }
 
     // How many objects there are, and how many slots in a half of the log.

@@ -147,7 +147,7 @@ fn publish_durable<D: Device>(device: &mut D, header: CheckpointHeader) -> Resul
     open_gate(device, header)
 }
 
-impl Log {
+impl<'a> Log<'a> {
     /// Commits a header: from `Ok` on each crash leaves it the committed one, and all that was
     /// written before the call is then durable. After `Failed`, which is told exactly where the
     /// device failed, the header before it is the committed one, or this one is.

@@ -15,7 +15,7 @@ use frame_io::{ReadFault, read_frame, write_frame, write_page};
 use layout::{Body, Room};
 use model::{Cap, Content, ObjectHeader};
 
-impl Log {
+impl<'a> Log<'a> {
     /// Reads the frame of an object in a slot of the half of a generation. The slots of a node or
     /// an annex and the words of a page are left in `room`, and no memory is taken.
     ///

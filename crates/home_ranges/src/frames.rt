@@ -15,7 +15,7 @@ use frame_io::{ReadFault, read_frame, write_sectors};
 use layout::{Body, Room};
 use model::ObjectHeader;
 
-impl Home {
+impl<'a> Home<'a> {
     /// Reads the home frame of an object. The slots of a node or an annex and the words of a page
     /// are left in `room`, and no memory is taken.
     ///

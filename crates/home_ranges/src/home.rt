@@ -10,18 +10,18 @@ use layout::{HomeRange, Shape, Superblock, Version};
 use model::Geometry;
 use std::marker::Model;
 
-/// Where the frames of objects lie at home, as a superblock tells.
+/// Where a superblock places the frames of objects at home.
 #[derive(Drop)]
-pub struct Home {
-    superblock: Superblock,
+pub struct Home<'a> {
+    superblock: &'a Superblock,
 }
 
-impl Model for Home {
+impl<'a> Model for Home<'a> {
     ghost use Rattle.layout.specs.Superblock.{Plan};
 
     ghost Value = { Plan };
 
-    ghost view = { λ home. home.superblock };
+    ghost view = { λ home. home.superblock.now };
 }
 
 // How many sectors into its range the i-th node begins, or the cluster of five that has it.
@@ -51,21 +51,12 @@ fn place_in(version: Version, geometry: Geometry, range: HomeRange, number: u64)
     range.sector + offset
 }
 
-impl Home {
-    /// Home places as the superblock tells.
-    pub fn new(superblock: &Superblock) -> Self
+impl<'a> Home<'a> {
+    /// The home places of a superblock.
+    pub fn new(superblock: &'a Superblock) -> Home<'a>
         ensures { result ≡ superblock.now }
     {
-        Home {
-            superblock: superblock.copy(),
-        }
-    }
-
-    /// The superblock that tells it.
-    pub fn superblock(&self) -> &Superblock
-        ensures { result.now ≡ self.now }
-    {
-        &self.superblock
+        Home { superblock }
     }
 
     /// The first sector of the home of an object: of its own frame, or of the cluster that has it.

@@ -25,12 +25,14 @@ use Rattle.checkpoint.specs.Saved.{most}
 use Rattle.migrator.specs.Mended.{Unwritten, mended, IsSpeltIn, IsUnwritten, IfUnwritten}
 use Rattle.model.specs.declared.frame.Frame.{Frame}
 use Rattle.migrator.specs.Put.{slot_bytes, slot_frame}
-use Rattle.migrator.specs.Durable.{Books, frozen_generation, working_generation, generation_after, IsKept, HasUnwritten, MayHaveUnwritten}
+use Rattle.migrator.specs.declared.books.Books.{Books}
+use Rattle.migrator.specs.Durable.{GoesOnDisk, IsDurable, frozen_generation, working_generation, generation_after, stored_on, IsKept, HasUnwritten, MayHaveUnwritten}
 use Rattle.ckpt_log.specs.Places.{place_extent, slot_extent}
 use Rattle.ckpt_log.proofs.Places.{frames_in_slots, slots_apart}
 use Rattle.migrator.proofs.Committing.{frozen_fits}
 use Rattle.migrator.proofs.Completing.{packed_read}
-use Rattle.migrator.proofs.Fetching.{fetched_kept}
+use Rattle.migrator.proofs.Fetching.{fetched_goes_on, fetched_kept, fetched_stored}
+use Rattle.migrator.proofs.GoingOn.{goes_seen}
 use Rattle.migrator.proofs.Mended.{mended_disk, reads_mended, apart_bytes, apart_frame}
 use Rattle.migrator.proofs.PlacesApart.{home_apart, other_half, spares_other}
 use Rattle.migrator.proofs.Putting.{other_parity}
@@ -99,9 +101,17 @@ entry_of b (Some u) has =
       shape = ap (shape_of b.plan) entry.object_is ∙ has.shape;
     }
 
--- so do calls that read
-pub fetched_mended : (old new : Disk) (o : Option Unwritten) (b : Books) → ReadsOnly old new → IsKept old.sectors (mended old.seen o) b → IsKept new.sectors (mended new.seen o) b
-fetched_mended old new o b reads kept = fetched_kept (mended_disk old o) (mended_disk new o) b (reads_mended old new o reads) kept
+-- ---- so do calls that read
+
+module _ (old new : Disk) (b : Books) (reads : ReadsOnly old new) where
+  pub durable_read : IsDurable old b → IsDurable new b
+  durable_read is = record { kept = fetched_kept (mended_disk old b.unwritten) (mended_disk new b.unwritten) b (reads_mended old new b.unwritten reads) is.kept; unwritten = is.unwritten }
+
+  pub stored_read : stored_on new b ≡ stored_on old b
+  stored_read = fetched_stored (mended_disk old b.unwritten) (mended_disk new b.unwritten) b (reads_mended old new b.unwritten reads)
+
+  pub goes_read : GoesOnDisk old new b b
+  goes_read = goes_seen old new b b (fetched_goes_on (mended_disk old b.unwritten) (mended_disk new b.unwritten) b (reads_mended old new b.unwritten reads))
 
 -- a packed frame is that of a node, and of one of five
 is_packed : (p : Plan) (n rank : ℕ) → IsPlan p → n < count_of p → shape_of p n ≡ Packed rank → (n < p.geometry.nodes) × (rank < 5)
@@ -150,15 +160,7 @@ module _ (size : ℕ) (image : Image) (b : Books) where
       let both : (b.header.generation + 1 + 1) % 2 ≡ frozen_generation b % 2 = ap (λ (o : Option ℕ). generation_after b.header.generation o % 2) (sym running) ∙ same in
       other_parity (b.header.generation + 1) (sym both)
 
-  -- what lies in the half of the frames that were put since
-  pub working_raw : (o : Option Unwritten) → IsKept size (mended image o) b → MayHaveUnwritten b o → (s n : ℕ) → s < b.plan.geometry.log
-      → slot_bytes (mended image o) b.plan (working_generation b) s n ≡ slot_bytes image b.plan (working_generation b) s n
-  working_raw None kept has s n low = refl
-  working_raw (Some u) kept has s n low =
-      apart_bytes image u (slot_sector b.plan (working_generation b) s) b.plan n
-      (other_half b.plan (working_generation b) (frozen_generation b) s n (extent u) kept.plan (later has.count has.running) low (inside u kept has))
-
-  -- also after a write
+  -- what lies in the half of the frames that were put since, also after a write
   pub working_again : (new : Image) (o : Option Unwritten) → IsKept size (mended image o) b → MayHaveUnwritten b o → (s n : ℕ) → s < b.plan.geometry.log
       → slot_bytes (mended new o) b.plan (working_generation b) s n ≡ slot_bytes new b.plan (working_generation b) s n
   working_again new None kept has s n low = refl

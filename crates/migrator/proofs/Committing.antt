@@ -1,14 +1,12 @@
 -- The frozen frames become the saved ones.
-use Rattle.std.proofs.Common.{◌≡◌, ◌⊎◌, ⊎_elim, ℕ, ◌+◌, ◌-◌, ◌%◌, ◌^◌, ◌<◌, ◌≤◌, Bool, true, false, cond, Option, Some, None, List, length, refl, sym, ap, subst, ◌∙◌, inl, inr, arith}
-use Rattle.std.specs.Prelude.{◌==◌, map, replicate, take}
+use Rattle.std.proofs.Common.{◌≡◌, ℕ, ◌+◌, ◌-◌, ◌%◌, ◌^◌, ◌<◌, ◌≤◌, Bool, true, false, cond, Option, Some, None, List, length, refl, sym, ap, subst, ◌∙◌, inr, arith}
+use Rattle.std.specs.Prelude.{◌==◌, map, replicate}
 use Rattle.std.specs.List.{range_with_len}
 use Rattle.std.proofs.lemmas.List.{length-replicate}
 use Rattle.model.specs.declared.frame.Frame.{Frame}
 use Rattle.model.specs.Frame.{frame_at}
 use Rattle.model.specs.Keepable.{IsKeepable, AreKeepable}
 use Rattle.device.specs.Disk.{Image, Disk}
-use Rattle.device.specs.Moments.{LeavesOnly}
-use Rattle.device.proofs.Moments.{leaves_weaker}
 use Rattle.layout.specs.declared.directory.Entry.{Entry}
 use Rattle.layout.specs.declared.extent.Extent.{Extent}
 use Rattle.layout.specs.declared.header.CheckpointHeader.{CheckpointHeader}
@@ -16,8 +14,8 @@ use Rattle.layout.specs.Directory.{IsDirectory, entry_at}
 use Rattle.layout.specs.Frame.{IsFrameOf}
 use Rattle.layout.specs.FrameReader.{frame_from}
 use Rattle.layout.specs.Header.{IsHeader}
-use Rattle.layout.specs.Image.{Encodes, frame_in, seat_in, slot_in, slot_beside, half_sector}
-use Rattle.layout.specs.Spelt.{count_of, frame_read, frames_read, IsSpelt, AreSpelt, state_in}
+use Rattle.layout.specs.Image.{frame_in, seat_in, slot_in, slot_beside, half_sector}
+use Rattle.layout.specs.Spelt.{count_of, frame_read, frames_read, IsSpelt, AreSpelt}
 use Rattle.layout.specs.Superblock.{Plan, IsApart, IsInside, half_extent}
 use Rattle.layout.proofs.Halves.{itself, apart_inside, half_within}
 use Rattle.layout.proofs.Spelling.{length_read, read_at, spelt_same, spelt_at}
@@ -29,19 +27,18 @@ use Rattle.ckpt_log.proofs.Denoted.{frames_behind}
 use Rattle.ckpt_log.proofs.Places.{frames_in_slots, directories_inside, slots_spare_directories}
 use Rattle.migrator.specs.declared.table.Place.{Place}
 use Rattle.migrator.specs.declared.table.Place.TheVariants.{Nowhere, Torn, Whole}
-use Rattle.migrator.specs.Table.{place_at, slot_of, taken_count, whole_count, has_slot, IsTable, entries_of}
+use Rattle.migrator.specs.Table.{place_at, slot_of, taken_count, whole_count, has_slot, entries_of}
 use Rattle.migrator.specs.Put.{Put, Absent, put_at, put_or, overlaid, slot_bytes, put_of, puts_in, ArePut}
-use Rattle.checkpoint.specs.Saved.{most, SavedFrames, kept_of, Holds, LeavesEither}
-use Rattle.migrator.proofs.GoingOn.{holds}
-use Rattle.migrator.specs.Durable.{Books, frozen_generation, working_generation, generation_after, Stored, saved_state, frozen_of, stored_in, IsRunning, IsKept, LeavesState, next_header, next_saved, stored_after_commit, books_of}
+use Rattle.checkpoint.specs.Saved.{most}
+use Rattle.migrator.specs.declared.books.Books.{Books}
+use Rattle.migrator.specs.Durable.{IsDurable, frozen_generation, working_generation, generation_after, Stored, saved_state, frozen_of, stored_in, IsRunning, IsKept, LeavesState, next_header, stored_after_commit}
 use Rattle.migrator.specs.Completed.{AreComplete}
-use Rattle.migrator.specs.Mended.{Unwritten}
-use Rattle.migrator.specs.Saving.{MaySave, SavesOnly}
+use Rattle.migrator.specs.Saving.{MayAdopt, MaySave, SavesOnly, SparesKept, adopted}
 use Rattle.migrator.specs.Spared.{SparesFrames, Spares}
 use Rattle.migrator.proofs.Tables.{all_whole, whole_taken, entries_directory, length_entries, slot_entries, blank_at, blank_table, tally-blank}
 use Rattle.migrator.proofs.Spared.{state_stays}
 use Rattle.checkpoint.proofs.Lists.{maps_same}
-use Rattle.migrator.proofs.Kept.{SparesKept, stored_stays, kept_on}
+use Rattle.migrator.proofs.Kept.{stored_stays, kept_on}
 use Rattle.migrator.proofs.PlacesApart.{in_slot, in_seat, at_home, frame_apart, home_apart, spares_other, homes_behind}
 use Rattle.migrator.proofs.Seats.{no_entries, seat_fits}
 use Rattle.migrator.proofs.Putting.{put_is, other_parity, half_spares, none_spares, homes_spare}
@@ -194,19 +191,6 @@ module _ (size : ℕ) (image : Image) (b : Books) (k : ℕ) (kept : IsKept size 
 
 -- ---- a commit
 
--- what is kept once the frozen frames are saved, where no object has a place any more
-abbrev pub committed_books : ℕ → Books → List Place → Books
-committed_books age b ps = record {
-  plan = b.plan;
-  header = next_header age b;
-  directory = entries_of b.frozen;
-  moved = 0;
-  frozen = ps;
-  size = None;
-  working = b.working;
-  unwritten = None;
-}
-
 module _ (disk : Disk) (b : Books) (k : ℕ) (kept : IsKept disk.sectors disk.seen b) (running : b.size ≡ Some k) (stable : k ≤ whole_count b.frozen) (complete : AreComplete disk.seen b.plan (frozen_generation b) (entries_of b.frozen))
     (age : ℕ) (later : b.header.age < age) (most_age : age ≤ 2 ^ 62) (keepable : AreKeepable b.plan.geometry age (overlaid (puts_in disk.seen b.plan (frozen_generation b) b.frozen) (frames_read disk.seen b.plan b.header.generation b.directory))) where
   pub fits_next : IsHeader b.plan.geometry.log (next_header age b)
@@ -228,8 +212,8 @@ module _ (disk : Disk) (b : Books) (k : ℕ) (kept : IsKept disk.sectors disk.se
       (λ s is. slots_apart_directory b.plan (frozen_generation b) s (taken_count b.frozen) n (seat_fits b.plan (entries_of b.frozen) n s directory_next is) kept.frozen.few)
       (λ _. home_apart b.plan (frozen_generation b) n (directory_extent b.plan (frozen_generation b) (taken_count b.frozen)) kept.plan lt inside_half)
 
-  pub may_commit : LeavesState disk (saved_state disk.seen b) → MaySave disk b.plan b.header b.directory (next_header age b) (entries_of b.frozen)
-  may_commit sound = record {
+  may_save : LeavesState disk (saved_state disk.seen b) → MaySave disk b.plan b.header b.directory (next_header age b) (entries_of b.frozen)
+  may_save sound = record {
     plan = kept.plan;
     inside = kept.inside;
     header = kept.header;
@@ -250,7 +234,7 @@ module _ (disk : Disk) (b : Books) (k : ℕ) (kept : IsKept disk.sectors disk.se
   later_half same = other_parity (frozen_generation b) (sym (sym (ap (λ (g : ℕ). g % 2) generation_is) ∙ same))
 
   -- what was kept lies apart from the directory
-  pub spares_kept : SparesKept b (directory_extent b.plan (frozen_generation b) (taken_count b.frozen))
+  spares_kept : SparesKept b (directory_extent b.plan (frozen_generation b) (taken_count b.frozen))
   spares_kept = record {
     frames = spares_now.frames;
     homes = homes_spare disk.sectors disk.seen b (frozen_generation b) (directory_extent b.plan (frozen_generation b) (taken_count b.frozen)) kept inside_half;
@@ -258,103 +242,64 @@ module _ (disk : Disk) (b : Books) (k : ℕ) (kept : IsKept disk.sectors disk.se
     working = half_spares b.plan (working_generation b) (frozen_generation b) b.working (directory_extent b.plan (frozen_generation b) (taken_count b.frozen)) kept.plan later_half kept.working.table kept.working.few inside_half;
   }
 
-  module _ (ps : List Place) (blank : ps ≡ replicate (length b.frozen) Nowhere) where
-    none : (n : ℕ) → place_at ps n ≡ Nowhere
-    none n = ap (λ (qs : List Place). place_at qs n) blank ∙ blank_at (length b.frozen) n
+  abbrev blank : List Place
+  blank = replicate (length b.frozen) Nowhere
 
-    no_place : ArePut disk.seen b.plan (frozen_generation b + 1) ps
-    no_place = record {
-      count = ap length blank ∙ length-replicate {A = Place} (length b.frozen) Nowhere ∙ kept.frozen.count;
-      few = let taken : taken_count ps ≡ 0 = ap taken_count blank ∙ tally-blank has_slot (length b.frozen) refl in omega (arith, taken);
-      table = subst IsTable (sym blank) (blank_table (length b.frozen));
-      spelt = λ n s lt is. absurd (let never : Nowhere ≡ Whole s = sym (none n) ∙ is in cc);
-    }
+  none : (n : ℕ) → place_at blank n ≡ Nowhere
+  none n = blank_at (length b.frozen) n
 
-    working_put : ArePut disk.seen b.plan (frozen_generation b + 1) b.working
-    working_put = subst (λ (g : ℕ). ArePut disk.seen b.plan g b.working) generation_is kept.working
+  no_place : ArePut disk.seen b.plan (frozen_generation b + 1) blank
+  no_place = record {
+    count = length-replicate {A = Place} (length b.frozen) Nowhere ∙ kept.frozen.count;
+    few = let taken : taken_count blank ≡ 0 = tally-blank has_slot (length b.frozen) refl in omega (arith, taken);
+    table = blank_table (length b.frozen);
+    spelt = λ n s lt is. absurd (let never : Nowhere ≡ Whole s = sym (none n) ∙ is in cc);
+  }
 
-    committed_kept : IsKept disk.sectors disk.seen (committed_books age b ps)
-    committed_kept = record {
-      plan = kept.plan;
-      inside = kept.inside;
-      header = fits_next;
-      count = length_entries b.frozen;
-      directory = directory_next;
-      saved = spelt_next disk.sectors disk.seen b k kept running stable complete age keepable;
-      few = omega arith;
-      moved = λ i lt. absurd (omega (arith, lt));
-      frozen = no_place;
-      running = none;
-      working = working_put;
-    }
+  working_put : ArePut disk.seen b.plan (frozen_generation b + 1) b.working
+  working_put = subst (λ (g : ℕ). ArePut disk.seen b.plan g b.working) generation_is kept.working
 
-    committed_spares : SparesKept (committed_books age b ps) (directory_extent b.plan (frozen_generation b) (taken_count b.frozen))
-    committed_spares = record {
-      frames = spares_then;
-      homes = λ i lt. absurd (omega (arith, lt));
-      frozen = none_spares b.plan (frozen_generation b + 1) ps (directory_extent b.plan (frozen_generation b) (taken_count b.frozen)) none;
-      working = half_spares b.plan (frozen_generation b + 1) (frozen_generation b) b.working (directory_extent b.plan (frozen_generation b) (taken_count b.frozen)) kept.plan
-          (λ same. other_parity (frozen_generation b) (sym same)) kept.working.table kept.working.few inside_half;
-    }
+  committed_kept : IsKept disk.sectors disk.seen (adopted (next_header age b) (entries_of b.frozen) b)
+  committed_kept = record {
+    plan = kept.plan;
+    inside = kept.inside;
+    header = fits_next;
+    count = length_entries b.frozen;
+    directory = directory_next;
+    saved = spelt_next disk.sectors disk.seen b k kept running stable complete age keepable;
+    few = omega arith;
+    moved = λ i lt. absurd (omega (arith, lt));
+    frozen = no_place;
+    running = none;
+    working = working_put;
+  }
 
-    abbrev stored_as : ℕ → List Put → List Frame → Stored
-    stored_as entries working frames = record {
-      working = working;
-      frozen = None;
-      saved = record { geometry = b.plan.geometry; frames = frames; generation = frozen_generation b; entries = entries; age = age };
-      to_move = entries - 0;
-    }
+  committed_spares : SparesKept (adopted (next_header age b) (entries_of b.frozen) b) (directory_extent b.plan (frozen_generation b) (taken_count b.frozen))
+  committed_spares = record {
+    frames = spares_then;
+    homes = λ i lt. absurd (omega (arith, lt));
+    frozen = none_spares b.plan (frozen_generation b + 1) blank (directory_extent b.plan (frozen_generation b) (taken_count b.frozen)) none;
+    working = half_spares b.plan (frozen_generation b + 1) (frozen_generation b) b.working (directory_extent b.plan (frozen_generation b) (taken_count b.frozen)) kept.plan
+        (λ same. other_parity (frozen_generation b) (sym same)) kept.working.table kept.working.few inside_half;
+  }
 
-    committed_stored : stored_in disk.seen (committed_books age b ps) ≡ stored_after_commit age (frozen_of disk.seen b k) (stored_in disk.seen b)
-    committed_stored =
-        ap (λ (g : ℕ). stored_as (taken_count b.frozen) (puts_in disk.seen b.plan g b.working) (frames_read disk.seen b.plan (frozen_generation b) (entries_of b.frozen))) (sym generation_is)
-        ∙ ap (λ (fs : List Frame). stored_as (taken_count b.frozen) (puts_in disk.seen b.plan (working_generation b) b.working) fs) (frames_next disk.sectors disk.seen b k kept running stable complete)
-        ∙ ap (λ (n : ℕ). stored_as n (puts_in disk.seen b.plan (working_generation b) b.working) (overlaid (puts_in disk.seen b.plan (frozen_generation b) b.frozen) (frames_read disk.seen b.plan b.header.generation b.directory)))
-        (taken_all disk.sectors disk.seen b k kept running stable)
-        ∙ same_move k (overlaid (puts_in disk.seen b.plan (frozen_generation b) b.frozen) (frames_read disk.seen b.plan b.header.generation b.directory)) where
-          same_move : (n : ℕ) (fs : List Frame) → stored_as n (puts_in disk.seen b.plan (working_generation b) b.working) fs ≡ record (stored_as n (puts_in disk.seen b.plan (working_generation b) b.working) fs) { to_move = n }
-          same_move n fs = let same : n - 0 ≡ n = omega arith in ap (λ (m : ℕ). record (stored_as n (puts_in disk.seen b.plan (working_generation b) b.working) fs) { to_move = m }) same
+  abbrev stored_as : ℕ → List Put → List Frame → Stored
+  stored_as entries working frames = record {
+    working = working;
+    frozen = None;
+    saved = record { geometry = b.plan.geometry; frames = frames; generation = frozen_generation b; entries = entries; age = age };
+    to_move = entries - 0;
+  }
 
-    -- after the commit
-    module _ (new : Image) (only : SavesOnly b.plan (next_header age b) disk.seen new) where
-      pub done_kept : IsKept disk.sectors new (committed_books age b ps)
-      done_kept = kept_saves disk.sectors (committed_books age b ps) (next_header age b) disk.seen new committed_kept only committed_spares
+  pub committed_stored : stored_in disk.seen (adopted (next_header age b) (entries_of b.frozen) b) ≡ stored_after_commit age (frozen_of disk.seen b k) (stored_in disk.seen b)
+  committed_stored =
+      ap (λ (g : ℕ). stored_as (taken_count b.frozen) (puts_in disk.seen b.plan g b.working) (frames_read disk.seen b.plan (frozen_generation b) (entries_of b.frozen))) (sym generation_is)
+      ∙ ap (λ (fs : List Frame). stored_as (taken_count b.frozen) (puts_in disk.seen b.plan (working_generation b) b.working) fs) (frames_next disk.sectors disk.seen b k kept running stable complete)
+      ∙ ap (λ (n : ℕ). stored_as n (puts_in disk.seen b.plan (working_generation b) b.working) (overlaid (puts_in disk.seen b.plan (frozen_generation b) b.frozen) (frames_read disk.seen b.plan b.header.generation b.directory)))
+      (taken_all disk.sectors disk.seen b k kept running stable)
+      ∙ same_move k (overlaid (puts_in disk.seen b.plan (frozen_generation b) b.frozen) (frames_read disk.seen b.plan b.header.generation b.directory)) where
+        same_move : (n : ℕ) (fs : List Frame) → stored_as n (puts_in disk.seen b.plan (working_generation b) b.working) fs ≡ record (stored_as n (puts_in disk.seen b.plan (working_generation b) b.working) fs) { to_move = n }
+        same_move n fs = let same : n - 0 ≡ n = omega arith in ap (λ (m : ℕ). record (stored_as n (puts_in disk.seen b.plan (working_generation b) b.working) fs) { to_move = m }) same
 
-      pub done_stored : stored_in new (committed_books age b ps) ≡ stored_after_commit age (frozen_of disk.seen b k) (stored_in disk.seen b)
-      done_stored = stored_saves disk.sectors (committed_books age b ps) (next_header age b) disk.seen new committed_kept only committed_spares ∙ committed_stored
-
-      pub done_state : saved_state new (committed_books age b ps) ≡ state_in disk.seen b.plan (next_header age b) (entries_of b.frozen)
-      done_state = state_saves disk.sectors (committed_books age b ps) (next_header age b) disk.seen new committed_kept only committed_spares
-
-  -- after a failure
-  module _ (new : Image) (only : SavesOnly b.plan (next_header age b) disk.seen new) where
-    pub failed_kept : IsKept disk.sectors new b
-    failed_kept = kept_saves disk.sectors b (next_header age b) disk.seen new kept only spares_kept
-
-    pub failed_stored : stored_in new b ≡ stored_in disk.seen b
-    failed_stored = stored_saves disk.sectors b (next_header age b) disk.seen new kept only spares_kept
-
-  abbrev saved_as : ℕ → List Frame → SavedFrames
-  saved_as entries frames = record { geometry = b.plan.geometry; frames = frames; generation = frozen_generation b; entries = entries; age = age }
-
-  -- what is saved next
-  pub next_kept : kept_of (state_in disk.seen b.plan (next_header age b) (entries_of b.frozen)) ≡ next_saved age (frozen_of disk.seen b k) (stored_in disk.seen b).saved
-  next_kept =
-      ap (λ (fs : List Frame). saved_as (taken_count b.frozen) fs) (frames_next disk.sectors disk.seen b k kept running stable complete)
-      ∙ ap (λ (n : ℕ). saved_as n (overlaid (puts_in disk.seen b.plan (frozen_generation b) b.frozen) (frames_read disk.seen b.plan b.header.generation b.directory))) (taken_all disk.sectors disk.seen b k kept running stable)
-
-  pub commit_moments : (new : Disk) → LeavesOnly disk new (λ c. Encodes c disk.sectors (saved_state disk.seen b) ⊎ Encodes c disk.sectors (state_in disk.seen b.plan (next_header age b) (entries_of b.frozen)))
-      → LeavesEither disk new (stored_in disk.seen b).saved (next_saved age (frozen_of disk.seen b k) (stored_in disk.seen b).saved)
-  commit_moments new run =
-      leaves_weaker {old = disk} {new = new} {P = λ c. Encodes c disk.sectors (saved_state disk.seen b) ⊎ Encodes c disk.sectors (state_in disk.seen b.plan (next_header age b) (entries_of b.frozen))}
-      (λ c. Holds disk.sectors c (stored_in disk.seen b).saved ⊎ Holds disk.sectors c (next_saved age (frozen_of disk.seen b k) (stored_in disk.seen b).saved))
-      (λ c. ⊎_elim (λ is. inl (holds disk.sectors c (saved_state disk.seen b) is))
-      (λ is. inr (subst (Holds disk.sectors c) next_kept (holds disk.sectors c (state_in disk.seen b.plan (next_header age b) (entries_of b.frozen)) is)))) run
-
-abbrev books_with : Books → CheckpointHeader → List Entry → List Place → Option Unwritten → Books
-books_with b h es ps o = record { plan = b.plan; header = h; directory = es; moved = 0; frozen = ps; size = None; working = b.working; unwritten = o }
-
-pub books_same : (age : ℕ) (b : Books) (h : CheckpointHeader) (es : List Entry) (ps : List Place) (o : Option Unwritten) → h ≡ next_header age b → take h.entries es ≡ entries_of b.frozen → o ≡ None
-    → books_of b.plan h es 0 ps None b.working o ≡ committed_books age b ps
-books_same age b h es ps o header directory none =
-    ap (λ (ds : List Entry). books_with b h ds ps o) directory ∙ ap (λ (x : CheckpointHeader). books_with b x (entries_of b.frozen) ps o) header ∙ ap (books_with b (next_header age b) (entries_of b.frozen) ps) none
+  pub may_commit : IsDurable disk b → b.unwritten ≡ None → LeavesState disk (saved_state disk.seen b) → MayAdopt disk b (next_header age b) (entries_of b.frozen)
+  may_commit is written sound = record { stands = is; written = written; may = may_save sound; kept = committed_kept; spares = spares_kept; spares_next = committed_spares }

@@ -20,12 +20,13 @@ use Rattle.migrator.specs.Table.{place_at, slot_of, entries_of}
 use Rattle.migrator.specs.Completed.{AreComplete, Keeps}
 use Rattle.migrator.specs.Mended.{Unwritten, mended, IfUnwritten}
 use Rattle.migrator.specs.Put.{Put, slot_bytes, puts_in}
-use Rattle.migrator.specs.Durable.{Books, frozen_generation, working_generation, generation_after, FrozenPuts, Stored, stored_in, frozen_of, next_header, next_saved, saved_state, IsKept, IsRunning, LeavesState, MayHaveUnwritten}
-use Rattle.checkpoint.specs.Saved.{Holds, LeavesEither, LeavesSaved, kept_of}
-use Rattle.migrator.proofs.Journaling.{both_runs}
+use Rattle.migrator.specs.declared.books.Books.{Books}
+use Rattle.migrator.specs.Durable.{frozen_generation, working_generation, generation_after, FrozenPuts, Stored, stored_in, frozen_of, next_header, next_saved, saved_state, IsKept, IsRunning, LeavesState, MayHaveUnwritten}
+use Rattle.checkpoint.specs.Saved.{Holds, LeavesSaved, kept_of}
 use Rattle.migrator.specs.Spared.{Spares, Touches}
 use Rattle.migrator.proofs.GoingOn.{GoesOnSeen, goes_spared}
-use Rattle.migrator.proofs.Kept.{SparesPuts, puts_same, are_put_same, puts_stay, are_put_on, stored_same, home_stays}
+use Rattle.migrator.specs.Saving.{SparesPuts}
+use Rattle.migrator.proofs.Kept.{puts_same, are_put_same, puts_stay, are_put_on, stored_same, home_stays}
 use Rattle.migrator.proofs.Mended.{mended_disk, leaves_mended, leaves_raw, unmended}
 use Rattle.migrator.proofs.PlacesApart.{spares_other}
 use Rattle.migrator.proofs.Putting.{other_parity, half_spares, homes_spare}
@@ -170,12 +171,6 @@ ready old mid b was now k kept running keeps none =
       any_moment = λ sound. leaves_raw old mid was now (λ c. Holds old.sectors c (kept_of (saved_state (mended old.seen was) b))) (goes.any_moment sound);
     }
 
--- and where not, a crash leaves what is saved
-pub unready_moments : (old new : Disk) (b : Books) (was now : Option Unwritten) (k : ℕ) → IsKept old.sectors (mended old.seen was) b → b.size ≡ Some k → Keeps b.plan (frozen_generation b) (entries_of b.frozen) old was new now
-    → LeavesState old (saved_state (mended old.seen was) b) → LeavesSaved old new (kept_of (saved_state (mended old.seen was) b))
-unready_moments old new b was now k kept running keeps sound =
-    leaves_raw old new was now (λ c. Holds old.sectors c (kept_of (saved_state (mended old.seen was) b))) ((goes_after old new b was now k kept running keeps).any_moment sound)
-
 -- ---- said of the header and the entries that are committed
 
 pub keeps_at : (b : Books) (old mid : Disk) (was now : Option Unwritten) (p : Plan) (h : CheckpointHeader) (es : List Entry) {age : ℕ} → p ≡ b.plan → h ≡ next_header age b → es ≡ entries_of b.frozen → Keeps p h.generation es old was mid now
@@ -196,11 +191,3 @@ pub keepable_at : (age : ℕ) (old : Disk) (image : Image) (b : Books) (k : ℕ)
 keepable_at age old image b k mid is keepable =
     subst (λ (s : Stored). AreKeepable b.plan.geometry age (next_saved age (frozen_of mid.seen b k) s.saved).frames) (sym is.stored)
     (subst (λ (f : FrozenPuts). AreKeepable b.plan.geometry age (next_saved age f (stored_in image b).saved).frames) (sym is.frozen) keepable)
-
--- and at each moment to the end a crash leaves what was saved, or what is then
-pub ready_moments : (age : ℕ) (old : Disk) (image : Image) (b : Books) (k : ℕ) (mid : Disk) → IsReady old image b k mid → (new : Disk) → LeavesState old (saved_state image b)
-    → LeavesEither mid new (stored_in mid.seen b).saved (next_saved age (frozen_of mid.seen b k) (stored_in mid.seen b).saved) → LeavesEither old new (stored_in image b).saved (next_saved age (frozen_of image b k) (stored_in image b).saved)
-ready_moments age old image b k mid is new sound run =
-    both_runs old mid new (stored_in image b).saved (next_saved age (frozen_of image b k) (stored_in image b).saved) is.size (is.any_moment sound)
-    (subst (λ (f : FrozenPuts). LeavesEither mid new (stored_in image b).saved (next_saved age f (stored_in image b).saved)) is.frozen
-    (subst (λ (s : Stored). LeavesEither mid new s.saved (next_saved age (frozen_of mid.seen b k) s.saved)) is.stored run))

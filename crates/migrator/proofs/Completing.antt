@@ -142,12 +142,6 @@ module _ (old : Disk) (p : Plan) (generation : ℕ) (es : List Entry) (i rank : 
   low : entry.slot < p.geometry.log
   low = (is.each i (record { object = 0; slot = 0 }) within).slot
 
-  pub sectors_within : u.sector + 8 ≤ p.total
-  sectors_within =
-      let inside = half_of_slot p generation entry.slot low in
-      let half = halves_within p generation fits in
-      omega (arith, inside.ends, half.1)
-
   module _ (new : Disk) (now : Option Unwritten) (seen : mended new.seen now ≡ mended old.seen (Some u)) (touches : Touches u.sector 8 old new) (either : (now ≡ None) ⊎ (now ≡ Some u)) where
     change : Elsewhere u.sector 8 old.seen (mended new.seen now)
     change = subst (Elsewhere u.sector 8 old.seen) (sym seen) (mended_elsewhere old.seen u)

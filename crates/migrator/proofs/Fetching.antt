@@ -7,7 +7,7 @@ use Rattle.layout.specs.Superblock.{Plan}
 use Rattle.migrator.specs.declared.table.Place.{Place}
 use Rattle.migrator.specs.declared.table.Place.TheVariants.{Whole}
 use Rattle.migrator.specs.Table.{place_at, slot_of}
-use Rattle.migrator.specs.Put.{Put, put_at, put_or, put_of, ArePut}
+use Rattle.migrator.specs.Put.{Put, put_or, put_of, ArePut}
 use Rattle.migrator.proofs.Putting.{put_is}
 use Rattle.model.specs.declared.frame.Frame.{Frame}
 use Rattle.model.specs.declared.geometry.Geometry.{Geometry}
@@ -25,7 +25,8 @@ use Rattle.frame_io.specs.Frames.{IsRefused}
 use Rattle.frame_io.specs.declared.fault.ReadFault.{ReadFault}
 use Rattle.frame_io.specs.declared.fault.ReadFault.TheVariants as fault
 use Rattle.checkpoint.specs.Saved.{Holds}
-use Rattle.migrator.specs.Durable.{Books, DurableState, frozen_generation, working_generation, below_at, frozen_put, frozen_of, newest, IsRunning, stored_in, saved_state, LeavesState, IsKept, ReadsStore}
+use Rattle.migrator.specs.declared.books.Books.{Books}
+use Rattle.migrator.specs.Durable.{DurableState, frozen_generation, working_generation, below_at, frozen_put, frozen_of, newest, IsRunning, stored_in, saved_state, LeavesState, IsKept, ReadsStore}
 use Rattle.migrator.specs.Mended.{Unwritten}
 use Rattle.migrator.proofs.GoingOn.{GoesOnSeen, goes_seen, holds}
 use Rattle.migrator.proofs.Mended.{mended_disk, reads_mended}
@@ -90,14 +91,16 @@ frozen_is : (image : Image) (b : Books) (o : Option ℕ) (n : ℕ) → n < count
 frozen_is image b None n lt running = sym (ap (put_of image b.plan (frozen_generation b) n) (running n))
 frozen_is image b (Some k) n lt running = put_is image b.plan (frozen_generation b) b.frozen n lt
 
--- what lies below, by the places
-pub below_is : (size : ℕ) (image : Image) (b : Books) (n : ℕ) → n < count_of b.plan → IsKept size image b
-    → put_or (put_of image b.plan (frozen_generation b) n (place_at b.frozen n)) (frame_at (stored_in image b).saved.frames n) ≡ below_at (stored_in image b) n
-below_is size image b n lt kept = ap (λ (x : Put). put_or x (frame_at (stored_in image b).saved.frames n)) (sym (frozen_is image b b.size n lt kept.running))
+-- the frame below, by the place of the frozen one
+pub below_by : (size : ℕ) (image : Image) (b : Books) (n : ℕ) (place : Place) → n < count_of b.plan → IsKept size image b → place_at b.frozen n ≡ place
+    → put_or (put_of image b.plan (frozen_generation b) n place) (frame_at (stored_in image b).saved.frames n) ≡ below_at (stored_in image b) n
+below_by size image b n place lt kept at =
+    ap (λ (x : Put). put_or x (frame_at (stored_in image b).saved.frames n))
+    (ap (put_of image b.plan (frozen_generation b) n) (sym at) ∙ sym (frozen_is image b b.size n lt kept.running))
 
--- the newest frame, by the places
-pub newest_is : (size : ℕ) (image : Image) (b : Books) (n : ℕ) → n < count_of b.plan → IsKept size image b
-    → put_or (put_of image b.plan (working_generation b) n (place_at b.working n)) (put_or (put_of image b.plan (frozen_generation b) n (place_at b.frozen n)) (frame_at (stored_in image b).saved.frames n)) ≡ newest (stored_in image b) n
-newest_is size image b n lt kept =
-    ap (λ (x : Put). put_or x (put_or (put_of image b.plan (frozen_generation b) n (place_at b.frozen n)) (frame_at (stored_in image b).saved.frames n))) (sym (put_is image b.plan (working_generation b) b.working n lt))
-    ∙ ap (λ (x : Put). put_or (put_at (stored_in image b).working n) (put_or x (frame_at (stored_in image b).saved.frames n))) (sym (frozen_is image b b.size n lt kept.running))
+-- the newest frame, by the place of the one that was put since
+pub newest_by : (image : Image) (b : Books) (n : ℕ) (place : Place) → n < count_of b.plan → place_at b.working n ≡ place
+    → put_or (put_of image b.plan (working_generation b) n place) (below_at (stored_in image b) n) ≡ newest (stored_in image b) n
+newest_by image b n place lt at =
+    ap (λ (x : Put). put_or x (below_at (stored_in image b) n))
+    (ap (put_of image b.plan (working_generation b) n) (sym at) ∙ sym (put_is image b.plan (working_generation b) b.working n lt))

@@ -1,17 +1,15 @@
 -- All that is saved is home, and a header says so.
-use Rattle.std.proofs.Common.{◌≡◌, ◌⊎◌, ℕ, ◌+◌, ◌-◌, ◌*◌, ◌%◌, ◌<◌, ◌≤◌, Bool, false, cond, Option, Some, None, List, [], refl, sym, ap, subst, ◌∙◌, inl, inr, ⊎_elim, arith}
+use Rattle.std.proofs.Common.{◌≡◌, ℕ, ◌+◌, ◌-◌, ◌*◌, ◌%◌, ◌<◌, ◌≤◌, Bool, false, cond, Option, Some, None, List, [], refl, sym, ap, subst, ◌∙◌, inr, arith}
 use Rattle.std.specs.Prelude.{◌==◌}
 use Rattle.std.proofs.lemmas.Bool.{ne_eqb}
 use Rattle.model.specs.declared.frame.Frame.{Frame}
-use Rattle.device.specs.Disk.{Image, Disk}
-use Rattle.device.specs.Moments.{LeavesOnly}
-use Rattle.device.proofs.Moments.{leaves_weaker}
+use Rattle.device.specs.Disk.{Disk}
 use Rattle.layout.specs.declared.extent.Extent.{Extent}
 use Rattle.layout.specs.declared.header.CheckpointHeader.{CheckpointHeader}
 use Rattle.layout.specs.Directory.{IsDirectory}
 use Rattle.layout.specs.Header.{IsHeader}
-use Rattle.layout.specs.Image.{Encodes, frame_in, seat_in, half_sector}
-use Rattle.layout.specs.Spelt.{count_of, AreSpelt, frames_read, state_in}
+use Rattle.layout.specs.Image.{frame_in, seat_in, half_sector}
+use Rattle.layout.specs.Spelt.{count_of, AreSpelt, frames_read}
 use Rattle.layout.specs.Superblock.{Plan, IsApart, IsInside, half_extent}
 use Rattle.layout.proofs.Halves.{half_within, within_inside}
 use Rattle.layout.proofs.Spelling.{read_same, spelt_same}
@@ -20,17 +18,18 @@ use Rattle.home_ranges.specs.Laws.{home_extent}
 use Rattle.ckpt_log.specs.Places.{directory_extent}
 use Rattle.migrator.specs.declared.table.Place.TheVariants.{Nowhere}
 use Rattle.migrator.specs.Table.{place_at}
-use Rattle.checkpoint.specs.Saved.{kept_of, home_saved, Holds, LeavesEither}
-use Rattle.migrator.specs.Durable.{Books, frozen_generation, working_generation, generation_after, Stored, saved_state, stored_in, IsRunning, IsKept, LeavesState, home_header, finished}
-use Rattle.migrator.specs.Saving.{MaySave, SavesOnly}
+use Rattle.migrator.specs.declared.books.Books.{Books}
+use Rattle.migrator.specs.Durable.{IsDurable, IsSoundOn, seen_by, stored_on, frozen_generation, working_generation, generation_after, Stored, saved_state, stored_in, IsRunning, IsKept, LeavesState, home_header, finished}
+use Rattle.migrator.specs.Saving.{MayAdopt, MaySave, SparesKept, SparesPuts, adopted}
 use Rattle.migrator.specs.Spared.{SparesFrames, Spares}
-use Rattle.migrator.proofs.Kept.{SparesPuts, SparesKept}
-use Rattle.migrator.proofs.GoingOn.{holds}
 use Rattle.migrator.proofs.PlacesApart.{at_home, frame_apart, home_apart}
 use Rattle.migrator.proofs.Seats.{seat_fits}
 use Rattle.migrator.proofs.Putting.{none_spares, half_spares, homes_spare, other_parity}
-use Rattle.migrator.proofs.Committing.{slots_apart_directory, directory_inside, kept_saves, stored_saves, state_saves}
+use Rattle.migrator.proofs.Committing.{slots_apart_directory, directory_inside}
 use Rattle.migrator.proofs.Moving.{no_checkpoint}
+use Rattle.migrator.specs.Mended.{Unwritten, mended}
+use Rattle.migrator.proofs.Adopting.{with_header, idle_books, kept_raw, may_adopt_idle, sound_raw}
+use Rattle.migrator.proofs.Buffered.{none_idle}
 
 no_directory : (p : Plan) → IsDirectory p.geometry []
 no_directory p = record { each = λ i d lt. absurd (omega (arith, lt)); rising = λ i lt. absurd (omega (arith, lt)); apart = λ i j lt within. absurd (omega (arith, within)) }
@@ -41,15 +40,15 @@ home_fits room h is some =
     let few : h.sequence ≤ 2 * h.age + 0 = subst (λ (t : Bool). h.sequence ≤ 2 * h.age + cond t 1 0) test is.sequence in
     record { entries = omega arith; age = is.age; generation = is.generation; sequence = omega (arith, few); entries_fit = omega arith }
 
-abbrev pub home_books : Books → Books
-home_books b = record { plan = b.plan; header = home_header b.header; directory = []; moved = 0; frozen = b.frozen; size = b.size; working = b.working; unwritten = b.unwritten }
+module _ (disk : Disk) (b : Books) (is : IsDurable disk b) (some : 0 < b.header.entries) (all : b.moved ≡ b.header.entries) where
+  none : b.size ≡ None
+  none = no_checkpoint disk.sectors (seen_by disk.seen b) b is.kept some
 
-module _ (disk : Disk) (b : Books) (kept : IsKept disk.sectors disk.seen b) (some : 0 < b.header.entries) (all : b.moved ≡ b.header.entries) where
+  kept : IsKept disk.sectors disk.seen b
+  kept = kept_raw disk b (none_idle b b.unwritten is.unwritten none) is
+
   abbrev extent : Extent
   extent = directory_extent b.plan b.header.generation 0
-
-  none : b.size ≡ None
-  none = no_checkpoint disk.sectors disk.seen b kept some
 
   blank : (n : ℕ) → place_at b.frozen n ≡ Nowhere
   blank = subst (IsRunning b) none kept.running
@@ -86,8 +85,8 @@ module _ (disk : Disk) (b : Books) (kept : IsKept disk.sectors disk.seen b) (som
   spares_then : SparesFrames b.plan b.header.generation [] extent
   spares_then n lt = frame_apart b.plan b.header.generation [] n extent (λ s is. absurd (let never : None ≡ Some s = is in cc)) (λ _. spares_homes n lt)
 
-  pub may_finish : LeavesState disk (saved_state disk.seen b) → MaySave disk b.plan b.header b.directory (home_header b.header) []
-  may_finish sound = record {
+  may_save : LeavesState disk (saved_state disk.seen b) → MaySave disk b.plan b.header b.directory (home_header b.header) []
+  may_save sound = record {
     plan = kept.plan;
     inside = kept.inside;
     header = kept.header;
@@ -115,11 +114,11 @@ module _ (disk : Disk) (b : Books) (kept : IsKept disk.sectors disk.seen b) (som
     working = working_spares;
   }
 
-  running_of : (o : Option ℕ) → IsRunning b o → IsRunning (home_books b) o
+  running_of : (o : Option ℕ) → IsRunning b o → IsRunning (with_header b (home_header b.header) []) o
   running_of None is = is
   running_of (Some k) is = (refl, is.1, is.2)
 
-  home_kept : IsKept disk.sectors disk.seen (home_books b)
+  home_kept : IsKept disk.sectors disk.seen (with_header b (home_header b.header) [])
   home_kept = record {
     plan = kept.plan;
     inside = kept.inside;
@@ -134,7 +133,7 @@ module _ (disk : Disk) (b : Books) (kept : IsKept disk.sectors disk.seen b) (som
     working = kept.working;
   }
 
-  spares_home_books : SparesKept (home_books b) extent
+  spares_home_books : SparesKept (with_header b (home_header b.header) []) extent
   spares_home_books = record {
     frames = spares_then;
     homes = λ i lt. absurd (omega (arith, lt));
@@ -145,34 +144,16 @@ module _ (disk : Disk) (b : Books) (kept : IsKept disk.sectors disk.seen b) (som
   abbrev stored_as : List Frame → ℕ → Stored
   stored_as frames to_move = record (stored_in disk.seen b) { saved = record { geometry = b.plan.geometry; frames = frames; generation = b.header.generation; entries = 0; age = b.header.age }; to_move = to_move }
 
-  home_stored : stored_in disk.seen (home_books b) ≡ finished (stored_in disk.seen b)
+  home_stored : stored_in disk.seen (with_header b (home_header b.header) []) ≡ finished (stored_in disk.seen b)
   home_stored =
       let zero' : 0 - 0 ≡ 0 = omega arith in
       ap (λ (fs : List Frame). stored_as fs (0 - 0)) frames_home ∙ ap (stored_as (frames_read disk.seen b.plan b.header.generation b.directory)) zero'
 
-  module _ (new : Image) (only : SavesOnly b.plan (home_header b.header) disk.seen new) where
-    pub finished_kept : IsKept disk.sectors new (home_books b)
-    finished_kept = kept_saves disk.sectors (home_books b) (home_header b.header) disk.seen new home_kept only spares_home_books
+  pub may_finish : IsSoundOn disk b → MayAdopt disk b (home_header b.header) []
+  may_finish sound =
+      may_adopt_idle disk b (home_header b.header) [] is none (may_save (sound_raw disk b (none_idle b b.unwritten is.unwritten none) sound)) home_kept spares_now spares_home_books
 
-    pub finished_stored : stored_in new (home_books b) ≡ finished (stored_in disk.seen b)
-    finished_stored = stored_saves disk.sectors (home_books b) (home_header b.header) disk.seen new home_kept only spares_home_books ∙ home_stored
-
-    pub finished_state : saved_state new (home_books b) ≡ state_in disk.seen b.plan (home_header b.header) []
-    finished_state = state_saves disk.sectors (home_books b) (home_header b.header) disk.seen new home_kept only spares_home_books
-
-    pub unfinished_kept : IsKept disk.sectors new b
-    unfinished_kept = kept_saves disk.sectors b (home_header b.header) disk.seen new kept only spares_now
-
-    pub unfinished_stored : stored_in new b ≡ stored_in disk.seen b
-    unfinished_stored = stored_saves disk.sectors b (home_header b.header) disk.seen new kept only spares_now
-
-  home_kept_of : kept_of (state_in disk.seen b.plan (home_header b.header) []) ≡ home_saved (stored_in disk.seen b).saved
-  home_kept_of = ap (λ (fs : List Frame). (stored_as fs 0).saved) frames_home
-
-  pub finish_moments : (new : Disk) → LeavesOnly disk new (λ c. Encodes c disk.sectors (saved_state disk.seen b) ⊎ Encodes c disk.sectors (state_in disk.seen b.plan (home_header b.header) []))
-      → LeavesEither disk new (stored_in disk.seen b).saved (home_saved (stored_in disk.seen b).saved)
-  finish_moments new run =
-      leaves_weaker {old = disk} {new = new} {P = λ c. Encodes c disk.sectors (saved_state disk.seen b) ⊎ Encodes c disk.sectors (state_in disk.seen b.plan (home_header b.header) [])}
-      (λ c. Holds disk.sectors c (stored_in disk.seen b).saved ⊎ Holds disk.sectors c (home_saved (stored_in disk.seen b).saved))
-      (λ c. ⊎_elim (λ is. inl (holds disk.sectors c (saved_state disk.seen b) is))
-      (λ is. inr (subst (Holds disk.sectors c) home_kept_of (holds disk.sectors c (state_in disk.seen b.plan (home_header b.header) []) is)))) run
+  pub finished_stored : stored_on disk (adopted (home_header b.header) [] b) ≡ finished (stored_on disk b)
+  finished_stored =
+      ap (stored_on disk) (sym (idle_books disk b (home_header b.header) [] is none))
+      ∙ subst (λ (o : Option Unwritten). stored_in (mended disk.seen o) (with_header b (home_header b.header) []) ≡ finished (stored_in (mended disk.seen o) b)) (sym (none_idle b b.unwritten is.unwritten none)) home_stored

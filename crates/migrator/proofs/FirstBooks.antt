@@ -1,5 +1,5 @@
 -- A device that was read whole holds a store.
-use Rattle.std.proofs.Common.{◌≡◌, ℕ, ◌+◌, None, List, length, take, refl, sym, ap, subst, ◌∙◌, arith}
+use Rattle.std.proofs.Common.{◌≡◌, ℕ, ◌+◌, ◌-◌, None, List, length, take, refl, sym, ap, subst, ◌∙◌, arith}
 use Rattle.std.specs.Prelude.{replicate}
 use Rattle.std.proofs.lemmas.List.{length-replicate}
 use Rattle.model.specs.declared.frame.ObjectHeader.{ObjectHeader}
@@ -18,8 +18,9 @@ use Rattle.migrator.specs.declared.table.Place.TheVariants.{Nowhere, Whole}
 use Rattle.migrator.specs.Table.{place_at, taken_count, has_slot, IsTable}
 use Rattle.migrator.specs.Put.{Absent, ArePut}
 use Rattle.checkpoint.specs.Saved.{Holds}
-use Rattle.migrator.specs.Durable.{Books, books_of, stored_in, saved_state, IsKept, IsSoundOn}
-use Rattle.migrator.specs.Opened.{IsRead}
+use Rattle.migrator.specs.declared.books.Books.{Books}
+use Rattle.migrator.specs.Durable.{IsDurable, stored_in, saved_state, IsKept, IsSoundOn}
+use Rattle.migrator.specs.Opened.{IsRead, OpensDurable}
 use Rattle.checkpoint.specs.Opened.{Looks}
 use Rattle.migrator.proofs.Tables.{blank_at, blank_table, tally-blank}
 use Rattle.migrator.proofs.Freezing.{puts_blank}
@@ -35,7 +36,7 @@ none_put image p generation ps blank = record {
 }
 
 abbrev pub first_books : Plan → CheckpointHeader → List Entry → List Place → List Place → Books
-first_books p h es fs ws = books_of p h es 0 fs None ws None
+first_books p h es fs ws = record { plan = p; header = h; directory = take h.entries es; moved = 0; frozen = fs; size = None; working = ws; unwritten = None }
 
 module _ (old new : Disk) (p : Plan) (h : CheckpointHeader) (es : List Entry) (hs : List ObjectHeader) (fs ws : List Place) (looks : Looks old new) (plan : HasPlan old.seen old.sectors p) (read : IsRead old.seen p h es hs)
     (frozen : fs ≡ replicate (count_of p) Nowhere) (working : ws ≡ replicate (count_of p) Nowhere) where
@@ -48,7 +49,7 @@ module _ (old new : Disk) (p : Plan) (h : CheckpointHeader) (es : List Entry) (h
   read_new : IsRead new.seen p h es hs
   read_new = subst (λ (i : Image). IsRead i p h es hs) same read
 
-  pub first_kept : IsKept new.sectors new.seen (first_books p h es fs ws)
+  first_kept : IsKept new.sectors new.seen (first_books p h es fs ws)
   first_kept = record {
     plan = plan.fits;
     inside = plan_new.whole;
@@ -68,16 +69,35 @@ module _ (old new : Disk) (p : Plan) (h : CheckpointHeader) (es : List Entry) (h
       subst (λ (i : Image). Encodes old.seen old.sectors (state_in i p h (take h.entries es))) same
       (denotes old.seen old.sectors p h (take h.entries es) plan read.header read.directory read.spelt)
 
-  pub first_sound : Only new.seen new → IsSoundOn new (first_books p h es fs ws)
+  first_sound : Only new.seen new → IsSoundOn new (first_books p h es fs ws)
   first_sound only = opened_sound new p h (take h.entries es) only plan_new read_new.header read_new.directory read_new.spelt
 
-  pub first_holds : Holds old.sectors old.seen (stored_in new.seen (first_books p h es fs ws)).saved
+  first_holds : Holds old.sectors old.seen (stored_in new.seen (first_books p h es fs ws)).saved
   first_holds = holds old.sectors old.seen (saved_state new.seen (first_books p h es fs ws)) first_state
 
-  pub first_headers : hs ≡ headers (stored_in new.seen (first_books p h es fs ws)).saved.frames
+  first_headers : hs ≡ headers (stored_in new.seen (first_books p h es fs ws)).saved.frames
   first_headers = read_new.headers_are
 
-  pub first_working : (stored_in new.seen (first_books p h es fs ws)).working ≡ replicate (length (stored_in new.seen (first_books p h es fs ws)).saved.frames) Absent
+  first_working : (stored_in new.seen (first_books p h es fs ws)).working ≡ replicate (length (stored_in new.seen (first_books p h es fs ws)).saved.frames) Absent
   first_working =
       puts_blank new.seen p (h.generation + 1) (length (frames_read new.seen p h.generation (take h.entries es))) ws (λ n. ap (λ (qs : List Place). place_at qs n) working ∙ blank_at (count_of p) n)
       (length_read new.seen p h.generation (take h.entries es))
+
+  pub first_durable : IsDurable new (first_books p h es fs ws)
+  first_durable = record { kept = first_kept; unwritten = tt }
+
+-- so a store is opened
+pub first_opens : {D : Type 0} (disk : D → Disk) (device back : D) (p : Plan) (h : CheckpointHeader) (es : List Entry) (hs : List ObjectHeader) (fs ws : List Place) → Looks (disk device) (disk back) → HasPlan (disk device).seen (disk device).sectors p
+    → IsRead (disk device).seen p h es hs → fs ≡ replicate (count_of p) Nowhere → ws ≡ replicate (count_of p) Nowhere → Only (disk back).seen (disk back) → (disk back).failures ≡ (disk device).failures
+    → OpensDurable disk device (record { beneath = back; books = first_books p h es fs ws }) hs
+first_opens disk device back p h es hs fs ws looks plan read frozen working only failures = record {
+  sound = first_sound (disk device) (disk back) p h es hs fs ws looks plan read frozen working only;
+  holds = first_holds (disk device) (disk back) p h es hs fs ws looks plan read frozen working;
+  headers_are = first_headers (disk device) (disk back) p h es hs fs ws looks plan read frozen working;
+  working = first_working (disk device) (disk back) p h es hs fs ws looks plan read frozen working;
+  frozen = refl;
+  to_move = let all : h.entries - 0 ≡ h.entries = omega arith in all;
+  durable = only;
+  looks = looks;
+  failures = failures;
+}

@@ -11,7 +11,8 @@ use Rattle.migrator.specs.declared.table.Place.{Place}
 use Rattle.migrator.specs.declared.table.Place.TheVariants.{Nowhere, Whole}
 use Rattle.migrator.specs.Table.{place_at}
 use Rattle.migrator.specs.Put.{Put, Absent, held_slot, sum_of, put_of, puts_in, ArePut}
-use Rattle.migrator.specs.Durable.{Books, frozen_generation, working_generation, generation_after, Stored, stored_in, IsRunning, IsKept, freezing}
+use Rattle.migrator.specs.declared.books.Books.{Books}
+use Rattle.migrator.specs.Durable.{frozen_generation, working_generation, generation_after, Stored, stored_in, IsRunning, IsKept, freezing}
 use Rattle.migrator.proofs.Putting.{held_taken}
 
 pub length_puts : (image : Image) (p : Plan) (generation : ℕ) (ps : List Place) → length (puts_in image p generation ps) ≡ count_of p

@@ -18,9 +18,11 @@ use Rattle.migrator.specs.declared.table.Place.TheVariants.{Torn, Whole}
 use Rattle.migrator.specs.Table.{taken_count, slot_for}
 use Rattle.migrator.specs.Put.{Put, Broken, Kept, slot_bytes, slot_frame, puts_in, ArePut}
 use Rattle.checkpoint.specs.Saved.{most}
-use Rattle.migrator.specs.Durable.{Books, frozen_generation, working_generation, generation_after, FrozenPuts, Stored, stored_in, frozen_of, with_put, IsRunning, IsKept, with_frozen, with_frozen}
+use Rattle.migrator.specs.declared.books.Books.{Books}
+use Rattle.migrator.specs.Durable.{frozen_generation, working_generation, generation_after, FrozenPuts, Stored, stored_in, frozen_of, with_put, IsRunning, IsKept, with_frozen, with_frozen}
 use Rattle.migrator.specs.Spared.{Spares}
-use Rattle.migrator.proofs.Kept.{SparesKept, stored_stays, kept_on}
+use Rattle.migrator.specs.Saving.{SparesKept}
+use Rattle.migrator.proofs.Kept.{stored_stays, kept_on}
 use Rattle.migrator.proofs.PlacesApart.{place_inside, spares_other}
 use Rattle.migrator.proofs.GoingOn.{GoesOnSeen, goes_spared}
 use Rattle.migrator.proofs.Spared.{touches}

@@ -16,7 +16,7 @@ use Rattle.layout.specs.Superblock.{Plan, IsPlan}
 use Rattle.layout.proofs.Clusters.{length-zeros}
 use Rattle.frame_io.specs.Calls.{ReadsOnly, WritesAt}
 use Rattle.frame_io.specs.Frames.{IsObject}
-use Rattle.home_ranges.specs.Home.{HaveHome, HoldsHome}
+use Rattle.home_ranges.specs.Home.{HaveHome}
 use Rattle.home_ranges.proofs.Places.{IsOwn, alone, ranked}
 use Rattle.migrator.specs.Gathered.{IsGathered, IsCopied}
 use Rattle.migrator.specs.Spared.{Touches}
@@ -73,10 +73,6 @@ all_in image p generation es number n cluster fits is first have so_far a is_a s
 
 -- ---- a home
 
--- what was gathered lies at home once it is written there
-pub gathered_home : (old new : Image) (p : Plan) (generation : ℕ) (es : List Entry) (number : ℕ) (bytes : List ℕ) → IsGathered old p generation es number bytes → HoldsHome p number bytes new → IsCopied old new p generation es number
-gathered_home old new p generation es number bytes gathered held n is same = held n is same ∙ gathered n is same
-
 -- of a number whose home is its own only that one is copied
 own_copied : (old new : Image) (p : Plan) (generation : ℕ) (es : List Entry) (number slot : ℕ) → IsPlan p → IsObject p.geometry number → IsOwn (shape_of p number) → slot_in es number ≡ Some slot
     → bytes_at new (home_place p number) p number ≡ bytes_at old (slot_sector p generation slot) p number → IsCopied old new p generation es number
@@ -85,14 +81,11 @@ own_copied old new p generation es number slot fits is own has copied n is_n sam
     subst (λ (m : ℕ). bytes_at new (home_place p m) p m ≡ frame_in old p generation es m) one (copied ∙ sym (in_slot old p generation es number slot has))
 
 -- the home is written in two ways, `p` and `q`
-pub copied_own : (old new : Image) (p q : Plan) (generation : ℕ) (es : List Entry) (number slot from to : ℕ) (s : Shape) → q ≡ p → IsPlan q → IsObject p.geometry number → IsOwn s → s ≡ shape_of q number → slot_in es number ≡ Some slot
-    → from ≡ slot_sector p generation slot → to ≡ home_place q number → shaped_at new to s ≡ shaped_at old from s → IsCopied old new p generation es number
-copied_own old new p q generation es number slot from to s same fits is own shape has from_is to_is copied =
-    subst (λ (x : Plan). IsPlan x → s ≡ shape_of x number → to ≡ home_place x number → IsCopied old new p generation es number) (sym same)
-    (λ fits shape to_is.
+pub copied_own : (old new : Image) (p : Plan) (generation : ℕ) (es : List Entry) (number slot from to : ℕ) (s : Shape) → IsPlan p → IsObject p.geometry number → IsOwn s → s ≡ shape_of p number → slot_in es number ≡ Some slot
+    → from ≡ slot_sector p generation slot → to ≡ home_place p number → shaped_at new to s ≡ shaped_at old from s → IsCopied old new p generation es number
+copied_own old new p generation es number slot from to s fits is own shape has from_is to_is copied =
     own_copied old new p generation es number slot fits is (subst IsOwn shape own) has
-    (ap (shaped_at new (home_place p number)) (sym shape) ∙ ap (λ (at : ℕ). shaped_at new at s) (sym to_is) ∙ copied ∙ ap (λ (at : ℕ). shaped_at old at s) from_is ∙ ap (shaped_at old (slot_sector p generation slot)) shape))
-    fits shape to_is
+    (ap (shaped_at new (home_place p number)) (sym shape) ∙ ap (λ (at : ℕ). shaped_at new at s) (sym to_is) ∙ copied ∙ ap (λ (at : ℕ). shaped_at old at s) from_is ∙ ap (shaped_at old (slot_sector p generation slot)) shape)
 
 -- ---- what is so where a call succeeds, and what a write after reads does
 

@@ -4,7 +4,8 @@ use Rattle.device.specs.Disk.{Image, Disk}
 use Rattle.device.proofs.Moments.{leaves_weaker}
 use Rattle.layout.specs.declared.extent.Extent.{Extent}
 use Rattle.layout.specs.Image.{Encodes, SavedState}
-use Rattle.migrator.specs.Durable.{Books, saved_state, seen_by, LeavesState, GoesOnDisk}
+use Rattle.migrator.specs.declared.books.Books.{Books}
+use Rattle.migrator.specs.Durable.{saved_state, seen_by, LeavesState, GoesOnDisk}
 use Rattle.checkpoint.specs.Saved.{kept_of, Holds, LeavesSaved}
 use Rattle.migrator.specs.Spared.{Spares, Touches}
 use Rattle.migrator.proofs.Mended.{mended_disk, leaves_raw}

@@ -1,5 +1,5 @@
 -- One object is saved anew: its frame lies in the half of the log that the saved generation used, and it is the one entry of the generation after the next.
-use Rattle.std.proofs.Common.{◌≡◌, ◌⊎◌, ⊎_elim, ℕ, zero, suc, ◌+◌, ◌*◌, ◌%◌, ◌^◌, ◌<◌, ◌≤◌, Bool, Option, Some, None, List, [], ◌∷◌, length, get_or, set, take, refl, sym, ap, subst, ◌∙◌, inl, inr, arith}
+use Rattle.std.proofs.Common.{◌≡◌, ◌⊎◌, ℕ, zero, suc, ◌+◌, ◌*◌, ◌%◌, ◌^◌, ◌<◌, ◌≤◌, Bool, Option, Some, None, List, [], ◌∷◌, length, get_or, set, refl, sym, ap, subst, ◌∙◌, inl, inr, arith}
 use Rattle.std.specs.Prelude.{◌==◌, if◌then◌else◌, option_map}
 use Rattle.std.proofs.lemmas.Bool.{cases_lt, cases_eq, le-ltb}
 use Rattle.std.proofs.lemmas.List.{get_or_past, get_or_default}
@@ -21,14 +21,13 @@ use Rattle.layout.specs.declared.directory.Entry.{Entry}
 use Rattle.layout.specs.declared.extent.Extent.{Extent}
 use Rattle.layout.specs.declared.half.Half.{Half}
 use Rattle.layout.specs.declared.half.Half.TheVariants.{First, Second}
-use Rattle.layout.specs.declared.header.CheckpointHeader.{CheckpointHeader}
 use Rattle.layout.specs.Directory.{IsDirectory, IsEntry, entry_at}
 use Rattle.layout.specs.Frame.{IsFrameOf, page_frame_bytes, node_frame_bytes}
 use Rattle.layout.specs.FrameReader.{frame_from}
 use Rattle.layout.specs.Half.{half_of}
 use Rattle.layout.specs.Header.{IsHeader}
-use Rattle.layout.specs.Image.{Encodes, frame_in, seat_in, slot_sector, half_sector, sectors_from, shaped_at, bytes_at}
-use Rattle.layout.specs.Spelt.{count_of, frame_read, frames_read, IsSpelt, AreSpelt, state_in}
+use Rattle.layout.specs.Image.{frame_in, seat_in, slot_sector, half_sector, sectors_from, shaped_at, bytes_at}
+use Rattle.layout.specs.Spelt.{count_of, frame_read, frames_read, IsSpelt, AreSpelt}
 use Rattle.layout.specs.Superblock.{Plan, IsPlan, IsInside, half_extent, half_start}
 use Rattle.layout.proofs.SlotsOf.{slot_here, slot_behind}
 use Rattle.layout.proofs.Spelling.{length_read, read_at, spelt_same, spelt_at, bytes_spelt}
@@ -43,22 +42,26 @@ use Rattle.migrator.specs.declared.table.Place.{Place}
 use Rattle.migrator.specs.declared.table.Place.TheVariants.{Nowhere, Torn, Whole}
 use Rattle.migrator.specs.Table.{place_at}
 use Rattle.migrator.specs.Put.{Put, Kept, slot_bytes, put_of, puts_in, ArePut}
-use Rattle.checkpoint.specs.Saved.{most, SavedFrames, kept_of, Holds, LeavesSaved, LeavesEither, replaced_saved, with_words, journaled_saved}
-use Rattle.migrator.specs.Durable.{Books, books_of, DurableState, frozen_generation, working_generation, generation_after, FrozenPuts, Stored, saved_state, frozen_of, stored_in, stored_of, IsRunning, IsKept, LeavesState, replaced, replaced_header, stored_after_journal, first_bytes, first_frame}
+use Rattle.checkpoint.specs.Saved.{most, SavedFrames, Holds, LeavesSaved, LeavesEither, replaced_saved, with_words, journaled_saved}
+use Rattle.migrator.specs.declared.books.Books.{Books}
+use Rattle.migrator.specs.Durable.{IsDurable, IsSoundOn, frozen_generation, working_generation, generation_after, FrozenPuts, Stored, saved_state, frozen_of, stored_in, stored_on, IsRunning, IsKept, LeavesState, replaced, replaced_header, stored_after_journal, first_bytes, first_frame}
 use Rattle.home_ranges.proofs.Seats.{beside_seat}
 use Rattle.home_ranges.proofs.Places.{alone}
 use Rattle.migrator.specs.Headers.{IsHeaderOf}
-use Rattle.migrator.specs.Saving.{MaySave, SavesOnly}
+use Rattle.migrator.specs.Saving.{MayAdopt, MaySave, SparesKept, adopted}
 use Rattle.migrator.specs.Spared.{SparesFrames}
 use Rattle.migrator.proofs.Spared.{touches}
 use Rattle.checkpoint.proofs.Lists.{maps_same}
-use Rattle.migrator.proofs.Kept.{map_set, SparesKept, stored_stays, kept_on}
-use Rattle.migrator.proofs.GoingOn.{GoesOnSeen, holds, goes_spared}
+use Rattle.migrator.proofs.Kept.{map_set, stored_stays, kept_on}
+use Rattle.migrator.proofs.GoingOn.{GoesOnSeen, goes_spared}
 use Rattle.migrator.proofs.Later.{keepable_later}
 use Rattle.migrator.proofs.PlacesApart.{in_slot, at_home, frame_apart, home_apart, spares_log}
 use Rattle.migrator.proofs.Seats.{none_beside, page_own, no_entries, seat_fits}
 use Rattle.migrator.proofs.Putting.{other_parity, half_spares, none_spares, homes_spare}
-use Rattle.migrator.proofs.Committing.{one_more, slots_apart_directory, directory_inside, kept_saves, stored_saves, state_saves}
+use Rattle.migrator.proofs.Committing.{one_more, slots_apart_directory, directory_inside}
+use Rattle.migrator.specs.Mended.{Unwritten, mended}
+use Rattle.migrator.proofs.Adopting.{with_header, idle_books, kept_raw, may_adopt_idle, sound_raw}
+use Rattle.migrator.proofs.Buffered.{none_idle}
 
 -- ---- generations of one half
 
@@ -235,21 +238,6 @@ header_fits room age b is later most some = record {
   entries_fit = omega arith;
 }
 
--- what is kept then
-abbrev books_with : Books → CheckpointHeader → List Entry → Books
-books_with b h es = record { plan = b.plan; header = h; directory = es; moved = 0; frozen = b.frozen; size = b.size; working = b.working; unwritten = b.unwritten }
-
-abbrev pub replaced_books : ℕ → ℕ → Books → Books
-replaced_books age n b = record { plan = b.plan; header = replaced_header age b; directory = one_entry n; moved = 0; frozen = b.frozen; size = b.size; working = b.working; unwritten = b.unwritten }
-
-pub books_again : (age n : ℕ) (b : Books) (h : CheckpointHeader) (es : List Entry) → h ≡ replaced_header age b → take h.entries es ≡ one_entry n → books_of b.plan h es 0 b.frozen b.size b.working b.unwritten ≡ replaced_books age n b
-books_again age n b h es header directory =
-    ap (λ (ds : List Entry). books_with b h ds) directory ∙ ap (λ (x : CheckpointHeader). books_with b x (one_entry n)) header
-
-pub first_set : {X : Type 0} (xs : List X) (x : X) → 0 < length xs → take 1 (set xs 0 x) ≡ x ∷ []
-first_set [] x some = absurd (omega (arith, some))
-first_set (y ∷ ys) x some = refl
-
 after_half : (g : ℕ) (o : Option ℕ) → half_of (generation_after (g + 2) o) ≡ half_of (generation_after g o)
 after_half g None = half_same (g + 2 + 1) (g + 1) (omega arith)
 after_half g (Some k) = half_same (g + 2 + 1 + 1) (g + 1 + 1) (omega arith)
@@ -258,9 +246,12 @@ none_frozen : (f g : ℕ → FrozenPuts) (o : Option ℕ) → o ≡ None → opt
 none_frozen f g None is = refl
 none_frozen f g (Some k) is = absurd cc
 
-module _ (disk : Disk) (b : Books) (kept : IsKept disk.sectors disk.seen b) (free : b.size ≡ None) (home : b.header.entries ≡ 0) (n : ℕ) (lt : n < count_of b.plan) (page : b.plan.geometry.nodes ≤ n)
+module _ (disk : Disk) (b : Books) (is : IsDurable disk b) (free : b.size ≡ None) (home : b.header.entries ≡ 0) (n : ℕ) (lt : n < count_of b.plan) (page : b.plan.geometry.nodes ≤ n)
     (age : ℕ) (later : b.header.age < age) (most_age : age ≤ 2 ^ 62)
     (spelt : IsFrameOf b.plan.geometry age n (first_bytes disk.seen b n) (first_frame disk.seen b n)) where
+  kept : IsKept disk.sectors disk.seen b
+  kept = kept_raw disk b (none_idle b b.unwritten is.unwritten free) is
+
   abbrev again : ℕ
   again = b.header.generation + 2
 
@@ -324,8 +315,8 @@ module _ (disk : Disk) (b : Books) (kept : IsKept disk.sectors disk.seen b) (fre
       frame_apart b.plan again (one_entry n) m extent (λ s is. slots_apart_directory b.plan again s 1 m (seat_fits b.plan (one_entry n) m s directory_next is) some)
       (λ _. home_apart b.plan again m extent kept.plan within inside_half)
 
-  pub may_replace : LeavesState disk (saved_state disk.seen b) → MaySave disk b.plan b.header b.directory (replaced_header age b) (one_entry n)
-  may_replace sound = record {
+  may_save : LeavesState disk (saved_state disk.seen b) → MaySave disk b.plan b.header b.directory (replaced_header age b) (one_entry n)
+  may_save sound = record {
     plan = kept.plan;
     inside = kept.inside;
     header = kept.header;
@@ -339,10 +330,10 @@ module _ (disk : Disk) (b : Books) (kept : IsKept disk.sectors disk.seen b) (fre
     spares_next = spares_then;
   }
 
-  then_half : working_generation (replaced_books age n b) % 2 ≡ again % 2 → ⊥
+  then_half : working_generation (with_header b (replaced_header age b) (one_entry n)) % 2 ≡ again % 2 → ⊥
   then_half is = other_parity again (sym (sym (ap (λ (o : Option ℕ). generation_after again o % 2) free) ∙ is))
 
-  replaced_kept : IsKept disk.sectors disk.seen (replaced_books age n b)
+  replaced_kept : IsKept disk.sectors disk.seen (with_header b (replaced_header age b) (one_entry n))
   replaced_kept = record {
     plan = kept.plan;
     inside = kept.inside;
@@ -353,16 +344,16 @@ module _ (disk : Disk) (b : Books) (kept : IsKept disk.sectors disk.seen b) (fre
     few = omega arith;
     moved = λ i less. absurd (omega (arith, less));
     frozen = are_put_same disk.seen b.plan (frozen_generation b) (again + 1) (half_same (frozen_generation b) (again + 1) (omega arith)) b.frozen kept.frozen;
-    running = subst (IsRunning (replaced_books age n b)) (sym free) (blank disk.sectors disk.seen b kept free home);
-    working = are_put_same disk.seen b.plan (working_generation b) (working_generation (replaced_books age n b)) (sym (after_half b.header.generation b.size)) b.working kept.working;
+    running = subst (IsRunning (with_header b (replaced_header age b) (one_entry n))) (sym free) (blank disk.sectors disk.seen b kept free home);
+    working = are_put_same disk.seen b.plan (working_generation b) (working_generation (with_header b (replaced_header age b) (one_entry n))) (sym (after_half b.header.generation b.size)) b.working kept.working;
   }
 
-  replaced_spares : SparesKept (replaced_books age n b) extent
+  replaced_spares : SparesKept (with_header b (replaced_header age b) (one_entry n)) extent
   replaced_spares = record {
     frames = spares_then;
     homes = λ i less. absurd (omega (arith, less));
     frozen = none_spares b.plan (again + 1) b.frozen extent (blank disk.sectors disk.seen b kept free home);
-    working = half_spares b.plan (working_generation (replaced_books age n b)) again b.working extent kept.plan then_half kept.working.table kept.working.few inside_half;
+    working = half_spares b.plan (working_generation (with_header b (replaced_header age b) (one_entry n))) again b.working extent kept.plan then_half kept.working.table kept.working.few inside_half;
   }
 
   abbrev stored_as : List Put → Option FrozenPuts → List Frame → Stored
@@ -373,44 +364,25 @@ module _ (disk : Disk) (b : Books) (kept : IsKept disk.sectors disk.seen b) (fre
     to_move = 1;
   }
 
-  replaced_stored : stored_in disk.seen (replaced_books age n b) ≡ replaced age n (first_frame disk.seen b n) (stored_in disk.seen b)
+  replaced_stored : stored_in disk.seen (with_header b (replaced_header age b) (one_entry n)) ≡ replaced age n (first_frame disk.seen b n) (stored_in disk.seen b)
   replaced_stored =
-      ap (λ (puts : List Put). stored_as puts (option_map (frozen_of disk.seen (replaced_books age n b)) b.size) (frames_read disk.seen b.plan again (one_entry n)))
-      (puts_same disk.seen b.plan (working_generation (replaced_books age n b)) (working_generation b) (after_half b.header.generation b.size) b.working)
+      ap (λ (puts : List Put). stored_as puts (option_map (frozen_of disk.seen (with_header b (replaced_header age b) (one_entry n))) b.size) (frames_read disk.seen b.plan again (one_entry n)))
+      (puts_same disk.seen b.plan (working_generation (with_header b (replaced_header age b) (one_entry n))) (working_generation b) (after_half b.header.generation b.size) b.working)
       ∙ ap (λ (frozen : Option FrozenPuts). stored_as (puts_in disk.seen b.plan (working_generation b) b.working) frozen (frames_read disk.seen b.plan again (one_entry n)))
-      (none_frozen (frozen_of disk.seen (replaced_books age n b)) (frozen_of disk.seen b) b.size free)
+      (none_frozen (frozen_of disk.seen (with_header b (replaced_header age b) (one_entry n))) (frozen_of disk.seen b) b.size free)
       ∙ ap (λ (fs : List Frame). stored_as (puts_in disk.seen b.plan (working_generation b) b.working) (option_map (frozen_of disk.seen b) b.size) fs) frames_next
 
   -- what was kept lies apart from the directory
   spares_now : SparesKept b extent
   spares_now = spares_half disk.sectors disk.seen b kept free home again extent parity inside_half
 
-  module _ (new : Image) (only : SavesOnly b.plan (replaced_header age b) disk.seen new) where
-    pub done_kept : IsKept disk.sectors new (replaced_books age n b)
-    done_kept = kept_saves disk.sectors (replaced_books age n b) (replaced_header age b) disk.seen new replaced_kept only replaced_spares
+  pub may_replace : IsSoundOn disk b → MayAdopt disk b (replaced_header age b) (one_entry n)
+  may_replace sound = may_adopt_idle disk b (replaced_header age b) (one_entry n) is free (may_save (sound_raw disk b (none_idle b b.unwritten is.unwritten free) sound)) replaced_kept spares_now replaced_spares
 
-    pub done_stored : stored_in new (replaced_books age n b) ≡ replaced age n (first_frame disk.seen b n) (stored_in disk.seen b)
-    done_stored = stored_saves disk.sectors (replaced_books age n b) (replaced_header age b) disk.seen new replaced_kept only replaced_spares ∙ replaced_stored
-
-    pub done_state : saved_state new (replaced_books age n b) ≡ state_in disk.seen b.plan (replaced_header age b) (one_entry n)
-    done_state = state_saves disk.sectors (replaced_books age n b) (replaced_header age b) disk.seen new replaced_kept only replaced_spares
-
-    pub failed_kept : IsKept disk.sectors new b
-    failed_kept = kept_saves disk.sectors b (replaced_header age b) disk.seen new kept only spares_now
-
-    pub failed_stored : stored_in new b ≡ stored_in disk.seen b
-    failed_stored = stored_saves disk.sectors b (replaced_header age b) disk.seen new kept only spares_now
-
-  next_kept : kept_of (state_in disk.seen b.plan (replaced_header age b) (one_entry n)) ≡ replaced_saved age n (first_frame disk.seen b n) (stored_in disk.seen b).saved
-  next_kept = ap (λ (fs : List Frame). (stored_as [] None fs).saved) frames_next
-
-  pub replace_moments : (new : Disk) → LeavesOnly disk new (λ c. Encodes c disk.sectors (saved_state disk.seen b) ⊎ Encodes c disk.sectors (state_in disk.seen b.plan (replaced_header age b) (one_entry n)))
-      → LeavesEither disk new (stored_in disk.seen b).saved (replaced_saved age n (first_frame disk.seen b n) (stored_in disk.seen b).saved)
-  replace_moments new run =
-      leaves_weaker {old = disk} {new = new} {P = λ c. Encodes c disk.sectors (saved_state disk.seen b) ⊎ Encodes c disk.sectors (state_in disk.seen b.plan (replaced_header age b) (one_entry n))}
-      (λ c. Holds disk.sectors c (stored_in disk.seen b).saved ⊎ Holds disk.sectors c (replaced_saved age n (first_frame disk.seen b n) (stored_in disk.seen b).saved))
-      (λ c. ⊎_elim (λ is. inl (holds disk.sectors c (saved_state disk.seen b) is))
-      (λ is. inr (subst (Holds disk.sectors c) next_kept (holds disk.sectors c (state_in disk.seen b.plan (replaced_header age b) (one_entry n)) is)))) run
+  pub replaced_on : stored_on disk (adopted (replaced_header age b) (one_entry n) b) ≡ replaced age n (first_frame disk.seen b n) (stored_on disk b)
+  replaced_on =
+      ap (stored_on disk) (sym (idle_books disk b (replaced_header age b) (one_entry n) is free))
+      ∙ subst (λ (o : Option Unwritten). stored_in (mended disk.seen o) (with_header b (replaced_header age b) (one_entry n)) ≡ replaced age n (first_frame disk.seen b n) (stored_in (mended disk.seen o) b)) (sym (none_idle b b.unwritten is.unwritten free)) replaced_stored
 
 -- ---- the write, and then the commit
 
@@ -424,29 +396,26 @@ both_runs old mid new saved next size first second =
     leaves_on {old = old} {mid = mid} {new = new} {P = λ c. Holds old.sectors c saved ⊎ Holds old.sectors c next} (either_first old mid saved next first)
     (subst (λ (k : ℕ). LeavesOnly mid new (λ c. Holds k c saved ⊎ Holds k c next)) size second)
 
-module _ {D : Type 0} (disk : D → Disk) (old mid : DurableState D) (n age : ℕ) (words : List ℕ) (books : mid.books ≡ old.books) (stored : stored_of disk mid ≡ stored_of disk old)
-    (spelt : IsFrameOf old.books.plan.geometry age n (first_bytes (disk mid.beneath).seen old.books n) (with_words words (frame_at (stored_of disk old).saved.frames n))) where
+module _ (old mid : Disk) (b : Books) (n age : ℕ) (words : List ℕ) (stored : stored_on mid b ≡ stored_on old b)
+    (spelt : IsFrameOf b.plan.geometry age n (first_bytes mid.seen b n) (with_words words (frame_at (stored_on old b).saved.frames n))) where
   abbrev page : Frame
-  page = with_words words (frame_at (stored_of disk old).saved.frames n)
-
-  spelt_mid : IsFrameOf mid.books.plan.geometry age n (first_bytes (disk mid.beneath).seen mid.books n) page
-  spelt_mid = subst (λ (b : Books). IsFrameOf b.plan.geometry age n (first_bytes (disk mid.beneath).seen b n) page) (sym books) spelt
+  page = with_words words (frame_at (stored_on old b).saved.frames n)
 
   -- the slot spells a frame, which is the page
-  pub found : IsFrameOf mid.books.plan.geometry age n (first_bytes (disk mid.beneath).seen mid.books n) (first_frame (disk mid.beneath).seen mid.books n) × (first_frame (disk mid.beneath).seen mid.books n ≡ page)
-  found = bytes_spelt mid.books.plan.geometry age n (first_bytes (disk mid.beneath).seen mid.books n) page spelt_mid.0 spelt_mid.1
+  pub found : IsFrameOf b.plan.geometry age n (first_bytes mid.seen b n) (first_frame mid.seen b n) × (first_frame mid.seen b n ≡ page)
+  found = bytes_spelt b.plan.geometry age n (first_bytes mid.seen b n) page spelt.0 spelt.1
 
-  pub object_is : n < mid.books.plan.geometry.nodes + mid.books.plan.geometry.pages
-  object_is = spelt_mid.0.kind.1
+  pub object_is : n < b.plan.geometry.nodes + b.plan.geometry.pages
+  object_is = spelt.0.kind.1
 
-  pub journaled_is : replaced age n (first_frame (disk mid.beneath).seen mid.books n) (stored_of disk mid) ≡ stored_after_journal age n words (stored_of disk old)
-  journaled_is = ap (λ (f : Frame). replaced age n f (stored_of disk mid)) found.1 ∙ ap (λ (s : Stored). replaced age n page s) stored
+  pub journaled_is : replaced age n (first_frame mid.seen b n) (stored_on mid b) ≡ stored_after_journal age n words (stored_on old b)
+  journaled_is = ap (λ (f : Frame). replaced age n f (stored_on mid b)) found.1 ∙ ap (λ (s : Stored). replaced age n page s) stored
 
   -- the run to its end
-  pub either_run : (new : Disk) → (disk mid.beneath).sectors ≡ (disk old.beneath).sectors → LeavesSaved (disk old.beneath) (disk mid.beneath) (stored_of disk old).saved
-      → LeavesEither (disk mid.beneath) new (stored_of disk mid).saved (replaced_saved age n (first_frame (disk mid.beneath).seen mid.books n) (stored_of disk mid).saved)
-      → LeavesEither (disk old.beneath) new (stored_of disk old).saved (journaled_saved age n words (stored_of disk old).saved)
+  pub either_run : (new : Disk) → mid.sectors ≡ old.sectors → LeavesSaved old mid (stored_on old b).saved
+      → LeavesEither mid new (stored_on mid b).saved (replaced_saved age n (first_frame mid.seen b n) (stored_on mid b).saved)
+      → LeavesEither old new (stored_on old b).saved (journaled_saved age n words (stored_on old b).saved)
   either_run new size first second =
-      both_runs (disk old.beneath) (disk mid.beneath) new (stored_of disk old).saved (journaled_saved age n words (stored_of disk old).saved) size first
-      (subst (λ (s : Stored). LeavesEither (disk mid.beneath) new s.saved (replaced_saved age n page s.saved)) stored
-      (subst (λ (f : Frame). LeavesEither (disk mid.beneath) new (stored_of disk mid).saved (replaced_saved age n f (stored_of disk mid).saved)) found.1 second))
+      both_runs old mid new (stored_on old b).saved (journaled_saved age n words (stored_on old b).saved) size first
+      (subst (λ (s : Stored). LeavesEither mid new s.saved (replaced_saved age n page s.saved)) stored
+      (subst (λ (f : Frame). LeavesEither mid new (stored_on mid b).saved (replaced_saved age n f (stored_on mid b).saved)) found.1 second))

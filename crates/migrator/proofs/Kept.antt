@@ -18,16 +18,17 @@ use Rattle.layout.proofs.Spelling.{spelt_same}
 use Rattle.layout.specs.Homes.{home_place, place_length}
 use Rattle.home_ranges.specs.Laws.{home_extent}
 use Rattle.home_ranges.proofs.Places.{one_length}
-use Rattle.ckpt_log.specs.Places.{place_extent}
 use Rattle.migrator.specs.declared.table.Place.{Place}
 use Rattle.migrator.specs.declared.table.Place.TheVariants.{Nowhere, Torn, Whole}
 use Rattle.migrator.specs.Table.{place_at}
 use Rattle.migrator.specs.Put.{Put, Kept, slot_bytes, put_of, puts_in, ArePut}
 use Rattle.checkpoint.proofs.Lists.{maps_same}
 use Rattle.checkpoint.specs.Saved.{most, SavedFrames, kept_of}
-use Rattle.migrator.specs.Durable.{Books, frozen_generation, working_generation, FrozenPuts, Stored, saved_state, frozen_of, stored_in, IsHome, IsKept}
+use Rattle.migrator.specs.declared.books.Books.{Books}
+use Rattle.migrator.specs.Durable.{frozen_generation, working_generation, FrozenPuts, Stored, saved_state, frozen_of, stored_in, IsHome, IsKept}
 use Rattle.migrator.specs.Spared.{SparesFrames}
 use Rattle.migrator.proofs.Spared.{frame_stays, state_stays, bytes_stay}
+use Rattle.migrator.specs.Saving.{SparesKept, SparesPuts}
 
 -- ---- lists by number
 
@@ -45,10 +46,6 @@ map_set f g n k x within here others =
     ])
 
 -- ---- what was put
-
--- the frames that were put lie in other sectors
-abbrev pub SparesPuts : Plan → ℕ → List Place → Extent → Type 0
-SparesPuts p generation ps e = (n s : ℕ) → n < count_of p → place_at ps n ≡ Whole s → IsApart (place_extent p generation s n) e
 
 put_same : (new old : Image) (p : Plan) (generation n : ℕ) (place : Place) → ((s : ℕ) → place ≡ Whole s → slot_bytes new p generation s n ≡ slot_bytes old p generation s n) → put_of new p generation n place ≡ put_of old p generation n place
 put_same new old p generation n Nowhere same = refl
@@ -83,13 +80,6 @@ module _ (p : Plan) (generation : ℕ) (ps : List Place) (e : Extent) (old new :
   are_put_on are = are_put_same p generation ps old new slot_stays are
 
 -- ---- all of it
-
--- what is kept of a store lies in other sectors
-pub record SparesKept (b : Books) (e : Extent) : Type 0 where
-  pub frames : SparesFrames b.plan b.header.generation b.directory e
-  pub homes : (i : ℕ) → i < b.moved → IsApart (home_extent b.plan (entry_at b.directory i).object) e
-  pub frozen : SparesPuts b.plan (frozen_generation b) b.frozen e
-  pub working : SparesPuts b.plan (working_generation b) b.working e
 
 abbrev stored_of : List Put → Option FrozenPuts → SavedFrames → ℕ → Stored
 stored_of working frozen saved to_move = record { working = working; frozen = frozen; saved = saved; to_move = to_move }

@@ -13,17 +13,22 @@ mod Working
 mod FrozenFrames
 mod Freezing
 mod Tearing
+mod PutFrames
 pub mod Saving
 mod Committing
 pub mod Moving
+mod Adopting
 mod Finishing
 mod Later
 mod Journaling
+mod Pages
 mod Moves
+mod HomeMoves
 mod Opening
 mod Reading
 mod FirstBooks
 mod Fetching
 mod Buffered
 mod Completed
+mod Commits
 mod Headers

@@ -1,10 +1,10 @@
 -- What a device gives, but for a slot that it failed to write.
-use Rattle.std.proofs.Common.{◌≡◌, ℕ, ◌+◌, ◌-◌, ◌<◌, ◌≤◌, Bool, true, false, Option, Some, None, List, length, sym, ap, subst, ◌∙◌, inl, inr, arith, nat_le, nat_lt}
+use Rattle.std.proofs.Common.{◌≡◌, ℕ, ◌+◌, ◌-◌, ◌<◌, ◌≤◌, Bool, true, false, Option, Some, None, List, sym, ap, subst, ◌∙◌, arith, nat_le, nat_lt}
 use Rattle.std.specs.Prelude.{◌&&◌, if◌then◌else◌}
-use Rattle.std.proofs.lemmas.Bool.{cases_lt, and_from, and_left, and_right}
+use Rattle.std.proofs.lemmas.Bool.{and_from, and_left, and_right}
 use Rattle.std.proofs.lemmas.Bool.Decides.{nat_tests}
 use Rattle.device.specs.Disk.{Image, Disk}
-use Rattle.device.specs.Calls.{Elsewhere, IsTorn, AreSectors, image_of, sectors_of}
+use Rattle.device.specs.Calls.{Elsewhere, IsTorn, image_of}
 use Rattle.device.specs.Moments.{Elapses, LeavesOnly}
 use Rattle.device.proofs.Images.{agrees_is, elsewhere_on}
 use Rattle.device.proofs.Moments.{leaves_weaker, leaves_on}
@@ -58,33 +58,7 @@ mended_behind image u i le = mended_by image u i false (and_right (nat_le u.sect
 pub mended_elsewhere : (image : Image) (u : Unwritten) → Elsewhere u.sector 8 image (mended image (Some u))
 mended_elsewhere image u = record { before = λ i lt. mended_before image u i lt; after = λ i le. mended_behind image u i le }
 
-pub elsewhere_turned : (at n : ℕ) (old new : Image) → Elsewhere at n old new → Elsewhere at n new old
-elsewhere_turned at n old new change = record { before = λ i lt. sym (change.before i lt); after = λ i le. sym (change.after i le) }
-
 -- ---- the slot is written
-
--- where the device failed again nothing is changed
-pub mended_same : (old new : Image) (u : Unwritten) → Elsewhere u.sector 8 old new → mended new (Some u) ≡ mended old (Some u)
-mended_same old new u change = agrees_is (mended new (Some u)) (mended old (Some u)) (λ i. elim (cases_lt i u.sector) [
-  | inl lt ↦ mended_before new u i lt ∙ change.before i lt ∙ sym (mended_before old u i lt)
-  | inr low ↦ elim (cases_lt i (u.sector + 8)) [
-    | inl high ↦ mended_here new u i low high ∙ sym (mended_here old u i low high)
-    | inr le ↦ mended_behind new u i le ∙ change.after i le ∙ sym (mended_behind old u i le)
-  ]
-])
-
--- and where it didn't, the device gives what the buffer had
-pub mended_written : (old new : Image) (u : Unwritten) → length u.bytes ≡ 4096 → AreSectors new u.sector u.bytes → Elsewhere u.sector 8 old new → new ≡ mended old (Some u)
-mended_written old new u size written change = agrees_is new (mended old (Some u)) (λ i. elim (cases_lt i u.sector) [
-  | inl lt ↦ change.before i lt ∙ sym (mended_before old u i lt)
-  | inr low ↦ elim (cases_lt i (u.sector + 8)) [
-    | inl high ↦
-        let there : u.sector + (i - u.sector) ≡ i = omega (arith, low) in
-        let few : i - u.sector < sectors_of u.bytes = omega (arith, low, high, size) in
-        ap new (sym there) ∙ sym (written (i - u.sector) few) ∙ sym (mended_here old u i low high)
-    | inr le ↦ change.after i le ∙ sym (mended_behind old u i le)
-  ]
-])
 
 -- ---- what the buffer spells
 

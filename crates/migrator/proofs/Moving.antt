@@ -1,11 +1,9 @@
 -- A saved frame goes home.
-use Rattle.std.proofs.Common.{◌≡◌, ℕ, ◌+◌, ◌-◌, ◌<◌, ◌≤◌, Option, Some, None, List, length, take, get_or, refl, sym, ap, subst, ◌∙◌, inl, inr, arith}
+use Rattle.std.proofs.Common.{◌≡◌, ℕ, ◌+◌, ◌-◌, ◌<◌, ◌≤◌, Option, Some, None, List, length, refl, sym, ap, subst, ◌∙◌, inl, inr, arith}
 use Rattle.std.proofs.lemmas.Bool.{cases_lt}
-use Rattle.std.proofs.lemmas.List.{get_or_default, get_or-take}
 use Rattle.device.specs.Disk.{Image, Disk}
 use Rattle.device.specs.Moments.{LeavesOnly}
 use Rattle.device.proofs.Moments.{leaves_on, started}
-use Rattle.layout.specs.declared.directory.Entry.{Entry}
 use Rattle.layout.specs.Directory.{entry_at}
 use Rattle.layout.specs.Image.{slot_in}
 use Rattle.layout.specs.Spelt.{count_of}
@@ -21,10 +19,12 @@ use Rattle.migrator.specs.declared.table.Place.TheVariants.{Nowhere}
 use Rattle.migrator.specs.Table.{place_at, slot_of, IsTable, taken_count}
 use Rattle.migrator.specs.Gathered.{IsCopied, IsFirst}
 use Rattle.checkpoint.specs.Saved.{SavedFrames, Holds}
-use Rattle.migrator.specs.Durable.{Books, frozen_generation, working_generation, seen_by, Stored, GoesOnDisk, saved_state, stored_in, IsHome, IsRunning, IsKept}
+use Rattle.migrator.specs.declared.books.Books.{Books}
+use Rattle.migrator.specs.Durable.{frozen_generation, working_generation, seen_by, Stored, GoesOnDisk, saved_state, stored_in, IsHome, IsRunning, IsKept}
 use Rattle.migrator.specs.Spared.{Spares, Touches}
 use Rattle.migrator.proofs.Spared.{frame_stays}
-use Rattle.migrator.proofs.Kept.{SparesPuts, SparesKept, stored_stays, kept_on}
+use Rattle.migrator.specs.Saving.{SparesPuts, SparesKept}
+use Rattle.migrator.proofs.Kept.{stored_stays, kept_on}
 use Rattle.migrator.proofs.GoingOn.{GoesOnSeen, holds, goes_spared}
 use Rattle.migrator.proofs.PlacesApart.{place_inside, home_apart, spares_home}
 use Rattle.migrator.proofs.Putting.{none_spares}
@@ -177,8 +177,3 @@ goes_none disk b only_now = record {
   sound = λ sound. sound;
   any_moment = λ sound. started disk (λ c. Holds disk.sectors c (stored_in (seen_by disk.seen b) b).saved) only_now (λ c left. holds disk.sectors c (saved_state (seen_by disk.seen b) b) (sound c left));
 }
-
--- an entry of the directory as it is read
-pub entry_is : (es : List Entry) (n i : ℕ) (e : Entry) → i < n → i < length es → e ≡ get_or es i e → e ≡ entry_at (take n es) i
-entry_is es n i e lt within is =
-    is ∙ get_or_default es i e (record { object = 0; slot = 0 }) within ∙ sym (get_or-take n es i (record { object = 0; slot = 0 }) lt)

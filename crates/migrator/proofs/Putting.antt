@@ -22,10 +22,12 @@ use Rattle.migrator.specs.declared.table.Place.TheVariants.{Nowhere, Torn, Whole
 use Rattle.migrator.specs.Table.{place_at, slot_of, has_slot, has_frame, tally, taken_count, whole_count, slot_or, slot_for, IsTable}
 use Rattle.migrator.specs.Put.{Put, Absent, Kept, put_at, kept_frame, held_slot, sum_of, kept_count, HasRoom, slot_bytes, slot_frame, put_of, puts_in, ArePut}
 use Rattle.checkpoint.specs.Saved.{most}
-use Rattle.migrator.specs.Durable.{Books, frozen_generation, generation_after, IsRunning, IsKept}
+use Rattle.migrator.specs.declared.books.Books.{Books}
+use Rattle.migrator.specs.Durable.{frozen_generation, generation_after, IsRunning, IsKept}
 use Rattle.migrator.proofs.Tables.{tally-set, table_set, set_here, set_there}
 use Rattle.migrator.specs.Spared.{Spares}
-use Rattle.migrator.proofs.Kept.{map_set, SparesPuts}
+use Rattle.migrator.specs.Saving.{SparesPuts}
+use Rattle.migrator.proofs.Kept.{map_set}
 use Rattle.migrator.proofs.PlacesApart.{other_half, home_apart, spares_other, spares_log}
 
 -- ---- counts of what was put

@@ -1,10 +1,10 @@
 -- What is known of a table of places.
 use native.Mathlib.Numerals.{unary_clauses}
-use Rattle.std.proofs.Common.{◌≡◌, ℕ, zero, suc, ◌+◌, ◌-◌, ◌<◌, ◌≤◌, Bool, true, false, Option, Some, None, List, [], ◌∷◌, ◌++◌, length, map, set, take, drop, refl, sym, ap, subst, ◌∙◌, inl, inr, arith, length-append, length-take-le}
+use Rattle.std.proofs.Common.{◌≡◌, ℕ, zero, suc, ◌+◌, ◌-◌, ◌<◌, ◌≤◌, Bool, true, false, Option, Some, None, List, [], ◌∷◌, ◌++◌, length, map, set, take, drop, refl, sym, ap, subst, ◌∙◌, inl, inr, arith, length-append}
 use Rattle.std.specs.Prelude.{replicate}
 use Rattle.std.proofs.lemmas.Bool.{cases_eq}
 use Rattle.std.proofs.Math.ListN.{get_or-map}
-use Rattle.std.proofs.lemmas.List.{get_or-set_same, get_or-set_other, get_or_default, take_all, drop_all, append-nil, nil_from_length, length-map, map-set}
+use Rattle.std.proofs.lemmas.List.{get_or-set_same, get_or-set_other, get_or_default, take_all, drop_all, append-nil, append_assoc, nil_from_length, length-map, map-set}
 use Rattle.number_set.specs.Marks.{is_marked, IsNextMarked, HasNoneMarked}
 use Rattle.model.specs.declared.geometry.Geometry.{Geometry}
 use Rattle.layout.specs.declared.directory.Entry.{Entry}
@@ -204,15 +204,20 @@ none_held ps from none =
     entries_unheld ps from (length ps) (λ m past within. none m past)
     ∙ ap (entries_from (from + length ps)) (drop_all (from + length ps) ps (omega arith))
 
--- as many entries are left as were not yet written
-pub entries_left : (ps : List Place) (into rest : List Entry) (count : ℕ) → count ≤ length into → entries_of ps ≡ take count into ++ rest → count + length rest ≡ taken_count ps
-entries_left ps into rest count within are = let all = ap length are in omega (arith, all, length_entries ps, length-append (take count into) rest, length-take-le count into within)
+-- one more entry is listed
+pub entries_more : (ps : List Place) (xs : List Entry) (e : Entry) (from : ℕ) → entries_of ps ≡ xs ++ entries_from from (drop from ps) → entries_from from (drop from ps) ≡ e ∷ entries_from (e.object + 1) (drop (e.object + 1) ps)
+    → entries_of ps ≡ (xs ++ e ∷ []) ++ entries_from (e.object + 1) (drop (e.object + 1) ps)
+entries_more ps xs e from are next = are ∙ ap (λ (es : List Entry). xs ++ es) next ∙ sym (append_assoc xs (e ∷ []) (entries_from (e.object + 1) (drop (e.object + 1) ps)))
 
--- so all are written in the end
-pub entries_done : (ps : List Place) (into rest : List Entry) (count taken : ℕ) → count ≤ length into → entries_of ps ≡ take count into ++ rest → taken ≡ taken_count ps → count ≡ taken → take taken into ≡ entries_of ps
-entries_done ps into rest count taken within are total done =
-    let none : rest ≡ [] = nil_from_length rest (omega (arith, entries_left ps into rest count within are)) in
-    ap (λ (n : ℕ). take n into) (sym done) ∙ sym (append-nil (take count into)) ∙ ap (λ (es : List Entry). take count into ++ es) (sym none) ∙ sym are
+-- as many entries are left as were not yet listed
+pub entries_left : (ps : List Place) (xs rest : List Entry) → entries_of ps ≡ xs ++ rest → length xs + length rest ≡ taken_count ps
+entries_left ps xs rest are = let all = ap length are in omega (arith, all, length_entries ps, length-append xs rest)
+
+-- so all are listed in the end
+pub entries_done : (ps : List Place) (xs rest : List Entry) → entries_of ps ≡ xs ++ rest → length xs ≡ taken_count ps → xs ≡ entries_of ps
+entries_done ps xs rest are done =
+    let none : rest ≡ [] = nil_from_length rest (omega (arith, entries_left ps xs rest are, done)) in
+    sym (append-nil xs) ∙ ap (λ (es : List Entry). xs ++ es) (sym none) ∙ sym are
 
 -- ---- all slots are taken away
 

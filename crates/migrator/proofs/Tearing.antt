@@ -5,17 +5,18 @@ use Rattle.std.proofs.lemmas.Option.{same_Some}
 use Rattle.device.specs.Disk.{Disk}
 use Rattle.layout.specs.Spelt.{count_of}
 use Rattle.migrator.specs.Put.{Absent, Broken, put_at, puts_in, HasRoom}
-use Rattle.migrator.specs.Durable.{DurableState, FrozenPuts, Stored, frozen_generation, frozen_of, seen_of, stored_of, with_frozen, with_put}
+use Rattle.migrator.specs.declared.books.Books.{Books}
+use Rattle.migrator.specs.Durable.{FrozenPuts, Stored, frozen_generation, frozen_of, seen_by, stored_on, with_frozen, with_put}
 use Rattle.migrator.proofs.Freezing.{length_puts}
 
-pub torn_room : {D : Type 0} (disk : D → Disk) (old mid : DurableState D) (size n : ℕ) → old.books.size ≡ Some size → mid.books.size ≡ Some size → stored_of disk mid ≡ with_frozen n Broken (stored_of disk old) → n < count_of old.books.plan
-    → HasRoom size (puts_in (seen_of disk mid) mid.books.plan (frozen_generation mid.books) mid.books.frozen) n
-torn_room disk old mid size n running still torn known =
-    let puts = puts_in (seen_of disk old) old.books.plan (frozen_generation old.books) old.books.frozen in
-    let within : n < length puts = omega (arith, known, length_puts (seen_of disk old) old.books.plan (frozen_generation old.books) old.books.frozen) in
-    let is = same_Some (frozen_of (seen_of disk mid) mid.books size) (with_put n Broken (frozen_of (seen_of disk old) old.books size))
-    (sym (ap (option_map (frozen_of (seen_of disk mid) mid.books)) still) ∙ ap (λ (s : Stored). s.frozen) torn
-    ∙ ap (λ (o : Option ℕ). option_map (with_put n Broken) (option_map (frozen_of (seen_of disk old) old.books) o)) running) in
+pub torn_room : (old mid : Disk) (b c : Books) (size n : ℕ) → b.size ≡ Some size → c.size ≡ Some size → stored_on mid c ≡ with_frozen n Broken (stored_on old b) → n < count_of b.plan
+    → HasRoom size (puts_in (seen_by mid.seen c) c.plan (frozen_generation c) c.frozen) n
+torn_room old mid b c size n running still torn known =
+    let puts = puts_in (seen_by old.seen b) b.plan (frozen_generation b) b.frozen in
+    let within : n < length puts = omega (arith, known, length_puts (seen_by old.seen b) b.plan (frozen_generation b) b.frozen) in
+    let is = same_Some (frozen_of (seen_by mid.seen c) c size) (with_put n Broken (frozen_of (seen_by old.seen b) b size))
+    (sym (ap (option_map (frozen_of (seen_by mid.seen c) c)) still) ∙ ap (λ (s : Stored). s.frozen) torn
+    ∙ ap (λ (o : Option ℕ). option_map (with_put n Broken) (option_map (frozen_of (seen_by old.seen b) b) o)) running) in
     inl (λ none.
     let never : Broken ≡ Absent = sym (get_or-set_same puts n Broken Absent within) ∙ sym (ap (λ (f : FrozenPuts). put_at f.put n) is) ∙ none in
     absurd cc)

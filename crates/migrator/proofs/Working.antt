@@ -18,9 +18,11 @@ use Rattle.migrator.specs.declared.table.Place.TheVariants.{Torn, Whole}
 use Rattle.migrator.specs.Table.{slot_for}
 use Rattle.migrator.specs.Put.{Put, Broken, Kept, slot_bytes, slot_frame, puts_in, ArePut}
 use Rattle.checkpoint.specs.Saved.{most}
-use Rattle.migrator.specs.Durable.{Books, working_generation, Stored, stored_in, IsRunning, IsKept, with_working}
+use Rattle.migrator.specs.declared.books.Books.{Books}
+use Rattle.migrator.specs.Durable.{working_generation, Stored, stored_in, IsRunning, IsKept, with_working}
 use Rattle.migrator.specs.Spared.{Spares}
-use Rattle.migrator.proofs.Kept.{SparesKept, stored_stays, kept_on}
+use Rattle.migrator.specs.Saving.{SparesKept}
+use Rattle.migrator.proofs.Kept.{stored_stays, kept_on}
 use Rattle.migrator.proofs.PlacesApart.{place_inside}
 use Rattle.migrator.proofs.GoingOn.{GoesOnSeen, goes_spared}
 use Rattle.migrator.proofs.Spared.{touches}

@@ -1,5 +1,5 @@
 -- A durable store: what it keeps in memory, and what that and the device make.
-use Rattle.std.specs.Prelude.{⊤, ◌≡◌, ◌⊎◌, ◌==◌, if◌then◌else◌, ℕ, ◌+◌, ◌-◌, ◌^◌, ◌<◌, ◌≤◌, Option, Some, None, List, length, option_map, slice_set, take, replicate}
+use Rattle.std.specs.Prelude.{⊤, ◌≡◌, ◌⊎◌, ◌==◌, if◌then◌else◌, ℕ, ◌+◌, ◌-◌, ◌^◌, ◌<◌, ◌≤◌, Option, Some, None, List, length, option_map, slice_set, replicate}
 use Rattle.model.specs.declared.frame.Frame.{Frame}
 use Rattle.model.specs.declared.object.Role.TheVariants as role
 use Rattle.model.specs.Frame.{frame_at}
@@ -18,37 +18,11 @@ use Rattle.layout.specs.Spelt.{AreSpelt, state_in}
 use Rattle.layout.specs.Superblock.{Plan, IsPlan}
 use Rattle.migrator.specs.Gathered.{IsCopied}
 use Rattle.migrator.specs.Mended.{Unwritten, mended}
-use Rattle.migrator.specs.declared.table.Place.{Place}
+use Rattle.migrator.specs.declared.books.Books.{Books}
 use Rattle.migrator.specs.declared.table.Place.TheVariants.{Nowhere}
 use Rattle.migrator.specs.Table.{place_at, slot_of, taken_count}
 use Rattle.migrator.specs.Put.{Put, Absent, put_at, put_or, kept_count, overlaid, slot_bytes, slot_frame, puts_in, ArePut}
 use Rattle.checkpoint.specs.Saved.{SavedFrames, kept_of, home_saved, LeavesSaved, replaced_saved, with_words}
-
--- what is kept in memory: the committed header with its directory, of whose entries the first moved are home;
--- where the frames of the checkpoint on its way were put, and how many objects it writes; where those put since; and a
--- cluster that the device failed to write
-pub record Books : Type 0 where
-  pub plan : Plan
-  pub header : CheckpointHeader
-  pub directory : List Entry
-  pub moved : ℕ
-  pub frozen : List Place
-  pub size : Option ℕ
-  pub working : List Place
-  pub unwritten : Option Unwritten
-
--- the first of a list of entries are the directory
-abbrev pub books_of : Plan → CheckpointHeader → List Entry → ℕ → List Place → Option ℕ → List Place → Option Unwritten → Books
-books_of p h es moved frozen size working unwritten = record {
-  plan = p;
-  header = h;
-  directory = take h.entries es;
-  moved = moved;
-  frozen = frozen;
-  size = size;
-  working = working;
-  unwritten = unwritten;
-}
 
 -- what a read gives, of the device and of that cluster
 abbrev pub seen_by : Image → Books → Image
@@ -154,6 +128,15 @@ abbrev pub MayHaveUnwritten : Books → Option Unwritten → Type 0
 MayHaveUnwritten b None = ⊤
 MayHaveUnwritten b (Some u) = HasUnwritten b u
 
+-- what a device and the books over it hold
+abbrev pub stored_on : Disk → Books → Stored
+stored_on disk b = stored_in (seen_by disk.seen b) b
+
+-- what always holds of a device and the books over it
+pub record IsDurable (disk : Disk) (b : Books) : Type 0 where
+  pub kept : IsKept disk.sectors (seen_by disk.seen b) b
+  pub unwritten : MayHaveUnwritten b b.unwritten
+
 -- each crash now leaves what is saved
 abbrev pub LeavesState : Disk → SavedState → Type 0
 LeavesState disk s = (c : Image) → disk.may_leave c → Encodes c disk.sectors s
@@ -220,11 +203,11 @@ pub record GoesOnDisk (old new : Disk) (b c : Books) : Type 0 where
 abbrev pub GoesOn : {D : Type 0} → (D → Disk) → DurableState D → DurableState D → Type 0
 GoesOn disk old new = GoesOnDisk (disk old.beneath) (disk new.beneath) old.books new.books
 
--- so many more of the saved objects are home, and nothing else is changed that is looked at
-pub record MovedBy {D : Type 0} (disk : D → Disk) (old new : DurableState D) (count : ℕ) : Type 0 where
-  pub books : new.books ≡ record old.books { moved = old.books.moved + count }
-  pub stored : stored_of disk new ≡ record (stored_of disk old) { to_move = old.books.header.entries - (old.books.moved + count) }
-  pub goes_on : GoesOn disk old new
+-- count more of the saved objects are home, and nothing else changes
+pub record MovedBy (old new : Disk) (b c : Books) (count : ℕ) : Type 0 where
+  pub books : c ≡ record b { moved = b.moved + count }
+  pub stored : stored_on new c ≡ record (stored_on old b) { to_move = b.header.entries - (b.moved + count) }
+  pub goes_on : GoesOnDisk old new b c
 
 -- the lesser of two numbers
 abbrev pub IsLesser : ℕ → ℕ → ℕ → Type 0

@@ -19,9 +19,9 @@ use crate::turn::is_first;
 use ckpt_log::Log;
 use device::{Device, Failed};
 use frame_io::read_packed;
-use home_ranges::Home;
 use layout::{
-    Body, CLUSTER_BYTES, Entry, NODE_FRAME_BYTES, Room, Shape, decode_frame, pack_node, unpack_node,
+    Body, CLUSTER_BYTES, Entry, NODE_FRAME_BYTES, Room, Shape, Superblock, decode_frame, pack_node,
+    unpack_node,
 };
 use model::{Geometry, ObjectHeader};
 use std::alloc::{AllocError, Global};
@@ -51,22 +51,20 @@ impl Model for ClusterBuffer {
 // the frames of the other nodes from home, and zeros where there is no node.
 fn fill<D: Device>(
     device: &mut D,
-    log: &Log,
-    home: &Home,
+    plan: &Superblock,
     generation: u64,
     entry: Entry,
     rank: u64,
     cluster: &mut [u8],
 ) -> Result<(), Failed>
-    requires plan { IsPlan log.now }
-    requires same { home.now ≡ log.now }
-    requires object { IsObject log.now.geometry entry.object }
-    requires slot { entry.slot < log.now.geometry.log }
-    requires shape { shape_of log.now entry.object ≡ shape.Packed rank }
+    requires plan { IsPlan plan.now }
+    requires object { IsObject plan.now.geometry entry.object }
+    requires slot { entry.slot < plan.now.geometry.log }
+    requires shape { shape_of plan.now entry.object ≡ shape.Packed rank }
     requires rank { rank < 5 }
     requires cluster { length cluster.old ≡ 4096 }
-    requires inside { log.now.total ≤ (D.disk device.old).sectors }
-    ensures filled { OnOk result (IsFilled (D.disk device.old).seen log.now generation entry cluster.new) }
+    requires inside { plan.now.total ≤ (D.disk device.old).sectors }
+    ensures filled { OnOk result (IsFilled (D.disk device.old).seen plan.now generation entry cluster.new) }
     ensures size { length cluster.new ≡ 4096 }
     ensures reads { ReadsOnly (D.disk device.old) (D.disk device.new) }
     ensures cause { Counts (D.disk device.old) (D.disk device.new) result }
@@ -74,13 +72,13 @@ fn fill<D: Device>(
     let mut whole = [0; CLUSTER_BYTES];
     gather(
         device,
-        log,
-        home,
+        plan,
         generation,
         &[],
         entry.object - rank,
         &mut whole,
     )?;
+    let log = Log::new(plan);
     let mut node = [0; NODE_FRAME_BYTES];
     read_packed(
         device,
@@ -165,32 +163,31 @@ impl ClusterBuffer {
     fn complete_one<D: Device>(
         &mut self,
         device: &mut D,
-        log: &Log,
-        home: &Home,
+        plan: &Superblock,
         generation: u64,
         entries: &[Entry],
         index: usize,
     ) -> Result<(), Failed>
         requires none { self.old ≡ None }
-        requires same { home.now ≡ log.now }
-        requires directory { IsDirectory log.now.geometry entries.now }
+        requires directory { IsDirectory plan.now.geometry entries.now }
         requires within { index < length entries.now }
-        requires inside { log.now.total ≤ (D.disk device.old).sectors }
+        requires inside { plan.now.total ≤ (D.disk device.old).sectors }
         ensures none { OnOk result (self.new ≡ None) }
-        ensures complete { OnOk result (IsComplete (D.disk device.new).seen log.now generation
+        ensures complete { OnOk result (IsComplete (D.disk device.new).seen plan.now generation
             entries.now index) }
-        ensures keeps { KeepsOne log.now generation entries.now index (D.disk device.old)
+        ensures keeps { KeepsOne plan.now generation entries.now index (D.disk device.old)
             (D.disk device.new) self.new }
         ensures cause { Counts (D.disk device.old) (D.disk device.new) result }
     {
         let entry = entries[index];
-        let Shape::Packed(rank) = home.shape(entry.object) else {
+        let Shape::Packed(rank) = plan.shape(entry.object) else {
             return Ok(());
         };
-        if !is_first(home, entries, index) {
+        if !is_first(plan, entries, index) {
             return Ok(());
         }
-        fill(device, log, home, generation, entry, rank, &mut self.bytes)?;
+        fill(device, plan, generation, entry, rank, &mut self.bytes)?;
+        let log = Log::new(plan);
         self.sector = Some(log.slot_sector(generation, entry.slot));
         self.write(device)
     }
@@ -204,26 +201,24 @@ impl ClusterBuffer {
     pub(crate) fn complete<D: Device>(
         &mut self,
         device: &mut D,
-        log: &Log,
-        home: &Home,
+        plan: &Superblock,
         generation: u64,
         entries: &[Entry],
     ) -> Result<(), Failed>
-        requires plan { IsPlan log.now }
-        requires unwritten { IfUnwritten log.now generation entries.now self.old }
-        requires same { home.now ≡ log.now }
-        requires directory { IsDirectory log.now.geometry entries.now }
-        requires inside { log.now.total ≤ (D.disk device.old).sectors }
+        requires plan { IsPlan plan.now }
+        requires unwritten { IfUnwritten plan.now generation entries.now self.old }
+        requires directory { IsDirectory plan.now.geometry entries.now }
+        requires inside { plan.now.total ≤ (D.disk device.old).sectors }
         ensures none { OnOk result (self.new ≡ None) }
-        ensures complete { OnOk result (AreComplete (D.disk device.new).seen log.now generation
+        ensures complete { OnOk result (AreComplete (D.disk device.new).seen plan.now generation
             entries.now) }
-        ensures keeps { Keeps log.now generation entries.now (D.disk device.old) self.old
+        ensures keeps { Keeps plan.now generation entries.now (D.disk device.old) self.old
             (D.disk device.new) self.new }
         ensures cause { Counts (D.disk device.old) (D.disk device.new) result }
     {
         self.write(device)?;
         for index in 0..entries.len() {
-            self.complete_one(device, log, home, generation, entries, index)?;
+            self.complete_one(device, plan, generation, entries, index)?;
         }
         Ok(())
     }

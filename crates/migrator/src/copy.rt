@@ -14,7 +14,7 @@ use ckpt_log::Log;
 use device::{Device, Failed};
 use frame_io::{read_sectors, write_sectors};
 use home_ranges::Home;
-use layout::{CLUSTER_BYTES, Entry, NODE_FRAME_BYTES, PAGE_FRAME_BYTES, Shape};
+use layout::{CLUSTER_BYTES, Entry, NODE_FRAME_BYTES, PAGE_FRAME_BYTES, Shape, Superblock};
 
 // Copies 2 sectors.
 fn copy_node<D: Device>(device: &mut D, from: u64, to: u64) -> Result<(), Failed>
@@ -47,33 +47,24 @@ fn copy_page<D: Device>(device: &mut D, from: u64, to: u64) -> Result<(), Failed
 // Writes the home of a cluster, of which this is the first node: the saved frames of all that have it.
 fn copy_cluster<D: Device>(
     device: &mut D,
-    log: &Log,
-    home: &Home,
+    plan: &Superblock,
     generation: u64,
     directory: &[Entry],
     first: u64,
 ) -> Result<(), Failed>
-    requires same { home.now ≡ log.now }
-    requires directory { IsDirectory log.now.geometry directory.now }
-    requires object { IsObject log.now.geometry first }
-    requires shape { shape_of log.now first ≡ shape.Packed 0 }
-    requires inside { log.now.total ≤ (D.disk device.old).sectors }
+    requires directory { IsDirectory plan.now.geometry directory.now }
+    requires object { IsObject plan.now.geometry first }
+    requires shape { shape_of plan.now first ≡ shape.Packed 0 }
+    requires inside { plan.now.total ≤ (D.disk device.old).sectors }
     ensures copied { OnOk result (IsCopied (D.disk device.old).seen (D.disk device.new).seen
-        log.now generation directory.now first) }
-    ensures touches { Touches (home_place log.now first) 8
+        plan.now generation directory.now first) }
+    ensures touches { Touches (home_place plan.now first) 8
         (D.disk device.old) (D.disk device.new) }
     ensures cause { Counts (D.disk device.old) (D.disk device.new) result }
 {
     let mut cluster = [0; CLUSTER_BYTES];
-    gather(
-        device,
-        log,
-        home,
-        generation,
-        directory,
-        first,
-        &mut cluster,
-    )?;
+    gather(device, plan, generation, directory, first, &mut cluster)?;
+    let home = Home::new(plan);
     home.write_frame(device, first, &cluster)
 }
 
@@ -81,37 +72,30 @@ fn copy_cluster<D: Device>(
 /// sectors may hold any bytes.
 pub(crate) fn copy_home<D: Device>(
     device: &mut D,
-    log: &Log,
-    home: &Home,
+    plan: &Superblock,
     generation: u64,
     directory: &[Entry],
     entry: Entry,
 ) -> Result<(), Failed>
-    requires same { home.now ≡ log.now }
-    requires directory { IsDirectory log.now.geometry directory.now }
-    requires object { IsObject log.now.geometry entry.object }
-    requires slot { entry.slot < log.now.geometry.log }
+    requires directory { IsDirectory plan.now.geometry directory.now }
+    requires object { IsObject plan.now.geometry entry.object }
+    requires slot { entry.slot < plan.now.geometry.log }
     requires entry { slot_in directory.now entry.object ≡ Some entry.slot }
-    requires inside { log.now.total ≤ (D.disk device.old).sectors }
+    requires inside { plan.now.total ≤ (D.disk device.old).sectors }
     ensures copied { OnOk result (IsCopied (D.disk device.old).seen (D.disk device.new).seen
-        log.now generation directory.now entry.object) }
-    ensures touches { Touches (home_place log.now entry.object)
-        (place_length log.now entry.object) (D.disk device.old) (D.disk device.new) }
+        plan.now generation directory.now entry.object) }
+    ensures touches { Touches (home_place plan.now entry.object)
+        (place_length plan.now entry.object) (D.disk device.old) (D.disk device.new) }
     ensures cause { Counts (D.disk device.old) (D.disk device.new) result }
 {
+    let home = Home::new(plan);
+    let log = Log::new(plan);
     let from = log.slot_sector(generation, entry.slot);
     let to = home.place(entry.object);
-    match home.shape(entry.object) {
+    match plan.shape(entry.object) {
         Shape::Node => copy_node(device, from, to),
         Shape::Packed(rank) => {
-            copy_cluster(
-                device,
-                log,
-                home,
-                generation,
-                directory,
-                entry.object - rank,
-            )
+            copy_cluster(device, plan, generation, directory, entry.object - rank)
         }
         Shape::Page => copy_page(device, from, to),
     }

@@ -5,7 +5,7 @@ ghost use Rattle.layout.specs.Image.{seat_in, slot_beside, slot_in};
 ghost use Rattle.frame_io.specs.Frames.{IsObject};
 
 use home_ranges::Home;
-use layout::{Entry, Shape};
+use layout::{Entry, Shape, Superblock};
 
 // The index of the first entry whose number isn't less than this one: that of an entry, or how many
 // there are. It halves the entries that are left with each look.
@@ -43,15 +43,16 @@ fn find(entries: &[Entry], number: u64) -> Option<u64>
 }
 
 // The slot that it gives the first of those that share the home of an object, which has none itself.
-fn find_beside(home: &Home, entries: &[Entry], number: u64) -> Option<u64>
-    requires directory { IsDirectory home.now.geometry entries.now }
-    requires object { IsObject home.now.geometry number }
+fn find_beside(plan: &Superblock, entries: &[Entry], number: u64) -> Option<u64>
+    requires directory { IsDirectory plan.now.geometry entries.now }
+    requires object { IsObject plan.now.geometry number }
     requires none { slot_in entries.now number ≡ None }
-    ensures { result ≡ slot_beside home.now entries.now number }
+    ensures { result ≡ slot_beside plan.now entries.now number }
 {
-    let Shape::Packed(rank) = home.shape(number) else {
+    let Shape::Packed(rank) = plan.shape(number) else {
         return None;
     };
+    let home = Home::new(plan);
     let at = first_from(entries, number - rank);
     if at < entries.len() && home.place(entries[at].object) == home.place(number) {
         Some(entries[at].slot)
@@ -62,13 +63,13 @@ fn find_beside(home: &Home, entries: &[Entry], number: u64) -> Option<u64>
 
 /// The slot whose sectors have the frame of an object: its own, or else that of the least that has
 /// one of the nodes in its cluster.
-pub(crate) fn find_seat(home: &Home, entries: &[Entry], number: u64) -> Option<u64>
-    requires directory { IsDirectory home.now.geometry entries.now }
-    requires object { IsObject home.now.geometry number }
-    ensures { result ≡ seat_in home.now entries.now number }
+pub(crate) fn find_seat(plan: &Superblock, entries: &[Entry], number: u64) -> Option<u64>
+    requires directory { IsDirectory plan.now.geometry entries.now }
+    requires object { IsObject plan.now.geometry number }
+    ensures { result ≡ seat_in plan.now entries.now number }
 {
     match find(entries, number) {
         Some(slot) => Some(slot),
-        None => find_beside(home, entries, number),
+        None => find_beside(plan, entries, number),
     }
 }

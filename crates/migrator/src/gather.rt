@@ -14,30 +14,30 @@ use ckpt_log::Log;
 use device::{Device, Failed};
 use frame_io::read_packed;
 use home_ranges::Home;
-use layout::{Entry, NODE_FRAME_BYTES, pack_node};
+use layout::{Entry, NODE_FRAME_BYTES, Superblock, pack_node};
 
 // Reads the bytes of the saved frame of a node, which has this rank in its cluster.
 fn read_node<D: Device>(
     device: &mut D,
-    log: &Log,
-    home: &Home,
+    plan: &Superblock,
     generation: u64,
     directory: &[Entry],
     number: u64,
     rank: u64,
 ) -> Result<[u8; NODE_FRAME_BYTES], Failed>
-    requires same { home.now ≡ log.now }
-    requires directory { IsDirectory log.now.geometry directory.now }
-    requires object { IsObject log.now.geometry number }
-    requires shape { shape_of log.now number ≡ shape.Packed rank }
+    requires directory { IsDirectory plan.now.geometry directory.now }
+    requires object { IsObject plan.now.geometry number }
+    requires shape { shape_of plan.now number ≡ shape.Packed rank }
     requires rank { rank < 5 }
-    requires inside { log.now.total ≤ (D.disk device.old).sectors }
+    requires inside { plan.now.total ≤ (D.disk device.old).sectors }
     ensures found { IfOk result (λ node.
-        node ≡ frame_in (D.disk device.old).seen log.now generation directory.now number) }
+        node ≡ frame_in (D.disk device.old).seen plan.now generation directory.now number) }
     ensures reads { ReadsOnly (D.disk device.old) (D.disk device.new) }
     ensures cause { Counts (D.disk device.old) (D.disk device.new) result }
 {
-    let at = match find_seat(home, directory, number) {
+    let home = Home::new(plan);
+    let log = Log::new(plan);
+    let at = match find_seat(plan, directory, number) {
         Some(slot) => log.slot_sector(generation, slot),
         None => home.place(number),
     };
@@ -49,27 +49,26 @@ fn read_node<D: Device>(
 /// Puts the saved frames of all nodes of a cluster, of which this is the first, into its 4096 bytes.
 pub(crate) fn gather<D: Device>(
     device: &mut D,
-    log: &Log,
-    home: &Home,
+    plan: &Superblock,
     generation: u64,
     directory: &[Entry],
     first: u64,
     cluster: &mut [u8],
 ) -> Result<(), Failed>
-    requires same { home.now ≡ log.now }
-    requires directory { IsDirectory log.now.geometry directory.now }
-    requires object { IsObject log.now.geometry first }
-    requires shape { shape_of log.now first ≡ shape.Packed 0 }
+    requires directory { IsDirectory plan.now.geometry directory.now }
+    requires object { IsObject plan.now.geometry first }
+    requires shape { shape_of plan.now first ≡ shape.Packed 0 }
     requires cluster { length cluster.old ≡ 4096 }
-    requires inside { log.now.total ≤ (D.disk device.old).sectors }
-    ensures gathered { OnOk result (IsGathered (D.disk device.old).seen log.now generation
+    requires inside { plan.now.total ≤ (D.disk device.old).sectors }
+    ensures gathered { OnOk result (IsGathered (D.disk device.old).seen plan.now generation
         directory.now first cluster.new) }
     ensures size { length cluster.new ≡ 4096 }
     ensures reads { ReadsOnly (D.disk device.old) (D.disk device.new) }
     ensures cause { Counts (D.disk device.old) (D.disk device.new) result }
 {
+    let home = Home::new(plan);
     for rank in 0..home.sharers(first) {
-        let node = read_node(device, log, home, generation, directory, first + rank, rank)?;
+        let node = read_node(device, plan, generation, directory, first + rank, rank)?;
         pack_node(&node, rank as usize, cluster);
     }
     Ok(())

@@ -15,36 +15,33 @@ use checkpoint::OpenFault;
 use ckpt_log::Log;
 use device::Device;
 use frame_io::ReadFault;
-use home_ranges::Home;
 use layout::{CheckpointHeader, Entry, Room, Superblock};
 use model::ObjectHeader;
 
 // Reads the saved frame of an object, and puts its header behind those that are there.
 fn read_header<D: Device>(
     device: &mut D,
-    log: &Log,
-    home: &Home,
+    plan: &Superblock,
     header: CheckpointHeader,
     directory: &[Entry],
     number: u64,
     room: &mut Room,
     headers: &mut Vec<ObjectHeader>,
 ) -> Result<(), OpenFault>
-    requires same { home.now ≡ log.now }
-    requires directory { IsDirectory log.now.geometry directory.now }
-    requires object { IsObject log.now.geometry number }
-    requires inside { log.now.total ≤ (D.disk device.old).sectors }
-    ensures spelt { OnOk result (IsSpelt (D.disk device.old).seen log.now header.age
+    requires directory { IsDirectory plan.now.geometry directory.now }
+    requires object { IsObject plan.now.geometry number }
+    requires inside { plan.now.total ≤ (D.disk device.old).sectors }
+    ensures spelt { OnOk result (IsSpelt (D.disk device.old).seen plan.now header.age
         header.generation directory.now number) }
     ensures header { OnOk result (headers.new.items ≡ headers.old.items
-        ++ (frame_read (D.disk device.old).seen log.now header.generation directory.now
+        ++ (frame_read (D.disk device.old).seen plan.now header.generation directory.now
         number).header ∷ []) }
-    ensures refused { IfErr result (λ e. IsBadAt (D.disk device.old).seen log.now header
+    ensures refused { IfErr result (λ e. IsBadAt (D.disk device.old).seen plan.now header
         directory.now number e) }
     ensures reads { ReadsOnly (D.disk device.old) (D.disk device.new) }
     ensures cause { CountsOpen (D.disk device.old) (D.disk device.new) result }
 {
-    match read_saved(device, log, home, header, directory, number, room) {
+    match read_saved(device, plan, header, directory, number, room) {
         Ok(read) => match headers.push(read.0) {
             Ok(()) => Ok(()),
             Err(_) => Err(OpenFault::NoMemory),
@@ -73,30 +70,28 @@ pub(crate) fn read_plan<D: Device>(device: &mut D) -> Result<Superblock, OpenFau
 // Reads the saved frames of all objects, and their headers into an empty list.
 fn read_headers<D: Device>(
     device: &mut D,
-    log: &Log,
-    home: &Home,
+    plan: &Superblock,
     header: CheckpointHeader,
     directory: &[Entry],
     room: &mut Room,
     into: &mut Vec<ObjectHeader>,
 ) -> Result<(), OpenFault>
-    requires same { home.now ≡ log.now }
-    requires directory { IsDirectory log.now.geometry directory.now }
-    requires inside { log.now.total ≤ (D.disk device.old).sectors }
+    requires directory { IsDirectory plan.now.geometry directory.now }
+    requires inside { plan.now.total ≤ (D.disk device.old).sectors }
     requires none { into.old.items ≡ [] }
-    ensures spelt { OnOk result (AreSpelt (D.disk device.old).seen log.now header.age
+    ensures spelt { OnOk result (AreSpelt (D.disk device.old).seen plan.now header.age
         header.generation directory.now) }
     ensures headers { OnOk result (into.new.items
-        ≡ headers (frames_read (D.disk device.old).seen log.now header.generation
+        ≡ headers (frames_read (D.disk device.old).seen plan.now header.generation
         directory.now)) }
-    ensures refused { IfErr result (λ e. (n : ℕ) × (n < count_of log.now)
-        × IsBadAt (D.disk device.old).seen log.now header directory.now n e) }
+    ensures refused { IfErr result (λ e. (n : ℕ) × (n < count_of plan.now)
+        × IsBadAt (D.disk device.old).seen plan.now header directory.now n e) }
     ensures reads { ReadsOnly (D.disk device.old) (D.disk device.new) }
     ensures cause { CountsOpen (D.disk device.old) (D.disk device.new) result }
 {
-    let geometry = home.geometry();
+    let geometry = plan.geometry();
     for number in 0..geometry.nodes + geometry.pages {
-        read_header(device, log, home, header, directory, number, room, into)?;
+        read_header(device, plan, header, directory, number, room, into)?;
     }
     Ok(())
 }
@@ -105,28 +100,27 @@ fn read_headers<D: Device>(
 /// the headers of all frames into an empty list. Each refusal has the least reason that holds.
 pub(crate) fn read_image<D: Device>(
     device: &mut D,
-    log: &Log,
-    home: &Home,
+    plan: &Superblock,
     directory: &mut [Entry],
     room: &mut Room,
     headers: &mut Vec<ObjectHeader>,
 ) -> Result<CheckpointHeader, OpenFault>
-    requires same { home.now ≡ log.now }
-    requires plan { HasPlan (D.disk device.old).seen (D.disk device.old).sectors log.now }
-    requires length { length directory.old ≡ log.now.geometry.log }
+    requires plan { HasPlan (D.disk device.old).seen (D.disk device.old).sectors plan.now }
+    requires length { length directory.old ≡ plan.now.geometry.log }
     requires none { headers.old.items ≡ [] }
     ensures found { IfOk result (λ h.
-        IsRead (D.disk device.old).seen log.now h directory.new headers.new.items) }
+        IsRead (D.disk device.old).seen plan.now h directory.new headers.new.items) }
     ensures refused { IfErr result (λ e.
         IsBadFor (D.disk device.old).seen (D.disk device.old).sectors e) }
     ensures length { length directory.new ≡ length directory.old }
     ensures reads { ReadsOnly (D.disk device.old) (D.disk device.new) }
     ensures cause { CountsOpen (D.disk device.old) (D.disk device.new) result }
 {
+    let log = Log::new(plan);
     match log.find_committed(device, directory) {
         Ok(header) => {
             let named = &directory[..header.entries as usize];
-            match read_headers(device, log, home, header, named, room, headers) {
+            match read_headers(device, plan, header, named, room, headers) {
                 Ok(()) => Ok(header),
                 Err(fault) => Err(fault),
             }

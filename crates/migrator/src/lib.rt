@@ -1,8 +1,10 @@
 //! The durable store: the frames that are saved on a device, and those of the next checkpoint.
 #![tactic(auto)]
 
+mod books;
 mod cluster_buffer;
 mod copy;
+mod directory;
 mod durable;
 mod find;
 mod gather;

@@ -92,30 +92,31 @@ pub(crate) fn read_header_of<D: Device>(
     Ok(header_in(&node))
 }
 
-/// Reads the saved frame of an object, which lies in the log where the directory gives it a slot or
-/// one to a node of its cluster, and else at home. The slots of a node or an annex and the words of a page are left in `room`.
+/// Reads the saved frame of an object: from the slot that the directory gives it, or gives a node of
+/// its cluster, else from its home. The slots of a node or an annex and the words of a page are left
+/// in `room`.
 pub(crate) fn read_saved<D: Device>(
     device: &mut D,
-    log: &Log,
-    home: &Home,
+    plan: &Superblock,
     header: CheckpointHeader,
     directory: &[Entry],
     number: u64,
     room: &mut Room,
 ) -> Result<(ObjectHeader, Body), ReadFault>
-    requires same { home.now ≡ log.now }
-    requires directory { IsDirectory log.now.geometry directory.now }
-    requires object { IsObject log.now.geometry number }
-    requires inside { log.now.total ≤ (D.disk device.old).sectors }
-    ensures found { IfOk result (λ read. IsFrameOf log.now.geometry header.age number
-        (frame_in (D.disk device.new).seen log.now header.generation directory.now number)
+    requires directory { IsDirectory plan.now.geometry directory.now }
+    requires object { IsObject plan.now.geometry number }
+    requires inside { plan.now.total ≤ (D.disk device.old).sectors }
+    ensures found { IfOk result (λ read. IsFrameOf plan.now.geometry header.age number
+        (frame_in (D.disk device.new).seen plan.now header.generation directory.now number)
         (frame_of read room.new)) }
-    ensures refused { IfErr result (λ e. IsRefused log.now.geometry header.age number
-        (frame_in (D.disk device.new).seen log.now header.generation directory.now number) e) }
+    ensures refused { IfErr result (λ e. IsRefused plan.now.geometry header.age number
+        (frame_in (D.disk device.new).seen plan.now header.generation directory.now number) e) }
     ensures reads { ReadsOnly (D.disk device.old) (D.disk device.new) }
     ensures cause { CountsFailed (D.disk device.old) (D.disk device.new) result }
 {
-    match find_seat(home, directory, number) {
+    let home = Home::new(plan);
+    let log = Log::new(plan);
+    match find_seat(plan, directory, number) {
         Some(slot) => log.read_slot(device, header.generation, slot, number, header.age, room),
         None => home.read_frame(device, number, header.age, room),
     }
@@ -134,23 +135,24 @@ fn failure(fault: ReadFault) -> Failed
 /// Reads a frame that was put into a slot of the half of a generation.
 pub(crate) fn read_put<D: Device>(
     device: &mut D,
-    log: &Log,
+    plan: &Superblock,
     generation: u64,
     slot: u64,
     number: u64,
     room: &mut Room,
 ) -> Result<(ObjectHeader, Body), Failed>
-    requires object { IsObject log.now.geometry number }
-    requires slot { slot < log.now.geometry.log }
-    requires inside { log.now.total ≤ (D.disk device.old).sectors }
-    requires spelt { IsFrameOf log.now.geometry most number
-        (slot_bytes (D.disk device.old).seen log.now generation slot number)
-        (slot_frame (D.disk device.old).seen log.now generation slot number) }
+    requires object { IsObject plan.now.geometry number }
+    requires slot { slot < plan.now.geometry.log }
+    requires inside { plan.now.total ≤ (D.disk device.old).sectors }
+    requires spelt { IsFrameOf plan.now.geometry most number
+        (slot_bytes (D.disk device.old).seen plan.now generation slot number)
+        (slot_frame (D.disk device.old).seen plan.now generation slot number) }
     ensures found { IfOk result (λ read. frame_of read room.new
-        ≡ slot_frame (D.disk device.old).seen log.now generation slot number) }
+        ≡ slot_frame (D.disk device.old).seen plan.now generation slot number) }
     ensures reads { ReadsOnly (D.disk device.old) (D.disk device.new) }
     ensures cause { Counts (D.disk device.old) (D.disk device.new) result }
 {
+    let log = Log::new(plan);
     match log.read_slot(device, generation, slot, number, u64::MAX, room) {
         Ok(read) => Ok(read),
         Err(fault) => Err(failure(fault)),
@@ -160,25 +162,23 @@ pub(crate) fn read_put<D: Device>(
 /// Reads a saved frame that was read before.
 pub(crate) fn read_again<D: Device>(
     device: &mut D,
-    log: &Log,
-    home: &Home,
+    plan: &Superblock,
     header: CheckpointHeader,
     directory: &[Entry],
     number: u64,
     room: &mut Room,
 ) -> Result<(ObjectHeader, Body), Failed>
-    requires same { home.now ≡ log.now }
-    requires directory { IsDirectory log.now.geometry directory.now }
-    requires object { IsObject log.now.geometry number }
-    requires inside { log.now.total ≤ (D.disk device.old).sectors }
-    requires spelt { IsSpelt (D.disk device.old).seen log.now header.age header.generation
+    requires directory { IsDirectory plan.now.geometry directory.now }
+    requires object { IsObject plan.now.geometry number }
+    requires inside { plan.now.total ≤ (D.disk device.old).sectors }
+    requires spelt { IsSpelt (D.disk device.old).seen plan.now header.age header.generation
         directory.now number }
     ensures found { IfOk result (λ read. frame_of read room.new
-        ≡ frame_read (D.disk device.old).seen log.now header.generation directory.now number) }
+        ≡ frame_read (D.disk device.old).seen plan.now header.generation directory.now number) }
     ensures reads { ReadsOnly (D.disk device.old) (D.disk device.new) }
     ensures cause { Counts (D.disk device.old) (D.disk device.new) result }
 {
-    match read_saved(device, log, home, header, directory, number, room) {
+    match read_saved(device, plan, header, directory, number, room) {
         Ok(read) => Ok(read),
         Err(fault) => Err(failure(fault)),
     }

@@ -11,31 +11,32 @@ ghost use Rattle.migrator.specs.Saving.{MaySave, SavesOnly};
 
 use ckpt_log::Log;
 use device::{Device, Failed};
-use layout::{CheckpointHeader, Entry};
+use layout::{CheckpointHeader, Entry, Superblock};
 
 /// Writes the directory of a header, and publishes the header. At `Failed` a crash leaves what was
 /// saved before, or what is saved next.
 pub(crate) fn save<D: Device>(
     device: &mut D,
-    log: &Log,
+    plan: &Superblock,
     header: CheckpointHeader,
     entries: &[Entry],
 ) -> Result<(), Failed>
     requires { (h : CheckpointHeader) × (es : List Entry)
-        × MaySave (D.disk device.old) log.now h es header entries.now }
+        × MaySave (D.disk device.old) plan.now h es header entries.now }
     ensures saved { OnOk result (LeavesState (D.disk device.new)
-        (state_in (D.disk device.old).seen log.now header entries.now)) }
-    ensures only { SavesOnly log.now header (D.disk device.old).seen (D.disk device.new).seen }
+        (state_in (D.disk device.old).seen plan.now header entries.now)) }
+    ensures only { SavesOnly plan.now header (D.disk device.old).seen (D.disk device.new).seen }
     ensures size { (D.disk device.new).sectors ≡ (D.disk device.old).sectors }
     ensures any_moment { (h : CheckpointHeader) (es : List Entry)
-        → MaySave (D.disk device.old) log.now h es header entries.now
+        → MaySave (D.disk device.old) plan.now h es header entries.now
         → LeavesOnly (D.disk device.old) (D.disk device.new)
         (λ c. Encodes c (D.disk device.old).sectors
-        (state_in (D.disk device.old).seen log.now h es)
+        (state_in (D.disk device.old).seen plan.now h es)
         ⊎ Encodes c (D.disk device.old).sectors
-        (state_in (D.disk device.old).seen log.now header entries.now)) }
+        (state_in (D.disk device.old).seen plan.now header entries.now)) }
     ensures cause { Counts (D.disk device.old) (D.disk device.new) result }
 {
+    let log = Log::new(plan);
     log.write_directory(device, header.generation, entries)?;
     log.publish(device, header)
 }

@@ -1,5 +1,5 @@
 // Which slots of a half of the log objects have.
-ghost use Rattle.std.specs.Prelude.{◌≡◌, ◌+◌, ◌<◌, ◌≤◌, [], ◌∷◌, None, Some, length, map, take, drop, replicate, slice_set, IfSome, IfOk};
+ghost use Rattle.std.specs.Prelude.{◌≡◌, ◌+◌, ◌<◌, ◌≤◌, [], ◌∷◌, None, Some, length, map, drop, replicate, vec_capacity, slice_set, IfSome, IfOk};
 ghost use Rattle.migrator.specs.Table.{place_at, slot_of, slot_for, is_held, has_slot, has_frame, taken_count, whole_count, entries_from, entries_of};
 
 use layout::Entry;
@@ -126,21 +126,22 @@ fn next_entry(places: &[Place], held: &NumberSet, from: usize) -> Option<Entry>
     })
 }
 
-// Writes the entries of the objects that have a slot.
+// Puts the entries of the objects that have a slot behind those that are there.
 #[tactic(auto, unfolding(crate::specs::Table::entries_of))]
-fn fill_entries(places: &[Place], held: &NumberSet, taken: u64, into: &mut [Entry])
+fn list_entries(places: &[Place], held: &NumberSet, taken: u64, into: &mut Vec<Entry>)
     requires held { held.now ≡ map is_held places.now }
     requires taken { taken ≡ taken_count places.now }
-    requires room { taken ≤ length into.old }
-    ensures entries { take taken into.new ≡ entries_of places.now }
-    ensures length { length into.new ≡ length into.old }
+    requires none { into.old.items ≡ [] }
+    requires room { taken ≤ vec_capacity into.old }
+    ensures entries { into.new.items ≡ entries_of places.now }
+    ensures room { vec_capacity into.new ≡ vec_capacity into.old }
 {
     let mut from = 0;
-    for index in 0..taken as usize {
+    for _ in 0..taken {
         match next_entry(places, held, from) {
             None => unreachable!(),
             Some(entry) => {
-                into[index] = entry;
+                into.push_reserved(entry);
                 from = entry.object as usize + 1;
             }
         }
@@ -218,15 +219,13 @@ impl Table {
         self.whole = 0;
     }
 
-    /// Writes the entries of the objects that have a slot, in the order of their numbers, and
-    /// answers how many there are.
-    pub(crate) fn fill(&self, into: &mut [Entry]) -> usize
-        requires room { taken_count self.now ≤ length into.old }
-        ensures count { result ≡ taken_count self.now }
-        ensures entries { take result into.new ≡ entries_of self.now }
-        ensures length { length into.new ≡ length into.old }
+    /// Puts the entries of the objects that have a slot into an empty list, in the order of their numbers.
+    pub(crate) fn list(&self, into: &mut Vec<Entry>)
+        requires none { into.old.items ≡ [] }
+        requires room { taken_count self.now ≤ vec_capacity into.old }
+        ensures entries { into.new.items ≡ entries_of self.now }
+        ensures room { vec_capacity into.new ≡ vec_capacity into.old }
     {
-        fill_entries(&self.places, &self.held, self.taken, into);
-        self.taken as usize
+        list_entries(&self.places, &self.held, self.taken, into);
     }
 }

@@ -5,19 +5,20 @@ ghost use Rattle.layout.specs.Homes.{home_place};
 ghost use Rattle.migrator.specs.Gathered.{IsFirst};
 
 use home_ranges::Home;
-use layout::Entry;
+use layout::{Entry, Superblock};
 
 /// Whether an entry is the first of those whose objects have its object's home.
-pub(crate) fn is_first(home: &Home, entries: &[Entry], index: usize) -> bool
-    requires directory { IsDirectory home.now.geometry entries.now }
+pub(crate) fn is_first(plan: &Superblock, entries: &[Entry], index: usize) -> bool
+    requires directory { IsDirectory plan.now.geometry entries.now }
     requires within { index < length entries.now }
-    ensures yes { result ≡ true → IsFirst home.now entries.now index }
+    ensures yes { result ≡ true → IsFirst plan.now entries.now index }
     ensures no { result ≡ false → (0 < index)
-        × (home_place home.now (entry_at entries.now (index - 1)).object
-        ≡ home_place home.now (entry_at entries.now index).object) }
+        × (home_place plan.now (entry_at entries.now (index - 1)).object
+        ≡ home_place plan.now (entry_at entries.now index).object) }
 {
     if index == 0 {
         return true;
     }
+    let home = Home::new(plan);
     home.place(entries[index - 1].object) != home.place(entries[index].object)
 }

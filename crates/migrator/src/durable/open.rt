@@ -1,5 +1,5 @@
 // Opening a device.
-ghost use Rattle.std.specs.Prelude.{◌≡◌, ◌+◌, ◌≤◌, length, replicate, IfOk, IfErr, OnOk};
+ghost use Rattle.std.specs.Prelude.{◌≡◌, ◌+◌, ◌≤◌, length, replicate, vec_capacity, IfOk, IfErr, OnOk};
 ghost use Rattle.device.specs.Calls.{Only};
 ghost use Rattle.layout.specs.Image.{HasPlan};
 ghost use Rattle.layout.specs.Superblock.{Plan};
@@ -8,14 +8,14 @@ ghost use Rattle.migrator.specs.Opened.{IsRead, OpensDurable};
 ghost use Rattle.checkpoint.specs.Opened.{IsBadFor, CountsOpen, Looks, Refuses};
 ghost use Rattle.migrator.specs.Reserve.{IsReserve, IsTables};
 
+use crate::books::Books;
 use crate::cluster_buffer::ClusterBuffer;
+use crate::directory::{Directory, blank_entries};
 use crate::durable::Durable;
 use crate::image::{read_image, read_plan};
 use crate::table::{Place, Table};
 use checkpoint::{OpenFault, OpenRefused};
-use ckpt_log::Log;
 use device::Device;
-use home_ranges::Home;
 use layout::{CheckpointHeader, Entry, Room, Superblock};
 use model::{Geometry, ObjectHeader};
 use std::alloc::{AllocError, Global};
@@ -27,11 +27,11 @@ pub struct Opened<D: Device> {
     pub headers: Vec<ObjectHeader>,
 }
 
-// Room for the saved directory, and for another.
+// Memory for the saved directory, and for another.
 #[derive(Drop)]
 struct Directories {
     saved: Vec<Entry>,
-    spare: Vec<Entry>,
+    spare: Directory,
 }
 
 // The places of the frozen frames, and of those put since.
@@ -53,29 +53,19 @@ struct Reserve {
 // What was read of a device, and the memory for a store over it.
 #[derive(Drop)]
 struct Parts {
-    log: Log,
-    home: Home,
+    plan: Superblock,
     header: CheckpointHeader,
     reserve: Reserve,
 }
 
-// So many entries.
-fn blank_entries(alloc: Global, count: u64) -> Result<Vec<Entry>, AllocError>
-    ensures { IfOk result (λ entries. length entries.items ≡ count) }
-{
-    let mut entries = Vec::with_capacity(alloc, count as usize)?;
-    entries.resize(count as usize, Entry { object: 0, slot: 0 })?;
-    Ok(entries)
-}
-
 impl Directories {
     fn new(alloc: Global, count: u64) -> Result<Directories, AllocError>
-        ensures saved { IfOk result (λ two. length two.saved.items ≡ count) }
-        ensures spare { IfOk result (λ two. length two.spare.items ≡ count) }
+        ensures length { IfOk result (λ two. length two.saved.items ≡ count) }
+        ensures room { IfOk result (λ two. 4096 ≤ vec_capacity two.saved) }
     {
         Ok(Directories {
             saved: blank_entries(alloc, count)?,
-            spare: blank_entries(alloc, count)?,
+            spare: Directory::new(alloc)?,
         })
     }
 }
@@ -111,17 +101,15 @@ impl Reserve {
 // Reads an image whole, of which the superblock was read, into memory that was reserved.
 fn read_reserved<D: Device>(
     device: &mut D,
-    log: &Log,
-    home: &Home,
+    plan: &Superblock,
     reserve: &mut Reserve,
     room: &mut Room,
 ) -> Result<CheckpointHeader, OpenFault>
-    requires same { home.now ≡ log.now }
-    requires plan { HasPlan (D.disk device.old).seen (D.disk device.old).sectors log.now }
-    requires reserved { IsReserve log.now reserve.old }
-    ensures read { IfOk result (λ header. IsRead (D.disk device.old).seen log.now header
+    requires plan { HasPlan (D.disk device.old).seen (D.disk device.old).sectors plan.now }
+    requires reserved { IsReserve plan.now reserve.old }
+    ensures read { IfOk result (λ header. IsRead (D.disk device.old).seen plan.now header
         reserve.new.directories.saved.items reserve.new.headers.items) }
-    ensures reserved { IsTables log.now reserve.new }
+    ensures reserved { IsTables plan.now reserve.new }
     ensures refused { IfErr result (λ e.
         IsBadFor (D.disk device.old).seen (D.disk device.old).sectors e) }
     ensures reads { ReadsOnly (D.disk device.old) (D.disk device.new) }
@@ -129,40 +117,35 @@ fn read_reserved<D: Device>(
 {
     read_image(
         device,
-        log,
-        home,
+        plan,
         &mut reserve.directories.saved,
         room,
         &mut reserve.headers,
     )
 }
 
-// Does so, and takes the memory along.
+// Does so, and takes the superblock and the memory along.
 fn read_into<D: Device>(
     device: &mut D,
-    superblock: &Superblock,
+    plan: Superblock,
     reserve: Reserve,
     room: &mut Room,
 ) -> Result<Parts, OpenFault>
-    requires plan { HasPlan (D.disk device.old).seen (D.disk device.old).sectors superblock.now }
-    requires reserved { IsReserve superblock.now reserve }
-    ensures plan { IfOk result (λ parts. parts.log ≡ superblock.now) }
-    ensures home { IfOk result (λ parts. parts.home ≡ superblock.now) }
-    ensures read { IfOk result (λ parts. IsRead (D.disk device.old).seen superblock.now
+    requires plan { HasPlan (D.disk device.old).seen (D.disk device.old).sectors plan }
+    requires reserved { IsReserve plan reserve }
+    ensures plan { IfOk result (λ parts. parts.plan ≡ plan) }
+    ensures read { IfOk result (λ parts. IsRead (D.disk device.old).seen plan
         parts.header parts.reserve.directories.saved.items parts.reserve.headers.items) }
-    ensures reserved { IfOk result (λ parts. IsTables superblock.now parts.reserve) }
+    ensures reserved { IfOk result (λ parts. IsTables plan parts.reserve) }
     ensures refused { IfErr result (λ e.
         IsBadFor (D.disk device.old).seen (D.disk device.old).sectors e) }
     ensures reads { ReadsOnly (D.disk device.old) (D.disk device.new) }
     ensures cause { CountsOpen (D.disk device.old) (D.disk device.new) result }
 {
-    let log = Log::new(superblock);
-    let home = Home::new(superblock);
     let mut reserve = reserve;
-    match read_reserved(device, &log, &home, &mut reserve, room) {
+    match read_reserved(device, &plan, &mut reserve, room) {
         Ok(header) => Ok(Parts {
-            log,
-            home,
+            plan,
             header,
             reserve,
         }),
@@ -174,16 +157,15 @@ fn read_into<D: Device>(
 fn read_with_room<D: Device>(
     alloc: Global,
     device: &mut D,
-    superblock: &Superblock,
+    plan: Superblock,
     reserve: Reserve,
 ) -> Result<Parts, OpenFault>
-    requires plan { HasPlan (D.disk device.old).seen (D.disk device.old).sectors superblock.now }
-    requires reserved { IsReserve superblock.now reserve }
-    ensures plan { IfOk result (λ parts. parts.log ≡ superblock.now) }
-    ensures home { IfOk result (λ parts. parts.home ≡ superblock.now) }
-    ensures read { IfOk result (λ parts. IsRead (D.disk device.old).seen superblock.now
+    requires plan { HasPlan (D.disk device.old).seen (D.disk device.old).sectors plan }
+    requires reserved { IsReserve plan reserve }
+    ensures plan { IfOk result (λ parts. parts.plan ≡ plan) }
+    ensures read { IfOk result (λ parts. IsRead (D.disk device.old).seen plan
         parts.header parts.reserve.directories.saved.items parts.reserve.headers.items) }
-    ensures reserved { IfOk result (λ parts. IsTables superblock.now parts.reserve) }
+    ensures reserved { IfOk result (λ parts. IsTables plan parts.reserve) }
     ensures refused { IfErr result (λ e.
         IsBadFor (D.disk device.old).seen (D.disk device.old).sectors e) }
     ensures reads { ReadsOnly (D.disk device.old) (D.disk device.new) }
@@ -192,7 +174,7 @@ fn read_with_room<D: Device>(
     match Room::new(alloc) {
         Ok(room) => {
             let mut room = room;
-            read_into(device, superblock, reserve, &mut room)
+            read_into(device, plan, reserve, &mut room)
         }
         Err(_) => Err(OpenFault::NoMemory),
     }
@@ -201,11 +183,10 @@ fn read_with_room<D: Device>(
 // Reads a device whole.
 fn read_parts<D: Device>(alloc: Global, device: &mut D) -> Result<Parts, OpenFault>
     ensures plan { IfOk result (λ parts.
-        HasPlan (D.disk device.old).seen (D.disk device.old).sectors parts.log) }
-    ensures home { IfOk result (λ parts. parts.home ≡ parts.log) }
-    ensures read { IfOk result (λ parts. IsRead (D.disk device.old).seen parts.log parts.header
+        HasPlan (D.disk device.old).seen (D.disk device.old).sectors parts.plan) }
+    ensures read { IfOk result (λ parts. IsRead (D.disk device.old).seen parts.plan parts.header
         parts.reserve.directories.saved.items parts.reserve.headers.items) }
-    ensures reserved { IfOk result (λ parts. IsTables parts.log parts.reserve) }
+    ensures reserved { IfOk result (λ parts. IsTables parts.plan parts.reserve) }
     ensures durable { OnOk result (Only (D.disk device.new).seen (D.disk device.new)) }
     ensures refused { IfErr result (λ e.
         IsBadFor (D.disk device.old).seen (D.disk device.old).sectors e) }
@@ -214,7 +195,7 @@ fn read_parts<D: Device>(alloc: Global, device: &mut D) -> Result<Parts, OpenFau
 {
     match read_plan(device) {
         Ok(superblock) => match Reserve::new(alloc, superblock.geometry()) {
-            Ok(reserve) => read_with_room(alloc, device, &superblock, reserve),
+            Ok(reserve) => read_with_room(alloc, device, superblock, reserve),
             Err(_) => Err(OpenFault::NoMemory),
         },
         Err(fault) => Err(fault),
@@ -236,8 +217,7 @@ impl<D: Device> Durable<D> {
         match read_parts(alloc, &mut device) {
             Ok(parts) => {
                 let Parts {
-                    log,
-                    home,
+                    plan,
                     header,
                     reserve,
                 } = parts;
@@ -247,18 +227,20 @@ impl<D: Device> Durable<D> {
                     buffer,
                     headers,
                 } = reserve;
-                let store = Durable {
-                    device,
-                    log,
-                    home,
+                let books = Books {
+                    plan,
                     header,
-                    directory: directories.saved,
-                    spare: directories.spare,
+                    directory: Directory::of(directories.saved, header.entries),
                     moved: 0,
                     frozen: tables.frozen,
                     size: None,
                     working: tables.working,
-                    buffer,
+                    unwritten: buffer,
+                };
+                let store = Durable {
+                    device,
+                    books,
+                    spare: directories.spare,
                 };
                 Ok(Opened { store, headers })
             }

@@ -9,7 +9,7 @@ use Rattle.migrator.proofs.Gathering.{packed_end}
 use Rattle.migrator.proofs.cluster_buffer.fill.Goals as goal
 
 pub gather-requires-clause-shape : goal.gather-requires-clause-shape
-gather-requires-clause-shape g c = (begins c.args.log.now c.args.entry.object c.args.rank c.requires.plan c.requires.object c.requires.shape).first
+gather-requires-clause-shape g c = (begins c.args.plan.now c.args.entry.object c.args.rank c.requires.plan c.requires.object c.requires.shape).first
 
 pub pack_node-requires-clause-end : goal.pack_node-requires-clause-end
 pack_node-requires-clause-end g c =
@@ -19,7 +19,7 @@ pub returns-clause-filled : goal.returns-clause-filled
 returns-clause-filled g c =
     let seen = agrees_is (g.D.Device.disk c.read_packed.new.device).seen (g.D.Device.disk c.gather.new.device).seen c.read_packed.ensures.reads.seen ∙ agrees_is (g.D.Device.disk c.gather.new.device).seen (g.D.Device.disk c.args.device.now).seen c.gather.ensures.reads.seen in
     let read = subst (λ (image : Image). shaped_at image c.slot_sector.result (Packed c.args.rank) ≡ c.read_packed.new.node) seen c.in_ok-read_packed.ensures.found in
-    let there = rw c.slot_sector.ensures.value at read in
+    let there = rw (c.slot_sector.ensures.value, c.new-log.ensures) at read in
     rw c.copy_from_slice.ensures.after
-    (filled (g.D.Device.disk c.args.device.now).seen c.args.log.now c.args.generation c.args.rank c.args.entry c.read_packed.new.node c.gather.new.cluster c.pack_node.new.cluster
+    (filled (g.D.Device.disk c.args.device.now).seen c.args.plan.now c.args.generation c.args.rank c.args.entry c.read_packed.new.node c.gather.new.cluster c.pack_node.new.cluster
     c.requires.plan c.requires.object c.requires.shape c.in_ok-gather.ensures.gathered there c.pack_node.ensures.packed c.pack_node.ensures.others)

@@ -4,7 +4,7 @@ use Rattle.migrator.proofs.copy.copy_cluster.Goals as goal
 
 pub returns-clause-touches : goal.returns-clause-touches
 returns-clause-touches g c =
-    cluster_touched (g.D.Device.disk c.args.device.now) (g.D.Device.disk c.gather.new.device) (g.D.Device.disk c.write_frame.new.device) c.args.log.now c.args.home.now c.args.first c.requires.same c.requires.shape
+    cluster_touched (g.D.Device.disk c.args.device.now) (g.D.Device.disk c.gather.new.device) (g.D.Device.disk c.write_frame.new.device) c.args.plan.now c.new-home.result c.args.first c.new-home.ensures c.requires.shape
     c.gather.ensures.reads c.write_frame.ensures.writes
 
 pub returns-clause-cause : goal.returns-clause-cause

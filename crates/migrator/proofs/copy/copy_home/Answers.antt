@@ -1,7 +1,6 @@
 use Rattle.std.proofs.Common.{◌∙◌, ℕ, ap, sym, subst}
-use Rattle.layout.specs.Homes.{home_place, shape_of}
+use Rattle.layout.specs.Homes.{home_place}
 use Rattle.layout.specs.Shape.{shape_length}
-use Rattle.layout.specs.Superblock.{Plan, IsPlan}
 use Rattle.home_ranges.proofs.Shared.{begins}
 use Rattle.migrator.specs.Spared.{Touches}
 use Rattle.layout.specs.declared.shape.Shape.TheVariants.{Node, Page}
@@ -10,35 +9,36 @@ use Rattle.migrator.proofs.copy.copy_home.Goals as goal
 
 pub returns-in-Node-clause-copied : goal.returns-in-Node-clause-copied
 returns-in-Node-clause-copied g c =
+    let from = rw c.new-log.ensures at c.slot_sector-from.ensures.value in
+    let to = rw c.new-home.ensures at c.place-to.ensures.value in
     on_ok c.copy_node.result
-    (λ copied. copied_own (g.D.Device.disk c.args.device.now).seen (g.D.Device.disk c.copy_node.new.device).seen c.args.log.now c.args.home.now c.args.generation c.args.directory.now c.args.entry.object c.args.entry.slot
-    c.slot_sector-from.result c.place-to.result Node c.requires.same c.place-to.ensures.plan c.requires.object tt c.in-Node.ensures.value c.requires.entry c.slot_sector-from.ensures.value c.place-to.ensures.value copied)
+    (λ copied. copied_own (g.D.Device.disk c.args.device.now).seen (g.D.Device.disk c.copy_node.new.device).seen c.args.plan.now c.args.generation c.args.directory.now c.args.entry.object c.args.entry.slot
+    c.slot_sector-from.result c.place-to.result Node c.shape.ensures.plan c.requires.object tt c.in-Node.ensures.value c.requires.entry from to copied)
     c.copy_node.ensures.copied
 
 pub returns-in-Page-clause-copied : goal.returns-in-Page-clause-copied
 returns-in-Page-clause-copied g c =
+    let from = rw c.new-log.ensures at c.slot_sector-from.ensures.value in
+    let to = rw c.new-home.ensures at c.place-to.ensures.value in
     on_ok c.copy_page.result
-    (λ copied. copied_own (g.D.Device.disk c.args.device.now).seen (g.D.Device.disk c.copy_page.new.device).seen c.args.log.now c.args.home.now c.args.generation c.args.directory.now c.args.entry.object c.args.entry.slot
-    c.slot_sector-from.result c.place-to.result Page c.requires.same c.place-to.ensures.plan c.requires.object tt c.in-Page.ensures.value c.requires.entry c.slot_sector-from.ensures.value c.place-to.ensures.value copied)
+    (λ copied. copied_own (g.D.Device.disk c.args.device.now).seen (g.D.Device.disk c.copy_page.new.device).seen c.args.plan.now c.args.generation c.args.directory.now c.args.entry.object c.args.entry.slot
+    c.slot_sector-from.result c.place-to.result Page c.shape.ensures.plan c.requires.object tt c.in-Page.ensures.value c.requires.entry from to copied)
     c.copy_page.ensures.copied
 
 pub copy_cluster-requires-clause-shape : goal.copy_cluster-requires-clause-shape
 copy_cluster-requires-clause-shape g c =
-    let plan = subst IsPlan c.requires.same c.shape.ensures.plan in
-    let packed = sym (c.shape.ensures.value ∙ ap (λ (p : Plan). shape_of p c.args.entry.object) c.requires.same) ∙ c.in-Packed.is in
-    (begins c.args.log.now c.args.entry.object c.in-Packed.rank plan c.requires.object packed).first
+    let packed = sym c.shape.ensures.value ∙ c.in-Packed.is in
+    (begins c.args.plan.now c.args.entry.object c.in-Packed.rank c.shape.ensures.plan c.requires.object packed).first
 
 pub returns-in-Packed-clause-copied : goal.returns-in-Packed-clause-copied
 returns-in-Packed-clause-copied g c =
-    let plan = subst IsPlan c.requires.same c.shape.ensures.plan in
-    let packed = sym (c.shape.ensures.value ∙ ap (λ (p : Plan). shape_of p c.args.entry.object) c.requires.same) ∙ c.in-Packed.is in
-    let start = begins c.args.log.now c.args.entry.object c.in-Packed.rank plan c.requires.object packed in
+    let packed = sym c.shape.ensures.value ∙ c.in-Packed.is in
+    let start = begins c.args.plan.now c.args.entry.object c.in-Packed.rank c.shape.ensures.plan c.requires.object packed in
     on_ok c.copy_cluster.result (λ copied n is same. copied n is (same ∙ sym start.home)) c.copy_cluster.ensures.copied
 
 pub returns-in-Packed-clause-touches : goal.returns-in-Packed-clause-touches
 returns-in-Packed-clause-touches g c =
-    let plan = subst IsPlan c.requires.same c.shape.ensures.plan in
-    let packed = sym (c.shape.ensures.value ∙ ap (λ (p : Plan). shape_of p c.args.entry.object) c.requires.same) ∙ c.in-Packed.is in
-    let start = begins c.args.log.now c.args.entry.object c.in-Packed.rank plan c.requires.object packed in
-    subst (λ (n : ℕ). Touches (home_place c.args.log.now c.args.entry.object) n (g.D.Device.disk c.args.device.now) (g.D.Device.disk c.copy_cluster.new.device)) (ap shape_length (sym packed))
+    let packed = sym c.shape.ensures.value ∙ c.in-Packed.is in
+    let start = begins c.args.plan.now c.args.entry.object c.in-Packed.rank c.shape.ensures.plan c.requires.object packed in
+    subst (λ (n : ℕ). Touches (home_place c.args.plan.now c.args.entry.object) n (g.D.Device.disk c.args.device.now) (g.D.Device.disk c.copy_cluster.new.device)) (ap shape_length (sym packed))
     (subst (λ (at : ℕ). Touches at 8 (g.D.Device.disk c.args.device.now) (g.D.Device.disk c.copy_cluster.new.device)) start.home c.copy_cluster.ensures.touches)

@@ -7,18 +7,18 @@ use Rattle.migrator.proofs.find.find_beside.Goals.{else-at-entries-via-then-at-e
 
 pub returns-in_default : goal.returns-in_default
 returns-in_default c =
-    sym (alone_beside c.args.home.now c.args.entries.now c.args.number c.shape.ensures.plan c.requires.directory c.requires.object
-    (own_of (shape_of c.args.home.now c.args.number) (λ rank is. c.in_default.not-Packed rank (c.shape.ensures.value ∙ is))) c.requires.none)
+    sym (alone_beside c.args.plan.now c.args.entries.now c.args.number c.shape.ensures.plan c.requires.directory c.requires.object
+    (own_of (shape_of c.args.plan.now c.args.number) (λ rank is. c.in_default.not-Packed rank (c.shape.ensures.value ∙ is))) c.requires.none)
 
 pub returns-then-place : goal.returns-then-place
 returns-then-place c =
-    sym (found_there c.args.home.now c.args.entries.now c.args.number c.in-Packed.rank c.first_from-at.result c.shape.ensures.plan c.requires.directory c.requires.object (sym c.shape.ensures.value ∙ c.in-Packed.is)
-    c.first_from-at.ensures.below c.first_from-at.ensures.from c.if-at-entries.true (sym c.place.ensures.value ∙ c.if-place.true ∙ c.place-then-at-entries.ensures.value))
+    sym (found_there c.args.plan.now c.args.entries.now c.args.number c.in-Packed.rank c.first_from-at.result c.shape.ensures.plan c.requires.directory c.requires.object (sym c.shape.ensures.value ∙ c.in-Packed.is)
+    c.first_from-at.ensures.below c.first_from-at.ensures.from c.if-at-entries.true (sym (rw c.new-home.ensures at c.place.ensures.value) ∙ c.if-place.true ∙ rw c.new-home.ensures at c.place-then-at-entries.ensures.value))
 
 pub returns-else-at-entries : goal.returns-else-at-entries
 returns-else-at-entries c =
-    sym (none_there c.args.home.now c.args.entries.now c.args.number c.in-Packed.rank c.first_from-at.result c.shape.ensures.plan c.requires.directory c.requires.object (sym c.shape.ensures.value ∙ c.in-Packed.is)
+    sym (none_there c.args.plan.now c.args.entries.now c.args.number c.in-Packed.rank c.first_from-at.result c.shape.ensures.plan c.requires.directory c.requires.object (sym c.shape.ensures.value ∙ c.in-Packed.is)
     c.first_from-at.ensures.below c.first_from-at.ensures.from (λ within same. elim c.else-at-entries.branch [
-      | else-at-entries-via-then-at-entries+else-place w ↦ w.if-place.false (w.place.ensures.value ∙ same ∙ sym w.place-then-at-entries.ensures.value)
+      | else-at-entries-via-then-at-entries+else-place w ↦ w.if-place.false (rw c.new-home.ensures at w.place.ensures.value ∙ same ∙ sym (rw c.new-home.ensures at w.place-then-at-entries.ensures.value))
       | else-at-entries-via-else-at-entries w ↦ omega (arith, within, w.if-at-entries.false)
     ]))

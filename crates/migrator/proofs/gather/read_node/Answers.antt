@@ -2,7 +2,7 @@ use Rattle.std.proofs.Common.{◌≡◌, ◌∙◌, Some, None, ap, sym, subst}
 use Rattle.device.specs.Disk.{Image}
 use Rattle.device.proofs.Images.{agrees_is}
 use Rattle.layout.specs.Homes.{home_place}
-use Rattle.layout.specs.Image.{frame_in, seat_in}
+use Rattle.layout.specs.Image.{frame_in, slot_sector}
 use Rattle.layout.specs.Superblock.{Plan}
 use Rattle.migrator.proofs.Gathering.{seat_bytes}
 use Rattle.migrator.proofs.Seats.{seat_fits}
@@ -11,18 +11,16 @@ use Rattle.migrator.proofs.gather.read_node.Goals.{in-Some, in-None}
 
 pub slot_sector-at-requires : goal.slot_sector-at-requires
 slot_sector-at-requires g c = record {
-  slot = seat_fits c.args.log.now c.args.directory.now c.args.number c.in-Some.slot c.requires.directory
-      (sym (ap (λ (p : Plan). seat_in p c.args.directory.now c.args.number) c.requires.same) ∙ sym c.find_seat.ensures ∙ c.in-Some.is);
+  slot = rw c.new-log.ensures (seat_fits c.args.plan.now c.args.directory.now c.args.number c.in-Some.slot c.requires.directory (sym c.find_seat.ensures ∙ c.in-Some.is));
 }
 
 pub returns-clause-found : goal.returns-clause-found
 returns-clause-found g c =
-    let seat : c.find_seat.result ≡ seat_in c.args.log.now c.args.directory.now c.args.number = c.find_seat.ensures ∙ ap (λ (p : Plan). seat_in p c.args.directory.now c.args.number) c.requires.same in
     let seen = agrees_is (g.D.Device.disk c.read_packed.new.device).seen (g.D.Device.disk c.args.device.now).seen c.read_packed.ensures.reads.seen in
-    subst (λ (i : Image). c.read_packed.new.node ≡ frame_in i c.args.log.now c.args.generation c.args.directory.now c.args.number) seen
+    subst (λ (i : Image). c.read_packed.new.node ≡ frame_in i c.args.plan.now c.args.generation c.args.directory.now c.args.number) seen
     (elim c.match-find_seat.branch [
-      | in-Some w ↦ seat_bytes (g.D.Device.disk c.read_packed.new.device).seen c.args.log.now c.args.generation c.args.directory.now c.args.number c.args.rank c.match-find_seat.at (Some w.in-Some.slot) c.read_packed.new.node c.requires.shape
-          (sym w.in-Some.is ∙ seat) (w.at-is ∙ w.slot_sector-at.ensures.value) c.in_ok-read_packed.ensures.found
-      | in-None w ↦ seat_bytes (g.D.Device.disk c.read_packed.new.device).seen c.args.log.now c.args.generation c.args.directory.now c.args.number c.args.rank c.match-find_seat.at None c.read_packed.new.node c.requires.shape
-          (sym w.in-None.is ∙ seat) (w.at-is ∙ w.place-at.ensures.value ∙ ap (λ (p : Plan). home_place p c.args.number) c.requires.same) c.in_ok-read_packed.ensures.found
+      | in-Some w ↦ seat_bytes (g.D.Device.disk c.read_packed.new.device).seen c.args.plan.now c.args.generation c.args.directory.now c.args.number c.args.rank c.match-find_seat.at (Some w.in-Some.slot) c.read_packed.new.node c.requires.shape
+          (sym w.in-Some.is ∙ c.find_seat.ensures) (w.at-is ∙ w.slot_sector-at.ensures.value ∙ ap (λ (p : Plan). slot_sector p c.args.generation w.in-Some.slot) c.new-log.ensures) c.in_ok-read_packed.ensures.found
+      | in-None w ↦ seat_bytes (g.D.Device.disk c.read_packed.new.device).seen c.args.plan.now c.args.generation c.args.directory.now c.args.number c.args.rank c.match-find_seat.at None c.read_packed.new.node c.requires.shape
+          (sym w.in-None.is ∙ c.find_seat.ensures) (w.at-is ∙ w.place-at.ensures.value ∙ ap (λ (p : Plan). home_place p c.args.number) c.new-home.ensures) c.in_ok-read_packed.ensures.found
     ])

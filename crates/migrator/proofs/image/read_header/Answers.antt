@@ -9,13 +9,13 @@ use Rattle.migrator.proofs.image.read_header.Goals as goal
 
 pub returns-in-Ok-push-clause-spelt : goal.returns-in-Ok-push-clause-spelt
 returns-in-Ok-push-clause-spelt g c =
-    let found = subst (λ (i : Image). IsFrameOf c.args.log.now.geometry c.args.header.age c.args.number (frame_in i c.args.log.now c.args.header.generation c.args.directory.now c.args.number) (frame_of c.in-Ok.read c.read_saved.new.room))
+    let found = subst (λ (i : Image). IsFrameOf c.args.plan.now.geometry c.args.header.age c.args.number (frame_in i c.args.plan.now c.args.header.generation c.args.directory.now c.args.number) (frame_of c.in-Ok.read c.read_saved.new.room))
     (agrees_is (g.D.Device.disk c.read_saved.new.device).seen (g.D.Device.disk c.args.device.now).seen c.read_saved.ensures.reads.seen) c.in-Ok.ensures.found in
-    (spelt_read (g.D.Device.disk c.args.device.now).seen c.args.log.now c.args.header.age c.args.header.generation c.args.directory.now c.args.number (frame_of c.in-Ok.read c.read_saved.new.room) found).0
+    (spelt_read (g.D.Device.disk c.args.device.now).seen c.args.plan.now c.args.header.age c.args.header.generation c.args.directory.now c.args.number (frame_of c.in-Ok.read c.read_saved.new.room) found).0
 
 pub returns-in-Ok-push-clause-header : goal.returns-in-Ok-push-clause-header
 returns-in-Ok-push-clause-header g c =
-    let found = subst (λ (i : Image). IsFrameOf c.args.log.now.geometry c.args.header.age c.args.number (frame_in i c.args.log.now c.args.header.generation c.args.directory.now c.args.number) (frame_of c.in-Ok.read c.read_saved.new.room))
+    let found = subst (λ (i : Image). IsFrameOf c.args.plan.now.geometry c.args.header.age c.args.number (frame_in i c.args.plan.now c.args.header.generation c.args.directory.now c.args.number) (frame_of c.in-Ok.read c.read_saved.new.room))
     (agrees_is (g.D.Device.disk c.read_saved.new.device).seen (g.D.Device.disk c.args.device.now).seen c.read_saved.ensures.reads.seen) c.in-Ok.ensures.found in
-    let same = (spelt_read (g.D.Device.disk c.args.device.now).seen c.args.log.now c.args.header.age c.args.header.generation c.args.directory.now c.args.number (frame_of c.in-Ok.read c.read_saved.new.room) found).1 in
+    let same = (spelt_read (g.D.Device.disk c.args.device.now).seen c.args.plan.now c.args.header.age c.args.header.generation c.args.directory.now c.args.number (frame_of c.in-Ok.read c.read_saved.new.room) found).1 in
     c.in-Ok-push.ensures.items ∙ ap (λ (f : Frame). c.args.headers.now.items ++ f.header ∷ []) (sym same)

@@ -7,5 +7,5 @@ use Rattle.migrator.proofs.image.read_headers.Given as goal
 abbrev pub invariant-loop-number : goal.invariant-loop-number
 invariant-loop-number g l =
     ReadsOnly (g.D.Device.disk l.fn.device) (g.D.Device.disk l.device) × ((g.D.Device.disk l.device).failures ≡ (g.D.Device.disk l.fn.device).failures)
-    × ((n : ℕ) → n < l.number → IsSpelt (g.D.Device.disk l.fn.device).seen l.log l.header.age l.header.generation l.directory n)
-    × (l.into.items ≡ headers_until (g.D.Device.disk l.fn.device).seen l.log l.header.generation l.directory l.number)
+    × ((n : ℕ) → n < l.number → IsSpelt (g.D.Device.disk l.fn.device).seen l.plan l.header.age l.header.generation l.directory n)
+    × (l.into.items ≡ headers_until (g.D.Device.disk l.fn.device).seen l.plan l.header.generation l.directory l.number)

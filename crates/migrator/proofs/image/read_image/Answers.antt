@@ -11,27 +11,24 @@ pub returns-in-Ok-read_headers-clause-found : goal.returns-in-Ok-read_headers-cl
 returns-in-Ok-read_headers-clause-found g c =
     let seen = agrees_is (g.D.Device.disk c.find_committed.new.device).seen (g.D.Device.disk c.args.device.now).seen c.find_committed.ensures.reads.seen in
     record {
-      header = c.in-Ok.ensures.found.0;
-      directory = c.in-Ok.ensures.found.1;
-      spelt = subst (λ (i : Image). AreSpelt i c.args.log.now c.in-Ok.header.age c.in-Ok.header.generation (take c.in-Ok.header.entries c.find_committed.new.directory)) seen c.in-Ok-read_headers.ensures.spelt;
-      headers_are = subst (λ (i : Image). c.read_headers.new.into.items ≡ headers (frames_read i c.args.log.now c.in-Ok.header.generation (take c.in-Ok.header.entries c.find_committed.new.directory))) seen c.in-Ok-read_headers.ensures.headers;
+      header = (rw c.new-log.ensures at c.in-Ok.ensures.found).0;
+      directory = (rw c.new-log.ensures at c.in-Ok.ensures.found).1;
+      spelt = subst (λ (i : Image). AreSpelt i c.args.plan.now c.in-Ok.header.age c.in-Ok.header.generation (take c.in-Ok.header.entries c.find_committed.new.directory)) seen c.in-Ok-read_headers.ensures.spelt;
+      headers_are = subst (λ (i : Image). c.read_headers.new.into.items ≡ headers (frames_read i c.args.plan.now c.in-Ok.header.generation (take c.in-Ok.header.entries c.find_committed.new.directory))) seen c.in-Ok-read_headers.ensures.headers;
     }
 
 pub returns-in-Err-clause-refused : goal.returns-in-Err-clause-refused
 returns-in-Err-clause-refused g c =
     let seen = agrees_is (g.D.Device.disk c.find_committed.new.device).seen (g.D.Device.disk c.args.device.now).seen c.find_committed.ensures.reads.seen in
-    let bad = subst (λ (i : Image). IsBadAt i c.args.log.now c.in-Ok.header (take c.in-Ok.header.entries c.find_committed.new.directory) c.in-Err.ensures.refused.0 c.in-Err.fault) seen c.in-Err.ensures.refused.2 in
-    bad_frame (g.D.Device.disk c.args.device.now).seen (g.D.Device.disk c.args.device.now).sectors c.args.log.now c.in-Ok.header (take c.in-Ok.header.entries c.find_committed.new.directory) c.in-Err.ensures.refused.0 c.in-Err.fault
-    c.requires.plan c.in-Ok.ensures.found.0 c.in-Ok.ensures.found.1 c.in-Err.ensures.refused.1 bad
-
-pub read_headers-requires-clause-same : goal.read_headers-requires-clause-same
-read_headers-requires-clause-same g c = c.requires.same
+    let bad = subst (λ (i : Image). IsBadAt i c.args.plan.now c.in-Ok.header (take c.in-Ok.header.entries c.find_committed.new.directory) c.in-Err.ensures.refused.0 c.in-Err.fault) seen c.in-Err.ensures.refused.2 in
+    bad_frame (g.D.Device.disk c.args.device.now).seen (g.D.Device.disk c.args.device.now).sectors c.args.plan.now c.in-Ok.header (take c.in-Ok.header.entries c.find_committed.new.directory) c.in-Err.ensures.refused.0 c.in-Err.fault
+    c.requires.plan (rw c.new-log.ensures at c.in-Ok.ensures.found).0 (rw c.new-log.ensures at c.in-Ok.ensures.found).1 c.in-Err.ensures.refused.1 bad
 
 pub read_headers-requires-clause-none : goal.read_headers-requires-clause-none
 read_headers-requires-clause-none g c = c.requires.none
 
 pub read_headers-requires-clause-inside : goal.read_headers-requires-clause-inside
-read_headers-requires-clause-inside g c = subst (λ (k : ℕ). c.args.log.now.total ≤ k) (sym c.find_committed.ensures.reads.size) c.requires.plan.whole
+read_headers-requires-clause-inside g c = subst (λ (k : ℕ). c.args.plan.now.total ≤ k) (sym c.find_committed.ensures.reads.size) c.requires.plan.whole
 
 pub returns-in-Ok-read_headers-clause-reads : goal.returns-in-Ok-read_headers-clause-reads
 returns-in-Ok-read_headers-clause-reads g c = reads_more (g.D.Device.disk c.args.device.now) (g.D.Device.disk c.find_committed.new.device) (g.D.Device.disk c.read_headers.new.device) c.find_committed.ensures.reads c.read_headers.ensures.reads

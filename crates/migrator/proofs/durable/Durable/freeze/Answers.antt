@@ -1,29 +1,26 @@
-use Rattle.std.proofs.Common.{rules, ◌≡◌, ◌≤◌, None, sym, subst}
-use Rattle.migrator.specs.Put.{sum_of, held_slot}
-use Rattle.migrator.specs.Durable.{Books, books_of, stored_of, stored_in, freezing}
-use Rattle.migrator.specs.Mended.{mended}
+use Rattle.std.proofs.Common.{◌≡◌, ◌≤◌, None, rules, sym, subst}
+use Rattle.migrator.specs.Durable.{freezing, seen_by, stored_of, stored_on}
+use Rattle.migrator.specs.Put.{held_slot, sum_of}
 use Rattle.migrator.proofs.Buffered.{none_idle, without}
-use Rattle.migrator.proofs.Freezing.{frozen_books, freeze_kept, freeze_stored}
+use Rattle.migrator.proofs.Freezing.{freeze_kept, freeze_stored, frozen_books}
 use Rattle.migrator.proofs.durable.Durable.freeze.Goals as goal
 
 pub invariant_of-self : goal.invariant_of-self
 invariant_of-self g c =
-    let b : Books = (books_of c.self.inside.log c.self.inside.header c.self.inside.directory.items c.self.inside.moved c.self.inside.frozen c.self.inside.size c.self.inside.working c.self.inside.buffer) in
-    let none : c.self.inside.size ≡ None = search rules in
-    let home : c.self.inside.header.entries ≡ 0 = search rules in
+    let disk = g.D.Device.disk c.self.inside.device in
+    let b = c.self.inside.books in
+    let none : b.size ≡ None = search rules in
+    let home : b.header.entries ≡ 0 = search rules in
     let enough = subst (λ t. sum_of held_slot (stored_of g.D.Device.disk t).working ≤ c.args.size) (sym c.self.view_is) c.requires.enough in
     let few = subst (λ t. c.args.size ≤ t.books.plan.geometry.log) (sym c.self.view_is) c.requires.few in
-    let kept = freeze_kept (g.D.Device.disk c.self.inside.device).sectors (mended (g.D.Device.disk c.self.inside.device).seen c.self.inside.buffer) b c.args.size none c.self.invariant.0 home enough few in (
-      rw (c.swap.ensures.x_after, c.swap.ensures.y_after) kept,
-      c.self.invariant.1,
-      c.self.invariant.2,
-      c.self.invariant.3,
-      rw (c.swap.ensures.x_after, c.swap.ensures.y_after) (without (frozen_books b c.args.size) c.self.inside.buffer (none_idle b c.self.inside.buffer c.self.invariant.4 none)),
-    )
+    rw c.freeze.ensures (record {
+      kept = freeze_kept disk.sectors (seen_by disk.seen b) b c.args.size none c.self.invariant.kept home enough few;
+      unwritten = without (frozen_books b c.args.size) b.unwritten (none_idle b b.unwritten c.self.invariant.unwritten none);
+    })
 
 pub returns-clause-frozen : goal.returns-clause-frozen
 returns-clause-frozen g c =
-    let b : Books = (books_of c.self.inside.log c.self.inside.header c.self.inside.directory.items c.self.inside.moved c.self.inside.frozen c.self.inside.size c.self.inside.working c.self.inside.buffer) in
-    let none : c.self.inside.size ≡ None = search rules in
-    let same = freeze_stored (g.D.Device.disk c.self.inside.device).sectors (mended (g.D.Device.disk c.self.inside.device).seen c.self.inside.buffer) b c.args.size none c.self.invariant.0 in
-    rw (c.swap.ensures.x_after, c.swap.ensures.y_after) (subst (λ t. stored_in (mended (g.D.Device.disk c.self.inside.device).seen c.self.inside.buffer) (frozen_books b c.args.size) ≡ freezing c.args.size (stored_of g.D.Device.disk t)) c.self.view_is same)
+    let disk = g.D.Device.disk c.self.inside.device in
+    let b = c.self.inside.books in
+    let none : b.size ≡ None = search rules in
+    rw c.freeze.ensures (subst (λ t. stored_on disk (frozen_books b c.args.size) ≡ freezing c.args.size (stored_of g.D.Device.disk t)) c.self.view_is (freeze_stored disk.sectors (seen_by disk.seen b) b c.args.size none c.self.invariant.kept))

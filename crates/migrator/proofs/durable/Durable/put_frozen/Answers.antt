@@ -1,10 +1,12 @@
-use Rattle.std.proofs.Common.{◌∙◌, ap, sym}
+use Rattle.std.proofs.Common.{◌≡◌, Some, ap, sym, subst}
 use Rattle.std.specs.Prelude.{option_map}
-use Rattle.migrator.specs.Durable.{frozen_of, seen_of}
+use Rattle.migrator.specs.Durable.{FrozenPuts, frozen_of, seen_by, stored_of}
+use Rattle.migrator.specs.Put.{HasRoom}
 use Rattle.migrator.proofs.durable.Durable.put_frozen.Goals as goal
 
 pub put_running-requires-clause-room : goal.put_running-requires-clause-room
 put_running-requires-clause-room g c =
-    let size = ap (λ t. t.books.size) (sym c.self.view_is) ∙ c.in-Some.is in
-    c.requires.room (frozen_of (seen_of g.D.Device.disk c.args.self.now) c.args.self.now.books c.in-Some.size)
-    (ap (option_map (frozen_of (seen_of g.D.Device.disk c.args.self.now) c.args.self.now.books)) size)
+    let disk = g.D.Device.disk c.self.inside.device in
+    let b = c.self.inside.books in
+    let room = subst (λ t. (f : FrozenPuts) → (stored_of g.D.Device.disk t).frozen ≡ Some f → HasRoom f.size f.put c.args.number) (sym c.self.view_is) c.requires.room in
+    room (frozen_of (seen_by disk.seen b) b c.in-Some.size) (ap (option_map (frozen_of (seen_by disk.seen b) b)) c.in-Some.is)

@@ -14,7 +14,7 @@ pub returns-in-Ok-new-clause-read : goal.returns-in-Ok-new-clause-read
 returns-in-Ok-new-clause-read g c =
     let seen = agrees_is (g.D.Device.disk c.read_plan.new.device).seen (g.D.Device.disk c.args.device.now).seen c.read_plan.ensures.looks.seen in
     if_both c.read_with_room.result
-    (λ parts plan read. subst (λ (i : Image). IsRead i parts.log parts.header parts.reserve.directories.saved.items parts.reserve.headers.items) seen
+    (λ parts plan read. subst (λ (i : Image). IsRead i parts.plan parts.header parts.reserve.directories.saved.items parts.reserve.headers.items) seen
     (subst (λ (p : Plan). IsRead (g.D.Device.disk c.read_plan.new.device).seen p parts.header parts.reserve.directories.saved.items parts.reserve.headers.items) (sym plan) read))
     c.read_with_room.ensures.plan c.read_with_room.ensures.read
 

@@ -1,0 +1,22 @@
+use Rattle.std.proofs.Common.{◌∙◌, ap}
+use Rattle.device.specs.Disk.{Image}
+use Rattle.device.proofs.Images.{agrees_is}
+use Rattle.layout.specs.Homes.{home_place}
+use Rattle.layout.specs.Image.{bytes_at}
+use Rattle.migrator.specs.Durable.{seen_by}
+use Rattle.migrator.proofs.Buffered.{home_raw}
+use Rattle.migrator.proofs.Fetching.{ok_weaker}
+use Rattle.migrator.proofs.Journaling.{header_read}
+use Rattle.migrator.proofs.books.Books.saved_header.Goals as goal
+
+pub returns-clause-found : goal.returns-clause-found
+returns-clause-found g c =
+    let disk = g.D.Device.disk c.args.device.now in
+    let new = g.D.Device.disk c.read_header_of.new.device in
+    let b = c.args.self.now in
+    let place = rw c.new-home.ensures at c.place-at.ensures.value in
+    let same = ap (λ (image : Image). bytes_at image (home_place b.plan c.args.number) b.plan c.args.number) (agrees_is new.seen disk.seen c.read_header_of.ensures.reads.seen)
+    ∙ home_raw disk.sectors disk.seen b b.unwritten c.requires.stands.kept c.requires.stands.unwritten c.requires.home c.args.number c.requires.object in
+    ok_weaker c.read_header_of.result
+    (λ header is. header_read (seen_by disk.seen b) disk.sectors new.seen b c.requires.stands.kept c.requires.home c.args.number c.place-at.result c.shape.result c.requires.object place c.shape.ensures.value c.shape.ensures.fits same header is)
+    c.read_header_of.ensures.found

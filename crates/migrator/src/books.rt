@@ -1,0 +1,246 @@
+// What memory holds of an image.
+ghost use Rattle.std.specs.Prelude.{◌≡◌, ℕ, ◌<◌, ◌≤◌, None, Some, length, slice_set, OnOk, OnErr, option_map};
+ghost use Rattle.model.specs.Keepable.{IsKeepable};
+ghost use Rattle.device.specs.Calls.{Counts};
+ghost use Rattle.device.specs.Disk.{Image};
+ghost use Rattle.layout.specs.Frame.{frame_bytes};
+ghost use Rattle.layout.specs.Header.{IsHeader};
+ghost use Rattle.layout.specs.Image.{slot_sector};
+ghost use Rattle.layout.specs.Homes.{place_length};
+ghost use Rattle.frame_io.specs.Calls.{WritesAt};
+ghost use Rattle.frame_io.specs.Frames.{IsObject};
+ghost use Rattle.checkpoint.specs.Saved.{most};
+ghost use Rattle.migrator.specs.Durable.{GoesOnDisk, IsDurable, IsKept, frozen_generation, left_of, seen_by, stored_in, stored_on, with_frozen, with_working, working_generation};
+ghost use Rattle.migrator.specs.Put.{Broken, HasRoom, Kept, puts_in, slot_bytes};
+ghost use Rattle.migrator.specs.Table.{slot_for};
+
+mod access;
+mod adopt;
+mod commit;
+mod journal;
+mod migrate;
+
+use crate::cluster_buffer::ClusterBuffer;
+use crate::directory::Directory;
+use crate::table::{Place, Table};
+use ckpt_log::Log;
+use device::{Device, Failed};
+use layout::{CheckpointHeader, Superblock};
+use model::{Cap, Content, ObjectHeader};
+use std::mem;
+
+/// What memory holds of an image: its superblock, the committed header and its directory, and where the frames lie
+/// that were put since. Each call is lent the device.
+#[derive(Drop)]
+pub(crate) struct Books {
+    pub plan: Superblock,
+    pub header: CheckpointHeader,
+    /// The entries of the committed checkpoint.
+    pub directory: Directory,
+    /// How many of its entries are home.
+    pub moved: u64,
+    /// The slots of the checkpoint on its way.
+    pub frozen: Table,
+    /// How many objects that checkpoint writes.
+    pub size: Option<u64>,
+    /// The slots of the frames that were put since it began.
+    pub working: Table,
+    /// A cluster that the device failed to write.
+    pub unwritten: ClusterBuffer,
+}
+
+// Writes the frame of an object into its slot in the half of a generation, or into the next one.
+// After `Failed` the slot may hold any bytes.
+fn put_frame<D: Device>(
+    device: &mut D,
+    plan: &Superblock,
+    table: &mut Table,
+    generation: u64,
+    number: u64,
+    header: ObjectHeader,
+    content: &Content<Cap>,
+) -> Result<(), Failed>
+    requires known { number < length table.old }
+    requires room { slot_for table.old number < plan.now.geometry.log }
+    requires inside { plan.now.total ≤ (D.disk device.old).sectors }
+    ensures whole { OnOk result (table.new
+        ≡ slice_set table.old number (Place.Whole (slot_for table.old number))) }
+    ensures torn { OnErr result (table.new
+        ≡ slice_set table.old number (Place.Torn (slot_for table.old number))) }
+    ensures written { OnOk result
+        (slot_bytes (D.disk device.new).seen plan.now generation (slot_for table.old number) number
+        ≡ frame_bytes plan.now.geometry number (record { header = header; content = content.now })) }
+    ensures writes { WritesAt (slot_sector plan.now generation (slot_for table.old number))
+        (place_length plan.now number) (D.disk device.old) (D.disk device.new) }
+    ensures cause { Counts (D.disk device.old) (D.disk device.new) result }
+{
+    let slot = table.slot_for(number);
+    table.set(number, Place::Torn(slot));
+    let log = Log::new(plan);
+    log.write_slot(device, generation, slot, number, header, content)?;
+    table.set(number, Place::Whole(slot));
+    Ok(())
+}
+
+impl Books {
+    // The generation that frames are put for now.
+    fn working_generation(&self) -> u64
+        requires { IsHeader self.now.plan.geometry.log self.now.header }
+        ensures { result ≡ working_generation self.now }
+    {
+        match self.size {
+            None => self.header.generation + 1,
+            Some(_) => self.header.generation + 2,
+        }
+    }
+
+    /// Writes the frame of an object into a slot of its own, in the half of the log that nothing saved or frozen lies
+    /// in. After `Failed` the slot may hold any bytes.
+    pub(crate) fn put_working<D: Device>(
+        &mut self,
+        device: &mut D,
+        number: u64,
+        header: ObjectHeader,
+        content: &Content<Cap>,
+    ) -> Result<(), Failed>
+        requires stands { IsDurable (D.disk device.old) self.old }
+        requires object { IsObject self.old.plan.geometry number }
+        requires keepable { IsKeepable self.old.plan.geometry most number
+            (record { header = header; content = content.now }) }
+        requires room { HasRoom self.old.plan.geometry.log
+            (stored_on (D.disk device.old) self.old).working number }
+        ensures stands { IsDurable (D.disk device.new) self.new }
+        ensures put { OnOk result (stored_on (D.disk device.new) self.new
+            ≡ with_working number (Kept (record { header = header; content = content.now }))
+            (stored_on (D.disk device.old) self.old)) }
+        ensures broken { OnErr result (stored_on (D.disk device.new) self.new
+            ≡ with_working number Broken (stored_on (D.disk device.old) self.old)) }
+        ensures goes_on { GoesOnDisk (D.disk device.old) (D.disk device.new) self.old self.new }
+        ensures cause { Counts (D.disk device.old) (D.disk device.new) result }
+    {
+        let generation = self.working_generation();
+        put_frame(
+            device,
+            &self.plan,
+            &mut self.working,
+            generation,
+            number,
+            header,
+            content,
+        )
+    }
+
+    // Drops what was put of an object for the checkpoint on its way, which writes `size` objects, and writes the
+    // cluster that the device failed to write.
+    fn tear<D: Device>(&mut self, device: &mut D, size: u64, number: u64) -> Result<(), Failed>
+        requires stands { IsDurable (D.disk device.old) self.old }
+        requires running { self.old.size ≡ Some size }
+        requires object { IsObject self.old.plan.geometry number }
+        requires room { HasRoom size (puts_in (seen_by (D.disk device.old).seen self.old) self.old.plan
+            (frozen_generation self.old) self.old.frozen) number }
+        ensures stands { IsDurable (D.disk device.new) self.new }
+        ensures torn { stored_on (D.disk device.new) self.new
+            ≡ with_frozen number Broken (stored_on (D.disk device.old) self.old) }
+        ensures size { self.new.size ≡ Some size }
+        ensures written { OnOk result (self.new.unwritten ≡ None) }
+        ensures goes_on { GoesOnDisk (D.disk device.old) (D.disk device.new) self.old self.new }
+        ensures cause { Counts (D.disk device.old) (D.disk device.new) result }
+    {
+        let slot = self.frozen.slot_for(number);
+        self.frozen.set(number, Place::Torn(slot));
+        self.unwritten.write(device)
+    }
+
+    // Writes the frame of an object for the checkpoint on its way, where all clusters are written.
+    fn put_written<D: Device>(
+        &mut self,
+        device: &mut D,
+        size: u64,
+        number: u64,
+        header: ObjectHeader,
+        content: &Content<Cap>,
+    ) -> Result<(), Failed>
+        requires stands { IsDurable (D.disk device.old) self.old }
+        requires running { self.old.size ≡ Some size }
+        requires written { self.old.unwritten ≡ None }
+        requires object { IsObject self.old.plan.geometry number }
+        requires keepable { IsKeepable self.old.plan.geometry most number
+            (record { header = header; content = content.now }) }
+        requires room { HasRoom size (puts_in (seen_by (D.disk device.old).seen self.old) self.old.plan
+            (frozen_generation self.old) self.old.frozen) number }
+        ensures stands { IsDurable (D.disk device.new) self.new }
+        ensures put { OnOk result (stored_on (D.disk device.new) self.new
+            ≡ with_frozen number (Kept (record { header = header; content = content.now }))
+            (stored_on (D.disk device.old) self.old)) }
+        ensures broken { OnErr result (stored_on (D.disk device.new) self.new
+            ≡ with_frozen number Broken (stored_on (D.disk device.old) self.old)) }
+        ensures goes_on { GoesOnDisk (D.disk device.old) (D.disk device.new) self.old self.new }
+        ensures cause { Counts (D.disk device.old) (D.disk device.new) result }
+    {
+        let generation = self.header.generation + 1;
+        put_frame(
+            device,
+            &self.plan,
+            &mut self.frozen,
+            generation,
+            number,
+            header,
+            content,
+        )
+    }
+
+    /// Writes the frame of an object for the checkpoint on its way, which writes `size` objects, into a slot of its
+    /// own in the half of the log that nothing saved lies in. After `Failed` the slot may hold any bytes.
+    pub(crate) fn put_running<D: Device>(
+        &mut self,
+        device: &mut D,
+        size: u64,
+        number: u64,
+        header: ObjectHeader,
+        content: &Content<Cap>,
+    ) -> Result<(), Failed>
+        requires stands { IsDurable (D.disk device.old) self.old }
+        requires running { self.old.size ≡ Some size }
+        requires object { IsObject self.old.plan.geometry number }
+        requires keepable { IsKeepable self.old.plan.geometry most number
+            (record { header = header; content = content.now }) }
+        requires room { HasRoom size (puts_in (seen_by (D.disk device.old).seen self.old) self.old.plan
+            (frozen_generation self.old) self.old.frozen) number }
+        ensures stands { IsDurable (D.disk device.new) self.new }
+        ensures put { OnOk result (stored_on (D.disk device.new) self.new
+            ≡ with_frozen number (Kept (record { header = header; content = content.now }))
+            (stored_on (D.disk device.old) self.old)) }
+        ensures broken { OnErr result (stored_on (D.disk device.new) self.new
+            ≡ with_frozen number Broken (stored_on (D.disk device.old) self.old)) }
+        ensures goes_on { GoesOnDisk (D.disk device.old) (D.disk device.new) self.old self.new }
+        ensures cause { Counts (D.disk device.old) (D.disk device.new) result }
+    {
+        self.tear(device, size, number)?;
+        self.put_written(device, size, number, header, content)
+    }
+
+    /// Freezes what was put: a checkpoint of `size` objects is on its way.
+    pub(crate) fn freeze(&mut self, size: u64)
+        requires idle { self.old.size ≡ None }
+        requires home { self.old.header.entries ≡ 0 }
+        ensures { self.new ≡ record self.old {
+          frozen = self.old.working;
+          size = Some size;
+          working = self.old.frozen;
+        } }
+    {
+        mem::swap(&mut self.frozen, &mut self.working);
+        self.size = Some(size);
+    }
+
+    /// How many objects of the checkpoint on its way have no frame yet.
+    pub(crate) fn left(&self) -> Option<u64>
+        requires { (size : ℕ) × (image : Image) × IsKept size image self.now }
+        ensures { (image : Image) → result ≡ option_map left_of (stored_in image self.now).frozen }
+    {
+        match self.size {
+            None => None,
+            Some(size) => Some(size - self.frozen.whole()),
+        }
+    }
+}

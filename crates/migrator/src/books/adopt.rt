@@ -1,0 +1,48 @@
+// The one way to go on from another header.
+ghost use Rattle.std.specs.Prelude.{◌≡◌, OnOk, OnErr};
+ghost use Rattle.device.specs.Calls.{Counts};
+ghost use Rattle.checkpoint.specs.Saved.{LeavesEither};
+ghost use Rattle.migrator.specs.Durable.{IsDurable, IsSoundOn, stored_on};
+ghost use Rattle.migrator.specs.Saving.{MayAdopt, adopted};
+
+use crate::books::Books;
+use crate::directory::Directory;
+use crate::save::save;
+use device::{Device, Failed};
+use layout::CheckpointHeader;
+use std::mem;
+
+impl Books {
+    /// Writes `entries` as the directory of `next`, publishes `next`, and goes on from it. After `Failed` the books are
+    /// as before, and a crash leaves what was saved, or what `next` saves.
+    pub(crate) fn adopt<D: Device>(
+        &mut self,
+        device: &mut D,
+        next: CheckpointHeader,
+        entries: &mut Directory,
+    ) -> Result<(), Failed>
+        requires { MayAdopt (D.disk device.old) self.old next entries.old }
+        ensures stands { IsDurable (D.disk device.new) self.new }
+        ensures adopted { OnOk result (self.new ≡ adopted next entries.old self.old) }
+        ensures unchanged { OnErr result (self.new ≡ self.old) }
+        ensures stored { OnOk result (stored_on (D.disk device.new) self.new
+            ≡ stored_on (D.disk device.old) (adopted next entries.old self.old)) }
+        ensures kept { OnErr result (stored_on (D.disk device.new) self.new
+            ≡ stored_on (D.disk device.old) self.old) }
+        ensures plan { self.new.plan ≡ self.old.plan }
+        ensures sound { OnOk result (IsSoundOn (D.disk device.new) self.new) }
+        ensures size { (D.disk device.new).sectors ≡ (D.disk device.old).sectors }
+        ensures any_moment { LeavesEither (D.disk device.old) (D.disk device.new)
+            (stored_on (D.disk device.old) self.old).saved
+            (stored_on (D.disk device.old) (adopted next entries.old self.old)).saved }
+        ensures cause { Counts (D.disk device.old) (D.disk device.new) result }
+    {
+        save(device, &self.plan, next, entries.as_slice())?;
+        mem::swap(&mut self.directory, entries);
+        self.header = next;
+        self.moved = 0;
+        self.size = None;
+        self.frozen.clear();
+        Ok(())
+    }
+}

@@ -1,0 +1,152 @@
+// One page is saved beside the checkpoints.
+ghost use Rattle.std.specs.Prelude.{◌≡◌, ℕ, ◌≤◌, ◌<◌, ◌^◌, None, [], length, IfOk, OnOk, OnErr};
+ghost use Rattle.device.specs.Calls.{Counts};
+ghost use Rattle.layout.specs.Frame.{IsFrameOf};
+ghost use Rattle.layout.specs.Header.{IsHeader};
+ghost use Rattle.model.specs.Frame.{frame_at};
+ghost use Rattle.model.specs.declared.object.Role.TheVariants as role;
+ghost use Rattle.frame_io.specs.Calls.{ReadsOnly};
+ghost use Rattle.frame_io.specs.Frames.{IsObject};
+ghost use Rattle.checkpoint.specs.Saved.{LeavesEither, journaled_saved, replaced_saved, with_words};
+ghost use Rattle.migrator.specs.Durable.{GoesOnDisk, IsDurable, IsSoundOn, MayJournal, first_bytes, first_frame, replaced, replaced_header, stored_after_journal, stored_on};
+
+use crate::books::Books;
+use crate::directory::Directory;
+use crate::read::read_header_of;
+use ckpt_log::Log;
+use device::{Device, Failed};
+use home_ranges::Home;
+use layout::{CheckpointHeader, Entry};
+use model::ObjectHeader;
+
+impl Books {
+    /// The header of the saved frame of an object, where all that is saved is home. One sector is read, or the 8 of a
+    /// cluster, and no memory is taken.
+    pub(crate) fn saved_header<D: Device>(
+        &self,
+        device: &mut D,
+        number: u64,
+    ) -> Result<ObjectHeader, Failed>
+        requires stands { IsDurable (D.disk device.old) self.now }
+        requires object { IsObject self.now.plan.geometry number }
+        requires home { self.now.header.entries ≡ 0 }
+        ensures found { IfOk result (λ header. header
+            ≡ (frame_at (stored_on (D.disk device.old) self.now).saved.frames number).header) }
+        ensures reads { ReadsOnly (D.disk device.old) (D.disk device.new) }
+        ensures cause { Counts (D.disk device.old) (D.disk device.new) result }
+    {
+        let home = Home::new(&self.plan);
+        let at = home.place(number);
+        read_header_of(device, at, self.plan.shape(number))
+    }
+
+    // Writes a page with other words, under the header that is saved, into the first slot of the half of the log that
+    // the saved generation used.
+    fn put_page<D: Device>(&self, device: &mut D, number: u64, words: &[u64]) -> Result<(), Failed>
+        requires stands { IsDurable (D.disk device.old) self.now }
+        requires free { self.now.size ≡ None }
+        requires home { self.now.header.entries ≡ 0 }
+        requires page { (frame_at (stored_on (D.disk device.old) self.now).saved.frames number).header.role
+            ≡ role.Page }
+        requires words { length words.now ≡ 512 }
+        ensures stands { IsDurable (D.disk device.new) self.now }
+        ensures spelt { OnOk result ((age : ℕ) → self.now.header.age ≤ age
+            → IsFrameOf self.now.plan.geometry age number
+            (first_bytes (D.disk device.new).seen self.now number)
+            (with_words words.now (frame_at (stored_on (D.disk device.old) self.now).saved.frames number))) }
+        ensures stored { stored_on (D.disk device.new) self.now ≡ stored_on (D.disk device.old) self.now }
+        ensures goes_on { GoesOnDisk (D.disk device.old) (D.disk device.new) self.now self.now }
+        ensures cause { Counts (D.disk device.old) (D.disk device.new) result }
+    {
+        let header = self.saved_header(device, number)?;
+        let log = Log::new(&self.plan);
+        log.write_page(device, self.header.generation, 0, header, words)
+    }
+
+    // The header under which one object is saved anew, at an age.
+    fn replaced_header(&self, age: u64) -> CheckpointHeader
+        requires { IsHeader self.now.plan.geometry.log self.now.header }
+        ensures { result ≡ replaced_header age self.now }
+    {
+        CheckpointHeader {
+            sequence: self.header.sequence + 1,
+            generation: self.header.generation + 2,
+            entries: 1,
+            age,
+        }
+    }
+
+    // Saves the frame of an object that lies in the first slot of the half of the log that the saved generation used.
+    fn save_first<D: Device>(
+        &mut self,
+        device: &mut D,
+        spare: &mut Directory,
+        number: u64,
+        age: u64,
+    ) -> Result<(), Failed>
+        requires stands { IsDurable (D.disk device.old) self.old }
+        requires free { self.old.size ≡ None }
+        requires home { self.old.header.entries ≡ 0 }
+        requires object { IsObject self.old.plan.geometry number }
+        requires page { self.old.plan.geometry.nodes ≤ number }
+        requires spelt { IsFrameOf self.old.plan.geometry age number
+            (first_bytes (D.disk device.old).seen self.old number)
+            (first_frame (D.disk device.old).seen self.old number) }
+        requires sound { IsSoundOn (D.disk device.old) self.old }
+        requires later { self.old.header.age < age }
+        requires most { age ≤ 2 ^ 62 }
+        ensures stands { IsDurable (D.disk device.new) self.new }
+        ensures saved { OnOk result (stored_on (D.disk device.new) self.new ≡ replaced age number
+            (first_frame (D.disk device.old).seen self.old number)
+            (stored_on (D.disk device.old) self.old)) }
+        ensures unchanged { OnErr result (stored_on (D.disk device.new) self.new
+            ≡ stored_on (D.disk device.old) self.old) }
+        ensures plan { self.new.plan ≡ self.old.plan }
+        ensures sound { OnOk result (IsSoundOn (D.disk device.new) self.new) }
+        ensures size { (D.disk device.new).sectors ≡ (D.disk device.old).sectors }
+        ensures any_moment { LeavesEither (D.disk device.old) (D.disk device.new)
+            (stored_on (D.disk device.old) self.old).saved (replaced_saved age number
+            (first_frame (D.disk device.old).seen self.old number)
+            (stored_on (D.disk device.old) self.old).saved) }
+        ensures cause { Counts (D.disk device.old) (D.disk device.new) result }
+    {
+        let header = self.replaced_header(age);
+        spare.put_one(Entry {
+            object: number,
+            slot: 0,
+        });
+        self.adopt(device, header, spare)
+    }
+
+    /// Saves a page with other words, where no checkpoint is on its way and all that is saved is home.
+    pub(crate) fn journal<D: Device>(
+        &mut self,
+        device: &mut D,
+        spare: &mut Directory,
+        number: u64,
+        words: &[u64],
+        age: u64,
+    ) -> Result<(), Failed>
+        requires stands { IsDurable (D.disk device.old) self.old }
+        requires free { self.old.size ≡ None }
+        requires home { self.old.header.entries ≡ 0 }
+        requires may { MayJournal age number (stored_on (D.disk device.old) self.old).saved }
+        requires words { length words.now ≡ 512 }
+        requires sound { IsSoundOn (D.disk device.old) self.old }
+        ensures stands { IsDurable (D.disk device.new) self.new }
+        ensures journaled { OnOk result (stored_on (D.disk device.new) self.new
+            ≡ stored_after_journal age number words.now (stored_on (D.disk device.old) self.old)) }
+        ensures unchanged { OnErr result (stored_on (D.disk device.new) self.new
+            ≡ stored_on (D.disk device.old) self.old) }
+        ensures plan { self.new.plan ≡ self.old.plan }
+        ensures sound { OnOk result (IsSoundOn (D.disk device.new) self.new) }
+        ensures size { (D.disk device.new).sectors ≡ (D.disk device.old).sectors }
+        ensures any_moment { LeavesEither (D.disk device.old) (D.disk device.new)
+            (stored_on (D.disk device.old) self.old).saved
+            (journaled_saved age number words.now (stored_on (D.disk device.old) self.old).saved) }
+        ensures cause { Counts (D.disk device.old) (D.disk device.new) result }
+    {
+        self.put_page(device, number, words)?;
+        self.save_first(device, spare, number, age)
+    }
+}

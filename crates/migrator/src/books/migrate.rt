@@ -1,0 +1,143 @@
+// What is saved goes home.
+ghost use Rattle.std.specs.Prelude.{◌≡◌, ◌⊎◌, ℕ, ◌+◌, ◌-◌, ◌<◌, ◌≤◌, true, false, IfOk, OnOk, OnErr};
+ghost use Rattle.device.specs.Calls.{Counts};
+ghost use Rattle.checkpoint.specs.Saved.{LeavesEither, home_saved};
+ghost use Rattle.migrator.specs.Durable.{IsDurable, IsLesser, IsSoundOn, MovedBy, finished, moved, moved_saved, stored_on};
+
+use crate::books::Books;
+use crate::copy::copy_home;
+use crate::directory::Directory;
+use crate::turn::is_first;
+use device::{Device, Failed};
+use layout::CheckpointHeader;
+
+impl Books {
+    // Copies the next saved frame home, where it didn't go there with the one before it.
+    fn move_next<D: Device>(&mut self, device: &mut D) -> Result<(), Failed>
+        requires stands { IsDurable (D.disk device.old) self.old }
+        requires some { self.old.moved < self.old.header.entries }
+        ensures stands { IsDurable (D.disk device.new) self.new }
+        ensures moved { OnOk result (MovedBy (D.disk device.old) (D.disk device.new) self.old self.new 1) }
+        ensures unmoved { OnErr result (MovedBy (D.disk device.old) (D.disk device.new) self.old self.new 0) }
+        ensures cause { Counts (D.disk device.old) (D.disk device.new) result }
+    {
+        let generation = self.header.generation;
+        let entries = self.directory.as_slice();
+        let index = self.moved as usize;
+        let entry = entries[index];
+        if !is_first(&self.plan, entries, index) {
+            self.moved += 1;
+            return Ok(());
+        }
+        copy_home(device, &self.plan, generation, entries, entry)?;
+        self.moved += 1;
+        Ok(())
+    }
+
+    // Publishes that all that is saved is home.
+    fn finish<D: Device>(&mut self, device: &mut D, spare: &mut Directory) -> Result<(), Failed>
+        requires stands { IsDurable (D.disk device.old) self.old }
+        requires some { 0 < self.old.header.entries }
+        requires all { self.old.moved ≡ self.old.header.entries }
+        requires sound { IsSoundOn (D.disk device.old) self.old }
+        ensures stands { IsDurable (D.disk device.new) self.new }
+        ensures finished { OnOk result (stored_on (D.disk device.new) self.new
+            ≡ finished (stored_on (D.disk device.old) self.old)) }
+        ensures unchanged { OnErr result (stored_on (D.disk device.new) self.new
+            ≡ stored_on (D.disk device.old) self.old) }
+        ensures plan { self.new.plan ≡ self.old.plan }
+        ensures sound { OnOk result (IsSoundOn (D.disk device.new) self.new) }
+        ensures size { (D.disk device.new).sectors ≡ (D.disk device.old).sectors }
+        ensures any_moment { LeavesEither (D.disk device.old) (D.disk device.new)
+            (stored_on (D.disk device.old) self.old).saved
+            (home_saved (stored_on (D.disk device.old) self.old).saved) }
+        ensures cause { Counts (D.disk device.old) (D.disk device.new) result }
+    {
+        let header = CheckpointHeader {
+            sequence: self.header.sequence + 1,
+            generation: self.header.generation,
+            entries: 0,
+            age: self.header.age,
+        };
+        spare.clear();
+        self.adopt(device, header, spare)
+    }
+
+    // Copies `count` saved frames home.
+    fn move_some<D: Device>(&mut self, device: &mut D, count: u64) -> Result<(), Failed>
+        requires stands { IsDurable (D.disk device.old) self.old }
+        requires some { self.old.moved + count ≤ self.old.header.entries }
+        ensures stands { IsDurable (D.disk device.new) self.new }
+        ensures moved { OnOk result (MovedBy (D.disk device.old) (D.disk device.new) self.old self.new count) }
+        ensures unmoved { OnErr result ((k : ℕ) × (k ≤ count)
+            × MovedBy (D.disk device.old) (D.disk device.new) self.old self.new k) }
+        ensures none { count ≡ 0 → (self.new ≡ self.old) × (device.new ≡ device.old) }
+        ensures cause { Counts (D.disk device.old) (D.disk device.new) result }
+    {
+        for _ in 0..count {
+            self.move_next(device)?;
+        }
+        Ok(())
+    }
+
+    // Whether all that is saved is home, and no header says so yet.
+    fn is_to_finish(&self) -> bool
+        requires { self.now.moved ≤ self.now.header.entries }
+        ensures yes { result ≡ true → (0 < self.now.header.entries)
+            × (self.now.moved ≡ self.now.header.entries) }
+        ensures no { result ≡ false → (self.now.header.entries ≡ 0)
+            ⊎ (self.now.moved < self.now.header.entries) }
+    {
+        self.header.entries != 0 && self.moved >= self.header.entries
+    }
+
+    // How many of the saved objects go home if `count` are to, and how many then are left.
+    fn share(&self, count: u64) -> (u64, u64)
+        requires { self.now.moved ≤ self.now.header.entries }
+        ensures lesser { IsLesser result.0 count (self.now.header.entries - self.now.moved) }
+        ensures left { result.1 ≡ self.now.header.entries - self.now.moved - result.0 }
+    {
+        let left = self.header.entries - self.moved;
+        if count < left {
+            (count, left - count)
+        } else {
+            (left, 0)
+        }
+    }
+
+    /// Copies `count` of the saved frames home, in the order of their numbers, and returns how many are left. Once none
+    /// is, it makes them durable and publishes a header that says so.
+    pub(crate) fn migrate<D: Device>(
+        &mut self,
+        device: &mut D,
+        spare: &mut Directory,
+        count: u64,
+    ) -> Result<u64, Failed>
+        requires stands { IsDurable (D.disk device.old) self.old }
+        requires sound { IsSoundOn (D.disk device.old) self.old }
+        ensures stands { IsDurable (D.disk device.new) self.new }
+        ensures left { IfOk result (λ n. n ≡ (stored_on (D.disk device.old) self.old).to_move - count) }
+        ensures moved { OnOk result (stored_on (D.disk device.new) self.new
+            ≡ moved count (stored_on (D.disk device.old) self.old)) }
+        ensures unmoved { OnErr result ((k : ℕ) × (k ≤ (stored_on (D.disk device.old) self.old).to_move)
+            × (stored_on (D.disk device.new) self.new
+            ≡ record (stored_on (D.disk device.old) self.old) { to_move = k })) }
+        ensures untouched { self.old.header.entries ≡ 0
+            → (self.new ≡ self.old) × (device.new ≡ device.old) }
+        ensures plan { self.new.plan ≡ self.old.plan }
+        ensures sound { OnOk result (IsSoundOn (D.disk device.new) self.new) }
+        ensures size { (D.disk device.new).sectors ≡ (D.disk device.old).sectors }
+        ensures any_moment { LeavesEither (D.disk device.old) (D.disk device.new)
+            (stored_on (D.disk device.old) self.old).saved
+            (moved_saved count (stored_on (D.disk device.old) self.old)) }
+        ensures cause { Counts (D.disk device.old) (D.disk device.new) result }
+    {
+        let (some, left) = self.share(count);
+        self.move_some(device, some)?;
+        if self.is_to_finish() {
+            self.finish(device, spare)?;
+            return Ok(0);
+        }
+        Ok(left)
+    }
+}

@@ -1,0 +1,91 @@
+// The entries of a checkpoint.
+ghost use Rattle.std.specs.Prelude.{◌≡◌, ◌≤◌, ◌∷◌, [], length, take, vec_capacity, IfOk};
+ghost use Rattle.migrator.specs.Table.{taken_count, entries_of};
+
+use crate::table::Table;
+use layout::Entry;
+use std::alloc::{AllocError, Global};
+use std::marker::Model;
+
+// The most slots that a half of a log has.
+const MOST_ENTRIES: usize = 4096;
+
+/// The entries of a checkpoint. There is memory for as many as a half of any log has slots, so that no call but `new`
+/// takes memory.
+#[derive(Drop)]
+pub(crate) struct Directory {
+    entries: Vec<Entry>,
+}
+
+impl Model for Directory {
+    ghost use Rattle.std.specs.Prelude.{List, ◌≤◌, vec_capacity};
+    ghost use Rattle.layout.specs.declared.directory.Entry.{Entry};
+
+    ghost Value = { List Entry };
+
+    ghost view = { λ d. d.entries.items };
+
+    ghost invariant = { λ d. 4096 ≤ vec_capacity d.entries };
+}
+
+/// Memory for the entries of a directory, of which there are `count` blank ones.
+pub(crate) fn blank_entries(alloc: Global, count: u64) -> Result<Vec<Entry>, AllocError>
+    ensures length { IfOk result (λ entries. length entries.items ≡ count) }
+    ensures room { IfOk result (λ entries. 4096 ≤ vec_capacity entries) }
+{
+    let mut entries = Vec::with_capacity(alloc, MOST_ENTRIES)?;
+    entries.resize(count as usize, Entry { object: 0, slot: 0 })?;
+    Ok(entries)
+}
+
+impl Directory {
+    /// A directory without entries.
+    pub(crate) fn new(alloc: Global) -> Result<Directory, AllocError>
+        ensures { IfOk result (λ directory. directory ≡ []) }
+    {
+        Ok(Directory {
+            entries: Vec::with_capacity(alloc, MOST_ENTRIES)?,
+        })
+    }
+
+    /// The first `count` of these entries.
+    pub(crate) fn of(entries: Vec<Entry>, count: u64) -> Directory
+        requires { 4096 ≤ vec_capacity entries }
+        ensures { result ≡ take count entries.items }
+    {
+        let mut entries = entries;
+        entries.truncate(count as usize);
+        Directory { entries }
+    }
+
+    /// The entries.
+    pub(crate) fn as_slice(&self) -> &[Entry]
+        ensures { result.now ≡ self.now }
+    {
+        &self.entries
+    }
+
+    /// Removes all entries.
+    pub(crate) fn clear(&mut self)
+        ensures { self.new ≡ [] }
+    {
+        self.entries.clear();
+    }
+
+    /// Makes this the one entry.
+    pub(crate) fn put_one(&mut self, entry: Entry)
+        ensures { self.new ≡ entry ∷ [] }
+    {
+        self.entries.clear();
+        self.entries.push_reserved(entry);
+    }
+
+    /// Makes these the entries of the objects that have a slot, in the order of their numbers.
+    pub(crate) fn fill(&mut self, table: &Table)
+        requires { taken_count table.now ≤ 4096 }
+        ensures { self.new ≡ entries_of table.now }
+    {
+        self.entries.clear();
+        table.list(&mut self.entries);
+    }
+}
