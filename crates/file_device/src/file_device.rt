@@ -31,7 +31,7 @@ impl<F: SectorFile> CopiedFile<F> {
     ghost use Rattle.file_device.specs.FileDevice.{file_disk};
 
     /// A device in this file, of which `copy` is what it holds. Nothing has been done to the file.
-    pub(crate) fn new(copy: Vec<u8>, file: F) -> CopiedFile<F>
+    pub fn new(copy: Vec<u8>, file: F) -> CopiedFile<F>
         requires whole { length copy.items % 512 ≡ 0 }
         requires few { sectors_of copy.items ≤ 131072 }
         requires first { F.first file ≡ copy.items }
@@ -40,12 +40,20 @@ impl<F: SectorFile> CopiedFile<F> {
         ensures seen { Agrees (file_disk result).seen (image_of copy.items) }
         ensures durable { Only (file_disk result).seen (file_disk result) }
         ensures failures { (file_disk result).failures ≡ F.failures file }
+        ensures file { result.file ≡ file }
     {
         CopiedFile {
             sectors: (copy.len() / SECTOR_SIZE) as u64,
             copy,
             file,
         }
+    }
+
+    /// The file beneath, on which no call is made.
+    pub fn file(&self) -> &F
+        ensures { result.now ≡ self.now.file }
+    {
+        &self.file
     }
 }
 
