@@ -8,9 +8,9 @@ ROOT = Path(__file__).resolve().parent.parent
 
 
 def libraries():
-    """The repository's crates, each with those of them that it names."""
+    """The repository's crates, each with those of them that it names. A line may say more before the colon than the name."""
     lines = [it.partition("#")[0].partition(":") for it in (ROOT / "crates.txt").read_text().splitlines()]
-    named = {name.strip(): below.split() for name, colon, below in lines if colon}
+    named = {name.split()[0]: below.split() for name, colon, below in lines if colon}
     return {name: [it for it in below if it in named] for name, below in named.items()}
 
 
@@ -42,5 +42,5 @@ def copy_to(folder, names, parts):
                 (folder / "crates" / name).mkdir(parents=True, exist_ok=True)
                 shutil.copy(part, folder / "crates" / name)
     lines = (ROOT / "crates.txt").read_text().splitlines(keepends=True)
-    (folder / "crates.txt").write_text("".join(it for it in lines if it.partition(":")[0].strip() in names))
+    (folder / "crates.txt").write_text("".join(it for it in lines if (it.partition(":")[0].split() or [""])[0] in names))
     shutil.copy(ROOT / "HANDLES", folder)

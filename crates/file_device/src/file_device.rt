@@ -49,6 +49,13 @@ impl<F: SectorFile> CopiedFile<F> {
             file,
         }
     }
+
+    /// The file beneath, on which no call is made.
+    pub fn file(&self) -> &F
+        ensures { result.now ≡ self.now.file }
+    {
+        &self.file
+    }
 }
 
 impl<F: SectorFile> CopiedFile<F> {

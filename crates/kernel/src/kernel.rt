@@ -79,6 +79,13 @@ impl<D: Device, S: ObjectStore<D>> Kernel<D, S> {
         self.machine.power.saved()
     }
 
+    /// The device beneath, on which no call is made.
+    pub fn device(&self) -> &D
+        ensures { IsDeviceOf D.disk S.view S.parts self.now result.now }
+    {
+        self.machine.power.device()
+    }
+
     /// Gives the device back, and makes no call of it.
     pub fn into_device(self) -> D
         ensures { IsDeviceOf D.disk S.view S.parts self result }

@@ -40,6 +40,18 @@ impl<D: Device, S: ObjectStore<D>> Power<D, S> {
     }
 
     /// The device beneath, on which no call is made.
+    pub fn device(&self) -> &D
+        requires { HasDevice D.disk S.view S.parts self.now }
+        ensures { IsDeviceOf D.disk S.view S.parts self.now result.now }
+    {
+        match self {
+            Power::Up(live) => live.store.device(),
+            Power::Down(device) => device,
+            Power::Between => unreachable!(),
+        }
+    }
+
+    /// Gives the device back, and makes no call of it.
     pub fn into_device(self) -> D
         requires { HasDevice D.disk S.view S.parts self }
         ensures { IsDeviceOf D.disk S.view S.parts self result }

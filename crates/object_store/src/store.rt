@@ -39,6 +39,10 @@ pub trait ObjectStore<D: Device>: PresentFrames + Sized {
         ensures opened { IfOk result (λ s. OpensStore D.disk device (Self.parts s) (view s)) }
         ensures refused { IfErr result (λ r. Refuses D.disk device r.device r.fault) };
 
+    /// The device beneath, on which no call is made.
+    fn device(&self) -> &D
+        ensures { result.now ≡ (view self.now).beneath };
+
     /// Gives the device back, and makes no call of it.
     fn into_device(self) -> D
         ensures { result ≡ (view self).beneath };

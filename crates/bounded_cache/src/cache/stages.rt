@@ -24,6 +24,13 @@ impl<D: Device> BoundedCache<D> {
         self.durable
     }
 
+    /// The device beneath, on which no call is made.
+    pub fn device(&self) -> &D
+        ensures { result.now ≡ self.now.durable.beneath }
+    {
+        self.durable.device()
+    }
+
     /// Gives the device back, and makes no call of it.
     pub fn into_device(self) -> D
         ensures { result ≡ self.durable.beneath }

@@ -24,6 +24,10 @@ impl<D: Device> ObjectStore<D> for BoundedCache<D> {
         BoundedCache::open(alloc, device, capacity)
     }
 
+    fn device(&self) -> &D {
+        self.device()
+    }
+
     fn into_device(self) -> D {
         self.into_device()
     }

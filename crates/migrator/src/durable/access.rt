@@ -55,6 +55,13 @@ impl<D: Device> Durable<D> {
         }
     }
 
+    /// The device beneath, on which no call is made.
+    pub fn device(&self) -> &D
+        ensures { result.now ≡ self.now.beneath }
+    {
+        &self.device
+    }
+
     /// Gives the device back, and makes no call of it.
     pub fn into_device(self) -> D
         ensures { result ≡ self.beneath }

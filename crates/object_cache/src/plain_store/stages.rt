@@ -21,6 +21,10 @@ impl<D: Device> ObjectStore<D> for PlainStore<D> {
         open_plain(alloc, device)
     }
 
+    fn device(&self) -> &D {
+        self.durable.device()
+    }
+
     fn into_device(self) -> D {
         self.durable.into_device()
     }
