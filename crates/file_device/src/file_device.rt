@@ -58,15 +58,6 @@ impl<F: SectorFile> CopiedFile<F> {
     }
 }
 
-impl<F: SectorFile> CopiedFile<F> {
-    /// The file.
-    pub fn file(&self) -> &F
-        ensures { result.now ≡ self.now.file }
-    {
-        &self.file
-    }
-}
-
 impl<F: RawFile> CopiedFile<HostFile<F>> {
     ghost use Rattle.file_device.specs.FileDevice.{file_disk, raw_file};
 
