@@ -19,13 +19,7 @@ fn large_number(capability: Option<Capability>) -> Option<u64>
         ((n : ℕ) → 2 ^ 63 ≤ n → capability ≢ Some (Capability.Number n)) }
 {
     match capability {
-        Some(Capability::Number(number)) => {
-            if number < 1 << 63 {
-                None
-            } else {
-                Some(number)
-            }
-        }
+        Some(Capability::Number(number)) => { if number < 1 << 63 { None } else { Some(number) } }
         _ => None,
     }
 }
