@@ -39,6 +39,7 @@ Filled (r ∷ rs) = IsGood r × Filled rs
 abbrev pub is_enough : ArgAction → ℕ → Bool
 is_enough Set n = nat_lt 0 n
 is_enough Help n = true
+is_enough Version n = true
 is_enough _ n = false
 
 -- the parser takes the capacities
@@ -50,7 +51,7 @@ takes_capacities _ = false
 abbrev pub is_suited : Rule → Bool
 is_suited a = not (bytes_eq a.id (codes "cache")) || takes_capacities (parser_of_value a.parser)
 
--- the argument is given once, by one value at least, or is a call for help, has no default, and suits its name
+-- the argument is given once, by one value at least, or is a call for help or the version, has no default, and suits its name
 abbrev pub is_plain : Rule → Bool
 is_plain a = is_enough (action_of a) (unwrap_or_range a.range).start_inclusive && (is_empty a.defaults && is_suited a)
 
@@ -131,7 +132,7 @@ enough_given Count a least values enough le = absurd (true≢false (sym enough))
 enough_given Help a least values enough le = refl
 enough_given HelpShort a least values enough le = absurd (true≢false (sym enough))
 enough_given HelpLong a least values enough le = absurd (true≢false (sym enough))
-enough_given Version a least values enough le = absurd (true≢false (sym enough))
+enough_given Version a least values enough le = refl
 
 used_keeps : (again : Bool) (a : Rule) (values : List Text) (rows : List Row) → is_plain a ≡ true → use_passes again a values rows ≡ true → Filled rows → Filled (used a values rows)
 used_keeps again a values rows ok passes f =

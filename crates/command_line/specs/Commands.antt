@@ -46,9 +46,9 @@ describe_app = reading_app (codes "describe")
 abbrev pub draw_app : App
 draw_app = reading_app (codes "draw")
 
--- the name alone, which wants a subcommand
+-- the name alone, which has a version, and wants a subcommand
 abbrev pub bare_app : App
-bare_app = record { top = record ((new_app (codes "eros")).top) { subcommand_required = true }; subs = [] }
+bare_app = record { top = record ((new_app (codes "eros")).top) { subcommand_required = true; has_version = true }; subs = [] }
 
 -- the name and three subcommands
 abbrev pub basic_app : App

@@ -19,6 +19,10 @@ pub(crate) const NEW: &str = "NEW";
 
 pub(crate) const CACHE: &str = "cache";
 
+/// What `eros --version` prints behind the name.
+const VERSION: &str =
+    "1.0.0\nlayouts 1 and 2\nproved with rattle-kit-13f logic dac8208d650f15bf";
+
 /// The least number of objects that a cache may hold.
 pub(crate) const LEAST_CAPACITY: u64 = 8;
 
@@ -138,6 +142,7 @@ fn bare<'a>(alloc: Global) -> Result<Command<'a>, AllocError>
 {
     let command = Command::new(alloc, "eros")
         .bin_name("eros")?
+        .version(VERSION)
         .about("The core of a persistent capability system")
         .after_help(
             "Example:\n  eros build examples/first-steps.toml first.image    prints: built 399 sectors\n  \
