@@ -57,7 +57,8 @@ abbrev pub IsLeftUpgrading : Disk → Disk → Image → Type 0
 IsLeftUpgrading old before c = (saved : SavedFrames) → Holds before.sectors c saved →
     ((d : Image) × before.may_leave d × Holds before.sectors d saved) ⊎ Holds old.sectors old.seen saved
 
--- Nothing was written to a device from one state to another, at no moment. It failed in between exactly where that is told.
+-- A device was only read between two states: nothing was written to it at any moment. A call of it failed exactly where
+-- that is told.
 pub record IsOnlyRead (old new : Disk) (failure_told : Type 0) : Type 0 where
   pub looks : Looks old new
   pub later : old.failures ≤ new.failures

@@ -243,8 +243,8 @@ pub fn upgrade_and_count<D: ClosableDevice, E: Device>(
 ///
 /// A crash of the new device at any moment leaves the image that it could have left before; or
 /// nothing that can be opened, as no header is committed; or the new image, whole. So it is after
-/// `Failed` too. Nothing is written to the old device, at no moment. It isn't given back: it is
-/// closed in the end.
+/// `Failed` too. The old device is only read: nothing is written to it at any moment. `upgrade`
+/// closes it in the end, and doesn't give it back.
 pub fn upgrade<D: ClosableDevice, E: Device>(
     alloc: Global,
     old: D,

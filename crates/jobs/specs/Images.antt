@@ -96,7 +96,7 @@ module _ {D S : Type 0} (disk : D → Disk) (view : S → View D) (parts : S →
   RunsImage device back input input_left output output_left (Err (fault.Open why)) = RefusesToOpen disk device back why × (input_left ≡ input) × (output_left ≡ output)
   RunsImage device back input input_left output output_left (Err _) = ⊥
 
--- a device was opened with no failure, nothing was written to it, at no moment, and what is saved on it was told
+-- a device was opened with no failure, nothing was written to it at any moment, and what is saved on it was told
 abbrev pub TellsSaved : {D : Type 0} → (D → Disk) → D → D → (List ℕ → Type 0) → Type 0
 TellsSaved disk device back Told =
     (geometry : Geometry) × (saved : Saved) × Denotes geometry (disk device).sectors (disk device).seen saved × Told (line_of (checked_text saved.generation saved.world.age saved.entries))
@@ -117,8 +117,8 @@ pub record IsDescriptionOf (p : Plan) (age : ℕ) (frames : List Frame) (descrip
   pub ranges : description.ranges.items ≡ map numbers_of p.ranges
   pub layout : description.layout ≡ version_number p.version
 
--- a device was opened with no failure, nothing was written to it, at no moment, and this is the description of all that is
--- saved on it
+-- a device was opened with no failure, nothing was written to it at any moment, and this is the description of all that
+-- is saved on it
 pub record DescribesSaved {D : Type 0} (disk : D → Disk) (device back : D) (description : Description) : Type 0 where
   pub state : SavedState
   pub encodes : Encodes (disk device).seen (disk device).sectors state
@@ -146,7 +146,7 @@ pub record IsTextOf (p : Plan) (age : ℕ) (frames : List Frame) (text : List �
   pub ranges : description.ranges.items ≡ map numbers_of p.ranges
   pub layout : description.layout ≡ version_number p.version
 
--- a device was opened with no failure, nothing was written to it, at no moment, and all that is saved on it was told
+-- a device was opened with no failure, nothing was written to it at any moment, and all that is saved on it was told
 pub record TellsWhole {D : Type 0} (disk : D → Disk) (device back : D) (Told : List ℕ → Type 0) : Type 0 where
   pub state : SavedState
   pub encodes : Encodes (disk device).seen (disk device).sectors state

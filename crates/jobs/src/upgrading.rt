@@ -44,7 +44,7 @@ fn upgrade_and_tell<D: ClosableDevice, E: Device, W: Write>(
 /// memory`, or, with the new image written, `cannot write output` where the writer fails.
 ///
 /// A crash of the new device at any moment leaves the image that was there, as it was; or nothing
-/// that can be opened; or the new image, whole. Nothing is written to the old device, at no moment.
+/// that can be opened; or the new image, whole. Nothing is written to the old device at any moment.
 pub fn upgrade_image<D: ClosableDevice, E: Device, W: Write, V: Write>(
     alloc: Global,
     old: D,
