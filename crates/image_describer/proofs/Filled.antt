@@ -1,11 +1,11 @@
 -- What the lines of a description leave in the nodes of TOML's reader.
-use Rattle.std.proofs.Common.{◌≡◌, ℕ, Bool, true, false, not, ◌&&◌, List, [], ◌∷◌, ◌++◌, Option, Some, None, option_map, option_and_then, IfSome, MatchOption, append-nil, append_assoc, refl, sym, ap, ◌∙◌, subst, inr}
+use Rattle.std.proofs.Common.{◌≡◌, ℕ, Bool, true, false, not, ◌&&◌, List, [], ◌∷◌, ◌++◌, Option, Some, None, option_and_then, IfSome, MatchOption, append-nil, append_assoc, refl, sym, ap, ◌∙◌, subst, inr}
 use Rattle.std.specs.Prelude.{IsTrue}
 use Rattle.std.proofs.lemmas.Option.{none-some, same_Some}
 use Rattle.toml_parser.specs.Strings.{Key}
 use Rattle.toml.specs.Data.{Data, string, integer, float, boolean, datetime, array, table, Items, no_items, item, push_item, Members, no_members, member, get_member, same_key}
-use Rattle.toml.specs.Tables.{Nodes, no_nodes, value, open_array, close, insert, Edit, Document, Expression, array_table, along_dots, along_header, at_key, key_value, put}
-use Rattle.toml.specs.Text.{are_tables, elements, has_items, is_section, section, sections}
+use Rattle.toml.specs.Tables.{Nodes, no_nodes, value, open_array, close, insert, Edit, Document, Expression, array_table, along_dots, along_header, at_key, put}
+use Rattle.toml.specs.Text.{are_tables, elements, is_section, section, sections}
 use Rattle.toml.proofs.Fill.{Exists, fill, fill_elements, fill_pairs, fill_sections, roots, run-append, run_elements}
 use Rattle.toml.proofs.NodeLaws.{along_found, get_node-insert, replace-insert}
 use Rattle.toml.proofs.ReadLines.{run}

@@ -1,5 +1,5 @@
 -- What the lines of objects, and of a whole description, are read as.
-use Rattle.std.proofs.Common.{◌≡◌, ℕ, ◌<◌, ◌==◌, nat_lt, ◌&&◌, Bool, true, List, [], ◌∷◌, ◌++◌, codes, decimal, length, slice_index_or, Option, None, Some, IsSomeAnd, MatchOption, refl, sym, subst, arith}
+use Rattle.std.proofs.Common.{◌≡◌, ℕ, ◌<◌, ◌==◌, nat_lt, ◌&&◌, true, List, [], ◌∷◌, ◌++◌, codes, decimal, length, slice_index_or, Option, None, Some, IsSomeAnd, MatchOption, refl, sym, subst, arith}
 use Rattle.std.specs.Prelude.{IsTrue}
 use Rattle.std.specs.List.{list_all}
 use Rattle.model.specs.declared.capability.Capability.TheVariants.{Void}
@@ -11,7 +11,7 @@ use Rattle.description.specs.declared.entry.Description.{Description}
 use Rattle.description.specs.declared.entry.NodeEntry.{NodeEntry}
 use Rattle.description.specs.declared.entry.PageEntry.{PageEntry}
 use Rattle.description.specs.declared.entry.ProcessEntry.{ProcessEntry}
-use Rattle.description.specs.Reading.{AreFour, IsBank, IsCapability, IsDescription, IsList, IsNode, IsNumber, IsPage, IsProcess, IsRange, IsSlot, IsState, IsTable, IsWideNumber, IsWord, has_only, whole_ranges}
+use Rattle.description.specs.Reading.{AreFour, IsBank, IsCapability, IsDescription, IsList, IsNode, IsNumber, IsPage, IsProcess, IsRange, IsSlot, IsState, IsTable, IsWideNumber, IsWord, whole_ranges}
 use Rattle.described_world.specs.Described.{AreSlots, IsProcessEntry}
 use Rattle.image_describer.specs.Spelled.{CanBeSpelled, SpellsBank, SpellsNode, SpellsPage, SpellsProcess}
 use Rattle.image_describer.specs.Text.{bank_fields, image_fields, node_fields, page_fields, process_fields, state_value, wide_text}

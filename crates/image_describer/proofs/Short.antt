@@ -1,5 +1,5 @@
 -- The description of a sound world has a text: its numbers are short enough.
-use Rattle.std.proofs.Common.{◌≡◌, ◌≢◌, ℕ, ◌+◌, ◌<◌, ◌≤◌, ◌^◌, true, List, [], ◌∷◌, ◌++◌, map, length, Option, Some, None, unwrap_or, IfSome, refl, sym, ap, ◌∙◌, subst, arith}
+use Rattle.std.proofs.Common.{◌≡◌, ◌≢◌, ℕ, ◌+◌, ◌<◌, ◌≤◌, ◌^◌, true, List, [], ◌∷◌, ◌++◌, map, Option, Some, None, unwrap_or, IfSome, refl, sym, ap, ◌∙◌, subst, arith}
 use Rattle.std.specs.Prelude.{IsTrue}
 use Rattle.std.specs.List.{All, AllByRecursion as ByRecursion, Contains}
 use Rattle.std.proofs.lemmas.List.Elements.{All-contains, All-from_recursion, All-map, All-weaker, Contains-append_left, Contains-append_right}
@@ -11,10 +11,9 @@ use Rattle.model.specs.declared.geometry.Geometry.{Geometry}
 use Rattle.model.specs.declared.object.Content.{Content}
 use Rattle.model.specs.declared.object.Content.TheVariants as content
 use Rattle.model.specs.declared.object.Object.{Object}
-use Rattle.model.specs.declared.object.Role.{Role}
 use Rattle.model.specs.declared.object.Role.TheVariants as role
 use Rattle.model.specs.Capability.{named}
-use Rattle.model.specs.Frame.{blank_frame, frame_at, objects_of}
+use Rattle.model.specs.Frame.{frame_at, objects_of}
 use Rattle.model.specs.Keepable.{AreKeptSlots, AreKeptWords, Follows, IsKeepable, IsKeptCap, IsSoundFrames, MayBeKept, world_at}
 use Rattle.model.specs.Object.{is_bank, is_free, map_content, role_of}
 use Rattle.model.specs.Sound.{IsOfKind, object_count}
@@ -22,8 +21,7 @@ use Rattle.model.specs.World.{content_at, object_at, owner_at}
 use Rattle.layout.specs.declared.extent.HomeRange.{HomeRange}
 use Rattle.layout.specs.declared.version.Version.{Version}
 use Rattle.layout.specs.declared.version.Version.TheVariants.{One, Two}
-use Rattle.layout.specs.Superblock.{Cover, IsGeometry, IsPlan, Plan, version_number}
-use Rattle.image_writer.specs.declared.number_range.NumberRange.{NumberRange}
+use Rattle.layout.specs.Superblock.{Cover, IsPlan, Plan, version_number}
 use Rattle.image_writer.specs.Laid.{numbers_of}
 use Rattle.capability.specs.Plain.{fresh_cap}
 use Rattle.capability.proofs.Mapped.{mapped}

@@ -1,17 +1,17 @@
 -- The values that the text of a description writes: what TOML has for each, and what it says.
-use Rattle.std.proofs.Common.{◌≡◌, ◌≢◌, ℕ, suc, pos, ◌<◌, ◌≤◌, ◌^◌, ◌==◌, nat_lt, get_or, ◌&&◌, Bool, true, false, if◌then◌else◌, List, [], ◌∷◌, codes, decimal, length, Option, Some, None, unwrap_or, IfSome, MatchOption, inl, inr, refl, sym, ap, ◌∙◌, subst, arith}
+use Rattle.std.proofs.Common.{◌≡◌, ◌≢◌, ℕ, suc, pos, ◌<◌, ◌≤◌, ◌^◌, ◌==◌, nat_lt, get_or, ◌&&◌, Bool, true, false, if◌then◌else◌, List, [], ◌∷◌, decimal, length, Option, Some, None, unwrap_or, MatchOption, inl, inr, refl, sym, ap, ◌∙◌, arith}
 use Rattle.std.specs.List.{All, AllByRecursion as ByRecursion, list_all}
 use Rattle.std.proofs.lemmas.Bool.{cases_Bool}
 use Rattle.std.proofs.lemmas.Bool.Decides.{nat_tests}
 use Rattle.std.proofs.lemmas.List.Elements.{recursion_from_All}
-use Rattle.toml.specs.Data.{Data, string, integer, array, Items, no_items, item}
+use Rattle.toml.specs.Data.{Data, string, integer, array, no_items, item}
 use Rattle.image_writer.specs.declared.number_range.NumberRange.{NumberRange}
 use Rattle.model.specs.declared.capability.Capability.{Capability}
 use Rattle.model.specs.declared.capability.Capability.TheVariants.{Void, Number, Page, Node, Space, Process, Start, Resume, Bank, Discrim}
 use Rattle.model.specs.declared.geometry.Geometry.{Geometry}
 use Rattle.model.specs.declared.object.State.{State}
 use Rattle.model.specs.Text.{capability_text, state_text}
-use Rattle.description.specs.Reading.{AreFour, AreItems, IsCapability, IsList, IsNumber, IsPair, IsRange, IsSlot, IsState, IsWideNumber, IsWord, whole_ranges}
+use Rattle.description.specs.Reading.{AreFour, AreItems, IsCapability, IsList, IsNumber, IsRange, IsSlot, IsState, IsWideNumber, IsWord, whole_ranges}
 use Rattle.description.specs.declared.entry.SlotEntry.{SlotEntry}
 use Rattle.description.specs.declared.entry.WordEntry.{WordEntry}
 use Rattle.described_world.specs.Described.{IsSomeCapability, IsSpaceEntry}

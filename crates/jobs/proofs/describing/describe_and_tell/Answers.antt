@@ -20,7 +20,7 @@ returns-in-Ok-text_of_whole g c =
     (AppendsFront (g.W.Write.contents c.args.writer.now) (g.W.Write.contents c.write_fully.new.writer))
     (subst (λ (bytes : List ℕ). AppendsFront (g.W.Write.contents c.args.writer.now) (g.W.Write.contents c.write_fully.new.writer) bytes) c.as_bytes.ensures.value c.in-Err-write_fully.ensures.1)
 
-pub text_of_whole-requires-spelled : goal.text_of_whole-requires-spelled
-text_of_whole-requires-spelled g c =
+pub text_of_whole-requires-clause-spelled : goal.text_of_whole-requires-clause-spelled
+text_of_whole-requires-clause-spelled g c =
     has_text g.D.Device.disk c.args.device c.describe_saved-described.result.1 c.in-Ok.description
     (described g.D.Device.disk c.args.device c.describe_saved-described.result.1 c.describe_saved-described.result.0 c.in-Ok.description c.in-Ok.is c.describe_saved-described.ensures)
