@@ -1,5 +1,5 @@
 -- What is counted, as a process that returns becomes available, after the reply, and after an invocation that asks no bank.
-use Rattle.std.proofs.Common.{◌≡◌, ℕ, ◌+◌, ◌++◌, ◌<◌, ◌≤◌, ◌&&◌, Bool, true, false, List, ◌∷◌, Result, Ok, Err, drop, length, refl, sym, ap, subst, ◌∙◌, arith, if◌then◌else◌}
+use Rattle.std.proofs.Common.{◌≡◌, ℕ, ◌+◌, ◌++◌, ◌<◌, ◌≤◌, ◌&&◌, Bool, true, false, List, Result, Ok, Err, drop, length, refl, sym, ap, subst, ◌∙◌, arith, if◌then◌else◌}
 use Rattle.std.specs.Prelude.{IsTrue, OnOk, OnErr, slice_index}
 use Rattle.std.specs.List.{All}
 use Rattle.model.specs.declared.capability.Capability.{Capability}

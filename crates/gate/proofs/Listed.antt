@@ -1,5 +1,5 @@
 -- What follows of the numbers that were listed.
-use Rattle.std.proofs.Common.{rules, ◌≡◌, ◌<◌, length, ℕ, zero, suc, List, [], ◌∷◌, Option, None, Some, Result, Ok, Err, refl, sym, ap, ◌∙◌, subst, arith}
+use Rattle.std.proofs.Common.{rules, ◌≡◌, ◌<◌, length, ℕ, zero, suc, List, [], ◌∷◌, Result, Ok, Err, refl, arith}
 use Rattle.std.specs.Prelude.{IsErrOf, OnOk, slice_index}
 use Rattle.capability.specs.declared.present.PrepareFault.{PrepareFault}
 use Rattle.std.specs.List.{All, Contains}

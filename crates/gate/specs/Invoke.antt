@@ -1,19 +1,17 @@
 -- What an invocation comes to over a store of present frames.
-use Rattle.std.specs.Prelude.{◌≡◌, ◌↔◌, ℕ, ◌+◌, ◌^◌, ◌<◌, ◌≤◌, Bool, List, [], ◌∷◌, ◌++◌, length, None, Some, if◌then◌else◌, slice_set, Result, OnOk, OnErr, IsErrOf}
-use Rattle.std.specs.Option.{option_to_list}
+use Rattle.std.specs.Prelude.{◌≡◌, ◌↔◌, ℕ, ◌+◌, ◌^◌, ◌<◌, ◌≤◌, Bool, List, [], ◌∷◌, None, Some, if◌then◌else◌, slice_set, Result, OnOk, OnErr, IsErrOf}
 use Rattle.model.specs.declared.capability.Capability.{Capability}
 use Rattle.model.specs.declared.capability.Capability.TheVariants.{Start, Resume}
 use Rattle.model.specs.declared.command.Invocation.{Invocation}
 use Rattle.model.specs.declared.command.Operation.{Operation}
-use Rattle.model.specs.declared.command.Operation.TheVariants.{Call, Return, Send}
+use Rattle.model.specs.declared.command.Operation.TheVariants.{Call, Send}
 use Rattle.model.specs.declared.geometry.Geometry.{Geometry}
 use Rattle.model.specs.declared.object.Object.{Object}
-use Rattle.model.specs.declared.object.State.TheVariants.{Available}
-use Rattle.model.specs.Invoke.{Effect, invoke, on_kernel_object, after_gate, reply_of, deliver}
+use Rattle.model.specs.Invoke.{Effect, invoke, after_gate, deliver}
 use Rattle.model.specs.Keepable.{IsSoundFrames}
 use Rattle.model.specs.Machine.{touching, touched_count}
 use Rattle.model.specs.Revoke.{consume}
-use Rattle.model.specs.World.{annex_at, register_at, is_running_process, with_state}
+use Rattle.model.specs.World.{annex_at, register_at}
 use Rattle.capability.specs.declared.order.Caller.{Caller}
 use Rattle.capability.specs.declared.present.PrepareFault.{PrepareFault}
 use Rattle.capability.specs.declared.present.PrepareFault.TheVariants as prepare

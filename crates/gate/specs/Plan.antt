@@ -1,6 +1,5 @@
 -- What an order on a kernel object comes to, before it is made.
 use Rattle.std.specs.Prelude.{◌≡◌, ◌⊎◌, ℕ, ◌<◌, ◌≤◌, Option, None, Some, List, IsTrue}
-use Rattle.std.specs.Option.{option_to_list}
 use Rattle.model.specs.declared.capability.Capability.{Capability}
 use Rattle.model.specs.declared.capability.Capability.TheVariants.{Number, Page, Node, Space, Process}
 use Rattle.model.specs.declared.geometry.Geometry.{Geometry}
@@ -8,12 +7,11 @@ use Rattle.model.specs.declared.object.Object.{Object}
 use Rattle.model.specs.declared.order.Arguments.{Arguments}
 use Rattle.model.specs.Capability.{named}
 use Rattle.model.specs.OrderOutcome.{OrderOutcome}
-use Rattle.model.specs.Order.{IsNoBankOrder, with_root_word, with_space}
-use Rattle.model.specs.Revoke.{consume}
+use Rattle.model.specs.Order.{IsNoBankOrder}
 use Rattle.model.specs.Keepable.{IsKeptCap}
 use Rattle.model.specs.Object.{is_node}
 use Rattle.model.specs.Sound.{IsSpace}
-use Rattle.model.specs.World.{root_at, annex_at, content_at, is_process, with_word, with_slot, with_root, with_state}
+use Rattle.model.specs.World.{annex_at, content_at, is_process}
 use Rattle.capability.specs.declared.order.Change.{Change}
 use Rattle.capability.specs.declared.order.Change.TheVariants as change
 use Rattle.capability.specs.declared.order.OrderPlan.{OrderPlan}

@@ -15,7 +15,7 @@ use Rattle.model.specs.declared.object.Content.TheVariants as content
 use Rattle.model.specs.declared.object.Object.{Object}
 use Rattle.model.specs.Bank.{usage}
 use Rattle.model.specs.Frame.{conveyed, frames_in, held_at, objects_of}
-use Rattle.model.specs.Object.{is_bank, is_free, limit_in, map_content}
+use Rattle.model.specs.Object.{is_bank, is_free, limit_in}
 use Rattle.model.specs.Sound.{object_count}
 use Rattle.model.specs.World.{content_at}
 use Rattle.capability.specs.Parts.{Parts, objects_in}

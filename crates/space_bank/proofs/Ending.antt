@@ -8,12 +8,11 @@ use Rattle.std.proofs.lemmas.List.Folds.{list_any_at}
 use Rattle.model.specs.declared.capability.Capability.{Capability}
 use Rattle.model.specs.declared.geometry.Geometry.{Geometry}
 use Rattle.model.specs.declared.object.Content.{Content}
-use Rattle.model.specs.declared.object.Content.TheVariants as content
 use Rattle.model.specs.declared.object.Object.{Object}
 use Rattle.model.specs.Bank.{chain, usage}
 use Rattle.model.specs.Frame.{header_at}
 use Rattle.model.specs.Keepable.{AreCurrent, AreKeepable}
-use Rattle.model.specs.Object.{free, is_bank, is_free, limit_in, map_content}
+use Rattle.model.specs.Object.{free, is_bank, is_free, limit_in}
 use Rattle.model.specs.Revoke.{is_member, names_member, rescind, void_where, without}
 use Rattle.model.specs.World.{content_at, object_at}
 use Rattle.model_laws.proofs.NumberLists.{AllDiffer}

@@ -1,13 +1,11 @@
 -- Numbers that aren't free, found by the marks of nodes and of pages.
-use Rattle.std.proofs.Common.{◌≡◌, ◌≢◌, ◌+◌, ◌-◌, ◌<◌, ◌≤◌, ◌++◌, ◌∙◌, ◌==◌, ◌||◌, ◌&&◌, not, ℕ, zero, suc, Bool, true, false, List, length, inl, inr, refl, sym, ap, subst, arith}
-use Rattle.std.specs.Prelude.{IsTrue}
+use Rattle.std.proofs.Common.{◌≡◌, ◌≢◌, ◌+◌, ◌-◌, ◌<◌, ◌≤◌, ◌++◌, ◌∙◌, ℕ, zero, suc, Bool, true, false, List, length, inl, inr, refl, sym, ap, subst, arith}
 use Rattle.std.specs.List.{filter, range_with_len}
 use Rattle.std.proofs.lemmas.Bool.{cases_lt, ne_eqb}
 use Rattle.std.proofs.lemmas.List.{get_or-append_right, get_or_append_left}
 use Rattle.model.specs.declared.object.Object.{Object}
-use Rattle.model.specs.Bank.{is_under}
-use Rattle.model.specs.Object.{is_bank, is_free}
-use Rattle.model.specs.World.{content_at, object_at, owner_at}
+use Rattle.model.specs.Object.{is_free}
+use Rattle.model.specs.World.{content_at}
 use Rattle.capability.specs.Parts.{Parts, objects_in}
 use Rattle.capability.proofs.Frames.{length_objects}
 use Rattle.capability.proofs.Keeping.{keepable_count}

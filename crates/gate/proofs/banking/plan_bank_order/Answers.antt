@@ -1,14 +1,7 @@
-use Rattle.std.proofs.Common.{◌≡◌, List, ap, refl, subst, sym, ◌∙◌}
-use Rattle.std.specs.Prelude.{IsTrue}
+use Rattle.std.proofs.Common.{subst}
 use Rattle.model.specs.declared.geometry.Geometry.{Geometry}
 use Rattle.model.specs.Banking.{on_bank}
-use Rattle.model.specs.declared.object.Object.{Object}
-use Rattle.model.specs.Object.{is_bank}
-use Rattle.model.specs.Sound.{MayBeHeld, NamesItsKind}
-use Rattle.model.specs.World.{content_at}
-use Rattle.model_laws.proofs.SoundParts.{held_to}
 use Rattle.capability.specs.Parts.{objects_in}
-use Rattle.space_bank.specs.Banks.{MayAsk}
 use Rattle.space_bank.specs.Carrying.{PlansAs}
 use Rattle.gate.proofs.Plans.{bank_planned}
 use Rattle.gate.proofs.BankStates.{bank_known, bank_may_ask, bank_written}

@@ -1,5 +1,4 @@
 use Rattle.std.proofs.Common.{◌≡◌, ◌+◌, true, List, ap, arith, drop, refl, subst, sym, ◌∙◌, ℕ}
-use Rattle.std.specs.List.{All}
 use Rattle.std.proofs.lemmas.List.Elements.{All-drop}
 use Rattle.model.specs.declared.geometry.Geometry.{Geometry}
 use Rattle.model.specs.declared.object.Object.{Object}
@@ -14,7 +13,7 @@ use Rattle.space_bank.specs.Banks.{AreCounted}
 use Rattle.space_bank.specs.Planning.{writer_count}
 use Rattle.space_bank.proofs.Renewing.{renews_after, renews_then}
 use Rattle.gate.specs.Ordering.{answered, state_before}
-use Rattle.gate.specs.Plan.{FitsCap, fetched_of}
+use Rattle.gate.specs.Plan.{FitsCap}
 use Rattle.gate.proofs.BankStates.{annex_listed, answered_frame, before_counted, before_frame, before_may, before_sound, counted_on, no_send, process_listed, writers_within}
 use Rattle.gate.proofs.Effects.{frame_before}
 use Rattle.gate.proofs.Fits.{in_geometry}

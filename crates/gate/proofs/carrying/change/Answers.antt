@@ -1,11 +1,11 @@
-use Rattle.std.proofs.Common.{◌≡◌, List, ap, drop, subst, sym, ◌∙◌, ℕ}
+use Rattle.std.proofs.Common.{List, ap, drop, subst, sym, ◌∙◌, ℕ}
 use Rattle.std.specs.List.{All}
 use Rattle.model.specs.declared.object.Object.{Object}
 use Rattle.model.specs.Object.{is_free}
 use Rattle.model.specs.World.{content_at}
 use Rattle.model_laws.proofs.Usage.{tests_at}
 use Rattle.capability.specs.declared.order.Change.{Change}
-use Rattle.capability.specs.Changes.{target_of, written_of}
+use Rattle.capability.specs.Changes.{target_of}
 use Rattle.capability.specs.Parts.{objects_in}
 use Rattle.space_bank.specs.Banks.{AreCounted}
 use Rattle.space_bank.proofs.Ending.{aside_alone}

@@ -2,8 +2,7 @@ use Rattle.std.proofs.Common.{sym, subst, ◌∙◌}
 use Rattle.std.specs.Prelude.{slice_index}
 use Rattle.model.specs.declared.capability.Capability.{Capability}
 use Rattle.model.specs.Order.{IsNoBankOrder}
-use Rattle.capability.specs.Parts.{objects_in}
-use Rattle.gate.proofs.BankStates.{counted_after, counted_looked}
+use Rattle.gate.proofs.BankStates.{counted_after}
 use Rattle.gate.proofs.Invoking.{invoked_looked}
 use Rattle.gate.proofs.Renewing.{gate_no_bank}
 use Rattle.gate.proofs.Standing.{LooksAs, keepable_most, looked_as}

@@ -1,4 +1,4 @@
-use Rattle.std.proofs.Common.{ap, arith, length, ◌∙◌}
+use Rattle.std.proofs.Common.{arith, length}
 use Rattle.gate.proofs.Listed.{contained, on_ok}
 use Rattle.gate.proofs.kernel_object.announce.Goals as goal
 

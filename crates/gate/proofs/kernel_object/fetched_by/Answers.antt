@@ -1,4 +1,4 @@
-use Rattle.std.proofs.Common.{◌<◌, ℕ, subst, sym}
+use Rattle.std.proofs.Common.{◌<◌, subst, sym}
 use Rattle.std.specs.List.{All, Contains}
 use Rattle.capability.specs.declared.order.Change.{Change}
 use Rattle.gate.specs.Plan.{fetched_of}

@@ -1,4 +1,4 @@
-use Rattle.std.proofs.Common.{ℕ, ◌<◌, List, drop, length, refl, sym, ap, subst, ◌∙◌}
+use Rattle.std.proofs.Common.{ℕ, ◌<◌, List, drop, length, sym, ap, subst, ◌∙◌}
 use Rattle.std.specs.Prelude.{IsTrue}
 use Rattle.std.specs.List.{All}
 use Rattle.std.proofs.lemmas.Result.{err_from_is_err_and}
@@ -9,10 +9,9 @@ use Rattle.model.specs.World.{is_running_process}
 use Rattle.model_laws.proofs.SoundOrders.{IsNow}
 use Rattle.capability.specs.Parts.{objects_in}
 use Rattle.capability.proofs.Frames.{process_known}
-use Rattle.space_bank.specs.Banks.{AreCounted}
 use Rattle.space_bank.specs.Planning.{writer_count}
 use Rattle.gate.specs.Ordering.{IsPlanned, finished, ordered_by}
-use Rattle.gate.specs.Plan.{FitsCap, fetched_of}
+use Rattle.gate.specs.Plan.{FitsCap}
 use Rattle.gate.proofs.BankStates.{annex_asked, counted_listed, counted_looked, planned_same}
 use Rattle.gate.proofs.Effects.{fetched_known, listed_known, object_invoked, order_after, order_fits, order_objects, order_written}
 use Rattle.gate.proofs.Known.{running_process}

@@ -1,4 +1,4 @@
-use Rattle.std.proofs.Common.{◌≡◌, ◌++◌, true, List, ap, subst, sym, ◌∙◌}
+use Rattle.std.proofs.Common.{◌≡◌, true, List, ap, subst, sym}
 use Rattle.model.specs.declared.object.Object.{Object}
 use Rattle.model.specs.World.{is_process}
 use Rattle.capability.specs.Parts.{objects_in}

@@ -1,4 +1,4 @@
-use Rattle.std.proofs.Common.{◌≡◌, ℕ, true, inl, inr, ap, set, get_or, subst, sym, ◌∙◌, arith}
+use Rattle.std.proofs.Common.{ℕ, true, inl, inr, ap, set, get_or, subst, sym, ◌∙◌, arith}
 use Rattle.std.specs.Prelude.{◌≢◌}
 use Rattle.std.proofs.lemmas.Bool.{cases_eq}
 use Rattle.std.proofs.lemmas.Grind.{get_or_default_zero}

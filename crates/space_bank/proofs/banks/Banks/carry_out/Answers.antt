@@ -1,4 +1,4 @@
-use Rattle.std.proofs.Common.{List, ap, arith, drop, refl, subst, ℕ}
+use Rattle.std.proofs.Common.{List, arith, drop, refl, subst, ℕ}
 use Rattle.std.specs.List.{All}
 use Rattle.model.specs.declared.capability.Capability.TheVariants.{Void}
 use Rattle.model.specs.Banking.{new_annex, new_root, with_new}

@@ -1,4 +1,4 @@
-use Rattle.std.proofs.Common.{ap, refl, subst, sym, ◌∙◌, [], ◌∷◌}
+use Rattle.std.proofs.Common.{ap, refl, subst, sym, ◌∙◌}
 use Rattle.model.specs.declared.order.BankOrder.{BankOrder}
 use Rattle.model.specs.declared.order.BankOrder.TheVariants as bank
 use Rattle.model.specs.Bank.{usage}
