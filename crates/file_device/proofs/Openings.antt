@@ -1,5 +1,5 @@
 -- The calls that open or make a device, one after another.
-use Rattle.std.proofs.Common.{◌≡◌, ℕ, ◌+◌, ◌*◌, ◌≤◌, List, [], ◌∷◌, ◌++◌, Option, None, Some, IfSome, length, take, refl, sym, ap, ◌∙◌, subst, append-nil, arith, length-append, length-take-le, drop_at}
+use Rattle.std.proofs.Common.{◌≡◌, ℕ, ◌+◌, ◌*◌, ◌≤◌, List, [], ◌∷◌, ◌++◌, Option, option_map, None, Some, IfSome, length, take, refl, sym, ap, ◌∙◌, subst, append-nil, arith, length-append, length-take-le, drop_at}
 use Rattle.std.proofs.Math.Seq.{take-add}
 use Rattle.std.proofs.lemmas.List.{take-append-le}
 use Rattle.std.proofs.lemmas.List.Folds.{concat-append}
@@ -12,12 +12,31 @@ use Rattle.file_device.specs.declared.openable.Access.{Access}
 use Rattle.file_device.specs.declared.openable.Access.TheVariants.{Create}
 use Rattle.file_device.specs.declared.openable.Lock.{Lock}
 use Rattle.file_device.specs.declared.openable.Lock.TheVariants.{Exclusive}
-use Rattle.file_device.specs.OpeningCalls.{OpeningCall, opened, locked, synced, measured, got, resized, listed, reads, Gets, LoadsLocked, MakesZeros, IsOpened, IsMade}
+use Rattle.file_device.specs.OpeningCalls.{OpeningCall, opened, locked, synced, measured, got, resized, listed, resizes, KeepsLength, reads, Gets, LoadsLocked, MakesZeros, IsOpened, IsMade}
 use Rattle.file_device.specs.RawCalls.{Adds}
 use Rattle.file_device.proofs.Deeds.{adds_none, adds_more}
 
 abbrev Calls : Type 0
 Calls = Option (List OpeningCall)
+
+resizes_append : (a b : List OpeningCall) → resizes (a ++ b) ≡ resizes a + resizes b
+resizes_append [] b = omega arith
+resizes_append (opened path access ∷ a) b = resizes_append a b
+resizes_append (locked lock answer ∷ a) b = resizes_append a b
+resizes_append (synced ∷ a) b = resizes_append a b
+resizes_append (measured n ∷ a) b = resizes_append a b
+resizes_append (got at piece ∷ a) b = resizes_append a b
+resizes_append (resized n ∷ a) b = omega (arith, resizes_append a b)
+resizes_append (listed path ∷ a) b = resizes_append a b
+
+-- calls of which none sets the length
+pub keeps_length : (a b : Calls) (more : List OpeningCall) → Adds a b more → resizes more ≡ 0 → KeepsLength a b
+keeps_length None b more adds none = ap (option_map resizes) adds
+keeps_length (Some calls) None more adds none = absurd adds
+keeps_length (Some calls) (Some now) more adds none = ap Some (ap resizes adds ∙ resizes_append calls more ∙ omega (arith, none))
+
+pub keeps_synced : (a b : Calls) → Adds a b (synced ∷ []) → option_map resizes b ≡ option_map resizes a
+keeps_synced a b adds = keeps_length a b (synced ∷ []) adds refl
 
 -- one more piece
 reads_more : (byte : ℕ) (ps : List (List ℕ)) (y : List ℕ) → reads byte (ps ++ y ∷ []) ≡ reads byte ps ++ got (byte + length (concat ps)) y ∷ []

@@ -1,5 +1,5 @@
 -- The calls that open or make a device in a file.
-use Rattle.std.specs.Prelude.{◌≡◌, ◌≢◌, ℕ, ◌+◌, ◌*◌, ◌/◌, ◌<◌, List, [], ◌∷◌, ◌++◌, length, take, drop, replicate, Option, ⊤}
+use Rattle.std.specs.Prelude.{◌≡◌, ◌≢◌, ℕ, ◌+◌, ◌*◌, ◌/◌, ◌<◌, List, [], ◌∷◌, ◌++◌, length, take, drop, replicate, Option, option_map, ⊤}
 use Rattle.std.specs.List.{concat}
 use Rattle.device.specs.Disk.{Disk}
 use Rattle.device.specs.Calls.{Agrees, image_of}
@@ -20,6 +20,21 @@ pub data OpeningCall : Type 0 where
   got : ℕ → List ℕ → OpeningCall  -- read these bytes, from a byte on
   resized : ℕ → OpeningCall  -- cut the file to this number of bytes, or add zeros up to it
   listed : List ℕ → OpeningCall  -- make the folder of this path durable
+
+-- how many of these calls set the length of the file
+abbrev pub resizes : List OpeningCall → ℕ
+resizes [] = 0
+resizes (opened path access ∷ calls) = resizes calls
+resizes (locked lock answer ∷ calls) = resizes calls
+resizes (synced ∷ calls) = resizes calls
+resizes (measured n ∷ calls) = resizes calls
+resizes (got at piece ∷ calls) = resizes calls
+resizes (resized n ∷ calls) = resizes calls + 1
+resizes (listed path ∷ calls) = resizes calls
+
+-- no call set the length of the file
+abbrev pub KeepsLength : Option (List OpeningCall) → Option (List OpeningCall) → Type 0
+KeepsLength old new = option_map resizes new ≡ option_map resizes old
 
 -- reads that give these pieces, one behind the other, from a byte on
 abbrev pub reads : ℕ → List (List ℕ) → List OpeningCall

@@ -2,7 +2,7 @@
 ghost use Rattle.std.specs.Prelude.{◌≡◌, ◌≢◌, ◌⊎◌, ◌<◌, ◌≤◌, ◌*◌, ◌/◌, ◌%◌, ℕ, [], ◌∷◌, length, replicate, nat_lt, if◌then◌else◌, IfErr, IfOk, IfSome, IsErrOf, OnOk, OnErr, Ok, Err};
 ghost use Rattle.device.specs.Calls.{Agrees, Only, sectors_of, image_of};
 ghost use Rattle.file_device.specs.FileDevice.{file_disk, raw_file};
-ghost use Rattle.file_device.specs.OpeningCalls.{locked, measured, synced, Gets, Loads, LoadsLocked, TakesLock, MakesZeros, IsOpened, IsMade, Mirrors};
+ghost use Rattle.file_device.specs.OpeningCalls.{locked, measured, synced, Gets, Loads, LoadsLocked, TakesLock, MakesZeros, KeepsLength, IsOpened, IsMade, Mirrors};
 ghost use Rattle.file_device.specs.RawCalls.{Adds};
 
 use crate::fault::FileFault;
@@ -28,6 +28,7 @@ fn get_fully<F: Openable>(file: &mut F, into: &mut [u8]) -> Result<(), FileFault
     requires { length into.old ≤ 67108864 }
     ensures bytes { OnOk result (Gets (F.opening file.old) (F.opening file.new) into.new) }
     ensures fault { IfErr result (λ fault. fault ≡ FileFault.Io) }
+    ensures length { KeepsLength (F.opening file.old) (F.opening file.new) }
     ensures calls { F.calls file.new ≡ F.calls file.old }
 {
     let mut done = 0;
@@ -55,6 +56,7 @@ fn load<F: Openable>(alloc: Global, file: &mut F) -> Result<Vec<u8>, FileFault>
     ensures long { IsErrOf result FileFault.Long
         → (n : ℕ) × (67108864 < n) × Adds (F.opening file.old) (F.opening file.new) (measured n ∷ []) }
     ensures fault { IfErr result (λ fault. fault ≢ FileFault.Held) }
+    ensures length { KeepsLength (F.opening file.old) (F.opening file.new) }
     ensures calls { F.calls file.new ≡ F.calls file.old }
 {
     let sectors = whole_sectors(file.length()?)?;
@@ -69,6 +71,7 @@ fn take_lock<F: Openable>(file: &mut F, lock: Lock) -> Result<(), FileFault>
     ensures held { IsErrOf result FileFault.Held
         → Adds (F.opening file.old) (F.opening file.new) (locked lock LockAnswer.Held ∷ []) }
     ensures fault { IfErr result (λ fault. (fault ≡ FileFault.Io) ⊎ (fault ≡ FileFault.Held)) }
+    ensures length { KeepsLength (F.opening file.old) (F.opening file.new) }
     ensures calls { F.calls file.new ≡ F.calls file.old }
 {
     match file.lock(lock)? {
@@ -85,6 +88,7 @@ fn load_locked<F: Openable>(alloc: Global, file: &mut F, lock: Lock) -> Result<V
         → Adds (F.opening file.old) (F.opening file.new) (locked lock LockAnswer.Held ∷ []) }
     ensures long { IsErrOf result FileFault.Long → (answer : LockAnswer) × (n : ℕ) × (67108864 < n)
         × Adds (F.opening file.old) (F.opening file.new) (locked lock answer ∷ synced ∷ measured n ∷ []) }
+    ensures length { KeepsLength (F.opening file.old) (F.opening file.new) }
     ensures calls { F.calls file.new ≡ F.calls file.old }
 {
     take_lock(file, lock)?;

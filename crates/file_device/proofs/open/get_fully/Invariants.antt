@@ -1,5 +1,5 @@
 use Rattle.std.proofs.Common.{◌≡◌, ◌≤◌, length, take}
-use Rattle.file_device.specs.OpeningCalls.{Gets}
+use Rattle.file_device.specs.OpeningCalls.{Gets, KeepsLength}
 use Rattle.file_device.proofs.open.get_fully.Given as goal
 
 abbrev pub invariant-loop : goal.invariant-loop
@@ -7,5 +7,6 @@ invariant-loop g l = record {
   size : length l.into ≡ length l.fn.into;
   within : l.done ≤ length l.into;
   bytes : Gets (g.F.Openable.opening l.fn.file) (g.F.Openable.opening l.file) (take l.done l.into);
+  length_kept : KeepsLength (g.F.Openable.opening l.fn.file) (g.F.Openable.opening l.file);
   calls : g.F.RawFile.calls l.file ≡ g.F.RawFile.calls l.fn.file;
 }
