@@ -91,7 +91,7 @@ def text_of(document):
     return (head + "".join(f"\n[[{key}]]\n{of_table(row)}" for key, rows in tables.items() for row in rows)).encode()
 
 
-# ---- what is told of a description
+# ---- the text of a description
 
 def told_held(slots):
     return sorted([place, text] for place, text in slots if text != "void")
@@ -102,7 +102,7 @@ def told_words(words):
 
 
 def told_row(row):
-    """What is told of an object: what isn't at its default, in the manual's order."""
+    """The lines of an object in a description, without defaults, in the manual's order."""
     numbers = {key: row[key] for key in ("number", "root", "annex", "owner", "limit") if key in row}
     state = {"state": row["state"]} if "state" in row else {}
     if "root" in row:
@@ -113,7 +113,7 @@ def told_row(row):
 
 
 def told_of(document):
-    """What is told of the image of a description, in the manual's order."""
+    """The lines of the image's own keys in a description, in the manual's order."""
     nodes, pages = document["nodes"], document["pages"]
     default = {"layout": 1, "age": 0, "ranges": [[0, nodes], [nodes, pages]]}
     head = {key: document[key] for key in ("nodes", "pages", "log")} | {key: document[key] for key in default if document.get(key, default[key]) != default[key]}
