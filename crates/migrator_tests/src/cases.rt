@@ -35,7 +35,7 @@ const STEPS: &[Step] = &[
     Step::Hold(&[(&[3], 103), (&[4], 102), (&[17], 104)]),
     Step::Open,
     Step::Hold(&[]),
-    // A device that fails is told of. Freezing makes no call of it, the others one each.
+    // A failure of the device is reported. Freezing makes no call of it, the others one each.
     Step::Image(AT_HOME, OPENING),
     Step::NoPut(3),
     Step::Fetch(4, Err(Failed)),
@@ -210,7 +210,7 @@ const PAGES: [u64; 8] = [16, 17, 18, 19, 20, 21, 22, 23];
 
 const NODES: [u64; 8] = [0, 1, 2, 3, 4, 5, 6, 7];
 
-// So many objects, of which these are pages and these are nodes.
+// A number of objects, the pages among them, and the nodes.
 const COUNTS: [(u64, &[u64], &[u64]); 4] = [
     (0, &[], &[]),
     (1, &[16], &[]),
