@@ -10,7 +10,6 @@ mod find;
 mod gather;
 mod image;
 mod read;
-mod save;
 mod table;
 mod turn;
 
