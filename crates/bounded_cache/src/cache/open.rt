@@ -115,9 +115,12 @@ impl<D: Device> BoundedCache<D> {
         ensures bound { IfOk result (λ s. s.most ≡ capacity) }
         ensures refused { IfErr result (λ r. Refuses D.disk device r.device r.fault) }
     {
-        match Durable::open(alloc, device) {
+        match Durable::open::<Vec<ObjectHeader>>(alloc, device) {
             Ok(opened) => {
-                let Opened { store, headers } = opened;
+                let Opened {
+                    store,
+                    taken: headers,
+                } = opened;
                 match Reserve::new(alloc, capacity, &headers) {
                     Ok(reserve) => {
                         let Reserve {
