@@ -5,7 +5,7 @@ use checkpoint::CheckpointFault;
 use device::{Device, Failed};
 use memory_device::Outcome;
 use migrator::Durable;
-use model::Role;
+use model::{ObjectHeader, Role};
 use std::alloc::Global;
 use std::test::Fail;
 
@@ -237,13 +237,15 @@ fn what_is_committed_is_there_after_a_cut(rt: HostRuntime) -> Result<(), Fail> {
 
 // How many headers come out, and whether each is that of its object.
 fn headers_of<D: Device>(alloc: Global, device: D) -> Result<(usize, bool), Fail> {
-    let opened = Durable::open(alloc, device).ok().ok_or("it opens")?;
+    let opened = Durable::open::<Vec<ObjectHeader>>(alloc, device)
+        .ok()
+        .ok_or("it opens")?;
     let mut are_right = true;
-    for (number, header) in opened.headers.iter().enumerate() {
+    for (number, header) in opened.taken.iter().enumerate() {
         let role = if number < 16 { Role::Bank } else { Role::Page };
         are_right = are_right && header.role == role && header.owner == 7;
     }
-    Ok((opened.headers.len(), are_right))
+    Ok((opened.taken.len(), are_right))
 }
 
 #[test]

@@ -7,7 +7,7 @@ use checkpoint::{Checkpoint, CheckpointFault, OpenFault, OpenRefused};
 use device::{Device, Failed};
 use layout::Room;
 use migrator::{Durable, Opened};
-use model::{MAX_AGE, Role};
+use model::{MAX_AGE, ObjectHeader, Role};
 use std::alloc::Global;
 use std::marker::Model;
 
@@ -48,7 +48,7 @@ impl<D: Device> Rig<D> {
                 device,
             });
         };
-        let Opened { store, .. } = Durable::open(alloc, device)?;
+        let Opened { store, .. } = Durable::open::<Vec<ObjectHeader>>(alloc, device)?;
         Ok(Rig {
             store,
             room,
