@@ -21,4 +21,4 @@ pub use drawing::draw_image;
 pub use fault::Fault;
 pub use output::finish;
 pub use running::run_image;
-pub use upgrading::upgrade_image;
+pub use upgrading::{upgrade_image, upgrade_opened};

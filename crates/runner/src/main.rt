@@ -8,9 +8,9 @@ use bounded_cache::{BoundedCache, Capacity};
 use command_line::{Job, JobFault, Script, job};
 use device::MAX_SECTORS;
 use file_device::{FileDevice, FileFault};
-use image_builder::{Blueprint, upgraded_sectors};
+use image_builder::{Blueprint, OldImage};
 use jobs::{
-    Fault, build_image, check_image, describe_image, draw_image, finish, run_image, upgrade_image,
+    Fault, build_image, check_image, describe_image, draw_image, finish, run_image, upgrade_opened,
 };
 use object_cache::PlainStore;
 use object_store::ObjectStore;
@@ -186,7 +186,8 @@ fn check(
     Ok(done.status)
 }
 
-// Writes what an image saves to a new one by version 2 of the layout, and gives the status.
+// Writes what an image saves to a new one by version 2 of the layout, and gives the status. The new
+// file is made only once the old image was opened and read whole.
 fn upgrade(
     rt: &HostRuntime,
     old: &str,
@@ -194,10 +195,10 @@ fn upgrade(
     writer: &mut BufWriter<Stdout>,
     errors: &mut Stderr,
 ) -> Result<u8, Fault> {
-    let mut device = open_to_read(rt, old)?;
-    let sectors = upgraded_sectors(&mut device).map_err(Fault::Open)?;
-    let mut upgraded = create(rt, sectors, old, new)?;
-    Ok(upgrade_image(rt.alloc(), device, &mut upgraded, writer, errors))
+    let device = open_to_read(rt, old)?;
+    let image = OldImage::open(rt.alloc(), device).map_err(Fault::Upgrade)?;
+    let mut upgraded = create(rt, image.sectors(), old, new)?;
+    Ok(upgrade_opened(rt.alloc(), image, &mut upgraded, writer, errors))
 }
 
 // Describes an image, and gives the status.
