@@ -17,7 +17,7 @@ use object_store::ObjectStore;
 use runs::ScriptReader;
 use std::fs::{self, File};
 use std::io::{self, BufWriter, ErrorKind, Read, Stderr, Stdout};
-use std::os::unix::fs::MetadataExt;
+use std::os::unix::fs::{FileTypeExt, MetadataExt};
 use std::process::ExitCode;
 use toml::Table;
 
@@ -96,8 +96,24 @@ fn open(rt: &HostRuntime, image: &str) -> Result<FileDevice, Fault> {
     }
 }
 
+// Refuses a file that is neither a regular file nor a block device, such as a FIFO: opening one to read
+// waits until somebody writes to it. If the file is replaced before it is opened, the command may still
+// wait, but what it then opens is checked like any other image.
+fn refuse_pipe(rt: &HostRuntime, image: &str) -> Result<(), Fault> {
+    let kind = match fs::metadata(rt, image) {
+        Ok(found) => found.file_type(),
+        Err(error) => return Err(of_io(&error, Fault::CannotOpenImage)),
+    };
+    if kind.is_file() || kind.is_block_device() {
+        Ok(())
+    } else {
+        Err(Fault::CannotOpenImage)
+    }
+}
+
 // The same, which nothing is written to.
 fn open_to_read(rt: &HostRuntime, image: &str) -> Result<FileDevice, Fault> {
+    refuse_pipe(rt, image)?;
     match FileDevice::open_to_read(rt, image) {
         Ok(device) => Ok(device),
         Err(fault) => Err(of_file(fault, Fault::CannotOpenImage)),
