@@ -10,7 +10,8 @@ use device::MAX_SECTORS;
 use file_device::{FileDevice, FileFault};
 use image_builder::{Blueprint, OldImage};
 use jobs::{
-    Fault, build_image, check_image, describe_image, draw_image, finish, run_image, upgrade_opened,
+    Fault, build_image, check_image, describe_image, draw_image, finish, info_image, run_image,
+    upgrade_opened,
 };
 use object_cache::PlainStore;
 use object_store::ObjectStore;
@@ -241,6 +242,18 @@ fn draw(
     Ok(done.status)
 }
 
+// Tells what an image has room for and how much it holds, and gives the status.
+fn info(
+    rt: &HostRuntime,
+    image: &str,
+    writer: &mut BufWriter<Stdout>,
+    errors: &mut Stderr,
+) -> Result<u8, Fault> {
+    let device = open_to_read(rt, image)?;
+    let done = info_image(rt.alloc(), device, writer, errors);
+    Ok(done.status)
+}
+
 // Does a job, and gives the status.
 fn serve(
     rt: &HostRuntime,
@@ -268,6 +281,9 @@ fn serve(
         Job::Upgrade { old, new } => upgrade(rt, old, new, writer, errors),
         Job::Describe { image } => describe(rt, image, writer, errors),
         Job::Draw { image } => draw(rt, image, writer, errors),
+        Job::Info { image } => info(rt, image, writer, errors),
+        // These have no command yet.
+        Job::Explain { .. } | Job::Reach { .. } => Ok(2),
     }
 }
 
