@@ -35,16 +35,16 @@ use Rattle.jobs.specs.Laws.{DescribedIsDenoted}
 -- A store that was made of a device.
 module _ {D : Type 0} (disk : D → Disk) (seen_left : (d : D) → (disk d).may_leave (disk d).seen) (device : D) (l : Live (StoreState D)) (wakes : Wakes disk (view_of disk) (parts_of disk) device l) where
   -- what is saved, as the device gives it
-  abbrev state_of : SavedState
+  abbrev pub state_of : SavedState
   state_of = saved_state (seen_of disk l.store.durable) l.store.durable.books
 
-  encodes : Encodes (disk device).seen (disk device).sectors state_of
+  pub encodes : Encodes (disk device).seen (disk device).sectors state_of
   encodes =
       let beneath = l.store.durable.beneath in
       subst (λ (i : Image). Encodes i (disk device).sectors state_of) (agrees_is (disk beneath).seen (disk device).seen wakes.looks.seen)
       (subst (λ (n : ℕ). Encodes (disk beneath).seen n state_of) wakes.looks.size (wakes.up.store (disk beneath).seen (seen_left beneath)))
 
-  sound : IsSoundFrames state_of.plan.geometry state_of.header.age state_of.frames
+  pub sound : IsSoundFrames state_of.plan.geometry state_of.header.age state_of.frames
   sound = wakes.up.sound.saved.sound
 
   pub sound_at : (age : ℕ) → age ≡ state_of.header.age → IsSoundFrames (parts_of disk l.store).geometry age (frames_of (parts_of disk l.store))
@@ -53,7 +53,7 @@ module _ {D : Type 0} (disk : D → Disk) (seen_left : (d : D) → (disk d).may_
       (subst (λ (fs : List Frame). IsSoundFrames state_of.plan.geometry state_of.header.age fs) (sym wakes.frames) sound)
 
   module _ (back : D) (same : back ≡ l.store.durable.beneath) where
-    looked : Looks (disk device) (disk back)
+    pub looked : Looks (disk device) (disk back)
     looked = subst (λ (d : D). Looks (disk device) (disk d)) (sym same) wakes.looks
 
     pub saved : (age : ℕ) → age ≡ state_of.header.age → (d : Description) → IsDescriptionOf l.store.durable.books.plan age (frames_of (parts_of disk l.store)) d → DescribesSaved disk device back d

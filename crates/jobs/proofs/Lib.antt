@@ -3,3 +3,4 @@ mod BuiltImages
 mod DescribedImages
 mod RunImages
 mod UpgradedImages
+mod InfoImages

@@ -1,3 +1,4 @@
 pub mod Faults
 pub mod Images
+pub mod Info
 pub mod Laws

@@ -8,16 +8,17 @@ use bounded_cache::{BoundedCache, Capacity};
 use command_line::{Job, JobFault, Script, job};
 use device::MAX_SECTORS;
 use file_device::{FileDevice, FileFault};
-use image_builder::{Blueprint, upgraded_sectors};
+use image_builder::{Blueprint, OldImage};
 use jobs::{
-    Fault, build_image, check_image, describe_image, draw_image, finish, run_image, upgrade_image,
+    Fault, build_image, check_image, describe_image, draw_image, finish, info_image, run_image,
+    upgrade_opened,
 };
 use object_cache::PlainStore;
 use object_store::ObjectStore;
 use runs::ScriptReader;
 use std::fs::{self, File};
 use std::io::{self, BufWriter, ErrorKind, Read, Stderr, Stdout};
-use std::os::unix::fs::MetadataExt;
+use std::os::unix::fs::{FileTypeExt, MetadataExt};
 use std::process::ExitCode;
 use toml::Table;
 
@@ -96,8 +97,24 @@ fn open(rt: &HostRuntime, image: &str) -> Result<FileDevice, Fault> {
     }
 }
 
+// Refuses a file that is neither a regular file nor a block device, such as a FIFO: opening one to read
+// waits until somebody writes to it. If the file is replaced before it is opened, the command may still
+// wait, but what it then opens is checked like any other image.
+fn refuse_pipe(rt: &HostRuntime, image: &str) -> Result<(), Fault> {
+    let kind = match fs::metadata(rt, image) {
+        Ok(found) => found.file_type(),
+        Err(error) => return Err(of_io(&error, Fault::CannotOpenImage)),
+    };
+    if kind.is_file() || kind.is_block_device() {
+        Ok(())
+    } else {
+        Err(Fault::CannotOpenImage)
+    }
+}
+
 // The same, which nothing is written to.
 fn open_to_read(rt: &HostRuntime, image: &str) -> Result<FileDevice, Fault> {
+    refuse_pipe(rt, image)?;
     match FileDevice::open_to_read(rt, image) {
         Ok(device) => Ok(device),
         Err(fault) => Err(of_file(fault, Fault::CannotOpenImage)),
@@ -186,7 +203,8 @@ fn check(
     Ok(done.status)
 }
 
-// Writes what an image saves to a new one by version 2 of the layout, and gives the status.
+// Writes what an image saves to a new one by version 2 of the layout, and gives the status. The new
+// file is made only once the old image was opened and read whole.
 fn upgrade(
     rt: &HostRuntime,
     old: &str,
@@ -194,10 +212,10 @@ fn upgrade(
     writer: &mut BufWriter<Stdout>,
     errors: &mut Stderr,
 ) -> Result<u8, Fault> {
-    let mut device = open_to_read(rt, old)?;
-    let sectors = upgraded_sectors(&mut device).map_err(Fault::Open)?;
-    let mut upgraded = create(rt, sectors, old, new)?;
-    Ok(upgrade_image(rt.alloc(), device, &mut upgraded, writer, errors))
+    let device = open_to_read(rt, old)?;
+    let image = OldImage::open(rt.alloc(), device).map_err(Fault::Upgrade)?;
+    let mut upgraded = create(rt, image.sectors(), old, new)?;
+    Ok(upgrade_opened(rt.alloc(), image, &mut upgraded, writer, errors))
 }
 
 // Describes an image, and gives the status.
@@ -221,6 +239,18 @@ fn draw(
 ) -> Result<u8, Fault> {
     let device = open_to_read(rt, image)?;
     let done = draw_image(rt.alloc(), device, writer, errors);
+    Ok(done.status)
+}
+
+// Tells what an image has room for and how much it holds, and gives the status.
+fn info(
+    rt: &HostRuntime,
+    image: &str,
+    writer: &mut BufWriter<Stdout>,
+    errors: &mut Stderr,
+) -> Result<u8, Fault> {
+    let device = open_to_read(rt, image)?;
+    let done = info_image(rt.alloc(), device, writer, errors);
     Ok(done.status)
 }
 
@@ -251,6 +281,9 @@ fn serve(
         Job::Upgrade { old, new } => upgrade(rt, old, new, writer, errors),
         Job::Describe { image } => describe(rt, image, writer, errors),
         Job::Draw { image } => draw(rt, image, writer, errors),
+        Job::Info { image } => info(rt, image, writer, errors),
+        // These have no command yet.
+        Job::Explain { .. } | Job::Reach { .. } => Ok(2),
     }
 }
 
