@@ -1,0 +1,5 @@
+mod ClosedSets
+mod Growing
+mod Looking
+mod Members
+mod TextLines

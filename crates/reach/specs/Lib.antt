@@ -1,0 +1,3 @@
+pub mod Frontier
+pub mod Lines
+pub mod Reached
