@@ -1,5 +1,9 @@
+mod Chains
 mod ClosedSets
+mod Finding
 mod Growing
 mod Looking
-mod Members
+pub mod Members
+mod Searches
 mod TextLines
+mod Ways

@@ -22,6 +22,10 @@ known [] n test none passes = let no : false ≡ test content.Free = sym none in
 known (o ∷ os) zero test none passes = omega arith
 known (o ∷ os) (suc n) test none passes = let later : n < length os = known os n test none passes in omega (arith, later)
 
+-- processes are there
+pub processes_known : (os : List Object) (ns : List ℕ) → All (λ n. IsTrue (is_root (content_at os n))) ns → All (λ n. n < length os) ns
+processes_known os ns all k d lt = known os (slice_index_or ns k d) is_root refl (all k d lt)
+
 -- so what a capability names is there
 pub names_within : (os : List Object) (c : Capability) → NamesItsKind os c → NamesWithin (length os) c
 names_within os Void names = tt

@@ -11,6 +11,21 @@ enumerate_append {A} n (x ∷ xs) ys =
     let same : n + 1 + length xs ≡ n + suc (length xs) = omega arith in
     ap (λ (l : List (ℕ × A)). (n, x) ∷ l) (enumerate_append (n + 1) xs ys ∙ ap (λ (k : ℕ). enumerate_from (n + 1) xs ++ enumerate_from k ys) same)
 
+-- the lines of items alone
+module _ {A : Type 0} (line : A → List ℕ) (xs : List A) where
+  pub plain_more : (i : ℕ) (d : A) → i < length xs → flat_map line (take (i + 1) xs) ≡ flat_map line (take i xs) ++ line (get_or xs i d)
+  plain_more i d lt =
+      let front : take (i + 1) xs ≡ take i xs ++ (get_or xs i d ∷ []) = rw add-one (take-suc xs i d lt) in
+      ap (flat_map line) front ∙ flat_map-append line (take i xs) (get_or xs i d ∷ []) ∙ ap (λ (l : List ℕ). flat_map line (take i xs) ++ l) (append-nil (line (get_or xs i d)))
+
+  pub plain_split : (i : ℕ) (d : A) → i < length xs → flat_map line xs ≡ (flat_map line (take i xs) ++ line (get_or xs i d)) ++ flat_map line (drop (i + 1) xs)
+  plain_split i d lt =
+      ap (flat_map line) (sym (take-append-drop (i + 1) xs)) ∙ flat_map-append line (take (i + 1) xs) (drop (i + 1) xs)
+      ∙ ap (λ (t : List ℕ). t ++ flat_map line (drop (i + 1) xs)) (plain_more i d lt)
+
+  pub plain_all : (i : ℕ) → length xs ≤ i → flat_map line (take i xs) ≡ flat_map line xs
+  plain_all i le = ap (flat_map line) (take_all i xs le)
+
 module _ {A : Type 0} (line : ℕ × A → List ℕ) (xs : List A) where
   -- the lines of the first i parts
   abbrev pub lines_before : ℕ → List ℕ

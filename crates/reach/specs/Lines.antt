@@ -33,10 +33,12 @@ pulls n (Resume p) = not (p == n)
 pulls n (Bank b) = not (b == n)
 pulls n _ = false
 
--- its line: `process 3, register 2: bank 6`
+-- a capability that an object holds: `process 3, register 2: bank 6`
+abbrev pub held_text : List ℕ → ℕ → List ℕ → ℕ → Capability → List ℕ
+held_text name n place i c = spaced (name ∷ (decimal n ++ codes ",") ∷ place ∷ (decimal i ++ codes ":") ∷ capability_text c ∷ [])
+
 abbrev pub pull_line : List ℕ → ℕ → List ℕ → ℕ × Capability → List ℕ
-pull_line name n place p =
-    if pulls n p.1 then line_of (spaced (name ∷ (decimal n ++ codes ",") ∷ place ∷ (decimal p.0 ++ codes ":") ∷ capability_text p.1 ∷ [])) else []
+pull_line name n place p = if pulls n p.1 then line_of (held_text name n place p.0 p.1) else []
 
 abbrev pub pull_lines : List ℕ → ℕ → List ℕ → List Capability → List ℕ
 pull_lines name n place capabilities = flat_map (pull_line name n place) (enumerate_from 0 capabilities)

@@ -1,5 +1,5 @@
 // The least closed set.
-ghost use Rattle.std.specs.Prelude.{◌<◌, length, IfOk};
+ghost use Rattle.std.specs.Prelude.{◌≡◌, ◌<◌, length, IfOk};
 ghost use Rattle.std.specs.List.{All};
 ghost use Rattle.number_set.specs.Marks.{is_marked};
 ghost use Rattle.reach.specs.Reached.{AreSoundObjects, BoundsRuns, IsReach};
@@ -23,6 +23,7 @@ pub fn reach(alloc: Global, objects: &[Object], starts: &[u64]) -> Result<Number
     requires sound { AreSoundObjects objects.now }
     requires known { All (λ n. n < length objects.now) starts.now }
     ensures reach { IfOk result (λ inside. IsReach objects.now starts.now (is_marked inside)) }
+    ensures count { IfOk result (λ inside. length inside ≡ length objects.now) }
     ensures bounds { IfOk result (λ inside. BoundsRuns objects.now (is_marked inside)) }
 {
     let mut frontier = Frontier::new(alloc, objects.len())?;

@@ -24,8 +24,8 @@ fn follow_all(frontier: &mut Frontier, capabilities: &[Capability])
     }
 }
 
-// Whether an object is owned by a bank.
-fn is_owned(object: &Object, bank: u64) -> bool
+/// Whether an object is owned by a bank.
+pub(crate) fn is_owned(object: &Object, bank: u64) -> bool
     ensures { IsTrue result ↔ ((is_free object.now.content ≡ false) × (object.now.owner ≡ bank)) }
 {
     match object.content {

@@ -5,7 +5,7 @@ ghost use Rattle.model.specs.Object.{slots_in};
 ghost use Rattle.model.specs.Text.{spaced};
 ghost use Rattle.model.specs.World.{content_at};
 ghost use Rattle.script.specs.Writing.{Writes};
-ghost use Rattle.reach.specs.Lines.{member_line, member_pulls, object_pulls, pull_line, pull_lines, pulls, reach_text, words_of};
+ghost use Rattle.reach.specs.Lines.{held_text, member_line, member_pulls, object_pulls, pull_line, pull_lines, pulls, reach_text, words_of};
 
 use model::{Capability, Content, Object};
 use number_set::NumberSet;
@@ -23,8 +23,8 @@ fn begin(name: &[u8], number: u64, owner: u64) -> LineText
     line
 }
 
-// The line of an object, as far as `show` begins it so.
-fn line_of_object(number: u64, object: &Object) -> LineText
+/// The line of an object, as `show` begins it.
+pub(crate) fn line_of_object(number: u64, object: &Object) -> LineText
     ensures text { result ≡ spaced (words_of number object.now) }
     ensures short { length result ≤ 120 }
 {
@@ -76,6 +76,27 @@ fn pulls(number: u64, capability: Capability) -> bool
     }
 }
 
+/// The line of a capability that an object holds.
+pub(crate) fn line_of_held(
+    name: &[u8],
+    number: u64,
+    place: &[u8],
+    index: u64,
+    capability: Capability,
+) -> LineText
+    requires name { length name.now ≤ 8 }
+    requires place { length place.now ≤ 8 }
+    ensures text { result ≡ held_text name.now number place.now index capability }
+    ensures short { length result < 320 }
+{
+    let mut line = LineText::numbered(name, number);
+    line.push(b",");
+    line.named(place, index);
+    line.push(b":");
+    line.capability(capability);
+    line
+}
+
 // Writes the line of a capability that pulls in another process or another bank.
 fn print_pull<W: Write>(
     name: &[u8],
@@ -92,12 +113,7 @@ fn print_pull<W: Write>(
     if !pulls(number, capability) {
         return Ok(());
     }
-    let mut line = LineText::numbered(name, number);
-    line.push(b",");
-    line.named(place, index as u64);
-    line.push(b":");
-    line.capability(capability);
-    line.write_to(writer)
+    line_of_held(name, number, place, index as u64, capability).write_to(writer)
 }
 
 // Writes the lines of the members.
@@ -135,8 +151,8 @@ fn print_pulls<W: Write>(
     Ok(())
 }
 
-// The capabilities that an object holds in slots or registers.
-fn slots_of(objects: &[Object], number: u64) -> &[Capability]
+/// The capabilities that an object holds in slots or registers.
+pub(crate) fn slots_of(objects: &[Object], number: u64) -> &[Capability]
     ensures { result.now ≡ slots_in (content_at objects.now number) }
 {
     match objects.get(number as usize) {

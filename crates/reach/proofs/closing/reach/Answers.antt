@@ -1,7 +1,8 @@
-use Rattle.std.proofs.Common.{ℕ, Bool, List, arith, refl, subst, sym}
+use Rattle.std.proofs.Common.{ℕ, Bool, List, ap, arith, length, refl, subst, sym, ◌∙◌}
 use Rattle.std.specs.Prelude.{IsTrue}
 use Rattle.std.proofs.lemmas.List.{get_or_default}
 use Rattle.number_set.specs.Marks.{is_marked}
+use Rattle.reach.specs.declared.frontier.Frontier.{Frontier}
 use Rattle.reach.specs.Reached.{IsReach}
 use Rattle.reach.proofs.ClosedSets.{all_begun, all_followed, bounds_runs, one_begun, one_followed}
 use Rattle.reach.proofs.closing.reach.Goals as goal
@@ -26,6 +27,10 @@ pub returns-clause-reach : goal.returns-clause-reach
 returns-clause-reach c =
     subst (λ (marks : List Bool). IsReach c.args.objects.now c.args.starts.now (is_marked marks)) (sym c.into_found.ensures)
     (all_followed c.args.objects.now c.args.starts.now c.loop-number.frontier c.take.new.self c.loop-number.invariant (c.in_default.ensures.none refl))
+
+pub returns-clause-count : goal.returns-clause-count
+returns-clause-count c =
+    ap (λ (marks : List Bool). length marks) c.into_found.ensures ∙ ap (λ (f : Frontier). length f.found) (c.in_default.ensures.none refl).same ∙ c.loop-number.invariant.count
 
 pub returns-clause-bounds : goal.returns-clause-bounds
 returns-clause-bounds c = bounds_runs c.args.objects.now (is_marked c.into_found.result) (returns-clause-reach c).closed
