@@ -1,5 +1,6 @@
 mod Answered
 mod Building
-mod Naming
+mod Getters
+mod Lacking
 mod Taken
 mod Refused

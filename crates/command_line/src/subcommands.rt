@@ -1,7 +1,8 @@
 // The command that clap takes the words by.
 ghost use Rattle.std.specs.Prelude.{◌≡◌, IfOk, false};
 ghost use Rattle.clap.specs.Words.{App, app_of, rule_of, with_subcommand};
-ghost use Rattle.command_line.specs.Commands.{IsCommand, bare_app, basic_app, build_app, cache_rule, check_app, describe_app, draw_app, eros_app, file_rule, reading_app, run_app, upgrade_app};
+ghost use Rattle.command_line.specs.Commands.{IsCommand, bare_app, build_app, cache_rule, changing_app, check_app, checking_app};
+ghost use Rattle.command_line.specs.Commands.{describe_app, draw_app, eros_app, file_rule, reading_app, run_app, run_files_app, upgrade_app};
 
 use clap::builder::ValueParser;
 use clap::{Arg, Command};
@@ -63,8 +64,9 @@ fn build<'a>(alloc: Global) -> Result<Command<'a>, AllocError>
         ))
 }
 
-fn run<'a>(alloc: Global) -> Result<Command<'a>, AllocError>
-    ensures { IfOk result (IsCommand run_app) }
+// `run` with its two files.
+fn run_files<'a>(alloc: Global) -> Result<Command<'a>, AllocError>
+    ensures { IfOk result (IsCommand run_files_app) }
 {
     Command::new(alloc, "run")
         .about("Runs a script over an image, and prints an answer to each command")
@@ -77,8 +79,13 @@ fn run<'a>(alloc: Global) -> Result<Command<'a>, AllocError>
             alloc,
             SCRIPT,
             "The script, a command a line; - is standard input",
-        ))?
-        .arg(cache(alloc))
+        ))
+}
+
+fn run<'a>(alloc: Global) -> Result<Command<'a>, AllocError>
+    ensures { IfOk result (IsCommand run_app) }
+{
+    run_files(alloc)?.arg(cache(alloc))
 }
 
 fn upgrade<'a>(alloc: Global) -> Result<Command<'a>, AllocError>
@@ -168,20 +175,26 @@ fn with<'a>(
     command?.subcommand(subcommand?)
 }
 
-// The program with the subcommands that make, run and check an image.
-fn basic<'a>(alloc: Global) -> Result<Command<'a>, AllocError>
-    ensures { IfOk result (IsCommand basic_app) }
+// The program with the subcommands that make and change images.
+fn changing<'a>(alloc: Global) -> Result<Command<'a>, AllocError>
+    ensures { IfOk result (IsCommand changing_app) }
 {
     let command = with(bare(alloc), build(alloc));
-    let command = with(command, run(alloc));
-    with(command, check(alloc))
+    with(command, run(alloc))
+}
+
+// The program with these and the subcommands that check images.
+fn checking<'a>(alloc: Global) -> Result<Command<'a>, AllocError>
+    ensures { IfOk result (IsCommand checking_app) }
+{
+    with(changing(alloc), check(alloc))
 }
 
 /// The command line of `eros`. Fails where memory runs out.
 pub(crate) fn command<'a>(alloc: Global) -> Result<Command<'a>, AllocError>
     ensures { IfOk result (IsCommand eros_app) }
 {
-    let command = with(basic(alloc), upgrade(alloc));
+    let command = with(checking(alloc), upgrade(alloc));
     let command = with(command, describe(alloc));
     with(command, draw(alloc))
 }
