@@ -13,7 +13,8 @@ use Rattle.clap.specs.Takes.{entered_passes, level_passes, takes}
 use Rattle.clap.proofs.WalkLemmas.{both}
 use Rattle.command_line.specs.Arguments.{has_all, is_whole, subcommand_named}
 use Rattle.command_line.specs.Commands.{eros_app}
-use Rattle.command_line.specs.Jobs.{NamesNone}
+use Rattle.command_line.specs.Jobs.{NamesJob, NamesNone}
+use Rattle.command_line.specs.declared.asked.Job.{Job}
 use Rattle.command_line.specs.Refusals.{AsksForSame}
 use Rattle.command_line.proofs.Lacking.{found}
 use Rattle.command_line.proofs.Taken.{StopsWell, is_no_help, is_plain, level_keeps}
@@ -94,3 +95,10 @@ pub unnamed : (words : List Text) (command : Command) (m : ArgMatches) → app_o
 unnamed words command m is has none taken =
     let same = (has (ap is_simple is)).1 ∙ ap (λ a. subcommand_of a words) is in
     takes_named words taken (subst NamesNone same none)
+
+-- the job that matches name is the one that the words name
+pub named_by : (words : List Text) (command : Command) (m : ArgMatches) → app_of command ≡ eros_app → HasMatchesOf (app_of command) words m
+    → (x : Job) → NamesJob (subcommand_rows_of m) x → NamesJob (subcommand_of eros_app words) x
+named_by words command m is has x named =
+    let same = (has (ap is_simple is)).1 ∙ ap (λ a. subcommand_of a words) is in
+    subst (λ s. NamesJob s x) same named

@@ -1,14 +1,14 @@
 -- What the getters of the matches give.
-use Rattle.std.proofs.Common.{◌≡◌, ◌∙◌, ap, subst, sym, Option, Some, None, List, option_map}
+use Rattle.std.proofs.Common.{◌≡◌, ◌∙◌, ap, subst, sym, Option, Some, None, List, map, option_map}
 use Rattle.std.specs.Borrow.{Bor}
 use Rattle.std.specs.Prelude.{Box, IfSome, unwrap_or}
 use Rattle.std.specs.Box.{box_value}
-use Rattle.clap.specs.Words.{Row, Text, first_of, first_value, rows_of, subcommand_name_of, subcommand_rows, subcommand_rows_of}
+use Rattle.clap.specs.Words.{Row, Text, all_of, first_of, first_value, matched_of, raw_values, rows_of, subcommand_name_of, subcommand_rows, subcommand_rows_of}
 use Rattle.clap.specs.declared.parser.matches.ArgMatches.{ArgMatches}
 use Rattle.clap.specs.declared.parser.matches.SubCommand.{SubCommand}
 use Rattle.clap.specs.declared.parser.matches.ArgMatches.TheViews.{out-ArgMatches, out-SubCommand}
 use Rattle.clap.specs.declared.parser.matches.Found.{Found}
-use Rattle.clap.proofs.WalkLemmas.{first_value-rows}
+use Rattle.clap.proofs.WalkLemmas.{first_value-rows, raw_values-rows}
 use Rattle.command_line.specs.Arguments.{IsGiven}
 
 -- the subcommand that was met is that of its name and its rows
@@ -30,6 +30,14 @@ given f id o text got is = sym (first_value-rows f id) ∙ (sym got ∙ ap (opti
 
 pub missing : (f : Found) (id : Text) (o : Option (Bor Text)) → option_map (λ s. s.now) o ≡ first_value f id → o ≡ None → first_of id (rows_of f) ≡ None
 missing f id o got is = sym (first_value-rows f id) ∙ (sym got ∙ ap (option_map (λ s. s.now)) is)
+
+pub given_all : (f : Found) (id : Text) (o : Option (Bor (List (Bor Text)))) (words : Bor (List (Bor Text)))
+    → option_map (λ s. map (λ v. v.now) s.now) o ≡ option_map raw_values (matched_of f id) → o ≡ Some words → all_of id (rows_of f) ≡ Some (map (λ v. v.now) words.now)
+given_all f id o words got is = sym (raw_values-rows f id) ∙ (sym got ∙ ap (option_map (λ s. map (λ v. v.now) s.now)) is)
+
+pub missing_all : (f : Found) (id : Text) (o : Option (Bor (List (Bor Text)))) → option_map (λ s. map (λ v. v.now) s.now) o ≡ option_map raw_values (matched_of f id)
+    → o ≡ None → all_of id (rows_of f) ≡ None
+missing_all f id o got is = sym (raw_values-rows f id) ∙ (sym got ∙ ap (option_map (λ s. map (λ v. v.now) s.now)) is)
 
 -- what holds of an answer, if any
 pub held : {X : Type 0} (P : X → Type 0) (o : Option X) (x : X) → IfSome o P → o ≡ Some x → P x

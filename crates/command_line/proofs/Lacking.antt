@@ -1,17 +1,18 @@
 -- Rows that lack an argument, or have a wrong one, name no job.
 use Rattle.std.proofs.Common.{◌≡◌, ◌∙◌, ◌&&◌, ◌||◌, ◌⊎◌, ap, refl, subst, sym, Bool, ℕ, suc, arith, not, Option, Some, None, List, [], ◌∷◌, length, option_map, true, false, true≢false, inl, inr, codes}
 use Rattle.std.specs.Prelude.{⊤, cond, find, nat_lt, option_and_then, slice_get, unwrap_or}
-use Rattle.std.specs.List.{list_all, list_any}
+use Rattle.std.specs.List.{All, list_all, list_any, slice_index_or}
 use Rattle.std.specs.Option.{option_map_or}
 use Rattle.std.specs.Str.{bytes_eq}
 use Rattle.std.proofs.lemmas.Bool.{eqb-true}
+use Rattle.std.proofs.lemmas.List.Sums.{AllPass-from_list_all}
 use Rattle.std.proofs.lemmas.Slice.Eq.{bytes_eq-Decides}
 use Rattle.clap.specs.Facts.{parser_of_value}
 use Rattle.clap.specs.Simple.{Shape, built, label_of}
 use Rattle.clap.specs.Takes.{values_pass}
 use Rattle.clap.specs.ValueTests.{accepts}
 use Rattle.clap.specs.Walk.{answers_to, arg_by_id, is_empty}
-use Rattle.clap.specs.Words.{IsUnsignedIn, Row, Rule, Text, first_of}
+use Rattle.clap.specs.Words.{IsUnsignedIn, Row, Rule, Text, all_of, first_of}
 use Rattle.clap.specs.declared.builder.value_parser.ValueParser.{ValueParser}
 use Rattle.clap.specs.declared.builder.value_parser.ValueParser.TheVariants.{Unsigned}
 use Rattle.clap.proofs.ValueTestLemmas.{accepts-Accepts}
@@ -94,6 +95,24 @@ module _ (name id : Text) (rows : List Row) where
       go : (o : Option Row) → row_named id rows ≡ o → option_and_then (λ (r : Row). slice_get r.values 0) o ≡ Some gives.0 → ⊥
       go None at is = let bad : None ≡ Some gives.0 = is in cc
       go (Some r) at is = let all = passing (Unsigned least most) (rule_named name id) refl parser has r at in first r.values all.0 is all.1
+
+  pub lacks_all : option_map_or (λ a. a.required) (rule_named name id) false ≡ true → all_of id rows ≡ None → IsNoJob name rows
+  lacks_all required none has = absurd (lacks_row (rule_named name id) refl required (go (row_named id rows) none) has)
+    where
+      go : (o : Option Row) → option_map (λ (r : Row). r.values) o ≡ None → option_map_or (λ (r : Row). nat_lt 0 (length r.values)) o false ≡ false
+      go None e = refl
+      go (Some r) e = let bad : Some r.values ≡ None = e in cc
+
+  pub wrong_all : (least most : ℕ) (words : List Text) → option_map (λ a. parser_of_value a.parser) (rule_named name id) ≡ Some (Unsigned least most)
+      → all_of id rows ≡ Some words → (All (IsUnsignedIn least most) words → ⊥) → IsNoJob name rows
+  wrong_all least most words parser given bad has = absurd (go (row_named id rows) refl given)
+    where
+      go : (o : Option Row) → row_named id rows ≡ o → option_map (λ (r : Row). r.values) o ≡ Some words → ⊥
+      go None at is = let wrong : None ≡ Some words = is in cc
+      go (Some r) at is =
+          let all = passing (Unsigned least most) (rule_named name id) refl parser has r at in
+          let same : r.values ≡ words = ap (λ (o : Option (List Text)). unwrap_or o words) is in
+          bad (λ k d lt. accepts-Accepts all.0 (Unsigned least most) (slice_index_or words k d) (AllPass-from_list_all (accepts all.0 (Unsigned least most)) words (subst (λ vs. list_all (accepts all.0 (Unsigned least most)) vs ≡ true) same all.1) k d lt))
 
 -- an upgrade whose two words are equal
 pub same_twice : (rows : List Row) (one other : Text) → first_of (codes "OLD") rows ≡ Some one → first_of (codes "NEW") rows ≡ Some other → one ≡ other

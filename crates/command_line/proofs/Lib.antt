@@ -2,5 +2,6 @@ mod Answered
 mod Building
 mod Getters
 mod Lacking
+mod Numbers
 mod Taken
 mod Refused

@@ -1,6 +1,7 @@
 -- What the rows of a subcommand say of its arguments.
 use Rattle.std.specs.Prelude.{◌≡◌, ◌&&◌, ℕ, Bool, true, false, not, nat_lt, List, Option, Some, None, length, find, codes, map}
-use Rattle.std.specs.List.{list_all}
+use Rattle.std.specs.List.{All, list_all}
+use Rattle.std.specs.Borrow.{Bor}
 use Rattle.std.specs.Option.{option_map_or}
 use Rattle.std.specs.Str.{bytes_eq}
 use Rattle.std.specs.Str.Parse.{digits_value, without_leading_plus}
@@ -8,7 +9,7 @@ use Rattle.clap.specs.Simple.{Shape, built, label_of}
 use Rattle.clap.specs.Takes.{values_pass}
 use Rattle.clap.specs.Walk.{answers_to}
 use Rattle.clap.specs.Words.{IsUnsignedIn, Row, Rule, Text, all_of, first_of}
-use Rattle.command_line.specs.Commands.{eros_app}
+use Rattle.command_line.specs.Commands.{eros_app, greatest_number}
 
 -- the argument of this name was given as this text
 abbrev pub IsGiven : List Row → Text → Text → Type 0
@@ -30,6 +31,19 @@ IsOption rows name least most (Some number) = (word : Text) × IsGiven rows name
 -- the option gives a word that writes no number in the bounds
 abbrev pub GivesNoNumber : List Row → Text → ℕ → ℕ → Type 0
 GivesNoNumber rows name least most = (word : Text) × IsGiven rows name word × (IsUnsignedIn least most word → ⊥)
+
+-- the option is left out, or gives a number
+abbrev pub IsNumberOption : List Row → Text → Option ℕ → Type 0
+IsNumberOption rows name number = IsOption rows name 0 greatest_number number
+
+-- words as texts
+abbrev pub texts_of : List (Bor Text) → List Text
+texts_of = map (λ s. s.now)
+
+-- the argument of this name was given these numbers, in this order
+abbrev pub AreNumbers : List Row → Text → List ℕ → Type 0
+AreNumbers rows name numbers = (words : List Text) × (all_of name rows ≡ Some words)
+    × All (IsUnsignedIn 0 greatest_number) words × (numbers ≡ map number_of words)
 
 -- ---- whether a subcommand has what it takes
 

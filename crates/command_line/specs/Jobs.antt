@@ -1,7 +1,7 @@
 -- The job that a subcommand and its arguments name.
 use Rattle.std.specs.Prelude.{◌≡◌, ◌≢◌, ◌⊎◌, ℕ, ⊤, List, Option, Some, None, codes, true}
 use Rattle.clap.specs.Words.{Row, Text}
-use Rattle.command_line.specs.Arguments.{IsGiven, IsOption, has_all}
+use Rattle.command_line.specs.Arguments.{AreNumbers, IsGiven, IsNumberOption, IsOption, has_all}
 use Rattle.command_line.specs.declared.asked.Job.{Job}
 use Rattle.command_line.specs.declared.asked.Job.TheVariants as job
 use Rattle.command_line.specs.declared.asked.Script.{Script}
@@ -23,6 +23,8 @@ IsJob name rows (job.Build description image) = (name ≡ codes "build")
 IsJob name rows (job.Run image script cache) = (name ≡ codes "run") × IsCache rows cache
     × IsGiven rows (codes "IMAGE") image.now × (word : Text) × IsGiven rows (codes "SCRIPT") word × IsScript word script
 IsJob name rows (job.Check image) = (name ≡ codes "check") × IsGiven rows (codes "IMAGE") image.now
+IsJob name rows (job.Reach image processes shows) = (name ≡ codes "reach") × IsGiven rows (codes "IMAGE") image.now
+    × AreNumbers rows (codes "P") processes.items × IsNumberOption rows (codes "shows") shows
 IsJob name rows (job.Upgrade old new) = (name ≡ codes "upgrade")
     × IsGiven rows (codes "OLD") old.now × IsGiven rows (codes "NEW") new.now × (old.now ≢ new.now)
 IsJob name rows (job.Describe image) = (name ≡ codes "describe") × IsGiven rows (codes "IMAGE") image.now

@@ -1,9 +1,12 @@
 // What the matches say of an argument.
-ghost use Rattle.std.specs.Prelude.{◌≡◌, IfSome, IsNone};
+ghost use Rattle.std.specs.Prelude.{◌≡◌, IfSome, IsNone, IfOk, Some, codes, map};
+ghost use Rattle.std.specs.List.{All};
 ghost use Rattle.clap.specs.Words.{IsUnsignedIn, found_of, rows_of};
-ghost use Rattle.command_line.specs.Arguments.{GivesNoNumber, IsNumber, IsOption};
+ghost use Rattle.command_line.specs.Arguments.{GivesNoNumber, IsNumber, IsOption, number_of, texts_of};
+ghost use Rattle.command_line.specs.Commands.{greatest_number};
 
 use clap::ArgMatches;
+use std::alloc::{AllocError, Global};
 
 // The number that a word writes, or `None` where it writes no number from `least` to `most`.
 fn number_in(word: &str, least: u64, most: u64) -> Option<u64>
@@ -34,4 +37,20 @@ pub(crate) fn option_of(
         }
         None => Some(None),
     }
+}
+
+// The numbers that words write, in their order, or `None` where one of the words writes none. Fails where memory runs out.
+pub(crate) fn numbers_in(alloc: Global, words: &[&str]) -> Result<Option<Vec<u64>>, AllocError>
+    ensures named { IfOk result (λ o. IfSome o (λ numbers. numbers.items ≡ map number_of (texts_of words.now)
+        × All (IsUnsignedIn 0 greatest_number) (texts_of words.now))) }
+    ensures none { IfOk result (λ o. IsNone o → All (IsUnsignedIn 0 greatest_number) (texts_of words.now) → ⊥) }
+{
+    let mut numbers = Vec::with_capacity(alloc, words.len())?;
+    for word in words {
+        match number_in(word, 0, u64::MAX) {
+            Some(number) => numbers.push(number)?,
+            None => return Ok(None),
+        }
+    }
+    Ok(Some(numbers))
 }

@@ -2,17 +2,18 @@
 ghost use Rattle.std.specs.Prelude.{◌≡◌, ◌≢◌, ◌⊎◌, IfErr, IfOk, IfSome, IsNone, codes, map};
 ghost use Rattle.clap.specs.Words.{found_of, kind_of, rows_of, subcommand_of, subcommand_rows_of};
 ghost use Rattle.clap.specs.declared.error.kind.ErrorKind.TheVariants.{OutOfMemory};
-ghost use Rattle.command_line.specs.Arguments.{GivesNoNumber};
-ghost use Rattle.command_line.specs.Commands.{IsCommand, eros_app};
+ghost use Rattle.command_line.specs.Arguments.{AreNumbers, GivesNoNumber, IsNumberOption};
+ghost use Rattle.command_line.specs.Commands.{IsCommand, eros_app, greatest_number};
 ghost use Rattle.command_line.specs.Jobs.{IsCache, IsJob, IsNoJob, IsScript, NamesJob, NamesNone};
 ghost use Rattle.command_line.specs.Refusals.{Explains};
 
-use crate::arguments::option_of;
+use crate::arguments::{numbers_in, option_of};
 use crate::subcommands::{
-    CACHE, DESCRIPTION, GREATEST_CAPACITY, IMAGE, LEAST_CAPACITY, NEW, OLD, SCRIPT,
+    CACHE, DESCRIPTION, GREATEST_CAPACITY, IMAGE, LEAST_CAPACITY, NEW, OLD, PROCESS, SCRIPT, SHOWS,
 };
 use clap::error::ErrorKind;
 use clap::{ArgMatches, Command, Error};
+use std::alloc::{AllocError, Global};
 use std::convert::AsStr;
 
 /// Where a script comes from.
@@ -42,6 +43,14 @@ pub enum Job<'a> {
     /// Checks an image.
     Check {
         image: &'a str,
+    },
+    /// Prints what processes of an image can ever change.
+    Reach {
+        image: &'a str,
+        /// The numbers of the processes, at least one, in the order of the words.
+        processes: Vec<u64>,
+        /// The object to which a shortest chain of capabilities is shown.
+        shows: Option<u64>,
     },
     /// Writes what an image saves to a new image, of version 2 of the layout. The two names differ.
     Upgrade {
@@ -75,6 +84,14 @@ fn cache_of(inner: &ArgMatches<'_>) -> Option<Option<u64>>
     ensures none { IsNone result → GivesNoNumber (rows_of (found_of inner.now)) (codes "cache") 8 8192 }
 {
     option_of(inner, CACHE, LEAST_CAPACITY, GREATEST_CAPACITY)
+}
+
+// The number of an option: `Some(None)` where it is left out, and `None` where its word writes no number.
+fn number_of(inner: &ArgMatches<'_>, name: &str) -> Option<Option<u64>>
+    ensures named { IfSome result (IsNumberOption (rows_of (found_of inner.now)) name.now) }
+    ensures none { IsNone result → GivesNoNumber (rows_of (found_of inner.now)) name.now 0 greatest_number }
+{
+    option_of(inner, name, 0, u64::MAX)
 }
 
 // The build that the matches name, or `None` where a word is missing.
@@ -113,6 +130,35 @@ fn check_of<'a>(inner: &ArgMatches<'a>) -> Option<Job<'a>>
     Some(Job::Check { image })
 }
 
+// The analysis of these processes that the matches name, or `None` where the image is missing or `--shows` gives no number.
+fn reach_from<'a>(inner: &ArgMatches<'a>, processes: Vec<u64>) -> Option<Job<'a>>
+    ensures named { AreNumbers (rows_of (found_of inner.now)) (codes "P") processes.items
+        → IfSome result (IsJob (codes "reach") (rows_of (found_of inner.now))) }
+    ensures none { IsNone result → IsNoJob (codes "reach") (rows_of (found_of inner.now)) }
+{
+    let image = inner.get_str(IMAGE)?;
+    let shows = number_of(inner, SHOWS)?;
+    Some(Job::Reach {
+        image,
+        processes,
+        shows,
+    })
+}
+
+// The analysis that the matches name, or `None` where a word is missing or writes no number. Fails where memory runs out.
+fn reach_of<'a>(alloc: Global, inner: &ArgMatches<'a>) -> Result<Option<Job<'a>>, AllocError>
+    ensures named { IfOk result (λ o. IfSome o (IsJob (codes "reach") (rows_of (found_of inner.now)))) }
+    ensures none { IfOk result (λ o. IsNone o → IsNoJob (codes "reach") (rows_of (found_of inner.now))) }
+{
+    match inner.get_raw(PROCESS) {
+        Some(words) => match numbers_in(alloc, words)? {
+            Some(processes) => Ok(reach_from(inner, processes)),
+            None => Ok(None),
+        },
+        None => Ok(None),
+    }
+}
+
 // The upgrade that the matches name, or `None` where a word is missing or both are one.
 fn upgrade_of<'a>(inner: &ArgMatches<'a>) -> Option<Job<'a>>
     ensures named { IfSome result (IsJob (codes "upgrade") (rows_of (found_of inner.now))) }
@@ -144,10 +190,10 @@ fn draw_of<'a>(inner: &ArgMatches<'a>) -> Option<Job<'a>>
     Some(Job::Draw { image })
 }
 
-// The job of a subcommand with its matches, or `None`.
-fn job_of<'a>(name: &str, inner: &ArgMatches<'a>) -> Option<Job<'a>>
+// The job of a subcommand that needs no memory, or `None`.
+fn plain_job_of<'a>(name: &str, inner: &ArgMatches<'a>) -> Option<Job<'a>>
     ensures named { IfSome result (IsJob name.now (rows_of (found_of inner.now))) }
-    ensures none { IsNone result → IsNoJob name.now (rows_of (found_of inner.now)) }
+    ensures none { IsNone result → name.now ≢ codes "reach" → IsNoJob name.now (rows_of (found_of inner.now)) }
 {
     if name == "build" {
         build_of(inner)
@@ -166,18 +212,37 @@ fn job_of<'a>(name: &str, inner: &ArgMatches<'a>) -> Option<Job<'a>>
     }
 }
 
-// The job that the matches name, or `None`.
-fn asked<'a>(matches: ArgMatches<'a>) -> Option<Job<'a>>
-    ensures named { IfSome result (NamesJob (subcommand_rows_of matches.entry)) }
-    ensures none { IsNone result → NamesNone (subcommand_rows_of matches.entry) }
+// The job of a subcommand with its matches, or `None`. Fails where memory runs out.
+fn job_of<'a>(
+    alloc: Global,
+    name: &str,
+    inner: &ArgMatches<'a>,
+) -> Result<Option<Job<'a>>, AllocError>
+    ensures named { IfOk result (λ o. IfSome o (IsJob name.now (rows_of (found_of inner.now)))) }
+    ensures none { IfOk result (λ o. IsNone o → IsNoJob name.now (rows_of (found_of inner.now))) }
 {
-    let (name, inner) = matches.subcommand()?;
-    job_of(name, inner)
+    if name == "reach" {
+        reach_of(alloc, inner)
+    } else {
+        Ok(plain_job_of(name, inner))
+    }
+}
+
+// The job that the matches name, or `None`. Fails where memory runs out.
+fn asked<'a>(alloc: Global, matches: ArgMatches<'a>) -> Result<Option<Job<'a>>, AllocError>
+    ensures named { IfOk result (λ o. IfSome o (NamesJob (subcommand_rows_of matches.entry))) }
+    ensures none { IfOk result (λ o. IsNone o → NamesNone (subcommand_rows_of matches.entry)) }
+{
+    match matches.subcommand() {
+        Some((name, inner)) => job_of(alloc, name, inner),
+        None => Ok(None),
+    }
 }
 
 // The job that the words name. Fails with what clap says of words that the command doesn't take, also where they ask for
 // help, with a `ValueValidation` where an upgrade has one word twice, and with `OutOfMemory` where memory runs out.
 pub(crate) fn read_job<'a, S: AsStr>(
+    alloc: Global,
     command: &mut Command<'a>,
     words: &'a [S],
 ) -> Result<Job<'a>, Error>
@@ -187,7 +252,7 @@ pub(crate) fn read_job<'a, S: AsStr>(
         ⊎ Explains (map S.text words.entry.now) e) }
 {
     let matches = command.try_get_matches_from_mut(words)?;
-    match asked(matches) {
+    match asked(alloc, matches)? {
         Some(job) => Ok(job),
         // The command takes such words only where an upgrade has one word twice.
         None => Err(command.error(ErrorKind::ValueValidation, "OLD and NEW are the same file")?),

@@ -20,7 +20,7 @@ pub fn job<'a, S: AsStr>(alloc: Global, words: &'a [S]) -> Result<Job<'a>, JobFa
     ensures refused { IfErr result (IsRefused (map S.text words.entry.now)) }
 {
     let mut command = command(alloc)?;
-    match read_job(&mut command, words) {
+    match read_job(alloc, &mut command, words) {
         Ok(job) => Ok(job),
         Err(error) => Err(JobFault::of(error)),
     }
