@@ -1,6 +1,7 @@
 //! The command line of `eros`: which job the words name.
 #![tactic(auto)]
 
+mod arguments;
 mod asked;
 mod fault;
 mod subcommands;

@@ -1,7 +1,9 @@
 // The command that clap takes the words by.
 ghost use Rattle.std.specs.Prelude.{◌≡◌, IfOk, false};
 ghost use Rattle.clap.specs.Words.{App, app_of, rule_of, with_subcommand};
-ghost use Rattle.command_line.specs.Commands.{IsCommand, bare_app, basic_app, build_app, cache_rule, check_app, describe_app, draw_app, eros_app, file_rule, reading_app, run_app, upgrade_app};
+ghost use Rattle.command_line.specs.Commands.{IsCommand, bare_app, build_app, cache_rule, changing_app, check_app, checking_app};
+ghost use Rattle.command_line.specs.Commands.{describe_app, draw_app, eros_app, file_rule, reading_app, run_app, run_files_app, upgrade_app};
+ghost use Rattle.command_line.specs.Commands.{number_rule, processes_rule, reach_app};
 
 use clap::builder::ValueParser;
 use clap::{Arg, Command};
@@ -18,6 +20,10 @@ pub(crate) const OLD: &str = "OLD";
 pub(crate) const NEW: &str = "NEW";
 
 pub(crate) const CACHE: &str = "cache";
+
+pub(crate) const PROCESS: &str = "P";
+
+pub(crate) const SHOWS: &str = "shows";
 
 /// What `eros --version` prints behind the name.
 const VERSION: &str = "1.0.0\nlayouts 1 and 2\nproved with rattle-kit-13f logic dac8208d650f15bf";
@@ -50,6 +56,30 @@ fn cache<'a>(alloc: Global) -> Arg<'a>
         )
 }
 
+// An option that gives a number, which may be left out.
+fn number<'a>(alloc: Global, name: &'a str, value: &'a str, help: &'a str) -> Arg<'a>
+    ensures rule { rule_of result ≡ number_rule name.entry.now }
+    ensures local { result.global ≡ false }
+{
+    Arg::new(alloc, name)
+        .long(name)
+        .value_name(value)
+        .value_parser(ValueParser::unsigned(0, u64::MAX))
+        .help(help)
+}
+
+// The processes of `reach`, at least one.
+fn processes<'a>(alloc: Global) -> Arg<'a>
+    ensures rule { rule_of result ≡ processes_rule }
+    ensures local { result.global ≡ false }
+{
+    Arg::new(alloc, PROCESS)
+        .num_args(1..)
+        .value_parser(ValueParser::unsigned(0, u64::MAX))
+        .required(true)
+        .help("The numbers of the processes")
+}
+
 fn build<'a>(alloc: Global) -> Result<Command<'a>, AllocError>
     ensures { IfOk result (IsCommand build_app) }
 {
@@ -63,8 +93,9 @@ fn build<'a>(alloc: Global) -> Result<Command<'a>, AllocError>
         ))
 }
 
-fn run<'a>(alloc: Global) -> Result<Command<'a>, AllocError>
-    ensures { IfOk result (IsCommand run_app) }
+// `run` with its two files.
+fn run_files<'a>(alloc: Global) -> Result<Command<'a>, AllocError>
+    ensures { IfOk result (IsCommand run_files_app) }
 {
     Command::new(alloc, "run")
         .about("Runs a script over an image, and prints an answer to each command")
@@ -77,8 +108,13 @@ fn run<'a>(alloc: Global) -> Result<Command<'a>, AllocError>
             alloc,
             SCRIPT,
             "The script, a command a line; - is standard input",
-        ))?
-        .arg(cache(alloc))
+        ))
+}
+
+fn run<'a>(alloc: Global) -> Result<Command<'a>, AllocError>
+    ensures { IfOk result (IsCommand run_app) }
+{
+    run_files(alloc)?.arg(cache(alloc))
 }
 
 fn upgrade<'a>(alloc: Global) -> Result<Command<'a>, AllocError>
@@ -115,6 +151,23 @@ fn check<'a>(alloc: Global) -> Result<Command<'a>, AllocError>
     )
 }
 
+fn reach<'a>(alloc: Global) -> Result<Command<'a>, AllocError>
+    ensures { IfOk result (IsCommand reach_app) }
+{
+    reading(
+        alloc,
+        "reach",
+        "Prints what processes can ever change: the least closed set that has them",
+    )?
+    .arg(processes(alloc))?
+    .arg(number(
+        alloc,
+        SHOWS,
+        "O",
+        "Prints a shortest chain of capabilities from the processes to object O, as --shows 7",
+    ))
+}
+
 fn describe<'a>(alloc: Global) -> Result<Command<'a>, AllocError>
     ensures { IfOk result (IsCommand describe_app) }
 {
@@ -147,6 +200,7 @@ fn bare<'a>(alloc: Global) -> Result<Command<'a>, AllocError>
             "Example:\n  eros build examples/first-steps.toml first.image    prints: built 399 sectors\n  \
              eros run first.image examples/first-steps.eros      prints the answers, a line or more each\n  \
              eros check first.image                              prints: ok generation 1 age 3 entries 0\n  \
+             eros reach first.image 3                            prints what process 3 can ever change\n  \
              eros upgrade first.image second.image               prints: upgraded 399 sectors\n  \
              eros describe first.image                           prints the description of what it saves\n  \
              eros draw first.image                               prints a graph of what it saves\n\n\
@@ -168,20 +222,27 @@ fn with<'a>(
     command?.subcommand(subcommand?)
 }
 
-// The program with the subcommands that make, run and check an image.
-fn basic<'a>(alloc: Global) -> Result<Command<'a>, AllocError>
-    ensures { IfOk result (IsCommand basic_app) }
+// The program with the subcommands that make and change images.
+fn changing<'a>(alloc: Global) -> Result<Command<'a>, AllocError>
+    ensures { IfOk result (IsCommand changing_app) }
 {
     let command = with(bare(alloc), build(alloc));
-    let command = with(command, run(alloc));
-    with(command, check(alloc))
+    with(command, run(alloc))
+}
+
+// The program with these and the subcommands that check images.
+fn checking<'a>(alloc: Global) -> Result<Command<'a>, AllocError>
+    ensures { IfOk result (IsCommand checking_app) }
+{
+    let command = with(changing(alloc), check(alloc));
+    with(command, reach(alloc))
 }
 
 /// The command line of `eros`. Fails where memory runs out.
 pub(crate) fn command<'a>(alloc: Global) -> Result<Command<'a>, AllocError>
     ensures { IfOk result (IsCommand eros_app) }
 {
-    let command = with(basic(alloc), upgrade(alloc));
+    let command = with(checking(alloc), upgrade(alloc));
     let command = with(command, describe(alloc));
     with(command, draw(alloc))
 }
