@@ -10,7 +10,8 @@ use device::MAX_SECTORS;
 use file_device::{FileDevice, FileFault};
 use image_builder::{Blueprint, upgraded_sectors};
 use jobs::{
-    Fault, build_image, check_image, describe_image, draw_image, finish, run_image, upgrade_image,
+    Fault, build_image, check_image, describe_image, draw_image, finish, reach_image, run_image,
+    upgrade_image,
 };
 use object_cache::PlainStore;
 use object_store::ObjectStore;
@@ -224,6 +225,20 @@ fn draw(
     Ok(done.status)
 }
 
+// Writes what processes can ever change, or how they can change one object, and gives the status.
+fn reach(
+    rt: &HostRuntime,
+    image: &str,
+    processes: &[u64],
+    shows: Option<u64>,
+    writer: &mut BufWriter<Stdout>,
+    errors: &mut Stderr,
+) -> Result<u8, Fault> {
+    let device = open_to_read(rt, image)?;
+    let done = reach_image(rt.alloc(), device, processes, shows, writer, errors);
+    Ok(done.status)
+}
+
 // Does a job, and gives the status.
 fn serve(
     rt: &HostRuntime,
@@ -251,6 +266,11 @@ fn serve(
         Job::Upgrade { old, new } => upgrade(rt, old, new, writer, errors),
         Job::Describe { image } => describe(rt, image, writer, errors),
         Job::Draw { image } => draw(rt, image, writer, errors),
+        Job::Reach {
+            image,
+            processes,
+            shows,
+        } => reach(rt, image, processes, *shows, writer, errors),
     }
 }
 
