@@ -57,6 +57,7 @@ fault_text fault.NoMemory = codes "eros: no memory"
 fault_text (fault.Build why) = build_text why
 fault_text (fault.Open why) = open_text why
 fault_text (fault.Upgrade why) = upgrade_text why
+fault_text (fault.NoProcess p) = spaced (codes "eros: no process" ∷ decimal p ∷ [])
 
 -- what a run's failure is to the program
 abbrev pub run_fault : RunFault → Fault

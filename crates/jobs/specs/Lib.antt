@@ -2,3 +2,4 @@ pub mod Faults
 pub mod Images
 pub mod Info
 pub mod Laws
+pub mod Reaching

@@ -33,6 +33,8 @@ pub enum Fault {
     Open(OpenFault),
     /// No image was upgraded.
     Upgrade(UpgradeFault),
+    /// This number isn't the number of a process.
+    NoProcess(u64),
 }
 
 /// What the end of a run is to the program.
@@ -113,6 +115,7 @@ impl Fault {
             Fault::Build(fault) => build_line(fault),
             Fault::Open(fault) => open_line(fault),
             Fault::Upgrade(fault) => upgrade_line(fault),
+            Fault::NoProcess(number) => LineText::numbered(b"eros: no process", number),
         }
     }
 

@@ -10,8 +10,8 @@ use device::MAX_SECTORS;
 use file_device::{FileDevice, FileFault};
 use image_builder::{Blueprint, OldImage};
 use jobs::{
-    Fault, build_image, check_image, describe_image, draw_image, finish, info_image, run_image,
-    upgrade_opened,
+    Fault, build_image, check_image, describe_image, draw_image, finish, info_image, reach_image,
+    run_image, upgrade_opened,
 };
 use object_cache::PlainStore;
 use object_store::ObjectStore;
@@ -242,7 +242,7 @@ fn draw(
     Ok(done.status)
 }
 
-// Tells what an image has room for and how much it holds, and gives the status.
+// Prints the sizes of an image and the state of its checkpoint, and gives the status.
 fn info(
     rt: &HostRuntime,
     image: &str,
@@ -251,6 +251,20 @@ fn info(
 ) -> Result<u8, Fault> {
     let device = open_to_read(rt, image)?;
     let done = info_image(rt.alloc(), device, writer, errors);
+    Ok(done.status)
+}
+
+// Writes what processes can ever change, or how they can change one object, and gives the status.
+fn reach(
+    rt: &HostRuntime,
+    image: &str,
+    processes: &[u64],
+    shows: Option<u64>,
+    writer: &mut BufWriter<Stdout>,
+    errors: &mut Stderr,
+) -> Result<u8, Fault> {
+    let device = open_to_read(rt, image)?;
+    let done = reach_image(rt.alloc(), device, processes, shows, writer, errors);
     Ok(done.status)
 }
 
@@ -282,8 +296,11 @@ fn serve(
         Job::Describe { image } => describe(rt, image, writer, errors),
         Job::Draw { image } => draw(rt, image, writer, errors),
         Job::Info { image } => info(rt, image, writer, errors),
-        // These have no command yet.
-        Job::Explain { .. } | Job::Reach { .. } => Ok(2),
+        Job::Reach {
+            image,
+            processes,
+            shows,
+        } => reach(rt, image, processes, *shows, writer, errors),
     }
 }
 
