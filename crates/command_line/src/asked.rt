@@ -9,7 +9,8 @@ ghost use Rattle.command_line.specs.Refusals.{Explains};
 
 use crate::arguments::{numbers_in, option_of};
 use crate::subcommands::{
-    CACHE, DESCRIPTION, GREATEST_CAPACITY, IMAGE, LEAST_CAPACITY, NEW, OLD, PROCESS, SCRIPT, SHOWS,
+    CACHE, DESCRIPTION, FILE, GREATEST_CAPACITY, IMAGE, LEAST_CAPACITY, NEW, OLD, PROCESS, SCRIPT,
+    SHOWS,
 };
 use clap::error::ErrorKind;
 use clap::{ArgMatches, Command, Error};
@@ -42,6 +43,14 @@ pub enum Job<'a> {
     },
     /// Checks an image.
     Check {
+        image: &'a str,
+    },
+    /// Says why a description or an image is refused.
+    Explain {
+        file: &'a str,
+    },
+    /// Prints the sizes of an image and the state of its checkpoint.
+    Info {
         image: &'a str,
     },
     /// Prints what processes of an image can ever change.
@@ -130,6 +139,24 @@ fn check_of<'a>(inner: &ArgMatches<'a>) -> Option<Job<'a>>
     Some(Job::Check { image })
 }
 
+// The explanation that the matches name, or `None` where the file is missing.
+fn explain_of<'a>(inner: &ArgMatches<'a>) -> Option<Job<'a>>
+    ensures named { IfSome result (IsJob (codes "explain") (rows_of (found_of inner.now))) }
+    ensures none { IsNone result → IsNoJob (codes "explain") (rows_of (found_of inner.now)) }
+{
+    let file = inner.get_str(FILE)?;
+    Some(Job::Explain { file })
+}
+
+// The account of an image that the matches name, or `None` where the image is missing.
+fn info_of<'a>(inner: &ArgMatches<'a>) -> Option<Job<'a>>
+    ensures named { IfSome result (IsJob (codes "info") (rows_of (found_of inner.now))) }
+    ensures none { IsNone result → IsNoJob (codes "info") (rows_of (found_of inner.now)) }
+{
+    let image = inner.get_str(IMAGE)?;
+    Some(Job::Info { image })
+}
+
 // The analysis of these processes that the matches name, or `None` where the image is missing or `--shows` gives no number.
 fn reach_from<'a>(inner: &ArgMatches<'a>, processes: Vec<u64>) -> Option<Job<'a>>
     ensures named { AreNumbers (rows_of (found_of inner.now)) (codes "P") processes.items
@@ -201,6 +228,10 @@ fn plain_job_of<'a>(name: &str, inner: &ArgMatches<'a>) -> Option<Job<'a>>
         run_of(inner)
     } else if name == "check" {
         check_of(inner)
+    } else if name == "explain" {
+        explain_of(inner)
+    } else if name == "info" {
+        info_of(inner)
     } else if name == "upgrade" {
         upgrade_of(inner)
     } else if name == "describe" {

@@ -4,6 +4,7 @@ ghost use Rattle.clap.specs.Words.{App, app_of, rule_of, with_subcommand};
 ghost use Rattle.command_line.specs.Commands.{IsCommand, bare_app, build_app, cache_rule, changing_app, check_app, checking_app};
 ghost use Rattle.command_line.specs.Commands.{describe_app, draw_app, eros_app, file_rule, reading_app, run_app, run_files_app, upgrade_app};
 ghost use Rattle.command_line.specs.Commands.{number_rule, processes_rule, reach_app};
+ghost use Rattle.command_line.specs.Commands.{explain_app, info_app};
 
 use clap::builder::ValueParser;
 use clap::{Arg, Command};
@@ -24,6 +25,8 @@ pub(crate) const CACHE: &str = "cache";
 pub(crate) const PROCESS: &str = "P";
 
 pub(crate) const SHOWS: &str = "shows";
+
+pub(crate) const FILE: &str = "FILE";
 
 /// What `eros --version` prints behind the name.
 const VERSION: &str = "1.0.0\nlayouts 1 and 2\nproved with rattle-kit-13f logic dac8208d650f15bf";
@@ -151,6 +154,28 @@ fn check<'a>(alloc: Global) -> Result<Command<'a>, AllocError>
     )
 }
 
+fn explain<'a>(alloc: Global) -> Result<Command<'a>, AllocError>
+    ensures { IfOk result (IsCommand explain_app) }
+{
+    Command::new(alloc, "explain")
+        .about("Says why a description or an image is refused, and where, or prints ok")
+        .arg(file(
+            alloc,
+            FILE,
+            "The description or the image, which isn't changed",
+        ))
+}
+
+fn info<'a>(alloc: Global) -> Result<Command<'a>, AllocError>
+    ensures { IfOk result (IsCommand info_app) }
+{
+    reading(
+        alloc,
+        "info",
+        "Prints the layout and sizes of an image, its checkpoint and how many objects it has",
+    )
+}
+
 fn reach<'a>(alloc: Global) -> Result<Command<'a>, AllocError>
     ensures { IfOk result (IsCommand reach_app) }
 {
@@ -201,6 +226,8 @@ fn bare<'a>(alloc: Global) -> Result<Command<'a>, AllocError>
              eros run first.image examples/first-steps.eros      prints the answers, a line or more each\n  \
              eros check first.image                              prints: ok generation 1 age 3 entries 0\n  \
              eros reach first.image 3                            prints what process 3 can ever change\n  \
+             eros explain examples/first-steps.toml              prints: ok, or what is wrong and where\n  \
+             eros info first.image                               prints its sizes and its checkpoint\n  \
              eros upgrade first.image second.image               prints: upgraded 399 sectors\n  \
              eros describe first.image                           prints the description of what it saves\n  \
              eros draw first.image                               prints a graph of what it saves\n\n\
@@ -235,6 +262,8 @@ fn checking<'a>(alloc: Global) -> Result<Command<'a>, AllocError>
     ensures { IfOk result (IsCommand checking_app) }
 {
     let command = with(changing(alloc), check(alloc));
+    let command = with(command, explain(alloc));
+    let command = with(command, info(alloc));
     with(command, reach(alloc))
 }
 
