@@ -1,15 +1,17 @@
 -- What the getters of the matches give.
-use Rattle.std.proofs.Common.{◌≡◌, ◌∙◌, ap, subst, sym, Option, Some, None, List, map, option_map}
+use Rattle.std.proofs.Common.{◌≡◌, ◌∙◌, ap, subst, sym, Bool, true, false, true≢false, Option, Some, None, List, codes, map, option_map}
 use Rattle.std.specs.Borrow.{Bor}
 use Rattle.std.specs.Prelude.{Box, IfSome, unwrap_or}
 use Rattle.std.specs.Box.{box_value}
+use Rattle.std.specs.Str.{bytes_eq}
+use Rattle.std.proofs.lemmas.Slice.Eq.{bytes_eq-Decides}
 use Rattle.clap.specs.Words.{Row, Text, all_of, first_of, first_value, matched_of, raw_values, rows_of, subcommand_name_of, subcommand_rows, subcommand_rows_of}
 use Rattle.clap.specs.declared.parser.matches.ArgMatches.{ArgMatches}
 use Rattle.clap.specs.declared.parser.matches.SubCommand.{SubCommand}
 use Rattle.clap.specs.declared.parser.matches.ArgMatches.TheViews.{out-ArgMatches, out-SubCommand}
 use Rattle.clap.specs.declared.parser.matches.Found.{Found}
 use Rattle.clap.proofs.WalkLemmas.{first_value-rows, raw_values-rows}
-use Rattle.command_line.specs.Arguments.{IsGiven}
+use Rattle.command_line.specs.Arguments.{IsFlag, IsGiven}
 
 -- the subcommand that was met is that of its name and its rows
 module _ {Z : Type 0} where
@@ -43,3 +45,13 @@ missing_all f id o got is = sym (raw_values-rows f id) ∙ (sym got ∙ ap (opti
 pub held : {X : Type 0} (P : X → Type 0) (o : Option X) (x : X) → IfSome o P → o ≡ Some x → P x
 held P None x holds is = let bad : None ≡ Some x = is in cc
 held P (Some y) x holds is = let same : y ≡ x = ap (λ (o : Option _). unwrap_or o y) is in subst P same holds
+
+-- a flag is given where its value is `true`
+pub flagged : (rows : List Row) (id word : Text) (b : Bool) → IsGiven rows id word → bytes_eq word (codes "true") ≡ b → IsFlag rows id b
+flagged rows id word true given e = given ∙ ap Some ((bytes_eq-Decides _ _).0 e)
+flagged rows id word false given e = λ set.
+    let same : word ≡ codes "true" = ap (λ (o : Option Text). unwrap_or o word) (sym given ∙ set) in
+    true≢false (sym ((bytes_eq-Decides word (codes "true")).1 same) ∙ e)
+
+pub unflagged : (rows : List Row) (id : Text) → first_of id rows ≡ None → IsFlag rows id false
+unflagged rows id none = λ set. let bad : None ≡ Some (codes "true") = sym none ∙ set in cc

@@ -45,6 +45,11 @@ abbrev pub AreNumbers : List Row → Text → List ℕ → Type 0
 AreNumbers rows name numbers = (words : List Text) × (all_of name rows ≡ Some words)
     × All (IsUnsignedIn 0 greatest_number) words × (numbers ≡ map number_of words)
 
+-- the flag is given, or left out
+abbrev pub IsFlag : List Row → Text → Bool → Type 0
+IsFlag rows name true = IsGiven rows name (codes "true")
+IsFlag rows name false = IsGiven rows name (codes "true") → ⊥
+
 -- ---- whether a subcommand has what it takes
 
 -- the argument has values that pass its parser, or has none and isn't required

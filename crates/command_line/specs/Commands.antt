@@ -1,6 +1,7 @@
 -- The command of `eros`, as a parse reads it.
 use Rattle.std.specs.Prelude.{◌≡◌, ℕ, [], Some, true, false, codes}
 use Rattle.clap.specs.Words.{App, Rule, Text, app_of, new_app, new_rule, with_rule, with_subcommand}
+use Rattle.clap.specs.declared.builder.action.ArgAction.TheVariants.{SetTrue}
 use Rattle.clap.specs.declared.builder.command.Command.{Command}
 use Rattle.clap.specs.declared.builder.command.Command.TheViews.{out-Command}
 use Rattle.clap.specs.declared.builder.value_parser.ValueParser.{ValueParser}
@@ -38,17 +39,25 @@ processes_rule = record (new_rule (codes "P")) {
   parser = Some (Unsigned 0 greatest_number);
 }
 
+-- --NAME, which may be left out
+abbrev pub flag_rule : Text → Rule
+flag_rule name = record (new_rule name) { long = Some name; action = Some SetTrue }
+
 -- eros run IMAGE SCRIPT
 abbrev pub run_files_app : App
 run_files_app = with_rule (with_rule (new_app (codes "run")) (file_rule (codes "IMAGE"))) (file_rule (codes "SCRIPT"))
 
--- eros run [--cache C] IMAGE SCRIPT
+-- eros run [--cache C] [--trace] [--strict] IMAGE SCRIPT
 abbrev pub run_app : App
-run_app = with_rule run_files_app cache_rule
+run_app = with_rule (with_rule (with_rule run_files_app cache_rule) (flag_rule (codes "trace"))) (flag_rule (codes "strict"))
 
 -- eros NAME IMAGE
 abbrev pub reading_app : Text → App
 reading_app name = with_rule (new_app name) (file_rule (codes "IMAGE"))
+
+-- eros shell [--cache C] IMAGE
+abbrev pub shell_app : App
+shell_app = with_rule (reading_app (codes "shell")) cache_rule
 
 -- eros check IMAGE
 abbrev pub check_app : App
@@ -84,7 +93,7 @@ bare_app = record { top = record ((new_app (codes "eros")).top) { subcommand_req
 
 -- the name and the subcommands that make and change images
 abbrev pub changing_app : App
-changing_app = with_subcommand (with_subcommand bare_app build_app.top) run_app.top
+changing_app = with_subcommand (with_subcommand (with_subcommand bare_app build_app.top) run_app.top) shell_app.top
 
 -- and those that check images
 abbrev pub checking_app : App

@@ -1,7 +1,7 @@
 -- The job that a subcommand and its arguments name.
 use Rattle.std.specs.Prelude.{◌≡◌, ◌≢◌, ◌⊎◌, ℕ, ⊤, List, Option, Some, None, codes, true}
 use Rattle.clap.specs.Words.{Row, Text}
-use Rattle.command_line.specs.Arguments.{AreNumbers, IsGiven, IsNumberOption, IsOption, has_all}
+use Rattle.command_line.specs.Arguments.{AreNumbers, IsFlag, IsGiven, IsNumberOption, IsOption, has_all}
 use Rattle.command_line.specs.declared.asked.Job.{Job}
 use Rattle.command_line.specs.declared.asked.Job.TheVariants as job
 use Rattle.command_line.specs.declared.asked.Script.{Script}
@@ -20,8 +20,10 @@ IsCache rows cache = IsOption rows (codes "cache") 8 8192 cache
 abbrev pub IsJob : Text → List Row → Job → Type 0
 IsJob name rows (job.Build description image) = (name ≡ codes "build")
     × IsGiven rows (codes "DESCRIPTION") description.now × IsGiven rows (codes "IMAGE") image.now
-IsJob name rows (job.Run image script cache) = (name ≡ codes "run") × IsCache rows cache
+IsJob name rows (job.Run image script cache trace strict) = (name ≡ codes "run") × IsCache rows cache
+    × IsFlag rows (codes "trace") trace × IsFlag rows (codes "strict") strict
     × IsGiven rows (codes "IMAGE") image.now × (word : Text) × IsGiven rows (codes "SCRIPT") word × IsScript word script
+IsJob name rows (job.Shell image cache) = (name ≡ codes "shell") × IsCache rows cache × IsGiven rows (codes "IMAGE") image.now
 IsJob name rows (job.Check image) = (name ≡ codes "check") × IsGiven rows (codes "IMAGE") image.now
 IsJob name rows (job.Explain file) = (name ≡ codes "explain") × IsGiven rows (codes "FILE") file.now
 IsJob name rows (job.Info image) = (name ≡ codes "info") × IsGiven rows (codes "IMAGE") image.now

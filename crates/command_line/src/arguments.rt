@@ -2,7 +2,7 @@
 ghost use Rattle.std.specs.Prelude.{◌≡◌, IfSome, IsNone, IfOk, Some, codes, map};
 ghost use Rattle.std.specs.List.{All};
 ghost use Rattle.clap.specs.Words.{IsUnsignedIn, found_of, rows_of};
-ghost use Rattle.command_line.specs.Arguments.{GivesNoNumber, IsNumber, IsOption, number_of, texts_of};
+ghost use Rattle.command_line.specs.Arguments.{GivesNoNumber, IsFlag, IsNumber, IsOption, number_of, texts_of};
 ghost use Rattle.command_line.specs.Commands.{greatest_number};
 
 use clap::ArgMatches;
@@ -53,4 +53,14 @@ pub(crate) fn numbers_in(alloc: Global, words: &[&str]) -> Result<Option<Vec<u64
         }
     }
     Ok(Some(numbers))
+}
+
+// Whether a flag is given.
+pub(crate) fn flag_of(inner: &ArgMatches<'_>, name: &str) -> bool
+    ensures { IsFlag (rows_of (found_of inner.now)) name.now result }
+{
+    match inner.get_str(name) {
+        Some(word) => word == "true",
+        None => false,
+    }
 }

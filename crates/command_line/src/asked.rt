@@ -7,10 +7,10 @@ ghost use Rattle.command_line.specs.Commands.{IsCommand, eros_app, greatest_numb
 ghost use Rattle.command_line.specs.Jobs.{IsCache, IsJob, IsNoJob, IsScript, NamesJob, NamesNone};
 ghost use Rattle.command_line.specs.Refusals.{Explains};
 
-use crate::arguments::{numbers_in, option_of};
+use crate::arguments::{flag_of, numbers_in, option_of};
 use crate::subcommands::{
     CACHE, DESCRIPTION, FILE, GREATEST_CAPACITY, IMAGE, LEAST_CAPACITY, NEW, OLD, PROCESS, SCRIPT,
-    SHOWS,
+    SHOWS, STRICT, TRACE,
 };
 use clap::error::ErrorKind;
 use clap::{ArgMatches, Command, Error};
@@ -39,6 +39,16 @@ pub enum Job<'a> {
         image: &'a str,
         script: Script<'a>,
         /// The most objects that are kept in memory, 8 to 8192; `None` keeps all that were met.
+        cache: Option<u64>,
+        /// Whether standard error says what became of each line.
+        trace: bool,
+        /// Whether the run stops at the first line that is bad or refused, or whose invocation of a kernel object fails.
+        strict: bool,
+    },
+    /// Reads commands from a terminal and runs them over an image.
+    Shell {
+        image: &'a str,
+        /// As that of `Run`.
         cache: Option<u64>,
     },
     /// Checks an image.
@@ -123,11 +133,25 @@ fn run_of<'a>(inner: &ArgMatches<'a>) -> Option<Job<'a>>
     let word = inner.get_str(SCRIPT)?;
     let script = script_of(word);
     let cache = cache_of(inner)?;
+    let trace = flag_of(inner, TRACE);
+    let strict = flag_of(inner, STRICT);
     Some(Job::Run {
         image,
         script,
         cache,
+        trace,
+        strict,
     })
+}
+
+// The shell that the matches name, or `None` where the image is missing or the capacity is none.
+fn shell_of<'a>(inner: &ArgMatches<'a>) -> Option<Job<'a>>
+    ensures named { IfSome result (IsJob (codes "shell") (rows_of (found_of inner.now))) }
+    ensures none { IsNone result → IsNoJob (codes "shell") (rows_of (found_of inner.now)) }
+{
+    let image = inner.get_str(IMAGE)?;
+    let cache = cache_of(inner)?;
+    Some(Job::Shell { image, cache })
 }
 
 // The check that the matches name, or `None` where the image is missing.
@@ -226,6 +250,8 @@ fn plain_job_of<'a>(name: &str, inner: &ArgMatches<'a>) -> Option<Job<'a>>
         build_of(inner)
     } else if name == "run" {
         run_of(inner)
+    } else if name == "shell" {
+        shell_of(inner)
     } else if name == "check" {
         check_of(inner)
     } else if name == "explain" {

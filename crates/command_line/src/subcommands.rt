@@ -5,9 +5,10 @@ ghost use Rattle.command_line.specs.Commands.{IsCommand, bare_app, build_app, ca
 ghost use Rattle.command_line.specs.Commands.{describe_app, draw_app, eros_app, file_rule, reading_app, run_app, run_files_app, upgrade_app};
 ghost use Rattle.command_line.specs.Commands.{number_rule, processes_rule, reach_app};
 ghost use Rattle.command_line.specs.Commands.{explain_app, info_app};
+ghost use Rattle.command_line.specs.Commands.{flag_rule, shell_app};
 
 use clap::builder::ValueParser;
-use clap::{Arg, Command};
+use clap::{Arg, ArgAction, Command};
 use std::alloc::{AllocError, Global};
 
 pub(crate) const DESCRIPTION: &str = "DESCRIPTION";
@@ -27,6 +28,10 @@ pub(crate) const PROCESS: &str = "P";
 pub(crate) const SHOWS: &str = "shows";
 
 pub(crate) const FILE: &str = "FILE";
+
+pub(crate) const TRACE: &str = "trace";
+
+pub(crate) const STRICT: &str = "strict";
 
 /// What `eros --version` prints behind the name.
 const VERSION: &str = "1.0.0\nlayouts 1 and 2\nproved with rattle-kit-13f logic dac8208d650f15bf";
@@ -83,6 +88,17 @@ fn processes<'a>(alloc: Global) -> Arg<'a>
         .help("The numbers of the processes")
 }
 
+// An option that gives no value, and may be left out.
+fn flag<'a>(alloc: Global, name: &'a str, help: &'a str) -> Arg<'a>
+    ensures rule { rule_of result ≡ flag_rule name.entry.now }
+    ensures local { result.global ≡ false }
+{
+    Arg::new(alloc, name)
+        .long(name)
+        .action(ArgAction::SetTrue)
+        .help(help)
+}
+
 fn build<'a>(alloc: Global) -> Result<Command<'a>, AllocError>
     ensures { IfOk result (IsCommand build_app) }
 {
@@ -117,7 +133,31 @@ fn run_files<'a>(alloc: Global) -> Result<Command<'a>, AllocError>
 fn run<'a>(alloc: Global) -> Result<Command<'a>, AllocError>
     ensures { IfOk result (IsCommand run_app) }
 {
-    run_files(alloc)?.arg(cache(alloc))
+    run_files(alloc)?
+        .arg(cache(alloc))?
+        .arg(flag(
+            alloc,
+            TRACE,
+            "Says on standard error what became of each line",
+        ))?
+        .arg(flag(
+            alloc,
+            STRICT,
+            "Stops at the first line that is bad or refused, or whose order to the kernel fails",
+        ))
+}
+
+fn shell<'a>(alloc: Global) -> Result<Command<'a>, AllocError>
+    ensures { IfOk result (IsCommand shell_app) }
+{
+    Command::new(alloc, "shell")
+        .about("Reads commands and runs each at once over an image; help lists them")
+        .arg(file(
+            alloc,
+            IMAGE,
+            "The image, which is changed by what is committed",
+        ))?
+        .arg(cache(alloc))
 }
 
 fn upgrade<'a>(alloc: Global) -> Result<Command<'a>, AllocError>
@@ -228,6 +268,8 @@ fn bare<'a>(alloc: Global) -> Result<Command<'a>, AllocError>
              eros reach first.image 3                            prints what process 3 can ever change\n  \
              eros explain examples/first-steps.toml              prints: ok, or what is wrong and where\n  \
              eros info first.image                               prints its sizes and its checkpoint\n  \
+             eros run --trace first.image first.eros             says too what became of each line\n  \
+             eros shell first.image                              reads commands from the terminal\n  \
              eros upgrade first.image second.image               prints: upgraded 399 sectors\n  \
              eros describe first.image                           prints the description of what it saves\n  \
              eros draw first.image                               prints a graph of what it saves\n\n\
@@ -254,7 +296,8 @@ fn changing<'a>(alloc: Global) -> Result<Command<'a>, AllocError>
     ensures { IfOk result (IsCommand changing_app) }
 {
     let command = with(bare(alloc), build(alloc));
-    with(command, run(alloc))
+    let command = with(command, run(alloc));
+    with(command, shell(alloc))
 }
 
 // The program with these and the subcommands that check images.

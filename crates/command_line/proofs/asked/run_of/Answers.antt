@@ -20,6 +20,8 @@ pub returns-clause-named : goal.returns-clause-named
 returns-clause-named c = (
   refl,
   held (IsCache (rows_of (found_of c.args.inner.now))) c.cache_of.result c.in_ok-cache.cache c.cache_of.ensures.named (search rules),
+  c.flag_of-trace.ensures,
+  c.flag_of-strict.ensures,
   given (found_of c.args.inner.now) (codes "IMAGE") c.get_str.result c.in_ok-image.image c.get_str.ensures (search rules),
   c.in_ok-word.word.now,
   given (found_of c.args.inner.now) (codes "SCRIPT") c.get_str-2.result c.in_ok-word.word c.get_str-2.ensures (search rules),
