@@ -6,13 +6,14 @@ ghost use Rattle.file_device.specs.FileDevice.{file_disk};
 
 use bounded_cache::{BoundedCache, Capacity};
 use command_line::{Job, JobFault, Script, job};
-use device::MAX_SECTORS;
+use device::{Device, MAX_SECTORS};
 use file_device::{FileDevice, FileFault};
 use image_builder::{Blueprint, OldImage};
 use jobs::{
     Fault, build_image, check_image, describe_image, draw_image, finish, info_image, reach_image,
     run_image, upgrade_opened,
 };
+use memory_device::Fuse;
 use object_cache::PlainStore;
 use object_store::ObjectStore;
 use runs::ScriptReader;
@@ -135,59 +136,71 @@ fn build(
 }
 
 // Runs a script over the image on a device, by a store of this kind, and gives the status.
-fn run_by<S: ObjectStore<FileDevice>, R: Read + Drop>(
+fn run_by<D: Device + Drop, S: ObjectStore<D>, R: Read + Drop>(
     rt: &HostRuntime,
-    device: FileDevice,
+    device: D,
     setting: S::Setting,
     script: R,
     writer: &mut BufWriter<Stdout>,
     errors: &mut Stderr,
 ) -> u8 {
     let mut script = ScriptReader::new(script);
-    let done = run_image::<FileDevice, S, _, _, _>(
-        rt.alloc(),
-        device,
-        setting,
-        &mut script,
-        writer,
-        errors,
-    );
+    let done = run_image::<D, S, _, _, _>(rt.alloc(), device, setting, &mut script, writer, errors);
     done.status
 }
 
 // Runs a script over the image on a device, with a bounded cache where it has a capacity, and gives the status.
-fn run_on<R: Read + Drop>(
+fn run_on<D: Device + Drop, R: Read + Drop>(
     rt: &HostRuntime,
-    device: FileDevice,
+    device: D,
     cache: Option<Capacity>,
     script: R,
     writer: &mut BufWriter<Stdout>,
     errors: &mut Stderr,
 ) -> u8 {
     match cache {
-        Some(capacity) => run_by::<BoundedCache<FileDevice>, R>(
-            rt, device, capacity, script, writer, errors,
-        ),
-        None => run_by::<PlainStore<FileDevice>, R>(rt, device, (), script, writer, errors),
+        Some(capacity) => {
+            run_by::<D, BoundedCache<D>, R>(rt, device, capacity, script, writer, errors)
+        }
+        None => run_by::<D, PlainStore<D>, R>(rt, device, (), script, writer, errors),
     }
 }
 
-// Runs a script over an image, and gives the status.
-fn run(
+// Opens a script, runs it over the image on a device, and gives the status.
+fn run_script<D: Device + Drop>(
     rt: &HostRuntime,
-    image: &str,
+    device: D,
     script: &Script<'_>,
     cache: Option<Capacity>,
     writer: &mut BufWriter<Stdout>,
     errors: &mut Stderr,
 ) -> Result<u8, Fault> {
-    let device = open(rt, image)?;
     match script {
         Script::Input => Ok(run_on(rt, device, cache, rt.stdin(), writer, errors)),
         Script::File(path) => match File::open(rt, *path) {
             Ok(file) => Ok(run_on(rt, device, cache, file, writer, errors)),
             Err(error) => Err(of_io(&error, Fault::CannotReadScript)),
         },
+    }
+}
+
+// Runs a script over an image, and gives the status. After `stop_after` calls the image's device fails.
+fn run(
+    rt: &HostRuntime,
+    image: &str,
+    script: &Script<'_>,
+    cache: Option<Capacity>,
+    stop_after: Option<u64>,
+    writer: &mut BufWriter<Stdout>,
+    errors: &mut Stderr,
+) -> Result<u8, Fault> {
+    let device = open(rt, image)?;
+    match stop_after {
+        Some(calls) => {
+            let device = Fuse::new(device, calls);
+            run_script(rt, device, script, cache, writer, errors)
+        }
+        None => run_script(rt, device, script, cache, writer, errors),
     }
 }
 
@@ -281,13 +294,25 @@ fn serve(
             image,
             script,
             cache: None,
-        } => run(rt, image, script, None, writer, errors),
+            stop_after,
+            ..
+        } => run(rt, image, script, None, *stop_after, writer, errors),
         Job::Run {
             image,
             script,
             cache: Some(count),
+            stop_after,
+            ..
         } => match Capacity::new(*count) {
-            Some(capacity) => run(rt, image, script, Some(capacity), writer, errors),
+            Some(capacity) => run(
+                rt,
+                image,
+                script,
+                Some(capacity),
+                *stop_after,
+                writer,
+                errors,
+            ),
             // A bad command line, of which no job comes.
             None => Ok(2),
         },
