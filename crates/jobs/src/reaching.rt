@@ -1,5 +1,8 @@
 // The command that says what processes can ever change.
-ghost use Rattle.std.specs.Prelude.{◌≡◌, None, Some, Result};
+ghost use Rattle.std.specs.Prelude.{◌≡◌, None, Some, Result, length};
+ghost use Rattle.script.specs.Writing.{Writes};
+ghost use Rattle.reach.specs.ChainLines.{chain_text};
+ghost use Rattle.reach.specs.Lines.{reach_text};
 ghost use Rattle.reach.specs.Reached.{AreSoundObjects};
 ghost use Rattle.jobs.specs.Faults.{IsTold, status_of};
 ghost use Rattle.jobs.specs.Reaching.{AreProcesses, ReachesImage, TellsReach};
@@ -10,9 +13,35 @@ use crate::reading::read_saved;
 use checkpoint::OpenFault;
 use device::Device;
 use model::Object;
-use reach::{missing_process, print_chain, print_reach, reach, shortest_chain};
+use number_set::NumberSet;
+use reach::{Step, missing_process, print_chain, print_reach, reach, shortest_chain};
+use script::RunFault;
 use std::alloc::Global;
 use std::io::Write;
+
+// Writes a closed set, and lets it go.
+fn print_set<W: Write>(
+    objects: &[Object],
+    inside: NumberSet,
+    writer: &mut W,
+) -> Result<(), RunFault>
+    requires { length inside ≡ length objects.now }
+    ensures { Writes (W.contents writer.old) (W.contents writer.new) result (reach_text objects.now inside) }
+{
+    print_reach(objects, &inside, writer)
+}
+
+// Writes a chain, and lets it go.
+fn print_found<W: Write>(
+    objects: &[Object],
+    object: u64,
+    chain: Option<Vec<Step>>,
+    writer: &mut W,
+) -> Result<(), RunFault>
+    ensures { Writes (W.contents writer.old) (W.contents writer.new) result (chain_text objects.now object chain) }
+{
+    print_chain(objects, object, &chain, writer)
+}
 
 // Writes the least closed set that contains some processes.
 fn tell_set<W: Write>(
@@ -26,7 +55,7 @@ fn tell_set<W: Write>(
     ensures { TellsReach objects.now processes.now None (W.contents writer.old) (W.contents writer.new) result }
 {
     match reach(alloc, objects, processes) {
-        Ok(inside) => match print_reach(objects, &inside, writer) {
+        Ok(inside) => match print_set(objects, inside, writer) {
             Ok(()) => Ok(()),
             Err(_) => Err(Fault::CannotWriteOutput),
         },
@@ -47,7 +76,7 @@ fn tell_chain<W: Write>(
     ensures { TellsReach objects.now processes.now (Some object) (W.contents writer.old) (W.contents writer.new) result }
 {
     match shortest_chain(alloc, objects, processes, object) {
-        Ok(chain) => match print_chain(objects, object, &chain, writer) {
+        Ok(chain) => match print_found(objects, object, chain, writer) {
             Ok(()) => Ok(()),
             Err(_) => Err(Fault::CannotWriteOutput),
         },

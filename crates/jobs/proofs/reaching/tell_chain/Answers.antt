@@ -6,18 +6,22 @@ use Rattle.jobs.proofs.reaching.tell_chain.Goals as goal
 pub shortest_chain-requires-clause-known : goal.shortest_chain-requires-clause-known
 shortest_chain-requires-clause-known g c = processes_known c.args.objects.now c.args.processes.now c.requires.processes
 
-pub returns-in-Ok-print_chain : goal.returns-in-Ok-print_chain
-returns-in-Ok-print_chain g c = (
+pub returns-in-Ok-print_found : goal.returns-in-Ok-print_found
+returns-in-Ok-print_found g c = (
   c.requires.processes,
-  chain_text c.args.objects.now c.args.object c.in-Ok.chain,
-  record { chain = c.in-Ok.chain; shortest = c.in-Ok.ensures.shortest; reach = c.in-Ok.ensures.reach; spelled = refl },
-  c.in-Ok-print_chain.ensures,
+  (
+    chain_text c.args.objects.now c.args.object c.in-Ok.chain,
+    record { chain = c.in-Ok.chain; shortest = c.in-Ok.ensures.shortest; reach = c.in-Ok.ensures.reach; spelled = refl },
+    c.in-Ok-print_found.ensures,
+  ),
 )
 
-pub returns-in-Err-print_chain : goal.returns-in-Err-print_chain
-returns-in-Err-print_chain g c = (
+pub returns-in-Err-print_found : goal.returns-in-Err-print_found
+returns-in-Err-print_found g c = (
   c.requires.processes,
-  chain_text c.args.objects.now c.args.object c.in-Ok.chain,
-  record { chain = c.in-Ok.chain; shortest = c.in-Ok.ensures.shortest; reach = c.in-Ok.ensures.reach; spelled = refl },
-  c.in-Err-print_chain.ensures.1,
+  (
+    chain_text c.args.objects.now c.args.object c.in-Ok.chain,
+    record { chain = c.in-Ok.chain; shortest = c.in-Ok.ensures.shortest; reach = c.in-Ok.ensures.reach; spelled = refl },
+    c.in-Err-print_found.ensures.1,
+  ),
 )

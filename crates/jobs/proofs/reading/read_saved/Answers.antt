@@ -3,8 +3,8 @@ use Rattle.migrator.specs.Durable.{DurableState}
 use Rattle.jobs.proofs.DescribedImages.{are_sound, read}
 use Rattle.jobs.proofs.reading.read_saved.Goals as goal
 
-pub objects_of-requires-read : goal.objects_of-requires-read
-objects_of-requires-read g c = are_sound g.D.Device.disk g.met.D.Device.seen_left c.args.device c.in-Ok.live c.in-Ok.ensures.opened
+pub objects_of-read-requires : goal.objects_of-read-requires
+objects_of-read-requires g c = are_sound g.D.Device.disk g.met.D.Device.seen_left c.args.device c.in-Ok.live c.in-Ok.ensures.opened
 
 pub returns-in-Ok-read : goal.returns-in-Ok-read
 returns-in-Ok-read g c =
