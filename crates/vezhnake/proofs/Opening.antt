@@ -44,7 +44,7 @@ module _ (bytes : List ℕ) (cache : ℕ) (d : HostDevice) where
       → OpensFrom d false result → OpensKernel bytes cache result
   opened_bounded capacity (Ok (store.Plain k)) same least most fresh opens = absurd (never (sym opens.1))
   opened_bounded capacity (Ok (store.Bounded k)) same least most fresh opens =
-      (d, fresh, opens.0, subst (λ (n : ℕ). 8 ≤ n) same least, subst (λ (n : ℕ). n ≤ 8192) same most)
+      (d, fresh, opens.0, (subst (λ (n : ℕ). 8 ≤ n) same least, subst (λ (n : ℕ). n ≤ 8192) same most))
   opened_bounded capacity (Err s) same least most fresh opens = refusal_from bytes cache d false s fresh opens
 
 pub fresh_of : (image items : List ℕ) (d : HostDevice) → items ≡ image → length image % 512 ≡ 0 → d.file.history ≡ fresh items

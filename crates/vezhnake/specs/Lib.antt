@@ -6,3 +6,4 @@ pub mod Statuses
 pub mod Hosting
 pub mod Sessions
 pub mod Owned
+pub mod Handles

@@ -1,4 +1,4 @@
-use Rattle.vezhnake.proofs.run_script.Goals as goal
+use Rattle.vezhnake.proofs.batch.run_script.Goals as goal
 
 pub returns : goal.returns
 returns c = (
