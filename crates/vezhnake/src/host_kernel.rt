@@ -56,7 +56,6 @@ fn status_of(fault: OpenFault) -> Status
 }
 
 // Opens a kernel with all objects in memory.
-#[tactic(auto, using(crate::proofs::Opening::refused_from))]
 fn open_plain(alloc: Global, device: HostDevice) -> Result<HostKernel, Status>
     ensures { OpensFrom device true result }
 {
@@ -67,7 +66,6 @@ fn open_plain(alloc: Global, device: HostDevice) -> Result<HostKernel, Status>
 }
 
 // Opens a kernel with a cache of this capacity.
-#[tactic(auto, using(crate::proofs::Opening::refused_from))]
 fn open_bounded(alloc: Global, device: HostDevice, capacity: Capacity) -> Result<HostKernel, Status>
     ensures { OpensFrom device false result }
 {
