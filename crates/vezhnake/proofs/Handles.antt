@@ -1,5 +1,5 @@
 -- What a call does to a handle, by the session before and after it.
-use Rattle.std.proofs.Common.{◌≡◌, ◌↔◌, ℕ, Bool, true, false, List, Option, Some, None, Result, Ok, Err, refl, sym, ◌∙◌, subst}
+use Rattle.std.proofs.Common.{◌≡◌, ◌↔◌, ℕ, Bool, true, false, List, Option, Some, None, Err, refl, sym, ◌∙◌, subst}
 use Rattle.std.specs.Prelude.{IsSome}
 use Rattle.vezhnake.specs.declared.session.Session.{Session}
 use Rattle.vezhnake.specs.declared.status.Status.{Status}

@@ -1,5 +1,5 @@
 -- Opening a kernel on the host's storage.
-use Rattle.std.proofs.Common.{◌≡◌, ℕ, ◌*◌, ◌/◌, ◌%◌, ◌≤◌, Bool, true, false, List, length, Result, Ok, Err, sym, subst, arith}
+use Rattle.std.proofs.Common.{◌≡◌, ℕ, ◌/◌, ◌%◌, ◌≤◌, Bool, true, false, List, length, Result, Ok, Err, sym, subst, arith}
 use Rattle.device.specs.Calls.{Agrees, image_of, sectors_of}
 use Rattle.vezhnake.specs.Steps.{fresh}
 use Rattle.checkpoint.specs.declared.open_fault.OpenFault.{OpenFault}

@@ -3,7 +3,7 @@ use Rattle.std.proofs.Common.{◌≡◌, ℕ, ◌+◌, ◌≤◌, List, ◌++◌
 use Rattle.std.proofs.Math.Seq.{take-append_seam}
 use Rattle.std.proofs.lemmas.List.{take-append-drop}
 use Rattle.std.proofs.lemmas.List.Concat.{flat_map-append}
-use Rattle.device.specs.Disk.{Disk, Image}
+use Rattle.device.specs.Disk.{Image}
 use Rattle.device.specs.Calls.{image_of}
 use Rattle.memory_device.specs.Past.{Event, MayLeave, at_first, replay}
 use Rattle.capability.specs.Parts.{Parts}

@@ -1,5 +1,5 @@
 -- The calls that are kept for the host.
-use Rattle.std.specs.Prelude.{◌≡◌, ◌≤◌, ℕ, List, length, drop}
+use Rattle.std.specs.Prelude.{◌≡◌, ◌≤◌, List, length, drop}
 use Rattle.vezhnake.specs.HostCalls.{HostCall, encoded}
 use Rattle.vezhnake.specs.declared.pending.Pending.{Pending}
 

@@ -1,5 +1,4 @@
 // A whole script in one call.
-ghost use Rattle.std.specs.Prelude.{◌≡◌};
 ghost use Rattle.vezhnake.specs.Sessions.{IsFirstFault, RunsBatch, RunsScript};
 
 use crate::session::Session;

@@ -1,5 +1,5 @@
 // The calls that are kept until the host takes them.
-ghost use Rattle.std.specs.Prelude.{◌≡◌, ◌≢◌, ◌∷◌, ◌++◌, ◌≤◌, [], List, IfSome, IfNone, take, drop, length, OnOk, OnErr};
+ghost use Rattle.std.specs.Prelude.{◌≡◌, ◌≢◌, ◌∷◌, ◌++◌, [], List, IfSome, IfNone, take, drop, length, OnOk, OnErr};
 ghost use Rattle.vezhnake.specs.HostCalls.{HostCall, header_of, number_bytes, encoded, encoding};
 ghost use Rattle.vezhnake.specs.Pending.{Keeps};
 
