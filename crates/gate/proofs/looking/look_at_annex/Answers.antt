@@ -1,0 +1,12 @@
+use Rattle.std.proofs.Common.{ℕ, ◌<◌, length, subst, sym}
+use Rattle.model.specs.World.{annex_at}
+use Rattle.capability.specs.Parts.{objects_in}
+use Rattle.capability.proofs.Frames.{process_known}
+use Rattle.gate.proofs.Known.{annex_known, both_known}
+use Rattle.gate.proofs.looking.look_at_annex.Goals as goal
+
+pub fetch-requires-clause-known : goal.fetch-requires-clause-known
+fetch-requires-clause-known g c =
+    let p = g.F.PresentFrames.parts c.args.store.now in
+    both_known (λ (n : ℕ). n < length p.headers) c.args.process c.annex-annex.result (process_known p c.args.process c.requires.process)
+    (subst (λ (n : ℕ). n < length p.headers) (sym c.annex-annex.ensures) (annex_known p (annex_at (objects_in p) c.args.process) c.requires.annex))
