@@ -52,8 +52,8 @@ pub fn checkpoint<D: Device, S: ObjectStore<D>>(live: &mut Live<S>) -> Result<An
     }
 }
 
-/// Writes so many frozen objects to the log. It is refused by `NoCheckpoint` where none is on its
-/// way, and fails where the device does.
+/// Writes up to `count` frozen objects to the log. Refused with `NoCheckpoint` if there is no frozen
+/// state. Fails if the device does.
 #[inline(never)]
 pub fn stabilize<D: Device, S: ObjectStore<D>>(
     live: &mut Live<S>,
