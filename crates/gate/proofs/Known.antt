@@ -1,18 +1,19 @@
 -- Which numbers have objects.
-use Rattle.std.proofs.Common.{◌≡◌, ℕ, zero, suc, ◌<◌, true, false, ◌&&◌, Bool, Some, List, [], ◌∷◌, length, refl, ap, ◌∙◌, subst, arith}
+use Rattle.std.proofs.Common.{◌≡◌, ℕ, zero, suc, ◌<◌, true, false, ◌&&◌, Bool, Some, List, [], ◌∷◌, length, refl, sym, ap, ◌∙◌, subst, arith}
 use Rattle.std.specs.Prelude.{IsTrue}
 use Rattle.std.specs.List.{All}
 use Rattle.model.specs.declared.capability.Capability.{Capability}
 use Rattle.model.specs.declared.capability.Capability.TheVariants.{Void, Number, Page, Node, Space, Process, Start, Resume, Bank, Discrim}
+use Rattle.model.specs.declared.frame.Frame.{Frame}
 use Rattle.model.specs.declared.frame.ObjectHeader.{ObjectHeader}
 use Rattle.model.specs.declared.object.Object.{Object}
 use Rattle.model.specs.Capability.{named}
-use Rattle.model.specs.Frame.{frames_in}
+use Rattle.model.specs.Frame.{frames_in, objects_of}
 use Rattle.model.specs.Object.{is_annex, is_free}
 use Rattle.model.specs.Sound.{NamesItsKind}
-use Rattle.model.specs.World.{content_at, is_process, is_running_process}
+use Rattle.model.specs.World.{annex_at, content_at, is_process, is_running_process}
 use Rattle.capability.specs.Parts.{Parts, frames_of, objects_in}
-use Rattle.capability.proofs.Frames.{annex_used, bank_used, known_used, node_used, page_used, root_used}
+use Rattle.capability.proofs.Frames.{annex_used, bank_used, known_used, node_used, page_used, process_known, root_used}
 
 pub annex_known : (p : Parts) (n : ℕ) → IsTrue (is_annex (content_at (objects_in p) n)) → n < length p.headers
 annex_known p n is = known_used p n (annex_used (content_at (objects_in p) n) is)
@@ -42,9 +43,24 @@ running_process os p running = both_true (is_process os p) _ running
     both_true true b both = refl
     both_true false b both = both
 
--- the same headers and contents make the same frames
+-- the same headers and contents, and so the same frames
+abbrev pub LooksSame : Parts → Parts → Type 0
+LooksSame before now = (now.headers ≡ before.headers) × (now.contents ≡ before.contents)
+
 pub same_frames : (before now : Parts) → now.headers ≡ before.headers → now.contents ≡ before.contents → frames_of now ≡ frames_of before
 same_frames before now hs cs = ap (λ (ks : List ObjectHeader). frames_in ks now.contents) hs ∙ ap (frames_in before.headers) cs
+
+-- a process and its annex have objects, also after a look at others
+pub looked_annex : (before now : Parts) (p a : ℕ) → LooksSame before now → a ≡ annex_at (objects_in now) p →
+    IsTrue (is_annex (content_at (objects_in before) (annex_at (objects_in before) p))) → a < length now.headers
+looked_annex before now p a same is annex =
+    let fs = same_frames before now same.0 same.1 in
+    let here : a ≡ annex_at (objects_in before) p = is ∙ ap (λ (gs : List Frame). annex_at (objects_of gs) p) fs in
+    subst (λ (hs : List ObjectHeader). a < length hs) (sym same.0)
+    (subst (λ (n : ℕ). n < length before.headers) (sym here) (annex_known before (annex_at (objects_in before) p) annex))
+
+pub looked_process : (before now : Parts) (p : ℕ) → LooksSame before now → IsTrue (is_process (objects_in before) p) → p < length now.headers
+looked_process before now p same is = subst (λ (hs : List ObjectHeader). p < length hs) (sym same.0) (process_known before p is)
 
 -- one and two numbers that exist
 pub one_known : (P : ℕ → Type 0) (m : ℕ) → P m → All P (m ∷ [])

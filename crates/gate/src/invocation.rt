@@ -15,8 +15,8 @@ use model::{Invocation, ResultCode};
 use space_bank::Banks;
 use std::alloc::Global;
 
-/// Carries out the invocation of a capability by a running process, whose root is fetched (EROS,
-/// KeyKOS: call, return and send).
+/// Carries out the invocation of a capability by a running process (EROS, KeyKOS: call, return and
+/// send).
 ///
 /// The invoked and the sent capabilities are read before anything changes. A start or resume
 /// capability is a gate: the message goes to another process, and the result is `None`. A resume
@@ -37,7 +37,6 @@ pub fn invoke<F: PresentFrames>(
     requires sound { AreSound (F.parts store.old) }
     requires process { IsTrue (is_running_process
         (objects_in (F.parts store.old)) invocation.process) }
-    requires fetched { F.IsFetched store.old invocation.process }
     requires counted { AreCounted (F.parts store.old).geometry
         (objects_in (F.parts store.old)) banks.old }
 

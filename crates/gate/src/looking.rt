@@ -26,28 +26,6 @@ pub fn look<F: PresentFrames>(alloc: Global, store: &mut F, number: u64) -> Resu
     objects::fetch(store, alloc, &[number])
 }
 
-/// Fetches a process, which is fetched already, together with its annex. Returns the annex.
-pub fn look_at_annex<F: PresentFrames>(
-    alloc: Global,
-    store: &mut F,
-    process: u64,
-) -> Result<u64, PrepareFault>
-    requires keepable { AreKeepable (F.parts store.old).geometry u64.MAX
-        (frames_of (F.parts store.old)) }
-    requires process { IsTrue (is_process (objects_in (F.parts store.old)) process) }
-    requires annex { IsTrue (is_annex
-        (content_at (objects_in (F.parts store.old))
-        (annex_at (objects_in (F.parts store.old)) process))) }
-    requires fetched { F.IsFetched store.old process }
-    ensures root { OnOk result (F.IsFetched store.new process) }
-    ensures annex { IfOk result (λ annex. (annex ≡ annex_at (objects_in (F.parts store.old)) process) × F.IsFetched store.new annex) }
-    ensures looks { Looks F.parts F.LeadsTo store.old store.new result }
-{
-    let annex = objects::annex(store, process);
-    objects::fetch(store, alloc, &[process, annex])?;
-    Ok(annex)
-}
-
 /// Fetches a process and its annex. Returns the annex.
 pub fn look_at_process<F: PresentFrames>(
     alloc: Global,
@@ -65,7 +43,9 @@ pub fn look_at_process<F: PresentFrames>(
     ensures looks { Looks F.parts F.LeadsTo store.old store.new result }
 {
     look(alloc, store, process)?;
-    look_at_annex(alloc, store, process)
+    let annex = objects::annex(store, process);
+    objects::fetch(store, alloc, &[process, annex])?;
+    Ok(annex)
 }
 
 /// Fetches what an order on a capability reads: the object that it names, and the annex of a
@@ -95,7 +75,7 @@ pub fn look_at_named<F: PresentFrames>(
     }
 }
 
-/// Reads what a process invokes, and fetches its annex. The process is fetched already.
+/// Reads what a process invokes, and fetches its annex.
 pub fn ask<F: PresentFrames>(
     alloc: Global,
     store: &mut F,
@@ -108,12 +88,11 @@ pub fn ask<F: PresentFrames>(
     requires annex { IsTrue (is_annex
         (content_at (objects_in (F.parts store.old))
         (annex_at (objects_in (F.parts store.old)) invocation.now.process))) }
-    requires fetched { F.IsFetched store.old invocation.now.process }
     ensures asked { IfOk result (λ caller. IsAsked (objects_in (F.parts store.old)) invocation.now caller) }
     ensures fetched { IfOk result (λ caller. F.IsFetched store.new caller.annex) }
     ensures looks { Looks F.parts F.LeadsTo store.old store.new result }
 {
-    let annex = look_at_annex(alloc, store, invocation.process)?;
+    let annex = look_at_process(alloc, store, invocation.process)?;
     Ok(Caller {
         process: invocation.process,
         annex,

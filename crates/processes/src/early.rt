@@ -1,5 +1,5 @@
 // Why a process can't act.
-ghost use Rattle.std.specs.Prelude.{◌≡◌, ◌↔◌, ◌<◌, ◌≤◌, IfOk, IfSome, IsErr, None};
+ghost use Rattle.std.specs.Prelude.{◌≡◌, ◌↔◌, ◌<◌, ◌≤◌, IfOk, IfSome, IsErr};
 ghost use Rattle.model.specs.Keepable.{IsSoundFrames};
 ghost use Rattle.capability.specs.Parts.{LooksUp, frames_of, objects_in};
 ghost use Rattle.processes.specs.Machine.{IsEarly, NeedsNoLook};
@@ -9,8 +9,8 @@ use device::Failed;
 use model::{Refusal, State};
 use std::alloc::Global;
 
-/// The refusal of a command because its process doesn't run, or `None`. Then the process is fetched.
-/// `NoProcess` needs no memory and leaves the store untouched. Fails exactly where the device does.
+/// The refusal of a command because its process doesn't run, or `None`. `NoProcess` needs no memory
+/// and leaves the store untouched. Fails exactly where the device does.
 pub fn early<F: PresentFrames>(
     alloc: Global,
     store: &mut F,
@@ -20,7 +20,6 @@ pub fn early<F: PresentFrames>(
     requires sound { IsSoundFrames (F.parts store.old).geometry age
         (frames_of (F.parts store.old)) }
     ensures why { IfOk result (λ why. IsEarly (objects_in (F.parts store.old)) process why) }
-    ensures fetched { IfOk result (λ why. why ≡ None → F.IsFetched store.new process) }
     ensures untouched { IfOk result (λ why. IfSome why (λ told. NeedsNoLook told
         → store.new ≡ store.old)) }
     ensures aside { LooksUp F.parts F.LeadsTo store.old store.new }
