@@ -6,4 +6,5 @@ mod Standing
 mod Tables
 mod Taking
 mod Trees
+pub mod BankFaults
 pub mod Unsound

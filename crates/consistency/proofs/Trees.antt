@@ -1,6 +1,6 @@
 -- Banks: their tree, their chains and their limits.
 use Rattle.std.proofs.Common.{◌≡◌, ◌≢◌, ◌↔◌, ℕ, zero, suc, ◌<◌, ◌≤◌, Bool, true, false, ◌||◌, List, [], ◌∷◌, length, map, slice_index, slice_index_or, zero-add, refl, sym, ap, ◌∙◌, arith}
-use Rattle.std.specs.Prelude.{IsTrue, nat_eq}
+use Rattle.std.specs.Prelude.{IsTrue, MatchOption, None, Option, Some, nat_eq}
 use Rattle.std.specs.List.{Contains, list_any, range_with_len}
 use Rattle.std.proofs.lemmas.Bool.{eqb-true, eq-eqb}
 use Rattle.std.proofs.lemmas.List.FromFn.{get_or-map-range_with_len, length-map-range_with_len}
@@ -17,7 +17,9 @@ use Rattle.model.specs.World.{content_at}
 use Rattle.model_laws.proofs.BankTree.{IsTree}
 use Rattle.capability.specs.Parts.{HaveTheirRoles, Parts, frames_of, objects_in}
 use Rattle.capability.proofs.Keeping.{keepable_roles}
-use Rattle.consistency.specs.Consistency.{AreLimited, AreOwned, owner_of, role_at}
+use Rattle.consistency.specs.declared.reason.Unbanked.{Unbanked}
+use Rattle.consistency.specs.declared.reason.Unbanked.TheVariants as why
+use Rattle.consistency.specs.Consistency.{AreLimited, AreOwned, IsAboveLimit, IsUnbanked, owner_of, role_at}
 use Rattle.consistency.proofs.Sound.{kept_at}
 use Rattle.consistency.proofs.Standing.{bank_role, free_role, limit_is, owner_is, role_bank, role_free}
 use Rattle.consistency.proofs.Tables.{bank_known, role_known}
@@ -87,15 +89,23 @@ module _ (g : Geometry) (age : ℕ) (p : Parts) (k : AreKeepable g age (frames_o
         ∙ get_or-map-range_with_len (λ n. limit_in (content_at (objects_in p) n)) 0 count b b 0 inside (zero-add b)
         ∙ limit_is (frames_of p) b
 
-    pub limited : (t : Bool) → (IsTrue t ↔ ((b : ℕ) → role_at (frames_of p) b ≡ role.Bank → slice_index usages b ≤ slice_index limits b)) →
-        IsTrue t ↔ AreLimited (frames_of p)
-    limited t tells = (
-      λ so b bank.
-          let is = role_bank (frames_of p) (keepable_roles g age (frames_of p) k) b bank in
-          let low : slice_index usages b ≤ slice_index limits b = tells.0 so b bank in
-          omega (arith, low, used b is, limit_there b (bank_counted b is)),
-      λ below. tells.1 (λ b bank.
-          let is = role_bank (frames_of p) (keepable_roles g age (frames_of p) k) b bank in
-          let low : usage (objects_in p) b ≤ limit_in (frame_at (frames_of p) b).content = below b bank in
-          omega (arith, low, used b is, limit_there b (bank_counted b is))),
-    )
+    below : ((b : ℕ) → role_at (frames_of p) b ≡ role.Bank → slice_index usages b ≤ slice_index limits b) → AreLimited (frames_of p)
+    below low b bank =
+        let is = role_bank (frames_of p) (keepable_roles g age (frames_of p) k) b bank in
+        let least : slice_index usages b ≤ slice_index limits b = low b bank in
+        omega (arith, least, used b is, limit_there b (bank_counted b is))
+
+    above : (why : Unbanked) → IsAboveLimit (frames_of p) usages limits why → IsUnbanked (frames_of p) why
+    above why.Prime is = absurd is
+    above (why.Owner n owner) is = absurd is
+    above (why.Chain b) is = absurd is
+    above (why.Limit b most limit) is =
+        let bank = role_bank (frames_of p) (keepable_roles g age (frames_of p) k) b is.0 in
+        (is.0, is.1 ∙ used b bank, is.2 ∙ limit_there b (bank_counted b bank), is.3)
+
+    -- what was found by usages and limits
+    pub limited : (found : Option Unbanked)
+        → MatchOption found ((b : ℕ) → role_at (frames_of p) b ≡ role.Bank → slice_index usages b ≤ slice_index limits b) (λ why. IsAboveLimit (frames_of p) usages limits why)
+        → MatchOption found (AreLimited (frames_of p)) (λ why. IsUnbanked (frames_of p) why)
+    limited None low = below low
+    limited (Some why) is = above why is

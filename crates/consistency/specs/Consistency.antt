@@ -1,5 +1,5 @@
 -- When frames that can be kept stand for a sound world, and the least of three reasons where they don't.
-use Rattle.std.specs.Prelude.{◌≡◌, ◌≢◌, ℕ, ◌≤◌, Bool, false, List, Option, None, Some, IsTrue}
+use Rattle.std.specs.Prelude.{◌≡◌, ◌≢◌, ℕ, ◌<◌, ◌≤◌, Bool, false, List, Option, None, Some, slice_index, IsTrue}
 use Rattle.std.specs.List.{All, Contains}
 use Rattle.model.specs.declared.capability.Cap.{Cap}
 use Rattle.model.specs.declared.capability.Capability.{Capability}
@@ -15,6 +15,8 @@ use Rattle.model.specs.Keepable.{caps_in}
 use Rattle.model.specs.Object.{is_waiting, limit_in}
 use Rattle.consistency.specs.declared.reason.Inconsistency.{Inconsistency}
 use Rattle.consistency.specs.declared.reason.Inconsistency.TheVariants.{BadCapability, BadProcess, BadBank}
+use Rattle.consistency.specs.declared.reason.Unbanked.{Unbanked}
+use Rattle.consistency.specs.declared.reason.Unbanked.TheVariants as bank
 
 -- what an object is, and which bank owns it, by number
 abbrev pub role_at : List Frame → ℕ → Role
@@ -83,6 +85,18 @@ AreLimited fs = (b : ℕ) → role_at fs b ≡ role.Bank → usage (objects_of f
 pub record AreBanked (fs : List Frame) : Type 0 where
   pub owned : AreOwned fs
   pub limited : AreLimited fs
+
+-- why they aren't
+abbrev pub IsUnbanked : List Frame → Unbanked → Type 0
+IsUnbanked fs bank.Prime = (role_at fs 0 ≡ role.Bank) × (owner_of fs 0 ≡ 0) → ⊥
+IsUnbanked fs (bank.Owner object owner) = (role_at fs object ≢ role.Free) × (owner_of fs object ≡ owner) × (role_at fs owner ≢ role.Bank)
+IsUnbanked fs (bank.Chain b) = (role_at fs b ≡ role.Bank) × (Contains (chain (objects_of fs) b) 0 → ⊥)
+IsUnbanked fs (bank.Limit b used limit) = (role_at fs b ≡ role.Bank) × (used ≡ usage (objects_of fs) b) × (limit ≡ limit_in (frame_at fs b).content) × (limit < used)
+
+-- the same of a limit, by usages and limits that were counted and read
+abbrev pub IsAboveLimit : List Frame → List ℕ → List ℕ → Unbanked → Type 0
+IsAboveLimit fs usages limits (bank.Limit b used limit) = (role_at fs b ≡ role.Bank) × (used ≡ slice_index usages b) × (limit ≡ slice_index limits b) × (limit < used)
+IsAboveLimit fs usages limits _ = ⊥
 
 -- the least reason why frames stand for no sound world
 abbrev pub IsInconsistent : List Frame → Inconsistency → Type 0

@@ -1,12 +1,13 @@
 // Whether the banks are a tree that owns all objects, within their limits.
-ghost use Rattle.std.specs.Prelude.{◌≡◌, ◌≢◌, ◌↔◌, ℕ, ◌<◌, ◌≤◌, length, slice_index, IfOk, IsTrue};
+ghost use Rattle.std.specs.Prelude.{◌≡◌, ◌≢◌, ◌↔◌, ℕ, ◌<◌, ◌≤◌, length, slice_index, IfOk, IsTrue, MatchOption};
 ghost use Rattle.std.specs.List.{Contains};
 ghost use Rattle.model.specs.Bank.{chain};
 ghost use Rattle.model.specs.Frame.{objects_of};
 ghost use Rattle.model.specs.Keepable.{AreKeepable};
 ghost use Rattle.capability.specs.Parts.{Looks, frames_of};
-ghost use Rattle.consistency.specs.Consistency.{AreBanked, AreLimited, AreOwned, owner_of, role_at};
+ghost use Rattle.consistency.specs.Consistency.{AreBanked, AreLimited, AreOwned, IsAboveLimit, IsUnbanked, owner_of, role_at};
 
+use crate::reason::Unbanked;
 use crate::table::{has_role, owner};
 use capability::{PrepareFault, PresentFrames};
 use model::Role;
@@ -37,43 +38,58 @@ fn is_reaching<F: PresentFrames>(store: &F, number: u64) -> bool
     !has_role(store, number, Role::Bank) || is_in_chain(store, number, 0)
 }
 
-// Whether each object is owned by a bank, and the banks are a tree with number 0 at the top.
-fn are_owned<F: PresentFrames>(store: &F) -> bool
-    ensures { IsTrue result ↔ AreOwned (frames_of (F.parts store.now)) }
+// Why the banks aren't a tree with number 0 at the top that owns all objects, if they aren't.
+fn find_unowned<F: PresentFrames>(store: &F) -> Option<Unbanked>
+    ensures { MatchOption result (AreOwned (frames_of (F.parts store.now)))
+        (λ why. IsUnbanked (frames_of (F.parts store.now)) why) }
 {
     if !has_prime_bank(store) {
-        return false;
+        return Some(Unbanked::Prime);
     }
     for number in 0..store.table().count() {
-        if !(is_owned(store, number) && is_reaching(store, number)) {
-            return false;
+        if !is_owned(store, number) {
+            return Some(Unbanked::Owner {
+                object: number,
+                owner: owner(store, number),
+            });
+        }
+        if !is_reaching(store, number) {
+            return Some(Unbanked::Chain(number));
         }
     }
-    true
+    None
 }
 
-// Whether no bank accounts for more than its limit.
-fn are_limited<F: PresentFrames>(store: &F, usages: &[u64], limits: &[u64]) -> bool
+// Which bank accounts for more than its limit, if one does.
+fn find_above_limit<F: PresentFrames>(store: &F, usages: &[u64], limits: &[u64]) -> Option<Unbanked>
     requires usages { length usages.now ≡ length (F.parts store.now).headers }
     requires limits { length limits.now ≡ length (F.parts store.now).headers }
-    ensures { IsTrue result ↔ ((b : ℕ) → role_at (frames_of (F.parts store.now)) b ≡ Role.Bank
-        → slice_index usages.now b ≤ slice_index limits.now b) }
+    ensures { let frames = frames_of (F.parts store.now) in MatchOption result
+        ((b : ℕ) → role_at frames b ≡ Role.Bank → slice_index usages.now b ≤ slice_index limits.now b)
+        (λ why. IsAboveLimit frames usages.now limits.now why) }
 {
     for number in 0..usages.len() {
         if has_role(store, number as u64, Role::Bank) && usages[number] > limits[number] {
-            return false;
+            return Some(Unbanked::Limit {
+                bank: number as u64,
+                used: usages[number],
+                limit: limits[number],
+            });
         }
     }
-    true
+    None
 }
 
 // What each bank accounts for, counted from the table, against its limit. The banks are a tree.
-fn are_counted<F: PresentFrames>(alloc: Global, store: &mut F) -> Result<bool, PrepareFault>
+fn count_above_limit<F: PresentFrames>(
+    alloc: Global,
+    store: &mut F,
+) -> Result<Option<Unbanked>, PrepareFault>
     requires keepable { AreKeepable (F.parts store.old).geometry u64.MAX
         (frames_of (F.parts store.old)) }
     requires owned { AreOwned (frames_of (F.parts store.old)) }
-    ensures limited { IfOk result (λ limited.
-        IsTrue limited ↔ AreLimited (frames_of (F.parts store.old))) }
+    ensures found { let frames = frames_of (F.parts store.old) in IfOk result (λ found.
+        MatchOption found (AreLimited frames) (λ why. IsUnbanked frames why)) }
     ensures looks { Looks F.parts F.LeadsTo store.old store.new result }
 {
     let count = store.table().count();
@@ -83,24 +99,26 @@ fn are_counted<F: PresentFrames>(alloc: Global, store: &mut F) -> Result<bool, P
     };
     match read_limits(alloc, store, count) {
         Err(fault) => Err(fault),
-        Ok(limits) => Ok(are_limited(store, &usages, &limits)),
+        Ok(limits) => Ok(find_above_limit(store, &usages, &limits)),
     }
 }
 
-/// Whether each object is owned by a bank, the banks are a tree with number 0 at the top and at
-/// most 16 banks in a chain, and no bank accounts for more than its limit. Banks are fetched one at
-/// a time for their limits.
-pub(crate) fn are_banked<F: PresentFrames>(
+/// Why an object isn't owned by a bank, the banks aren't a tree with number 0 at the top and at most 16 banks in a chain, or
+/// a bank accounts for more than its limit. Nothing where none of this is so. Banks are fetched one at a time for their
+/// limits.
+///
+/// `NoMemory` where memory ran out, and `Failed` exactly where the device failed. No object is another than before.
+pub fn find_unbanked<F: PresentFrames>(
     alloc: Global,
     store: &mut F,
-) -> Result<bool, PrepareFault>
+) -> Result<Option<Unbanked>, PrepareFault>
     requires { AreKeepable (F.parts store.old).geometry u64.MAX (frames_of (F.parts store.old)) }
-    ensures banked { IfOk result (λ banked.
-        IsTrue banked ↔ AreBanked (frames_of (F.parts store.old))) }
+    ensures found { let frames = frames_of (F.parts store.old) in IfOk result (λ found.
+        MatchOption found (AreBanked frames) (λ why. IsUnbanked frames why)) }
     ensures looks { Looks F.parts F.LeadsTo store.old store.new result }
 {
-    if !are_owned(store) {
-        return Ok(false);
+    match find_unowned(store) {
+        Some(why) => Ok(Some(why)),
+        None => count_above_limit(alloc, store),
     }
-    are_counted(alloc, store)
 }

@@ -13,8 +13,8 @@ use capability::{PrepareFault, PresentFrames, objects};
 use model::{Cap, Capability, Content, Role};
 use std::alloc::Global;
 
-// Whether the object that a capability names is what the capability is for.
-fn names_its_role<F: PresentFrames>(
+/// Whether the object that a capability names is what the capability is for.
+pub fn names_its_role<F: PresentFrames>(
     store: &F,
     notes: &[Option<Noted>],
     capability: Capability,

@@ -5,7 +5,7 @@ ghost use Rattle.capability.specs.Parts.{Looks, LooksUp, frames_of};
 ghost use Rattle.consistency.specs.Consistency.{AreNamed, AreWholeProcesses, IsInconsistent, Tells};
 ghost use Rattle.consistency.specs.Noted.{AreNoted};
 
-use crate::banks::are_banked;
+use crate::banks::find_unbanked;
 use crate::capabilities::are_named;
 use crate::processes::{Noted, are_whole, read_notes};
 use crate::reason::{CheckFault, Inconsistency};
@@ -24,10 +24,10 @@ fn reason_of_banks<F: PresentFrames>(
     ensures tells { IfOk result (λ why. Tells (frames_of (F.parts store.old)) why) }
     ensures looks { Looks F.parts F.LeadsTo store.old store.new result }
 {
-    match are_banked(alloc, store) {
+    match find_unbanked(alloc, store) {
         Err(fault) => Err(fault),
-        Ok(true) => Ok(None),
-        Ok(false) => Ok(Some(Inconsistency::BadBank)),
+        Ok(None) => Ok(None),
+        Ok(Some(_)) => Ok(Some(Inconsistency::BadBank)),
     }
 }
 

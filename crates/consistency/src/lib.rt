@@ -10,5 +10,8 @@ mod processes;
 mod reason;
 mod table;
 
+pub use banks::find_unbanked;
+pub use capabilities::names_its_role;
 pub use checking::check;
-pub use reason::{CheckFault, Inconsistency};
+pub use processes::{Noted, read_notes};
+pub use reason::{CheckFault, Inconsistency, Unbanked};

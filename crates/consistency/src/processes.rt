@@ -14,11 +14,11 @@ use std::alloc::{AllocError, Global};
 
 /// What is noted of the root of a process, which may not stay at hand.
 #[derive(Clone, Copy)]
-pub(crate) struct Noted {
+pub struct Noted {
     /// Whether the process waits.
-    pub(crate) is_waiting: bool,
+    pub is_waiting: bool,
     /// The number of its annex.
-    pub(crate) annex: u64,
+    pub annex: u64,
 }
 
 // Whether a state is that of a process that waits.
@@ -65,7 +65,7 @@ fn read_note<F: PresentFrames>(
 }
 
 /// Notes of all objects by number, nothing of what is no root. Each root is fetched, one at a time.
-pub(crate) fn read_notes<F: PresentFrames>(
+pub fn read_notes<F: PresentFrames>(
     alloc: Global,
     store: &mut F,
 ) -> Result<Vec<Option<Noted>>, PrepareFault>

@@ -14,6 +14,19 @@ pub enum Inconsistency {
     BadBank,
 }
 
+/// Why banks aren't a tree that owns all objects within their limits.
+#[derive(Clone, Copy, PartialEq, Eq, Debug)]
+pub enum Unbanked {
+    /// Number 0 isn't a bank that owns itself.
+    Prime,
+    /// The owner of an object isn't a bank.
+    Owner { object: u64, owner: u64 },
+    /// The chain of this bank, of at most 16 banks, doesn't reach number 0.
+    Chain(u64),
+    /// A bank accounts for more objects than its limit.
+    Limit { bank: u64, used: u64, limit: u64 },
+}
+
 /// Why frames weren't found to stand for a sound world.
 #[derive(Clone, Copy, PartialEq, Eq, Debug)]
 pub enum CheckFault {

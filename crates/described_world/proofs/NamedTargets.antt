@@ -63,7 +63,7 @@ no_allocations d fs n numbers is = sym (ap (λ (h : ObjectHeader). h.allocations
 no_calls : (d : Description) (fs : List Frame) (n : ℕ) → HasNumbers d → IsDescribed d fs → 0 ≡ (header_at (headers fs) n).calls
 no_calls d fs n numbers is = sym (ap (λ (h : ObjectHeader). h.calls) (header_in fs n) ∙ (first_at d fs n numbers is).calls)
 
-never_raised : (d : Description) (fs : List Frame) (c : Capability) → HasNumbers d → IsDescribed d fs → 0 ≡ current_count (headers fs) c
+pub never_raised : (d : Description) (fs : List Frame) (c : Capability) → HasNumbers d → IsDescribed d fs → 0 ≡ current_count (headers fs) c
 never_raised d fs Void numbers is = refl
 never_raised d fs (Number n) numbers is = refl
 never_raised d fs (Page o a) numbers is = no_allocations d fs o numbers is
@@ -135,7 +135,7 @@ module _ (d : Description) (fs : List Frame) (numbers : HasNumbers d) (is : IsDe
   a_bank o role = let first = first_at d fs o numbers is in
       of_node d.geometry o (frame_at fs o).content first.kind (λ e. not_free_bank (sym role ∙ first.role ∙ e)) (λ e. not_page_bank (sym role ∙ first.role ∙ e))
 
-  role_target : (c : Capability) → NamesItsRole fs c → IsTarget d.geometry c
+  pub role_target : (c : Capability) → NamesItsRole fs c → IsTarget d.geometry c
   role_target Void names = tt
   role_target (Number n) names = tt
   role_target (Page o a) names = a_page o names

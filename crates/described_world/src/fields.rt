@@ -7,8 +7,8 @@ ghost use Rattle.described_world.specs.Described.{AreDistinct, AreSlots, AreWord
 use description::{Description, ProcessEntry, SlotEntry, WordEntry};
 use model::{Capability, MAX_HEIGHT, SLOTS, WORDS};
 
-// The keys below this one have 16 bits.
-const KEYS: u64 = 1 << 16;
+/// The keys below this one have 16 bits.
+pub const KEYS: u64 = 1 << 16;
 
 fn is_well_formed(capability: Capability) -> bool
     ensures { IsTrue result ↔ IsWellFormed capability }
@@ -29,7 +29,8 @@ fn is_well_formed(capability: Capability) -> bool
     }
 }
 
-fn is_capability(capability: Option<Capability>) -> bool
+/// Whether a text was that of a capability.
+pub fn is_capability(capability: Option<Capability>) -> bool
     ensures { IsTrue result ↔ IsSomeCapability capability }
 {
     match capability {
@@ -38,7 +39,8 @@ fn is_capability(capability: Option<Capability>) -> bool
     }
 }
 
-fn is_space(space: Option<Capability>) -> bool
+/// Whether a text was that of a capability that may be an address space.
+pub fn is_space(space: Option<Capability>) -> bool
     ensures { IsTrue result ↔ IsSpaceEntry space }
 {
     match space {

@@ -59,6 +59,27 @@ fn lay(alloc: Global, description: &Description) -> Result<World, AllocError>
     Ok(world)
 }
 
+/// Lays out the world of a description that has all that it needs. Fails only where memory runs out.
+pub fn lay_described(alloc: Global, description: &Description) -> Result<World, AllocError>
+    requires geometry { IsGeometry description.now.geometry }
+    requires numbers { HasNumbers description.now }
+    requires fields { HasFields description.now }
+    requires targets { HasTargets description.now.geometry description.now }
+    ensures described { IfOk result (λ w.
+        IsDescribed description.now (frames_in w.headers.items w.contents.items)) }
+    ensures keepable { IfOk result (λ w. AreKeepable description.now.geometry 0
+        (frames_in w.headers.items w.contents.items)) }
+    ensures headers { IfOk result (λ w.
+        vec_len w.headers ≡ object_count description.now.geometry) }
+    ensures contents { IfOk result (λ w.
+        vec_len w.contents ≡ object_count description.now.geometry) }
+{
+    match lay(alloc, description) {
+        Ok(world) => Ok(world),
+        Err(_) => Err(AllocError),
+    }
+}
+
 /// Lays out the world that a description names: each object as it is named, at its number, and all
 /// other numbers free. No object was ever given up.
 ///
@@ -80,7 +101,7 @@ pub fn lay_world(alloc: Global, description: &Description) -> Result<World, Worl
     ensures fault { IfErr result (IsWorldFault description.now) }
 {
     check(alloc, description)?;
-    match lay(alloc, description) {
+    match lay_described(alloc, description) {
         Ok(world) => Ok(world),
         Err(_) => Err(WorldFault::NoMemory),
     }

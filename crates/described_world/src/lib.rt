@@ -11,6 +11,9 @@ mod targets;
 mod world;
 
 pub use fault::WorldFault;
+pub use fields::{KEYS, is_capability, is_space};
 pub use laws::described_is_whole;
-pub use laying::lay_world;
+pub use laying::{lay_described, lay_world};
+pub use numbers::{node_numbers, page_numbers};
+pub use targets::is_target;
 pub use world::World;

@@ -32,8 +32,8 @@ fn plain_node_numbers(alloc: Global, nodes: &[NodeEntry]) -> Result<Vec<u64>, Al
     nodes.iter().map(|node| node.number).collect(alloc)
 }
 
-// The numbers of banks, roots, annexes and nodes, in this order.
-fn node_numbers(alloc: Global, description: &Description) -> Result<Vec<u64>, AllocError>
+/// The numbers of banks, roots, annexes and nodes, in this order. Fails only where memory runs out.
+pub fn node_numbers(alloc: Global, description: &Description) -> Result<Vec<u64>, AllocError>
     ensures { IfOk result (λ numbers. numbers.items ≡ node_numbers description.now) }
 {
     let roots = root_numbers(alloc, &description.processes)?;
@@ -46,7 +46,8 @@ fn node_numbers(alloc: Global, description: &Description) -> Result<Vec<u64>, Al
     Ok(numbers)
 }
 
-fn page_numbers(alloc: Global, description: &Description) -> Result<Vec<u64>, AllocError>
+/// The numbers of pages. Fails only where memory runs out.
+pub fn page_numbers(alloc: Global, description: &Description) -> Result<Vec<u64>, AllocError>
     ensures { IfOk result (λ numbers. numbers.items ≡ page_numbers description.now) }
 {
     let pages = description.pages.iter();

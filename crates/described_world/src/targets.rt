@@ -7,8 +7,8 @@ ghost use Rattle.described_world.specs.Laid.{AreTargets, HasProcessTargets, HasT
 use description::{Description, ProcessEntry, SlotEntry};
 use model::{Capability, Geometry};
 
-// Whether what a capability names is a number of its kind.
-fn is_target(geometry: Geometry, capability: Capability) -> bool
+/// Whether what a capability names is a number of its kind.
+pub fn is_target(geometry: Geometry, capability: Capability) -> bool
     requires { object_count geometry < 2 ^ 64 }
     ensures { IsTrue result ↔ IsTarget geometry capability }
 {

@@ -1,5 +1,5 @@
 -- Keys that are known, and texts that are the same.
-use Rattle.std.proofs.Common.{◌≡◌, ℕ, List, [], ◌∷◌, map, nat_eq, nat_cmp, is_eq, Bor, refl, sym, arith}
+use Rattle.std.proofs.Common.{◌≡◌, ℕ, true, List, [], ◌∷◌, map, nat_eq, nat_cmp, is_eq, Bor, refl, sym, ◌∙◌, arith}
 use Rattle.std.proofs.lemmas.Bool.Decides.{nat_tests}
 use Rattle.std.proofs.lemmas.Cmp.{same_from_slice_cmp}
 use Rattle.std.specs.Cmp.Lexicographic.{slice_cmp, pointwise}
@@ -13,3 +13,14 @@ same_text a b = sym (same_from_slice_cmp nat_cmp is_eq (λ y x. pointwise nat_eq
 pub among : (names : List (Bor (List ℕ))) (key : List ℕ) → list_any (λ y. pointwise nat_eq y.now key) names ≡ list_any (same_key key) (map (λ k. k.now) names)
 among [] key = refl
 among (n ∷ ns) key = rw (same_text n.now key, among ns key)
+
+nat_self : (n : ℕ) → nat_eq n n ≡ true
+nat_self n = grind (arith, nat_tests)
+
+text_self : (a : List ℕ) → pointwise nat_eq a a ≡ true
+text_self [] = refl
+text_self (n ∷ ns) = rw (nat_self n, text_self ns) refl
+
+-- a key is the text of itself
+pub same_self : (key : List ℕ) → same_key key key ≡ true
+same_self key = sym (same_text key key) ∙ text_self key

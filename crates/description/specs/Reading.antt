@@ -1,5 +1,5 @@
 -- What a table says.
-use Rattle.std.specs.Prelude.{◌≡◌, ◌≢◌, ◌⊎◌, ℕ, ◌^◌, ◌<◌, ◌≤◌, pos, Bool, true, ◌&&◌, Option, None, Some, List, [], ◌∷◌, length, codes, IfSome, IsTrue, IsSomeAnd, MatchOption}
+use Rattle.std.specs.Prelude.{◌≡◌, ◌≢◌, ◌⊎◌, ℕ, ◌^◌, ◌<◌, ◌≤◌, pos, Bool, true, false, ◌&&◌, ◌||◌, Option, None, Some, List, [], ◌∷◌, length, codes, IfSome, IsTrue, IsSomeAnd, MatchOption}
 use Rattle.std.specs.List.{list_any}
 use Rattle.image_writer.specs.declared.number_range.NumberRange.{NumberRange}
 use Rattle.model.specs.Capability.{IsWellFormed, named}
@@ -64,6 +64,11 @@ IsTable P d x = (ms : Members) × (d ≡ table ms) × P ms x
 abbrev pub has_only : List (List ℕ) → Members → Bool
 has_only keys no_members = true
 has_only keys (member k d ms) = list_any (same_key k) keys && has_only keys ms
+
+-- the table has a key
+abbrev pub has_key : List ℕ → Members → Bool
+has_key key no_members = false
+has_key key (member k d ms) = same_key key k || has_key key ms
 
 -- the value at a key, which is there
 abbrev pub At : {A : Type 0} → List ℕ → (Data → A → Type 0) → Members → A → Type 0

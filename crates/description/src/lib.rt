@@ -5,10 +5,12 @@ mod entry;
 mod fault;
 pub mod laws;
 mod list;
-mod member;
+pub mod member;
 mod object;
 mod read;
 mod value;
 
 pub use entry::{BankEntry, Description, NodeEntry, PageEntry, ProcessEntry, SlotEntry, WordEntry};
 pub use fault::DescriptionFault;
+pub use list::{FromValue, four_or_zeros, list_or_empty};
+pub use value::{array_of, table_of};

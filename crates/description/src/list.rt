@@ -13,10 +13,12 @@ use image_writer::NumberRange;
 use std::alloc::Global;
 use toml::{Table, Value};
 
-/// What a value in a list is read as.
-pub(crate) trait FromValue: Drop {
+//// What a value in a list is read as.
+pub trait FromValue: Drop {
+    /// Whether a value says this.
     ghost IsSaid: { Data → Self → Type 0 };
 
+    /// Reads a value. `Shape` if it says none, `NoMemory` if memory ran out.
     fn from_value(alloc: Global, value: &Value) -> Result<Self, DescriptionFault>
         ensures { Reads (IsSaid (view value.now)) result };
 }
@@ -39,8 +41,9 @@ pub(crate) fn list_of<T: FromValue>(
     Ok(list)
 }
 
-// The values of the list at a key, or else none.
-pub(crate) fn list_or_empty<T: FromValue>(
+/// The values of the list at a key, none if the key is missing. `Shape` if another value is there, or a value in the list
+/// isn't of its form; `NoMemory` if memory ran out.
+pub fn list_or_empty<T: FromValue>(
     alloc: Global,
     table: &Table,
     key: &str,
@@ -72,12 +75,8 @@ fn four_of(alloc: Global, value: &Value) -> Result<[u64; 4], DescriptionFault>
     Ok([numbers[0], numbers[1], numbers[2], numbers[3]])
 }
 
-// The four words at a key, or else zeros.
-pub(crate) fn four_or_zeros(
-    alloc: Global,
-    table: &Table,
-    key: &str,
-) -> Result<[u64; 4], DescriptionFault>
+/// The four words at a key, zeros if the key is missing. `Shape` if another value is there, `NoMemory` if memory ran out.
+pub fn four_or_zeros(alloc: Global, table: &Table, key: &str) -> Result<[u64; 4], DescriptionFault>
     ensures { Reads (AtOr (0 ∷ 0 ∷ 0 ∷ 0 ∷ []) key.now AreFour (table_view table.now)) result }
 {
     match member(table, key) {

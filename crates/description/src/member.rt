@@ -1,11 +1,11 @@
 // What a table has at its keys.
-ghost use Rattle.std.specs.Prelude.{◌≡◌, IsTrue, Some, map, option_map};
+ghost use Rattle.std.specs.Prelude.{◌≡◌, IfNone, IfSome, IsSome, IsTrue, Some, false, map, option_map};
 ghost use Rattle.std.specs.List.{list_any};
 ghost use Rattle.model.specs.declared.capability.Capability.TheVariants.{Void};
 ghost use Rattle.toml.specs.Data.{get_member, same_key};
 ghost use Rattle.toml.specs.View.{table_view, view};
 ghost use Rattle.description.specs.Outcomes.{Reads};
-ghost use Rattle.description.specs.Reading.{At, AtOr, IsCapability, IsNumber, IsState, IsWideNumber, has_only};
+ghost use Rattle.description.specs.Reading.{At, AtOr, IsCapability, IsNumber, IsState, IsWideNumber, has_key, has_only};
 
 use crate::fault::DescriptionFault;
 use crate::value::{capability_at, number_of, state_at, wide_number_of};
@@ -19,16 +19,20 @@ fn is_among(key: &str, known: &[&str]) -> bool
     known.contains(&key)
 }
 
-// Whether a table has no other keys than these.
-fn has_only(table: &Table, known: &[&str]) -> bool
-    ensures { result ≡ has_only (map (λ k. k.now) known.now) (table_view table.now) }
+/// A key of a table that is none of these, or nothing if each is one.
+#[tactic(auto, using(crate::proofs::Keys::same_self))]
+pub fn unknown_key<'a>(table: &'a Table, known: &[&str]) -> Option<&'a str>
+    ensures key { IfSome result (λ key. IsTrue (has_key key.now (table_view table.entry.now))) }
+    ensures unknown { IfSome result (λ key. list_any (same_key key.now) (map (λ k. k.now) known.now) ≡ false) }
+    ensures some { IsSome result → has_only (map (λ k. k.now) known.now) (table_view table.entry.now) ≡ false }
+    ensures none { IfNone result (IsTrue (has_only (map (λ k. k.now) known.now) (table_view table.entry.now))) }
 {
     'keys: for (key, _) in table.iter() {
         if !is_among(key.as_str(), known) {
-            return false;
+            return Some(key.as_str());
         }
     }
-    true
+    None
 }
 
 // A table has no other keys than these.
@@ -36,22 +40,21 @@ pub(crate) fn check_keys(table: &Table, known: &[&str]) -> Result<(), Descriptio
     ensures { Reads (λ _. IsTrue (has_only (map (λ k. k.now) known.now) (table_view table.now)))
         result }
 {
-    if has_only(table, known) {
-        Ok(())
-    } else {
-        Err(DescriptionFault::Shape)
+    match unknown_key(table, known) {
+        None => Ok(()),
+        Some(_) => Err(DescriptionFault::Shape),
     }
 }
 
-// What a table has at a key.
-pub(crate) fn member<'a>(table: &'a Table, key: &str) -> Option<&'a Value>
+/// What a table has at a key, or nothing.
+pub fn member<'a>(table: &'a Table, key: &str) -> Option<&'a Value>
     ensures { option_map (λ v. view v.now) result ≡ get_member key.now (table_view table.now) }
 {
     table.get(key)
 }
 
-// The number at a key.
-pub(crate) fn number(table: &Table, key: &str) -> Result<u64, DescriptionFault>
+/// The number at a key. `Shape` if there is none.
+pub fn number(table: &Table, key: &str) -> Result<u64, DescriptionFault>
     ensures { Reads (At key.now IsNumber (table_view table.now)) result }
 {
     match member(table, key) {
@@ -60,8 +63,8 @@ pub(crate) fn number(table: &Table, key: &str) -> Result<u64, DescriptionFault>
     }
 }
 
-// The number of 64 bits at a key.
-pub(crate) fn wide_number(table: &Table, key: &str) -> Result<u64, DescriptionFault>
+/// The number of 64 bits at a key. `Shape` if there is none.
+pub fn wide_number(table: &Table, key: &str) -> Result<u64, DescriptionFault>
     ensures { Reads (At key.now IsWideNumber (table_view table.now)) result }
 {
     match member(table, key) {
@@ -70,8 +73,8 @@ pub(crate) fn wide_number(table: &Table, key: &str) -> Result<u64, DescriptionFa
     }
 }
 
-// The number at a key, or else this one.
-pub(crate) fn number_or(table: &Table, key: &str, default: u64) -> Result<u64, DescriptionFault>
+/// The number at a key, or the default if the key is missing. `Shape` if another value is there.
+pub fn number_or(table: &Table, key: &str, default: u64) -> Result<u64, DescriptionFault>
     ensures { Reads (AtOr default key.now IsNumber (table_view table.now)) result }
 {
     match member(table, key) {
@@ -80,8 +83,8 @@ pub(crate) fn number_or(table: &Table, key: &str, default: u64) -> Result<u64, D
     }
 }
 
-// The state at a key.
-pub(crate) fn state(table: &Table, key: &str) -> Result<Option<State>, DescriptionFault>
+/// The state at a key, or nothing for a text that is that of no state. `Shape` if there is no text.
+pub fn state(table: &Table, key: &str) -> Result<Option<State>, DescriptionFault>
     ensures { Reads (At key.now IsState (table_view table.now)) result }
 {
     match member(table, key) {
@@ -90,11 +93,9 @@ pub(crate) fn state(table: &Table, key: &str) -> Result<Option<State>, Descripti
     }
 }
 
-// The capability at a key, or else void.
-pub(crate) fn capability_or_void(
-    table: &Table,
-    key: &str,
-) -> Result<Option<Capability>, DescriptionFault>
+/// The capability at a key, void if the key is missing, or nothing for a text that is that of no capability. `Shape` if
+/// another value is there.
+pub fn capability_or_void(table: &Table, key: &str) -> Result<Option<Capability>, DescriptionFault>
     ensures { Reads (AtOr (Some Void) key.now IsCapability (table_view table.now)) result }
 {
     match member(table, key) {

@@ -84,8 +84,8 @@ pub(crate) fn state_at(value: &Value) -> Result<Option<State>, DescriptionFault>
     }
 }
 
-// The values of a list.
-pub(crate) fn array_of(value: &Value) -> Result<&Array, DescriptionFault>
+/// The values of a list. `Shape` if the value is none.
+pub fn array_of(value: &Value) -> Result<&Array, DescriptionFault>
     ensures { MatchResult result
         (λ items. view value.now ≡ array (array_view items.now))
         (λ e. (e ≡ Shape) × ((ds : Items) → view value.now ≡ array ds → ⊥)) }
@@ -96,8 +96,8 @@ pub(crate) fn array_of(value: &Value) -> Result<&Array, DescriptionFault>
     }
 }
 
-// The members of a table.
-pub(crate) fn table_of(value: &Value) -> Result<&Table, DescriptionFault>
+/// The members of a table. `Shape` if the value is none.
+pub fn table_of(value: &Value) -> Result<&Table, DescriptionFault>
     ensures { MatchResult result
         (λ members. view value.now ≡ table (table_view members.now))
         (λ e. (e ≡ Shape) × ((ms : Members) → view value.now ≡ table ms → ⊥)) }

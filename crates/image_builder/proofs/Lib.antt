@@ -1,4 +1,4 @@
-mod Rules
+pub mod Rules
 mod Refusals
 pub mod Images
 mod Numbered

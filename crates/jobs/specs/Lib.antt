@@ -1,3 +1,4 @@
+pub mod Explained
 pub mod Faults
 pub mod Images
 pub mod Info

@@ -10,15 +10,15 @@ use device::{Device, MAX_SECTORS};
 use file_device::{FileDevice, FileFault};
 use image_builder::{Blueprint, OldImage};
 use jobs::{
-    Fault, build_image, check_image, describe_image, draw_image, finish, info_image, reach_image,
-    run_image, upgrade_opened,
+    Fault, build_image, check_image, describe_image, draw_image, explain_description, finish,
+    info_image, reach_image, run_image, upgrade_opened,
 };
 use memory_device::Fuse;
 use object_cache::PlainStore;
 use object_store::ObjectStore;
 use runs::ScriptReader;
 use std::fs::{self, File};
-use std::io::{self, BufWriter, ErrorKind, Read, Stderr, Stdout};
+use std::io::{self, BufWriter, ErrorKind, Read, Stderr, Stdout, Write};
 use std::os::unix::fs::{FileTypeExt, MetadataExt};
 use std::process::ExitCode;
 use toml::Table;
@@ -281,6 +281,55 @@ fn reach(
     Ok(done.status)
 }
 
+// Tells why the file that is to be explained can't be read, and gives the status.
+fn refuse_file(file: &str, cause: &io::Error, errors: &mut Stderr) -> u8 {
+    let _told = writeln!(errors, "eros: {file}: {cause}");
+    1
+}
+
+// The bytes of a regular file.
+fn read_regular(rt: &HostRuntime, file: &str) -> io::Result<Vec<u8>> {
+    let about = fs::metadata(rt, file)?;
+    if about.is_dir() {
+        return Err(io::Error::from(ErrorKind::IsADirectory));
+    }
+    if !about.is_file() {
+        return Err(io::Error::from(ErrorKind::InvalidInput));
+    }
+    fs::read(rt, file)
+}
+
+// Says why an image is refused, and gives the status.
+fn explain_image(
+    rt: &HostRuntime,
+    image: &str,
+    writer: &mut BufWriter<Stdout>,
+    errors: &mut Stderr,
+) -> Result<u8, Fault> {
+    check(rt, image, writer, errors)
+}
+
+// Says why a file is refused as a description or an image, and gives the status. A file is an image if its bytes are no
+// text, or one of them is zero.
+fn explain(
+    rt: &HostRuntime,
+    file: &str,
+    writer: &mut BufWriter<Stdout>,
+    errors: &mut Stderr,
+) -> Result<u8, Fault> {
+    let bytes = match read_regular(rt, file) {
+        Ok(bytes) => bytes,
+        Err(error) if error.kind() == ErrorKind::OutOfMemory => return Err(Fault::NoMemory),
+        Err(error) => return Ok(refuse_file(file, &error, errors)),
+    };
+    match str::from_utf8(&bytes) {
+        Ok(text) if !bytes.contains(&0) => {
+            Ok(explain_description(rt.alloc(), text, writer, errors))
+        }
+        _ => explain_image(rt, file, writer, errors),
+    }
+}
+
 // Does a job, and gives the status.
 fn serve(
     rt: &HostRuntime,
@@ -320,6 +369,7 @@ fn serve(
         Job::Upgrade { old, new } => upgrade(rt, old, new, writer, errors),
         Job::Describe { image } => describe(rt, image, writer, errors),
         Job::Draw { image } => draw(rt, image, writer, errors),
+        Job::Explain { file } => explain(rt, file, writer, errors),
         Job::Info { image } => info(rt, image, writer, errors),
         Job::Reach {
             image,

@@ -1,0 +1,45 @@
+-- Why banks aren't a tree that owns all objects within their limits.
+use Rattle.std.proofs.Common.{◌≡◌, ◌≢◌, ℕ, ◌<◌, ◌≤◌, Bool, false, true, List, slice_index, refl, sym, ◌∙◌, subst, arith}
+use Rattle.std.specs.Prelude.{IsTrue, ◌↔◌, MatchOption, Option, None, Some}
+use Rattle.std.specs.List.{Contains}
+use Rattle.model.specs.declared.frame.Frame.{Frame}
+use Rattle.model.specs.declared.object.Role.{Role}
+use Rattle.model.specs.declared.object.Role.TheVariants as role
+use Rattle.model.specs.Bank.{chain}
+use Rattle.model.specs.Frame.{objects_of}
+use Rattle.consistency.specs.declared.reason.Unbanked.{Unbanked}
+use Rattle.consistency.specs.declared.reason.Unbanked.TheVariants as bank
+use Rattle.consistency.specs.Consistency.{AreBanked, IsUnbanked, owner_of, role_at}
+
+-- what isn't so where a test fails
+pub refuted : (b : Bool) (P : Type 0) → (IsTrue b ↔ P) → b ≡ false → P → ⊥
+refuted b P tells is p = let so : b ≡ true = tells.1 p in let no_so : true ≡ false = sym so ∙ is in cc
+
+pub unowned : (fs : List Frame) (n owner : ℕ) → (((role_at fs n ≢ role.Free) → role_at fs (owner_of fs n) ≡ role.Bank) → ⊥) → owner ≡ owner_of fs n
+    → IsUnbanked fs (bank.Owner n owner)
+unowned fs n owner broken is = (
+  λ free. broken (λ used. absurd (used free)),
+  sym is,
+  λ held. broken (λ used. subst (λ o. role_at fs o ≡ role.Bank) is held),
+)
+
+is_bank_role : (r : Role) → ((r ≡ role.Bank → ⊥) → ⊥) → r ≡ role.Bank
+is_bank_role role.Free not_other = absurd (not_other (λ is. cc))
+is_bank_role role.Page not_other = absurd (not_other (λ is. cc))
+is_bank_role role.Node not_other = absurd (not_other (λ is. cc))
+is_bank_role role.Root not_other = absurd (not_other (λ is. cc))
+is_bank_role role.Annex not_other = absurd (not_other (λ is. cc))
+is_bank_role role.Bank not_other = refl
+
+pub unreached : (fs : List Frame) (b : ℕ) → ((role_at fs b ≡ role.Bank → Contains (chain (objects_of fs) b) 0) → ⊥) → IsUnbanked fs (bank.Chain b)
+unreached fs b broken = (
+  is_bank_role (role_at fs b) (λ other. broken (λ is. absurd (other is))),
+  λ there. broken (λ is. there),
+)
+
+-- what is wrong with banks isn't so where they are as they must be
+pub unbanked_refuted : (fs : List Frame) (why : Unbanked) → IsUnbanked fs why → AreBanked fs → ⊥
+unbanked_refuted fs bank.Prime broken banked = broken banked.owned.prime
+unbanked_refuted fs (bank.Owner n owner) broken banked = broken.2 (subst (λ o. role_at fs o ≡ role.Bank) broken.1 (banked.owned.owners n broken.0))
+unbanked_refuted fs (bank.Chain b) broken banked = broken.1 (banked.owned.chains b broken.0)
+unbanked_refuted fs (bank.Limit b used limit) broken banked = omega (arith, broken.1, broken.2, broken.3, banked.limited b broken.0)

@@ -1,0 +1,44 @@
+use Rattle.std.proofs.Common.{◌≡◌, ◌≤◌, ◌^◌, ◌-◌, ◌∙◌, ℕ, List, ap, length, slice_index, subst, sym}
+use Rattle.std.specs.Prelude.{MatchOption}
+use Rattle.model.specs.declared.frame.Frame.{Frame}
+use Rattle.model.specs.declared.frame.ObjectHeader.{ObjectHeader}
+use Rattle.model.specs.declared.object.Role.TheVariants as role
+use Rattle.capability.specs.Parts.{frames_of}
+use Rattle.consistency.specs.Consistency.{IsAboveLimit, role_at}
+use Rattle.consistency.proofs.Tables.{frames_looked}
+use Rattle.consistency.proofs.Trees.{bank_counted, count_all, limited, limits_count, owned_tree}
+use Rattle.consistency.proofs.banks.count_above_limit.Goals as goal
+
+pub count_usages-requires-clause-tree : goal.count_usages-requires-clause-tree
+count_usages-requires-clause-tree g c =
+    let p = g.F.PresentFrames.parts c.args.store.now in
+    owned_tree p.geometry (2 ^ 64 - 1) (frames_of p) c.requires.keepable c.requires.owned
+
+pub count_usages-requires-clause-each : goal.count_usages-requires-clause-each
+count_usages-requires-clause-each g c =
+    let p = g.F.PresentFrames.parts c.args.store.now in
+    bank_counted p.geometry (2 ^ 64 - 1) p c.requires.keepable c.table.result.now c.count-count.result c.table.ensures c.count-count.ensures
+
+pub find_above_limit-requires-clause-limits : goal.find_above_limit-requires-clause-limits
+find_above_limit-requires-clause-limits g c =
+    let p = g.F.PresentFrames.parts c.args.store.now in
+    let all = count_all p.geometry (2 ^ 64 - 1) p c.requires.keepable c.table.result.now c.count-count.result c.table.ensures c.count-count.ensures in
+    ap (λ (xs : List ℕ). length xs) c.deref-in-Ok-read_limits.ensures.value
+    ∙ limits_count p.geometry (2 ^ 64 - 1) p c.requires.keepable c.table.result.now c.count-count.result c.table.ensures c.count-count.ensures
+    c.in-Ok.usages.items c.in-Ok-read_limits.limits.items c.in-Ok.ensures.counted c.in-Ok-read_limits.ensures.limits
+    ∙ all
+    ∙ sym (ap (λ (hs : List ObjectHeader). length hs) c.in-Ok-read_limits.ensures.aside.headers)
+
+pub returns-clause-found : goal.returns-clause-found
+returns-clause-found g c =
+    let p = g.F.PresentFrames.parts c.args.store.now in
+    let q = g.F.PresentFrames.parts c.read_limits.new.store in
+    let usages = c.deref.result.now in
+    let limits = c.deref-in-Ok-read_limits.result.now in
+    let aside = c.in-Ok-read_limits.ensures.aside in
+    let same : frames_of q ≡ frames_of p = frames_looked p q aside.headers aside.contents in
+    limited p.geometry (2 ^ 64 - 1) p c.requires.keepable c.table.result.now c.count-count.result c.table.ensures c.count-count.ensures usages limits
+    (λ b bank. ap (λ (xs : List ℕ). slice_index xs b) c.deref.ensures.value ∙ c.in-Ok.ensures.counted b bank)
+    (c.deref-in-Ok-read_limits.ensures.value ∙ c.in-Ok-read_limits.ensures.limits)
+    c.find_above_limit.result
+    (subst (λ (fs : List Frame). MatchOption c.find_above_limit.result ((b : ℕ) → role_at fs b ≡ role.Bank → slice_index usages b ≤ slice_index limits b) (λ why. IsAboveLimit fs usages limits why)) same c.find_above_limit.ensures)

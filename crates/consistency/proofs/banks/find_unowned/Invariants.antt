@@ -1,0 +1,16 @@
+use Rattle.std.proofs.Common.{◌≡◌, ◌≢◌, ℕ, ◌<◌}
+use Rattle.std.specs.List.{Contains}
+use Rattle.model.specs.declared.object.Role.TheVariants as role
+use Rattle.model.specs.Bank.{chain}
+use Rattle.model.specs.Frame.{objects_of}
+use Rattle.capability.specs.Parts.{frames_of}
+use Rattle.consistency.specs.Consistency.{owner_of, role_at}
+use Rattle.consistency.proofs.banks.find_unowned.Given as goal
+
+abbrev pub invariant-loop-number : goal.invariant-loop-number
+invariant-loop-number g l =
+    let fs = frames_of (g.F.PresentFrames.parts l.store) in
+    record {
+      owners : (n : ℕ) → n < l.number → role_at fs n ≢ role.Free → role_at fs (owner_of fs n) ≡ role.Bank;
+      chains : (b : ℕ) → b < l.number → role_at fs b ≡ role.Bank → Contains (chain (objects_of fs) b) 0;
+    }

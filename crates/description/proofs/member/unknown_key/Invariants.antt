@@ -1,0 +1,13 @@
+use Rattle.std.proofs.Common.{◌≡◌, ℕ, List, map}
+use Rattle.std.specs.Prelude.{IsTrue}
+use Rattle.toml.specs.View.{members_view}
+use Rattle.description.specs.Reading.{has_key, has_only}
+use Rattle.description.proofs.member.unknown_key.Given as goal
+
+-- the keys left are known where all are, and each is a key of the table
+abbrev pub invariant-keys : goal.invariant-keys
+invariant-keys l =
+    (goal.iterator-keys).can_next l.key-iterator
+    × (goal.iterator-keys).is_finite l.key-iterator
+    × (has_only (map (λ k. k.now) l.known) (members_view l.key-iterator) ≡ has_only (map (λ k. k.now) l.known) (members_view l.table.entries))
+    × ((key : List ℕ) → IsTrue (has_key key (members_view l.key-iterator)) → IsTrue (has_key key (members_view l.table.entries)))

@@ -1,0 +1,80 @@
+-- What is told of a description is so.
+use Rattle.std.proofs.Common.{◌≡◌, ℕ, ◌≤◌, List, sym, subst}
+use Rattle.model.specs.declared.frame.Frame.{Frame}
+use Rattle.consistency.specs.declared.reason.Unbanked.{Unbanked}
+use Rattle.consistency.specs.Consistency.{AreBanked, AreNamed, IsUnbanked, NamesItsRole}
+use Rattle.consistency.proofs.BankFaults.{unbanked_refuted}
+use Rattle.description.specs.declared.entry.Description.{Description}
+use Rattle.described_world.specs.Described.{HasFields, HasNumbers, IsDescribed}
+use Rattle.described_world.specs.Laid.{IsTarget}
+use Rattle.described_world.proofs.DescribedOnce.{described_once}
+use Rattle.image_builder.specs.Built.{IsFirstBroken, IsWithinLimits, Refuses}
+use Rattle.image_builder.proofs.Rules.{all_kept, field_broken, limits_broken, number_broken, owner_broken, target_broken}
+use Rattle.description_faults.specs.declared.place.Held.{Held}
+use Rattle.description_faults.specs.declared.place.Limit.{Limit}
+use Rattle.description_faults.specs.declared.place.Misnumbered.{Misnumbered}
+use Rattle.description_faults.specs.declared.place.Part.{Part}
+use Rattle.description_faults.specs.Broken.{BreaksField, BreaksLimit, BreaksNumber, BreaksTarget}
+use Rattle.description_faults.specs.Outcomes.{AllHave, BreaksIt, OneLacks}
+use Rattle.description_faults.proofs.NamedCapabilities.{all_named, kind_broken, role_broken, target_refuted}
+use Rattle.description_faults.proofs.Refuted.{field_refuted}
+use Rattle.description_explainer.specs.declared.place.Rule.TheVariants as rule
+use Rattle.description_explainer.specs.Explained.{ExplainsDescription}
+use Rattle.description_explainer.proofs.Sizes.{limit_refuted}
+use Rattle.std.specs.Prelude.{Option, Some, None, IfNone, IfSome, MatchOption}
+use Rattle.toml.specs.Data.{Members}
+use Rattle.description.specs.Reading.{IsDescription}
+use Rattle.description_explainer.specs.declared.place.Rule.{Rule}
+use Rattle.description_explainer.specs.Places.{rule_fault}
+
+module _ (d : Description) where
+  pub explains_limit : (l : Limit) → BreaksLimit d l → ExplainsDescription d (Some (rule.Limit l))
+  explains_limit l broken = (broken, λ sectors. limits_broken d sectors (limit_refuted d l broken))
+
+  module _ (limits : IsWithinLimits d) where
+    pub explains_number : (place : Misnumbered) → BreaksIt (BreaksNumber d) (HasNumbers d) place → ExplainsDescription d (Some (rule.Number place))
+    explains_number place broken = (broken.0, λ sectors. number_broken d sectors limits broken.1)
+
+    module _ (numbers : HasNumbers d) where
+      pub explains_field : (part : Part) → BreaksField d part → ExplainsDescription d (Some (rule.Field part))
+      explains_field part broken = (broken, λ sectors. field_broken d sectors limits numbers (field_refuted d part broken))
+
+      module _ (fields : HasFields d) where
+        explains_target : (at : Held) → BreaksTarget d at → ExplainsDescription d (Some (rule.Target at))
+        explains_target at broken = (broken, λ sectors. target_broken d sectors limits numbers fields (λ rule. target_refuted d at numbers fields broken rule.0 rule.1 rule.2))
+
+        pub explains_kind : (at : Held) → OneLacks (IsTarget d.geometry) d at → ExplainsDescription d (Some (rule.Target at))
+        explains_kind at lacks = explains_target at (kind_broken d at numbers lacks)
+
+        module _ (fs : List Frame) (is : IsDescribed d fs) where
+          pub explains_role : (at : Held) → OneLacks (NamesItsRole fs) d at → ExplainsDescription d (Some (rule.Target at))
+          explains_role at lacks = explains_target at (role_broken d at fs is lacks)
+
+          pub explains_owner : (unbanked : Unbanked) → AreNamed fs → IsUnbanked fs unbanked → ExplainsDescription d (Some (rule.Owner unbanked))
+          explains_owner unbanked named why = (
+            λ gs described. subst (λ (hs : List Frame). IsUnbanked hs unbanked) (described_once d fs gs is described) why,
+            λ sectors. owner_broken d sectors limits numbers fields (fs, is, named)
+                (λ rule. unbanked_refuted rule.0 unbanked (subst (λ (hs : List Frame). IsUnbanked hs unbanked) (described_once d fs rule.0 is rule.1) why) rule.2),
+          )
+
+          pub explains_none : AreNamed fs → AreBanked fs → ExplainsDescription d None
+          explains_none named banked sectors enough = all_kept d sectors limits numbers fields (fs, is, named) (fs, is, banked) enough
+
+-- what the search of all capabilities finds in described frames
+module _ (d : Description) (fs gs : List Frame) (same : gs ≡ fs) (is : IsDescribed d fs) where
+  pub unnamed_none : (found : Option Held) → MatchOption found (AllHave (NamesItsRole gs) d) (λ at. OneLacks (NamesItsRole gs) d at) → IfNone found (AreNamed fs)
+  unnamed_none None all = all_named d fs is (subst (λ (hs : List Frame). AllHave (NamesItsRole hs) d) same all)
+  unnamed_none (Some at) lacks = tt
+
+  pub unnamed_some : IsWithinLimits d → HasNumbers d → HasFields d → (found : Option Held) → MatchOption found (AllHave (NamesItsRole gs) d) (λ at. OneLacks (NamesItsRole gs) d at)
+      → IfSome found (λ at. ExplainsDescription d (Some (rule.Target at)))
+  unnamed_some limits numbers fields None all = tt
+  unnamed_some limits numbers fields (Some at) lacks = explains_role d limits numbers fields fs is at (subst (λ (hs : List Frame). OneLacks (NamesItsRole hs) d at) same lacks)
+
+-- a table is refused as its description is
+pub refused_rule : (ms : Members) (d : Description) (sectors : ℕ) (r : Rule) → IsDescription ms d → IsFirstBroken d sectors (rule_fault r) → Refuses ms sectors (rule_fault r)
+refused_rule ms d sectors (rule.Limit l) is first = (d, is, first)
+refused_rule ms d sectors (rule.Number n) is first = (d, is, first)
+refused_rule ms d sectors (rule.Field p) is first = (d, is, first)
+refused_rule ms d sectors (rule.Target h) is first = (d, is, first)
+refused_rule ms d sectors (rule.Owner u) is first = (d, is, first)

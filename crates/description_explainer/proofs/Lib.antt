@@ -1,0 +1,2 @@
+mod Explanations
+mod Sizes

@@ -1,0 +1,49 @@
+-- A size that no image has isn't that of a description within the limits.
+use Rattle.std.proofs.Common.{◌≡◌, ◌<◌, ◌≤◌, ◌^◌, List, Option, None, Some, subst, arith}
+use Rattle.std.specs.Prelude.{MatchOption}
+use Rattle.layout.specs.Superblock.{version_number}
+use Rattle.layout.specs.declared.version.Version.{Version}
+use Rattle.image_writer.specs.Laid.{MayBeLaid}
+use Rattle.image_writer.specs.declared.number_range.NumberRange.{NumberRange}
+use Rattle.image_builder.specs.Built.{IsWithinLimits}
+use Rattle.description.specs.declared.entry.Description.{Description}
+use Rattle.description_faults.specs.declared.place.Limit.{Limit}
+use Rattle.description_faults.specs.declared.place.Limit.TheVariants as limit
+use Rattle.description_faults.specs.Broken.{BreaksGeometry, BreaksLimit, BreaksRanges}
+use Rattle.description_faults.proofs.Refuted.{ranges_refuted}
+
+pub limit_refuted : (d : Description) (l : Limit) → BreaksLimit d l → IsWithinLimits d → ⊥
+limit_refuted d limit.Nodes broken within = broken (within.laid.geometry.least_nodes, within.laid.geometry.most_nodes)
+limit_refuted d limit.Pages broken within = broken (within.laid.geometry.least_pages, within.laid.geometry.most_pages)
+limit_refuted d limit.Log broken within = broken (within.laid.geometry.least_log, within.laid.geometry.most_log)
+limit_refuted d limit.Age broken within = omega (arith, broken, within.age)
+limit_refuted d limit.Layout broken within = broken within.layout.0 within.layout.1
+limit_refuted d limit.RangeCount broken within = ranges_refuted d.geometry d.ranges.items limit.RangeCount broken (within.laid.some, within.laid.few) within.laid.cover
+limit_refuted d (limit.Range i n) broken within = ranges_refuted d.geometry d.ranges.items (limit.Range i n) broken (within.laid.some, within.laid.few) within.laid.cover
+limit_refuted d (limit.RangesEnd n) broken within = ranges_refuted d.geometry d.ranges.items (limit.RangesEnd n) broken (within.laid.some, within.laid.few) within.laid.cover
+
+pub count_broken : (d : Description) (l : Limit) → BreaksGeometry d.geometry l → BreaksLimit d l
+count_broken d limit.Nodes broken = broken
+count_broken d limit.Pages broken = broken
+count_broken d limit.Log broken = broken
+count_broken d limit.RangeCount broken = absurd broken
+count_broken d (limit.Range i n) broken = absurd broken
+count_broken d (limit.RangesEnd n) broken = absurd broken
+count_broken d limit.Age broken = absurd broken
+count_broken d limit.Layout broken = absurd broken
+
+ranges_broken : (d : Description) (l : Limit) → BreaksRanges d.geometry d.ranges.items l → BreaksLimit d l
+ranges_broken d limit.RangeCount broken = broken
+ranges_broken d (limit.Range i n) broken = broken
+ranges_broken d (limit.RangesEnd n) broken = broken
+ranges_broken d limit.Nodes broken = absurd broken
+ranges_broken d limit.Pages broken = absurd broken
+ranges_broken d limit.Log broken = absurd broken
+ranges_broken d limit.Age broken = absurd broken
+ranges_broken d limit.Layout broken = absurd broken
+
+-- what the ranges decide where all else is within the limits
+pub ranges_decide : (d : Description) (rs : List NumberRange) (found : Option Limit) (v : Version) → rs ≡ d.ranges.items → d.layout ≡ version_number v → d.age ≤ 2 ^ 62
+    → MatchOption found (MayBeLaid d.geometry rs) (λ l. BreaksRanges d.geometry rs l) → MatchOption found (IsWithinLimits d) (λ l. BreaksLimit d l)
+ranges_decide d rs None v same layout age laid = record { layout = (v, layout); laid = subst (λ ts. MayBeLaid d.geometry ts) same laid; age = age }
+ranges_decide d rs (Some l) v same layout age broken = ranges_broken d l (subst (λ ts. BreaksRanges d.geometry ts l) same broken)

@@ -1,0 +1,15 @@
+use Rattle.std.proofs.Common.{subst}
+use Rattle.description_explainer.specs.Explained.{ExplainsDescription}
+use Rattle.description_explainer.proofs.Explanations.{refused_rule}
+use Rattle.description_explainer.proofs.explaining.explain_description.Goals as goal
+
+pub returns-in-Some : goal.returns-in-Some
+returns-in-Some c table is =
+    let d = c.args.description in
+    let told = subst (λ found. ExplainsDescription d found) c.in-Some.is c.in_ok-found.ensures in
+    ((is, told.0), λ sectors. refused_rule table d sectors c.in-Some.rule is (told.1 sectors))
+
+pub returns : goal.returns
+returns c table is =
+    let d = c.args.description in
+    (d, is, subst (λ found. ExplainsDescription d found) c.in-None.is c.in_ok-found.ensures)

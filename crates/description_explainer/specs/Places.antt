@@ -1,0 +1,44 @@
+-- Why the image of a table isn't built, and where.
+use Rattle.std.specs.Prelude.{ℕ, ◌≤◌, Option, None, Some}
+use Rattle.toml.specs.Data.{Members}
+use Rattle.description.specs.declared.entry.Description.{Description}
+use Rattle.description.specs.Reading.{IsDescription}
+use Rattle.image_builder.specs.declared.fault.BuildFault.{BuildFault}
+use Rattle.image_builder.specs.declared.fault.BuildFault.TheVariants as fault
+use Rattle.image_builder.specs.Built.{IsAccepted, Refuses, plan_for}
+use Rattle.description_explainer.specs.declared.place.Place.{Place}
+use Rattle.description_explainer.specs.declared.place.Place.TheVariants as place
+use Rattle.description_explainer.specs.declared.place.Rule.{Rule}
+use Rattle.description_explainer.specs.declared.place.Rule.TheVariants as rule
+use Rattle.description_faults.specs.Broken.{BreaksField, BreaksLimit, BreaksNumber, BreaksOwner, BreaksTarget}
+use Rattle.description_faults.specs.Shapes.{BreaksShape}
+
+-- the fault that `build` answers
+abbrev pub rule_fault : Rule → BuildFault
+rule_fault (rule.Limit l) = fault.Limits
+rule_fault (rule.Number n) = fault.Number
+rule_fault (rule.Field p) = fault.Field
+rule_fault (rule.Target h) = fault.Target
+rule_fault (rule.Owner u) = fault.Owner
+
+abbrev pub fault_of : Place → BuildFault
+fault_of (place.Shape s) = fault.Shape
+fault_of (place.Rule d r) = rule_fault r
+
+-- what stands at a place breaks its rule
+abbrev pub BreaksRule : Description → Rule → Type 0
+BreaksRule d (rule.Limit l) = BreaksLimit d l
+BreaksRule d (rule.Number n) = BreaksNumber d n
+BreaksRule d (rule.Field p) = BreaksField d p
+BreaksRule d (rule.Target h) = BreaksTarget d h
+BreaksRule d (rule.Owner u) = BreaksOwner d u
+
+abbrev pub Breaks : Members → Place → Type 0
+Breaks ms (place.Shape s) = BreaksShape ms s
+Breaks ms (place.Rule d r) = IsDescription ms d × BreaksRule d r
+
+-- A table is that of a description, and is accepted on each device that is large enough; or it breaks a rule at a place, and
+-- is refused on each device for the fault of that rule.
+abbrev pub Explains : Members → Option Place → Type 0
+Explains ms None = (d : Description) × IsDescription ms d × ((sectors : ℕ) → (plan_for d).total ≤ sectors → IsAccepted d sectors)
+Explains ms (Some place) = Breaks ms place × ((sectors : ℕ) → Refuses ms sectors (fault_of place))

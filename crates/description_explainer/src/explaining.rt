@@ -1,0 +1,186 @@
+// Why the image of a table isn't built, and where.
+ghost use Rattle.std.specs.Prelude.{◌≡◌, Some, IfNone, IfOk, IfSome};
+ghost use Rattle.toml.specs.Data.{Members};
+ghost use Rattle.toml.specs.View.{table_view};
+ghost use Rattle.model.specs.Frame.{frames_in};
+ghost use Rattle.consistency.specs.Consistency.{AreNamed};
+ghost use Rattle.consistency.specs.Noted.{AreNoted};
+ghost use Rattle.description.specs.declared.entry.Description.{Description};
+ghost use Rattle.description.specs.Reading.{IsDescription};
+ghost use Rattle.described_world.specs.Described.{HasFields, HasNumbers};
+ghost use Rattle.described_world.specs.Laid.{HasTargets};
+ghost use Rattle.image_builder.specs.Built.{IsWithinLimits};
+ghost use Rattle.image_builder.specs.Checked.{AreLaid};
+ghost use Rattle.description_explainer.specs.Explained.{ExplainsDescription};
+ghost use Rattle.description_explainer.specs.Places.{Explains};
+
+use crate::limits::beyond_limits;
+use crate::place::{Place, Rule};
+use capability::Plain;
+use consistency::{Noted, find_unbanked, read_notes};
+use described_world::{World, lay_described};
+use description::{Description, DescriptionFault};
+use description_faults::{Held, OfItsKind, OfItsRole, failing, misfilled, misnumbered, misshapen};
+use std::alloc::{AllocError, Global};
+use toml::Table;
+
+// The rule for owners, if described frames break it.
+fn explain_banks(
+    alloc: Global,
+    description: &Description,
+    frames: &mut Plain,
+) -> Result<Option<Rule>, AllocError>
+    requires limits { IsWithinLimits description.now }
+    requires geometry { frames.old.geometry ≡ description.now.geometry }
+    requires laid { AreLaid description.now frames.old.headers frames.old.contents }
+    requires named { AreNamed (frames_in frames.old.headers frames.old.contents) }
+    ensures { IfOk result (λ found. ExplainsDescription description.now found) }
+{
+    match find_unbanked(alloc, frames) {
+        Ok(Some(unbanked)) => Ok(Some(Rule::Owner(unbanked))),
+        Ok(None) => Ok(None),
+        Err(_) => Err(AllocError),
+    }
+}
+
+// Which capability of described frames names no object of its kind, if one names none.
+fn find_unnamed(description: &Description, frames: &Plain, notes: &[Option<Noted>]) -> Option<Held>
+    requires limits { IsWithinLimits description.now }
+    requires laid { AreLaid description.now frames.now.headers frames.now.contents }
+    requires notes { AreNoted (frames_in frames.now.headers frames.now.contents) notes.now }
+    ensures none { IfNone result (AreNamed (frames_in frames.now.headers frames.now.contents)) }
+    ensures some { IfSome result (λ at. ExplainsDescription description.now (Some (Rule.Target at))) }
+{
+    failing(&OfItsRole::new(frames, notes), description)
+}
+
+// The rule that described frames break, if they break one.
+fn explain_frames(
+    alloc: Global,
+    description: &Description,
+    frames: &mut Plain,
+) -> Result<Option<Rule>, AllocError>
+    requires limits { IsWithinLimits description.now }
+    requires geometry { frames.old.geometry ≡ description.now.geometry }
+    requires laid { AreLaid description.now frames.old.headers frames.old.contents }
+    ensures { IfOk result (λ found. ExplainsDescription description.now found) }
+{
+    let notes = match read_notes(alloc, frames) {
+        Ok(notes) => notes,
+        Err(_) => return Err(AllocError),
+    };
+    match find_unnamed(description, frames, &notes) {
+        Some(at) => Ok(Some(Rule::Target(at))),
+        None => explain_banks(alloc, description, frames),
+    }
+}
+
+// The frames of a description, beside what is known of it. Fails only where memory runs out.
+fn lay_whole(alloc: Global, description: &Description) -> Result<World, AllocError>
+    requires limits { IsWithinLimits description.now }
+    requires numbers { HasNumbers description.now }
+    requires fields { HasFields description.now }
+    requires targets { HasTargets description.now.geometry description.now }
+    ensures { IfOk result (λ w. AreLaid description.now w.headers.items w.contents.items) }
+{
+    match lay_described(alloc, description) {
+        Ok(world) => Ok(world),
+        Err(_) => Err(AllocError),
+    }
+}
+
+// The rule that a description breaks beyond those of its numbers, fields and the kinds of capabilities, if it breaks one.
+fn explain_world(alloc: Global, description: &Description) -> Result<Option<Rule>, AllocError>
+    requires limits { IsWithinLimits description.now }
+    requires numbers { HasNumbers description.now }
+    requires fields { HasFields description.now }
+    requires targets { HasTargets description.now.geometry description.now }
+    ensures { IfOk result (λ found. ExplainsDescription description.now found) }
+{
+    let World { headers, contents } = lay_whole(alloc, description)?;
+    let mut frames = Plain::new(alloc, description.geometry, headers, contents)?;
+    explain_frames(alloc, description, &mut frames)
+}
+
+// The rule that a description breaks beyond those of its numbers and fields, if it breaks one.
+fn explain_targets(alloc: Global, description: &Description) -> Result<Option<Rule>, AllocError>
+    requires limits { IsWithinLimits description.now }
+    requires numbers { HasNumbers description.now }
+    requires fields { HasFields description.now }
+    ensures { IfOk result (λ found. ExplainsDescription description.now found) }
+{
+    match failing(&OfItsKind::new(description.geometry), description) {
+        Some(at) => Ok(Some(Rule::Target(at))),
+        None => explain_world(alloc, description),
+    }
+}
+
+// The rule that a description breaks beyond that of its numbers, if it breaks one.
+fn explain_fields(alloc: Global, description: &Description) -> Result<Option<Rule>, AllocError>
+    requires limits { IsWithinLimits description.now }
+    requires numbers { HasNumbers description.now }
+    ensures { IfOk result (λ found. ExplainsDescription description.now found) }
+{
+    let found = misfilled(alloc, description)?;
+    match found {
+        Some(part) => Ok(Some(Rule::Field(part))),
+        None => explain_targets(alloc, description),
+    }
+}
+
+// The rule that a description within the limits breaks, if it breaks one.
+fn explain_numbers(alloc: Global, description: &Description) -> Result<Option<Rule>, AllocError>
+    requires { IsWithinLimits description.now }
+    ensures { IfOk result (λ found. ExplainsDescription description.now found) }
+{
+    let found = misnumbered(alloc, description)?;
+    match found {
+        Some(number) => Ok(Some(Rule::Number(number))),
+        None => explain_fields(alloc, description),
+    }
+}
+
+// The first rule that a description breaks, if it breaks one.
+fn explain_rules(alloc: Global, description: &Description) -> Result<Option<Rule>, AllocError>
+    ensures { IfOk result (λ found. ExplainsDescription description.now found) }
+{
+    match beyond_limits(description) {
+        Some(limit) => Ok(Some(Rule::Limit(limit))),
+        None => explain_numbers(alloc, description),
+    }
+}
+
+// The place where a description breaks a rule, with the description, if it breaks one.
+fn explain_description<'a>(
+    alloc: Global,
+    description: Description,
+) -> Result<Option<Place<'a>>, AllocError>
+    ensures { (table : Members) → IsDescription table description → IfOk result (Explains table) }
+{
+    let found = explain_rules(alloc, &description)?;
+    match found {
+        Some(rule) => Ok(Some(Place::Rule(description, rule))),
+        None => Ok(None),
+    }
+}
+
+// The place where a table hasn't the shape of a description.
+fn explain_shape<'a>(alloc: Global, table: &'a Table) -> Result<Option<Place<'a>>, AllocError>
+    requires { (d : Description) → IsDescription (table_view table.now) d → ⊥ }
+    ensures { IfOk result (Explains (table_view table.entry.now)) }
+{
+    let shape = misshapen(alloc, table)?;
+    Ok(Some(Place::Shape(shape)))
+}
+
+/// Where a table breaks the first rule that `build` refuses it for. Nothing if `build` accepts it on a device that is large
+/// enough. Fails only where memory runs out.
+pub fn explain<'a>(alloc: Global, table: &'a Table) -> Result<Option<Place<'a>>, AllocError>
+    ensures { IfOk result (Explains (table_view table.entry.now)) }
+{
+    match Description::read(alloc, table) {
+        Ok(description) => explain_description(alloc, description),
+        Err(DescriptionFault::Shape) => explain_shape(alloc, table),
+        Err(DescriptionFault::NoMemory) => Err(AllocError),
+    }
+}

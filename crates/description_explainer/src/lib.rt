@@ -1,0 +1,11 @@
+//! Why a description of an image is refused: the first rule that it breaks, and where.
+#![tactic(auto)]
+
+mod explaining;
+mod limits;
+mod place;
+mod text;
+
+pub use explaining::explain;
+pub use place::{Place, Rule};
+pub use text::explanation;

@@ -1,0 +1,39 @@
+// Which size of a description no image has.
+ghost use Rattle.std.specs.Prelude.{◌≤◌, ◌^◌, MatchOption};
+ghost use Rattle.layout.specs.Superblock.{IsGeometry};
+ghost use Rattle.image_builder.specs.Built.{IsWithinLimits};
+ghost use Rattle.description_faults.specs.Broken.{BreaksLimit};
+
+use description::Description;
+use description_faults::{Limit, bad_count, bad_ranges};
+use layout::Version;
+use model::MAX_AGE;
+
+// What is wrong with the layout or the ranges, if anything is.
+fn bad_layout(description: &Description) -> Option<Limit>
+    requires geometry { IsGeometry description.now.geometry }
+    requires age { description.now.age ≤ 2 ^ 62 }
+    ensures { MatchOption result (IsWithinLimits description.now)
+        (λ limit. BreaksLimit description.now limit) }
+{
+    match Version::with_number(description.layout) {
+        Some(_) => bad_ranges(description.geometry, &description.ranges),
+        None => Some(Limit::Layout),
+    }
+}
+
+/// Which size of a description no image has, if there is one.
+pub(crate) fn beyond_limits(description: &Description) -> Option<Limit>
+    ensures { MatchOption result (IsWithinLimits description.now)
+        (λ limit. BreaksLimit description.now limit) }
+{
+    match bad_count(description.geometry) {
+        Some(limit) => Some(limit),
+        None => {
+            if description.age > MAX_AGE {
+                return Some(Limit::Age);
+            }
+            bad_layout(description)
+        }
+    }
+}

@@ -1,0 +1,54 @@
+// Where a description breaks a rule.
+ghost use Rattle.std.specs.Prelude.{◌≡◌};
+ghost use Rattle.description_explainer.specs.Places.{fault_of, rule_fault};
+
+use consistency::Unbanked;
+use description::Description;
+use description_faults::{Held, Limit, Misnumbered, Part, ShapePlace};
+use image_builder::BuildFault;
+
+/// Where a description breaks one of the rules beyond its shape.
+#[derive(Clone, Copy, PartialEq, Eq, Debug)]
+pub enum Rule {
+    Limit(Limit),
+    Number(Misnumbered),
+    Field(Part),
+    Target(Held),
+    Owner(Unbanked),
+}
+
+impl Rule {
+    /// The fault that `build` answers for it.
+    pub fn fault(self) -> BuildFault
+        ensures { result ≡ rule_fault self }
+    {
+        match self {
+            Rule::Limit(_) => BuildFault::Limits,
+            Rule::Number(_) => BuildFault::Number,
+            Rule::Field(_) => BuildFault::Field,
+            Rule::Target(_) => BuildFault::Target,
+            Rule::Owner(_) => BuildFault::Owner,
+        }
+    }
+}
+
+/// Where a table breaks the first rule that it breaks.
+#[derive(Drop)]
+pub enum Place<'a> {
+    /// It isn't that of a description.
+    Shape(ShapePlace<'a>),
+    /// Its description breaks another rule.
+    Rule(Description, Rule),
+}
+
+impl Place<'_> {
+    /// The fault that `build` answers for it.
+    pub fn fault(&self) -> BuildFault
+        ensures { result ≡ fault_of self.now }
+    {
+        match self {
+            Place::Shape(_) => BuildFault::Shape,
+            Place::Rule(_, rule) => rule.fault(),
+        }
+    }
+}

@@ -1,0 +1,66 @@
+-- What was read, and what wasn't.
+use Rattle.std.proofs.Common.{◌≡◌, ℕ, zero, suc, ◌+◌, ◌<◌, ◌^◌, Bool, true, false, List, [], ◌∷◌, ◌++◌, length, get_or, take, Option, None, Some, Result, Ok, Err, Vec, Global, refl, sym, ap, ◌∙◌, subst, arith}
+use Rattle.std.specs.declared.alloc.AllocError.{AllocError}
+use Rattle.std.specs.Prelude.{◌↔◌, IfOk, IsTrue, MatchOption}
+use Rattle.std.proofs.lemmas.Bool.{false≢true}
+use Rattle.std.proofs.lemmas.Option.{none-some, same_Some}
+use denote.RawPtr.{null_ptr}
+use Rattle.toml.specs.Data.{Data, Items, Members, no_items, item, array, as_array, get_item, get_member}
+use Rattle.toml.specs.View.{view, items_view}
+use Rattle.toml.specs.declared.value.Value.{Value}
+use Rattle.description.specs.Outcomes.{Reads, ReadsList}
+use Rattle.description.specs.Reading.{AreItems, AtOr, IsList}
+use Rattle.description.specs.declared.fault.DescriptionFault.{DescriptionFault}
+use Rattle.description.specs.declared.fault.DescriptionFault.TheVariants.{Shape, NoMemory}
+use Rattle.description_faults.specs.Outcomes.{HasBadItem, IsBadAt, decided}
+use Rattle.description_faults.specs.Shapes.{HasList}
+
+pub reads_decided : {A : Type 0} (P : A → Type 0) (r : Result A DescriptionFault) (out : Result Bool AllocError) → out ≡ decided r → Reads P r →
+    IfOk out (λ fits. IsTrue fits ↔ ((x : A) × P x))
+reads_decided P (Ok x) out is reads = rw is (λ _. (x, reads), λ _. refl)
+reads_decided P (Err Shape) out is reads = rw is (λ so. absurd (false≢true so), λ p. absurd (reads p.0 p.1))
+reads_decided P (Err NoMemory) out is reads = rw is tt
+
+pub list_decided : {A : Type 0} (P : List A → Type 0) (r : Result (Vec A Global) DescriptionFault) (out : Result Bool AllocError) → out ≡ decided r → ReadsList P r →
+    IfOk out (λ fits. IsTrue fits ↔ ((v : Vec A Global) × P v.items))
+list_decided P (Ok v) out is reads = rw is (λ _. (v, reads), λ _. refl)
+list_decided P (Err Shape) out is reads = rw is (λ so. absurd (false≢true so), λ p. absurd (reads p.0.items p.1))
+list_decided P (Err NoMemory) out is reads = rw is tt
+
+-- a list of as many entries as memory may hold is that of a Vec
+pub vec_of : {A : Type 0} (alloc : Global) (xs : List A) → length xs < 2 ^ 63 → (v : Vec A Global) × (v.items ≡ xs)
+vec_of alloc xs small = (record { ptr = null_ptr; len = length xs; cap = length xs; alloc = alloc; items = xs; ok = (refl, omega arith); small = small }, refl)
+
+pub item_viewed : (vs : List Value) (i : ℕ) (v : Value) → i < length vs → get_or vs i v ≡ v → get_item i (items_view vs) ≡ Some (view v)
+item_viewed [] i v within at = absurd (omega arith)
+item_viewed (w ∷ vs) zero v within at = ap (λ x. Some (view x)) at
+item_viewed (w ∷ vs) (suc i) v within at = item_viewed vs i v (omega arith) at
+
+-- a key in no table, and a list at a key
+pub not_listed : {A : Type 0} (P : Data → A → Type 0) (o : Option Data) → None ≡ o → (ds : Items) → o ≡ Some (array ds) → ⊥
+not_listed P o is ds at = none-some (array ds) (is ∙ at)
+
+pub unsaid_at : {A : Type 0} (P : Data → A → Type 0) (key : List ℕ) (ms : Members) (d : Data) → Some d ≡ get_member key ms → (HasList P key ms → ⊥) →
+    (v : Vec A Global) → IsList P d v.items → ⊥
+unsaid_at P key ms d is none v list = none (v, subst (λ (o : Option Data). MatchOption o (v.items ≡ []) (λ e. IsList P e v.items)) is list)
+
+pub bad_at : {A : Type 0} (P : Data → A → Type 0) (key : List ℕ) (ms : Members) (i : ℕ) (e d : Data) → Some d ≡ get_member key ms → IsBadAt P i e d → HasBadItem P key i e ms
+bad_at P key ms i e d is bad = (bad.0, sym is ∙ ap Some bad.1, bad.2, bad.3)
+
+pub unlisted_at : (key : List ℕ) (ms : Members) (d : Data) → Some d ≡ get_member key ms → ((ds : Items) → d ≡ array ds → ⊥) → (ds : Items) → get_member key ms ≡ Some (array ds) → ⊥
+unlisted_at key ms d is none ds at = none ds (same_Some d (array ds) (is ∙ at))
+
+-- a list with another default
+pub with_default : {A : Type 0} (P : Data → List A → Type 0) (o : Option Data) (default : List A) → length default < 2 ^ 63 → (v : Vec A Global)
+    → MatchOption o (v.items ≡ []) (λ d. P d v.items) → (u : Vec A Global) × MatchOption o (u.items ≡ default) (λ d. P d u.items)
+with_default P None default small v is = vec_of v.alloc default small
+with_default P (Some d) default small v is = (v, is)
+
+-- what is known of nothing, and of something
+pub at_none : {A : Type 0} (P : Type 0) (Q : A → Type 0) (o : Option A) → o ≡ None → MatchOption o P Q → P
+at_none P Q None is known = known
+at_none P Q (Some x) is known = absurd (none-some x (sym is))
+
+pub at_some : {A : Type 0} (P : Type 0) (Q : A → Type 0) (o : Option A) (x : A) → o ≡ Some x → MatchOption o P Q → Q x
+at_some P Q None x is known = absurd (none-some x is)
+at_some P Q (Some y) x is known = subst Q (same_Some y x is) known

@@ -1,0 +1,7 @@
+use Rattle.std.proofs.Common.{take}
+use Rattle.std.specs.List.{All}
+use Rattle.described_world.specs.Described.{AreWords}
+use Rattle.description_faults.proofs.fields.bad_pages.Given as goal
+
+abbrev pub invariant-loop-k : goal.invariant-loop-k
+invariant-loop-k l = All (λ p. AreWords p.words.items) (take l.k l.pages)

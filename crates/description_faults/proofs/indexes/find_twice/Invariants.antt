@@ -1,0 +1,5 @@
+use Rattle.description_faults.proofs.Elements.{ApartBelow}
+use Rattle.description_faults.proofs.indexes.find_twice.Given as goal
+
+abbrev pub invariant-loop-i : goal.invariant-loop-i
+invariant-loop-i l = ApartBelow l.numbers l.i

@@ -1,0 +1,36 @@
+use Rattle.std.proofs.Common.{◌≡◌, ◌<◌, ◌≤◌, ◌^◌, ◌++◌, [], ◌∷◌, length, get_or, sym, subst, arith}
+use Rattle.std.proofs.lemmas.Grind.{common_steps}
+use Rattle.std.proofs.lemmas.List.{length-append, take_all}
+use Rattle.toml.specs.View.{items_view, view}
+use Rattle.description.specs.Reading.{AreItems, IsList}
+use Rattle.description.proofs.Elements.{one_more}
+use Rattle.description_faults.proofs.Decisions.{item_viewed, vec_of}
+use Rattle.description_faults.proofs.shape.first_bad.Goals as goal
+
+pub returns-in-Err-Shape : goal.returns-in-Err-Shape
+returns-in-Err-Shape g c =
+    let vs = c.in-Ok.items.now.items in
+    let v = c.index-item.result.now in
+    let within : c.loop-i.i < length vs = grind (arith, common_steps) in
+    let at : get_or vs c.loop-i.i v ≡ v = grind (arith, common_steps) in
+    (items_view vs, c.in-Ok.ensures, item_viewed vs c.loop-i.i v within at, rw c.in-Err-Shape.field-0-is at c.in-Err-Shape.ensures)
+
+pub loop-i-preserved : goal.loop-i-preserved
+loop-i-preserved g c =
+    let vs = c.in-Ok.items.now.items in
+    let v = c.index-item.result.now in
+    let within : c.loop-i.i < length vs = grind (arith, common_steps) in
+    let at : get_or vs c.loop-i.i v ≡ v = grind (arith, common_steps) in
+    let before = c.loop-i.invariant in
+    let x = c.in-Ok-from_value.field-0 in
+    (before.0 ++ x ∷ [], omega (arith, before.1, length-append before.0 (x ∷ [])), one_more g.T.FromValue.IsSaid vs c.loop-i.i before.0 v x within at before.2 c.in-Ok-from_value.ensures)
+
+pub unreachable-requires : goal.unreachable-requires
+unreachable-requires g c =
+    let items = c.in-Ok.items.now in
+    let read = c.loop-i.invariant in
+    let past : length items.items ≤ c.loop-i.i = omega (arith, c.loop-i-test.false, c.len-i-end.ensures, items.ok.0) in
+    let small : length read.0 < 2 ^ 63 = omega (arith, read.1, c.loop-i.auto.i-end, c.len-i-end.ensures, items.ok.1, items.small) in
+    let all = subst (λ vs. AreItems g.T.FromValue.IsSaid (items_view vs) read.0) (take_all c.loop-i.i items.items past) read.2 in
+    let v = vec_of c.args.alloc read.0 small in
+    c.requires v.0 (subst (λ xs. IsList g.T.FromValue.IsSaid (view c.args.value.now) xs) (sym v.1) (items_view items.items, c.in-Ok.ensures, all))

@@ -1,0 +1,8 @@
+use Rattle.std.proofs.Common.{◌≡◌, List, length, take}
+use Rattle.toml.specs.View.{items_view}
+use Rattle.description.specs.Reading.{AreItems}
+use Rattle.description_faults.proofs.shape.first_bad.Given as goal
+
+-- the values so far are read
+abbrev pub invariant-loop-i : goal.invariant-loop-i
+invariant-loop-i g l = (xs : List g.row.T.Denot) × (length xs ≡ l.i) × AreItems g.T.FromValue.IsSaid (items_view (take l.i l.items.items)) xs

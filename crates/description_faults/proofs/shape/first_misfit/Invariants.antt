@@ -1,0 +1,9 @@
+use Rattle.std.proofs.Common.{take}
+use Rattle.std.specs.List.{All}
+use Rattle.toml.specs.View.{table_view}
+use Rattle.description_faults.specs.Shapes.{Fits}
+use Rattle.description_faults.proofs.shape.first_misfit.Given as goal
+
+-- the keys so far fit
+abbrev pub invariant-loop-key : goal.invariant-loop-key
+invariant-loop-key l = All (λ key. Fits key (table_view l.table)) (take l.key-index l.keys)

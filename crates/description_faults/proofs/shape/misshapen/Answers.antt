@@ -1,0 +1,6 @@
+use Rattle.std.proofs.Common.{refl}
+use Rattle.toml.specs.View.{table_view}
+use Rattle.description_faults.proofs.shape.misshapen.Goals as goal
+
+pub returns-in-Some : goal.returns-in-Some
+returns-in-Some c = rw c.in_whole.ensures (table_view c.args.table.now, refl, (c.in-Some.ensures.key, c.in-Some.ensures.unknown))

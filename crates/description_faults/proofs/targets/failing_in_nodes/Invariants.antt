@@ -1,0 +1,7 @@
+use Rattle.std.proofs.Common.{take}
+use Rattle.std.specs.List.{All}
+use Rattle.description_faults.specs.Outcomes.{AllIn}
+use Rattle.description_faults.proofs.targets.failing_in_nodes.Given as goal
+
+abbrev pub invariant-loop-k : goal.invariant-loop-k
+invariant-loop-k g l = All (λ n. AllIn (g.N.Naming.Passes l.naming) n.slots.items) (take l.k l.nodes)

@@ -1,0 +1,7 @@
+use Rattle.std.proofs.Common.{take}
+use Rattle.std.specs.List.{All}
+use Rattle.description_faults.specs.Outcomes.{AllOfProcess}
+use Rattle.description_faults.proofs.targets.failing_in_processes.Given as goal
+
+abbrev pub invariant-loop-k : goal.invariant-loop-k
+invariant-loop-k g l = All (AllOfProcess (g.N.Naming.Passes l.naming)) (take l.k l.processes)

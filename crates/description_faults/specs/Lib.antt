@@ -1,0 +1,3 @@
+pub mod Broken
+pub mod Outcomes
+pub mod Shapes

@@ -1,0 +1,22 @@
+//! Where a description of an image breaks a rule.
+#![tactic(auto)]
+
+mod decided;
+mod fields;
+mod indexes;
+mod key;
+mod limits;
+mod numbers;
+mod place;
+mod shape;
+mod targets;
+
+pub use fields::{misfilled, slot_indexes, word_indexes};
+pub use key::Key;
+pub use limits::{bad_count, bad_ranges};
+pub use numbers::misnumbered;
+pub use place::{
+    Flaw, Held, Indexed, Limit, Misnumbered, Named, Part, ShapePlace, SlotFlaw, TableName,
+};
+pub use shape::misshapen;
+pub use targets::{Naming, OfItsKind, OfItsRole, failing};

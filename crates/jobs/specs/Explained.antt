@@ -1,0 +1,15 @@
+-- What is told of the description in a text.
+use Rattle.std.specs.Prelude.{◌≡◌, ℕ, Bool, true, false, List, None, Some}
+use Rattle.toml.specs.Data.{Members}
+use Rattle.toml.specs.Parse.{parse_document}
+use Rattle.description_explainer.specs.declared.place.Place.{Place}
+use Rattle.description_explainer.specs.Places.{Explains}
+
+-- it is that of a description which `build` accepts on a device that is large enough
+abbrev pub IsAcceptedText : List ℕ → Type 0
+IsAcceptedText text = (table : Members) × (parse_document text ≡ Some table) × Explains table None
+
+-- so it is; or it isn't TOML, or its table breaks a rule at a place
+abbrev pub TellsOf : List ℕ → Bool → Type 0
+TellsOf text true = IsAcceptedText text
+TellsOf text false = (table : Members) → parse_document text ≡ Some table → (place : Place) × Explains table (Some place)
