@@ -88,6 +88,28 @@ module _ {D S : Type 0} (disk : D → Disk) (view : S → View D) (parts : S →
       (first : Power D S) × (last : Power D S) × Opens disk view parts device first × RunsOver disk view parts first last input input_left output output_left outcome
       × IsDeviceOf disk view parts last back
 
+  -- so it was, and an observer saw each turn
+  abbrev pub OpensAndSees : {O : Type 0} → (Geometry → Turn → O → O → Bool → Type 0) → D → D → O → O
+      → Option (List ℕ) → Option (List ℕ) → Option (List ℕ) → Option (List ℕ) → Result (Unit {0}) RunFault → Type 0
+  OpensAndSees sees device back before after input input_left output output_left outcome =
+      (first : Power D S) × (last : Power D S) × Opens disk view parts device first
+      × RunsSeen disk view parts sees first last before after input input_left output output_left outcome × IsDeviceOf disk view parts last back
+
+  -- so it was; or the device wasn't opened, nothing was read or written, and the observer saw nothing
+  abbrev pub SeesImage : {O : Type 0} → (Geometry → Turn → O → O → Bool → Type 0) → D → D → O → O
+      → Option (List ℕ) → Option (List ℕ) → Option (List ℕ) → Option (List ℕ) → Result (Result (Unit {0}) RunFault) OpenFault → Type 0
+  SeesImage sees device back before after input input_left output output_left (Ok outcome) =
+      OpensAndSees sees device back before after input input_left output output_left outcome
+  SeesImage sees device back before after input input_left output output_left (Err why) =
+      RefusesToOpen disk device back why × (input_left ≡ input) × (output_left ≡ output) × (after ≡ before)
+
+  -- what a command that runs a script comes to: the run that its observer saw, and where that ended it
+  abbrev pub EndsAs : {O : Type 0} → (Geometry → Turn → O → O → Bool → Type 0) → (O → Option Stop) → D → D → O → O
+      → Option (List ℕ) → Option (List ℕ) → Option (List ℕ) → Option (List ℕ) → Result (Unit {0}) Fault → Type 0
+  EndsAs sees stop device back before after input input_left output output_left result =
+      (outcome : Result (Result (Unit {0}) RunFault) OpenFault) × IsRunEnd outcome (stop after) result
+      × SeesImage sees device back before after input input_left output output_left outcome
+
   -- so it was; or the device wasn't opened, and nothing was read or written, there either
   abbrev pub RunsImage : D → D → Option (List ℕ) → Option (List ℕ) → Option (List ℕ) → Option (List ℕ) → Result (Unit {0}) Fault → Type 0
   RunsImage device back input input_left output output_left (Ok a) = OpensAndRuns device back input input_left output output_left (Ok a)

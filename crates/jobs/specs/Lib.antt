@@ -1,3 +1,4 @@
 pub mod Faults
 pub mod Images
 pub mod Laws
+pub mod Shell

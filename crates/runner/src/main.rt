@@ -10,13 +10,14 @@ use device::MAX_SECTORS;
 use file_device::{FileDevice, FileFault};
 use image_builder::{Blueprint, upgraded_sectors};
 use jobs::{
-    Fault, build_image, check_image, describe_image, draw_image, finish, run_image, upgrade_image,
+    Fault, ShellInput, build_image, check_image, describe_image, draw_image, finish, run_image,
+    run_shell, run_traced, upgrade_image,
 };
 use object_cache::PlainStore;
 use object_store::ObjectStore;
-use runs::ScriptReader;
+use runs::{ScriptReader, TraceOptions, Tracer};
 use std::fs::{self, File};
-use std::io::{self, BufWriter, ErrorKind, Read, Stderr, Stdout};
+use std::io::{self, BufWriter, ErrorKind, IsTerminal, Read, Stderr, Stdout};
 use std::os::unix::fs::MetadataExt;
 use std::process::ExitCode;
 use toml::Table;
@@ -117,25 +118,65 @@ fn build(
     Ok(build_image(rt.alloc(), &blueprint, &mut device, writer, errors))
 }
 
+// How a script is run.
+#[derive(Clone, Copy)]
+enum Mode {
+    Plain,
+    Traced(TraceOptions),
+    Shell,
+}
+
 // Runs a script over the image on a device, by a store of this kind, and gives the status.
 fn run_by<S: ObjectStore<FileDevice>, R: Read + Drop>(
     rt: &HostRuntime,
     device: FileDevice,
     setting: S::Setting,
     script: R,
+    mode: Mode,
     writer: &mut BufWriter<Stdout>,
     errors: &mut Stderr,
 ) -> u8 {
-    let mut script = ScriptReader::new(script);
-    let done = run_image::<FileDevice, S, _, _, _>(
-        rt.alloc(),
-        device,
-        setting,
-        &mut script,
-        writer,
-        errors,
-    );
-    done.status
+    match mode {
+        Mode::Plain => {
+            let mut script = ScriptReader::new(script);
+            let done = run_image::<FileDevice, S, _, _, _>(
+                rt.alloc(),
+                device,
+                setting,
+                &mut script,
+                writer,
+                errors,
+            );
+            done.status
+        }
+        Mode::Traced(options) => {
+            let mut script = ScriptReader::new(script);
+            let mut tracer = Tracer::new(rt.stderr(), options);
+            let done = run_traced::<FileDevice, S, _, _, _, _>(
+                rt.alloc(),
+                device,
+                setting,
+                &mut script,
+                writer,
+                &mut tracer,
+                errors,
+            );
+            done.status
+        }
+        Mode::Shell => {
+            let is_prompting = rt.stdin().is_terminal() && rt.stderr().is_terminal();
+            let mut input = ShellInput::new(script, rt.stderr(), is_prompting);
+            let done = run_shell::<FileDevice, S, _, _, _>(
+                rt.alloc(),
+                device,
+                setting,
+                &mut input,
+                writer,
+                errors,
+            );
+            done.status
+        }
+    }
 }
 
 // Runs a script over the image on a device, with a bounded cache where it has a capacity, and gives the status.
@@ -144,14 +185,15 @@ fn run_on<R: Read + Drop>(
     device: FileDevice,
     cache: Option<Capacity>,
     script: R,
+    mode: Mode,
     writer: &mut BufWriter<Stdout>,
     errors: &mut Stderr,
 ) -> u8 {
     match cache {
         Some(capacity) => run_by::<BoundedCache<FileDevice>, R>(
-            rt, device, capacity, script, writer, errors,
+            rt, device, capacity, script, mode, writer, errors,
         ),
-        None => run_by::<PlainStore<FileDevice>, R>(rt, device, (), script, writer, errors),
+        None => run_by::<PlainStore<FileDevice>, R>(rt, device, (), script, mode, writer, errors),
     }
 }
 
@@ -161,14 +203,15 @@ fn run(
     image: &str,
     script: &Script<'_>,
     cache: Option<Capacity>,
+    mode: Mode,
     writer: &mut BufWriter<Stdout>,
     errors: &mut Stderr,
 ) -> Result<u8, Fault> {
     let device = open(rt, image)?;
     match script {
-        Script::Input => Ok(run_on(rt, device, cache, rt.stdin(), writer, errors)),
+        Script::Input => Ok(run_on(rt, device, cache, rt.stdin(), mode, writer, errors)),
         Script::File(path) => match File::open(rt, *path) {
-            Ok(file) => Ok(run_on(rt, device, cache, file, writer, errors)),
+            Ok(file) => Ok(run_on(rt, device, cache, file, mode, writer, errors)),
             Err(error) => Err(of_io(&error, Fault::CannotReadScript)),
         },
     }
@@ -224,6 +267,26 @@ fn draw(
     Ok(done.status)
 }
 
+// How a script is run by these options.
+fn mode_of(trace: bool, strict: bool) -> Mode {
+    if trace || strict {
+        Mode::Traced(TraceOptions { trace, strict })
+    } else {
+        Mode::Plain
+    }
+}
+
+// The capacity of a cache, or the status of a bad command line, which names no job.
+fn capacity_of(cache: Option<u64>) -> Result<Option<Capacity>, u8> {
+    match cache {
+        Some(count) => match Capacity::new(count) {
+            Some(capacity) => Ok(Some(capacity)),
+            None => Err(2),
+        },
+        None => Ok(None),
+    }
+}
+
 // Does a job, and gives the status.
 fn serve(
     rt: &HostRuntime,
@@ -236,16 +299,28 @@ fn serve(
         Job::Run {
             image,
             script,
-            cache: None,
-        } => run(rt, image, script, None, writer, errors),
-        Job::Run {
-            image,
-            script,
-            cache: Some(count),
-        } => match Capacity::new(*count) {
-            Some(capacity) => run(rt, image, script, Some(capacity), writer, errors),
-            // A bad command line, of which no job comes.
-            None => Ok(2),
+            cache,
+            trace,
+            strict,
+            ..
+        } => {
+            let mode = mode_of(*trace, *strict);
+            match capacity_of(*cache) {
+                Ok(cache) => run(rt, image, script, cache, mode, writer, errors),
+                Err(status) => Ok(status),
+            }
+        }
+        Job::Shell { image, cache } => match capacity_of(*cache) {
+            Ok(cache) => run(
+                rt,
+                image,
+                &Script::Input,
+                cache,
+                Mode::Shell,
+                writer,
+                errors,
+            ),
+            Err(status) => Ok(status),
         },
         Job::Check { image } => check(rt, image, writer, errors),
         Job::Upgrade { old, new } => upgrade(rt, old, new, writer, errors),
