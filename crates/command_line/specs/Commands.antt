@@ -47,9 +47,9 @@ flag_rule name = record (new_rule name) { long = Some name; action = Some SetTru
 abbrev pub run_files_app : App
 run_files_app = with_rule (with_rule (new_app (codes "run")) (file_rule (codes "IMAGE"))) (file_rule (codes "SCRIPT"))
 
--- eros run [--cache C] [--trace] [--strict] IMAGE SCRIPT
+-- eros run [--cache C] [--trace] [--strict] [--stop-after K] IMAGE SCRIPT
 abbrev pub run_app : App
-run_app = with_rule (with_rule (with_rule run_files_app cache_rule) (flag_rule (codes "trace"))) (flag_rule (codes "strict"))
+run_app = with_rule (with_rule (with_rule (with_rule run_files_app cache_rule) (flag_rule (codes "trace"))) (flag_rule (codes "strict"))) (number_rule (codes "stop-after"))
 
 -- eros NAME IMAGE
 abbrev pub reading_app : Text → App

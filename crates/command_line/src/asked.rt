@@ -10,7 +10,7 @@ ghost use Rattle.command_line.specs.Refusals.{Explains};
 use crate::arguments::{flag_of, numbers_in, option_of};
 use crate::subcommands::{
     CACHE, DESCRIPTION, FILE, FROM, GREATEST_CAPACITY, IMAGE, LEAST_CAPACITY, LOG, NEW, NODES, OLD,
-    PAGES, PROCESS, SCRIPT, SHOWS, STRICT, TO, TRACE,
+    PAGES, PROCESS, SCRIPT, SHOWS, STOP_AFTER, STRICT, TO, TRACE,
 };
 use clap::error::ErrorKind;
 use clap::{ArgMatches, Command, Error};
@@ -55,6 +55,8 @@ pub enum Job<'a> {
         trace: bool,
         /// Whether the run stops at the first line that is bad or refused, or whose invocation of a kernel object fails.
         strict: bool,
+        /// How many reads, writes and syncs the device answers before it fails each; `None` where it answers all.
+        stop_after: Option<u64>,
     },
     /// Reads commands from a terminal and runs them over an image.
     Shell {
@@ -151,12 +153,14 @@ fn run_of<'a>(inner: &ArgMatches<'a>) -> Option<Job<'a>>
     let cache = cache_of(inner)?;
     let trace = flag_of(inner, TRACE);
     let strict = flag_of(inner, STRICT);
+    let stop_after = number_of(inner, STOP_AFTER)?;
     Some(Job::Run {
         image,
         script,
         cache,
         trace,
         strict,
+        stop_after,
     })
 }
 

@@ -43,6 +43,8 @@ pub(crate) const FROM: &str = "from";
 
 pub(crate) const TO: &str = "to";
 
+pub(crate) const STOP_AFTER: &str = "stop-after";
+
 /// What `eros --version` prints behind the name.
 const VERSION: &str = "1.0.0\nlayouts 1 and 2\nproved with rattle-kit-13f logic dac8208d650f15bf";
 
@@ -154,6 +156,12 @@ fn run<'a>(alloc: Global) -> Result<Command<'a>, AllocError>
             alloc,
             STRICT,
             "Stops at the first line that is bad or refused, or whose order to the kernel fails",
+        ))?
+        .arg(number(
+            alloc,
+            STOP_AFTER,
+            "K",
+            "Lets the image's device fail after K reads, writes and syncs, as --stop-after 40",
         ))
 }
 
