@@ -1,5 +1,7 @@
 mod Answered
 mod Building
-mod Naming
+mod Getters
+mod Lacking
+mod Numbers
 mod Taken
 mod Refused

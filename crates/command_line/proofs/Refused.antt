@@ -5,7 +5,7 @@ use Rattle.clap.specs.declared.builder.command.Command.{Command}
 use Rattle.clap.specs.declared.error.Error.{Error}
 use Rattle.clap.specs.declared.error.kind.ErrorKind.TheVariants.{OutOfMemory, ValueValidation}
 use Rattle.command_line.specs.Commands.{eros_app}
-use Rattle.command_line.specs.Refusals.{Explains, IsFaultOf, IsRefused, IsSameTwice}
+use Rattle.command_line.specs.Refusals.{Explains, IsFaultOf, IsRefused, AsksForSame}
 use Rattle.command_line.specs.declared.fault.JobFault.{JobFault}
 use Rattle.command_line.specs.declared.fault.JobFault.TheVariants as fault
 
@@ -35,7 +35,7 @@ parse_refused words command e is passes kinds =
     (subst (λ (a : App). is_simple_and_free a ≡ true → HasKind (fault_of a words) e) is kinds refl)
 
 -- a bad value explains why words name no job that the command takes, where these are an upgrade of one word to itself
-pub value_refused : (words : List Text) (e : Error) → kind_of e ≡ ValueValidation → (takes eros_app words ≡ true → IsSameTwice (subcommand_of eros_app words))
+pub value_refused : (words : List Text) (e : Error) → kind_of e ≡ ValueValidation → (takes eros_app words ≡ true → AsksForSame (subcommand_of eros_app words))
     → (kind_of e ≡ OutOfMemory) ⊎ Explains words e
 unfolding Explains
 value_refused words e kind same = inr (go (takes eros_app words) refl)

@@ -1,6 +1,7 @@
 -- The command of `eros`, as a parse reads it.
-use Rattle.std.specs.Prelude.{◌≡◌, [], Some, true, false, codes}
+use Rattle.std.specs.Prelude.{◌≡◌, ℕ, [], Some, true, false, codes}
 use Rattle.clap.specs.Words.{App, Rule, Text, app_of, new_app, new_rule, with_rule, with_subcommand}
+use Rattle.clap.specs.declared.builder.action.ArgAction.TheVariants.{SetTrue}
 use Rattle.clap.specs.declared.builder.command.Command.{Command}
 use Rattle.clap.specs.declared.builder.command.Command.TheViews.{out-Command}
 use Rattle.clap.specs.declared.builder.value_parser.ValueParser.{ValueParser}
@@ -22,41 +23,85 @@ capacity_parser = Unsigned 8 8192
 abbrev pub cache_rule : Rule
 cache_rule = record (new_rule (codes "cache")) { long = Some (codes "cache"); value_names = 1; parser = Some capacity_parser }
 
--- eros run [--cache C] IMAGE SCRIPT
+-- the greatest number that a word may write
+abbrev pub greatest_number : ℕ
+greatest_number = 18446744073709551615
+
+-- --NAME VALUE, a number, which may be left out
+abbrev pub number_rule : Text → Rule
+number_rule name = record (new_rule name) { long = Some name; value_names = 1; parser = Some (Unsigned 0 greatest_number) }
+
+-- P [P ..], numbers, of which there is at least one
+abbrev pub processes_rule : Rule
+processes_rule = record (new_rule (codes "P")) {
+  required = true;
+  range = Some (record { start_inclusive = 1; end_inclusive = greatest_number });
+  parser = Some (Unsigned 0 greatest_number);
+}
+
+-- --NAME, which may be left out
+abbrev pub flag_rule : Text → Rule
+flag_rule name = record (new_rule name) { long = Some name; action = Some SetTrue }
+
+-- eros run IMAGE SCRIPT
+abbrev pub run_files_app : App
+run_files_app = with_rule (with_rule (new_app (codes "run")) (file_rule (codes "IMAGE"))) (file_rule (codes "SCRIPT"))
+
+-- eros run [--cache C] [--trace] [--strict] [--stop-after K] IMAGE SCRIPT
 abbrev pub run_app : App
-run_app = with_rule (with_rule (with_rule (new_app (codes "run")) (file_rule (codes "IMAGE"))) (file_rule (codes "SCRIPT"))) cache_rule
+run_app = with_rule (with_rule (with_rule (with_rule run_files_app cache_rule) (flag_rule (codes "trace"))) (flag_rule (codes "strict"))) (number_rule (codes "stop-after"))
 
 -- eros NAME IMAGE
 abbrev pub reading_app : Text → App
 reading_app name = with_rule (new_app name) (file_rule (codes "IMAGE"))
 
+-- eros shell [--cache C] IMAGE
+abbrev pub shell_app : App
+shell_app = with_rule (reading_app (codes "shell")) cache_rule
+
 -- eros check IMAGE
 abbrev pub check_app : App
 check_app = reading_app (codes "check")
+
+-- eros explain FILE
+abbrev pub explain_app : App
+explain_app = with_rule (new_app (codes "explain")) (file_rule (codes "FILE"))
+
+-- eros info IMAGE
+abbrev pub info_app : App
+info_app = reading_app (codes "info")
+
+-- eros reach [--shows O] IMAGE P [P ..]
+abbrev pub reach_app : App
+reach_app = with_rule (with_rule (reading_app (codes "reach")) processes_rule) (number_rule (codes "shows"))
 
 -- eros upgrade OLD NEW
 abbrev pub upgrade_app : App
 upgrade_app = with_rule (with_rule (new_app (codes "upgrade")) (file_rule (codes "OLD"))) (file_rule (codes "NEW"))
 
--- eros describe IMAGE
+-- eros describe [--nodes N] [--pages P] [--log R] IMAGE
 abbrev pub describe_app : App
-describe_app = reading_app (codes "describe")
+describe_app = with_rule (with_rule (with_rule (reading_app (codes "describe")) (number_rule (codes "nodes"))) (number_rule (codes "pages"))) (number_rule (codes "log"))
 
--- eros draw IMAGE
+-- eros draw [--from P] [--to O] IMAGE
 abbrev pub draw_app : App
-draw_app = reading_app (codes "draw")
+draw_app = with_rule (with_rule (reading_app (codes "draw")) (number_rule (codes "from"))) (number_rule (codes "to"))
 
 -- the name alone, which has a version, and wants a subcommand
 abbrev pub bare_app : App
 bare_app = record { top = record ((new_app (codes "eros")).top) { subcommand_required = true; has_version = true }; subs = [] }
 
--- the name and three subcommands
-abbrev pub basic_app : App
-basic_app = with_subcommand (with_subcommand (with_subcommand bare_app build_app.top) run_app.top) check_app.top
+-- the name and the subcommands that make and change images
+abbrev pub changing_app : App
+changing_app = with_subcommand (with_subcommand (with_subcommand bare_app build_app.top) run_app.top) shell_app.top
 
--- the six subcommands, one of which has to be named
+-- and those that check images
+abbrev pub checking_app : App
+checking_app = with_subcommand (with_subcommand (with_subcommand (with_subcommand changing_app check_app.top) explain_app.top) info_app.top) reach_app.top
+
+-- all subcommands, one of which has to be named
 abbrev pub eros_app : App
-eros_app = with_subcommand (with_subcommand (with_subcommand basic_app upgrade_app.top) describe_app.top) draw_app.top
+eros_app = with_subcommand (with_subcommand (with_subcommand checking_app upgrade_app.top) describe_app.top) draw_app.top
 
 -- a parse reads the command as this one, with no argument that holds for subcommands too
 abbrev pub IsCommand : App → Command → Type 0

@@ -1,55 +1,61 @@
 -- The job that a subcommand and its arguments name.
-use Rattle.std.specs.Prelude.{◌≡◌, ◌≢◌, ℕ, List, Option, Some, None, codes}
-use Rattle.std.specs.Str.Parse.{digits_value, without_leading_plus}
-use Rattle.clap.specs.Words.{IsUnsignedIn, Row, Text, first_of}
+use Rattle.std.specs.Prelude.{◌≡◌, ◌≢◌, ◌⊎◌, ℕ, ⊤, List, Option, Some, None, codes, true}
+use Rattle.clap.specs.Words.{Row, Text}
+use Rattle.command_line.specs.Arguments.{AreNumbers, IsFlag, IsGiven, IsNumberOption, IsOption, has_all}
 use Rattle.command_line.specs.declared.asked.Job.{Job}
 use Rattle.command_line.specs.declared.asked.Job.TheVariants as job
 use Rattle.command_line.specs.declared.asked.Script.{Script}
 use Rattle.command_line.specs.declared.asked.Script.TheVariants as script
-
--- the argument of this name was given as this text
-abbrev pub IsGiven : List Row → Text → Text → Type 0
-IsGiven rows name text = first_of name rows ≡ Some text
+use Rattle.command_line.specs.declared.asked.Sizes.{Sizes}
 
 -- standard input is named by a hyphen, and a file by any other word
 abbrev pub IsScript : Text → Script → Type 0
 IsScript word script.Input = word ≡ codes "-"
 IsScript word (script.File name) = (name.now ≡ word) × (word ≢ codes "-")
 
--- the word writes this number in decimal digits, and it is from 8 to 8192
-abbrev pub IsCapacity : Text → ℕ → Type 0
-IsCapacity word count = IsUnsignedIn 8 8192 word × (count ≡ digits_value 10 (without_leading_plus word))
-
--- the option is left out, or gives this capacity
+-- the capacity that `--cache` gives, if any
 abbrev pub IsCache : List Row → Option ℕ → Type 0
-IsCache rows None = first_of (codes "cache") rows ≡ None
-IsCache rows (Some count) = (word : Text) × IsGiven rows (codes "cache") word × IsCapacity word count
+IsCache rows cache = IsOption rows (codes "cache") 8 8192 cache
 
--- the option gives what is no capacity
-abbrev pub IsNoCache : List Row → Type 0
-IsNoCache rows = (cache : Option ℕ) → IsCache rows cache → ⊥
+-- the sizes that the options give, if any
+abbrev pub AreSizes : List Row → Sizes → Type 0
+AreSizes rows sizes = IsNumberOption rows (codes "nodes") sizes.nodes
+    × IsNumberOption rows (codes "pages") sizes.pages × IsNumberOption rows (codes "log") sizes.log
 
 -- the subcommand of this name, with these arguments, is the job
 abbrev pub IsJob : Text → List Row → Job → Type 0
 IsJob name rows (job.Build description image) = (name ≡ codes "build")
     × IsGiven rows (codes "DESCRIPTION") description.now × IsGiven rows (codes "IMAGE") image.now
-IsJob name rows (job.Run image script cache) = (name ≡ codes "run") × IsCache rows cache
+IsJob name rows (job.Run image script cache trace strict stop_after) = (name ≡ codes "run") × IsCache rows cache
+    × IsFlag rows (codes "trace") trace × IsFlag rows (codes "strict") strict
+    × IsNumberOption rows (codes "stop-after") stop_after
     × IsGiven rows (codes "IMAGE") image.now × (word : Text) × IsGiven rows (codes "SCRIPT") word × IsScript word script
+IsJob name rows (job.Shell image cache) = (name ≡ codes "shell") × IsCache rows cache × IsGiven rows (codes "IMAGE") image.now
 IsJob name rows (job.Check image) = (name ≡ codes "check") × IsGiven rows (codes "IMAGE") image.now
+IsJob name rows (job.Explain file) = (name ≡ codes "explain") × IsGiven rows (codes "FILE") file.now
+IsJob name rows (job.Info image) = (name ≡ codes "info") × IsGiven rows (codes "IMAGE") image.now
+IsJob name rows (job.Reach image processes shows) = (name ≡ codes "reach") × IsGiven rows (codes "IMAGE") image.now
+    × AreNumbers rows (codes "P") processes.items × IsNumberOption rows (codes "shows") shows
 IsJob name rows (job.Upgrade old new) = (name ≡ codes "upgrade")
     × IsGiven rows (codes "OLD") old.now × IsGiven rows (codes "NEW") new.now × (old.now ≢ new.now)
-IsJob name rows (job.Describe image) = (name ≡ codes "describe") × IsGiven rows (codes "IMAGE") image.now
-IsJob name rows (job.Draw image) = (name ≡ codes "draw") × IsGiven rows (codes "IMAGE") image.now
-
--- no job is the subcommand of this name with these arguments
-abbrev pub IsNoJob : Text → List Row → Type 0
-IsNoJob name rows = (job : Job) → IsJob name rows job → ⊥
+IsJob name rows (job.Describe image sizes) = (name ≡ codes "describe") × IsGiven rows (codes "IMAGE") image.now × AreSizes rows sizes
+IsJob name rows (job.Draw image from to) = (name ≡ codes "draw") × IsGiven rows (codes "IMAGE") image.now
+    × IsNumberOption rows (codes "from") from × IsNumberOption rows (codes "to") to
 
 -- the subcommand that was met, if any, is the job
 abbrev pub NamesJob : Option (Text × List Row) → Job → Type 0
 NamesJob None job = ⊥
 NamesJob (Some met) job = IsJob met.0 met.1 job
 
--- no job is named
+-- it is an upgrade whose two words are equal
+abbrev pub IsSameTwice : Text → List Row → Type 0
+IsSameTwice name rows = (name ≡ codes "upgrade") × (word : Text) × IsGiven rows (codes "OLD") word × IsGiven rows (codes "NEW") word
+
+-- the subcommand doesn't have what it takes, or is that for help, or an upgrade whose two words are equal
+abbrev pub IsNoJob : Text → List Row → Type 0
+IsNoJob name rows = has_all name rows ≡ true → (name ≡ codes "help") ⊎ IsSameTwice name rows
+
+-- no job is the subcommand that was met
 abbrev pub NamesNone : Option (Text × List Row) → Type 0
-NamesNone met = (job : Job) → NamesJob met job → ⊥
+NamesNone None = ⊤
+NamesNone (Some met) = IsNoJob met.0 met.1

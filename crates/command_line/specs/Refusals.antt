@@ -1,11 +1,11 @@
 -- Why words name no job.
-use Rattle.std.specs.Prelude.{◌≡◌, ◌≢◌, ◌⊎◌, List, ◌∷◌, Option, Some, None, codes, false}
+use Rattle.std.specs.Prelude.{◌≡◌, ◌≢◌, ◌⊎◌, List, ◌∷◌, Option, Some, None, false}
 use Rattle.clap.specs.Words.{IsAmong, Row, Text, fault_of, kind_of, subcommand_of, takes}
 use Rattle.clap.specs.declared.error.Error.{Error}
 use Rattle.clap.specs.declared.error.kind.ErrorKind.{ErrorKind}
 use Rattle.clap.specs.declared.error.kind.ErrorKind.TheVariants.{OutOfMemory, ValueValidation}
 use Rattle.command_line.specs.Commands.{eros_app}
-use Rattle.command_line.specs.Jobs.{IsGiven}
+use Rattle.command_line.specs.Jobs.{IsSameTwice}
 use Rattle.command_line.specs.declared.fault.JobFault.{JobFault}
 use Rattle.command_line.specs.declared.fault.JobFault.TheVariants as fault
 
@@ -14,17 +14,17 @@ abbrev pub IsFaultOf : Error → JobFault → Type 0
 IsFaultOf e (fault.BadWords why) = (why ≡ e) × (kind_of e ≢ OutOfMemory)
 IsFaultOf e fault.NoMemory = kind_of e ≡ OutOfMemory
 
--- it is an upgrade whose two words are equal
-abbrev pub IsSameTwice : Option (Text × List Row) → Type 0
-IsSameTwice None = ⊥
-IsSameTwice (Some met) = (met.0 ≡ codes "upgrade") × (word : Text) × IsGiven met.1 (codes "OLD") word × IsGiven met.1 (codes "NEW") word
+-- the words ask for an upgrade of one word to itself
+abbrev pub AsksForSame : Option (Text × List Row) → Type 0
+AsksForSame None = ⊥
+AsksForSame (Some met) = IsSameTwice met.0 met.1
 
 -- The kind of an error that refuses words. Where the command doesn't take them, it is one that clap gives for them, or
 -- that of a bad value. Where they ask for an upgrade of one word to itself, it is that of a bad value.
 unfoldable pub Explains : List Text → Error → Type 0
 Explains words e =
     ((takes eros_app words ≡ false) × IsAmong (kind_of e) (ValueValidation ∷ fault_of eros_app words))
-    ⊎ (IsSameTwice (subcommand_of eros_app words) × (kind_of e ≡ ValueValidation))
+    ⊎ (AsksForSame (subcommand_of eros_app words) × (kind_of e ≡ ValueValidation))
 
 -- words are refused as bad ones by an error that explains it, and never for want of memory
 abbrev pub IsRefused : List Text → JobFault → Type 0

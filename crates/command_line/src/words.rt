@@ -11,16 +11,16 @@ use crate::subcommands::command;
 use std::alloc::Global;
 use std::convert::AsStr;
 
-/// The job that the words name, of which the first is the program's name.
+/// The job that the words name. The first word is the name of the program.
 ///
-/// `BadWords` where the command doesn't take them, also where they ask for help, with an error of a kind that clap gives
-/// for that; `BadWords` too where an upgrade has one word twice, with a `ValueValidation`. `NoMemory` where memory runs out.
+/// `BadWords` with an error of clap if the command doesn't take the words, also if they ask for help.
+/// `BadWords` with a `ValueValidation` if an upgrade has one word twice. `NoMemory` if memory runs out.
 pub fn job<'a, S: AsStr>(alloc: Global, words: &'a [S]) -> Result<Job<'a>, JobFault>
     ensures named { IfOk result (NamesJob (subcommand_of eros_app (map S.text words.entry.now))) }
     ensures refused { IfErr result (IsRefused (map S.text words.entry.now)) }
 {
     let mut command = command(alloc)?;
-    match read_job(&mut command, words) {
+    match read_job(alloc, &mut command, words) {
         Ok(job) => Ok(job),
         Err(error) => Err(JobFault::of(error)),
     }

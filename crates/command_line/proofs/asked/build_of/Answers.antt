@@ -1,17 +1,16 @@
-use Rattle.std.proofs.Common.{rules, ◌≡◌, None, codes, refl}
+use Rattle.std.proofs.Common.{rules, codes, refl}
 use Rattle.clap.specs.Words.{found_of, rows_of}
-use Rattle.command_line.proofs.Naming.{given, missing, no_description, no_image}
+use Rattle.command_line.proofs.Getters.{given, missing}
+use Rattle.command_line.proofs.Lacking.{lacks}
 use Rattle.command_line.proofs.asked.build_of.Goals as goal
 
 pub returns-in_err-get_str-clause-none : goal.returns-in_err-get_str-clause-none
-returns-in_err-get_str-clause-none c =
-    let none : c.get_str.result ≡ None = search rules in
-    λ _. no_description _ (rows_of (found_of c.args.inner.now)) refl (missing (found_of c.args.inner.now) (codes "DESCRIPTION") _ c.get_str.ensures none)
+returns-in_err-get_str-clause-none c = λ _. lacks (codes "build") (codes "DESCRIPTION") (rows_of (found_of c.args.inner.now)) refl
+    (missing (found_of c.args.inner.now) (codes "DESCRIPTION") _ c.get_str.ensures (search rules))
 
 pub returns-in_err-get_str-2-clause-none : goal.returns-in_err-get_str-2-clause-none
-returns-in_err-get_str-2-clause-none c =
-    let none : c.get_str-2.result ≡ None = search rules in
-    λ _. no_image _ (rows_of (found_of c.args.inner.now)) (λ e. cc) (missing (found_of c.args.inner.now) (codes "IMAGE") _ c.get_str-2.ensures none)
+returns-in_err-get_str-2-clause-none c = λ _. lacks (codes "build") (codes "IMAGE") (rows_of (found_of c.args.inner.now)) refl
+    (missing (found_of c.args.inner.now) (codes "IMAGE") _ c.get_str-2.ensures (search rules))
 
 pub returns-clause-named : goal.returns-clause-named
 returns-clause-named c = (

@@ -1,6 +1,9 @@
 use Rattle.std.proofs.Common.{rules, map}
 use Rattle.std.proofs.lemmas.Result.{err_from_is_err_and}
-use Rattle.command_line.proofs.Answered.{unnamed}
+use Rattle.clap.specs.Words.{subcommand_rows_of}
+use Rattle.command_line.specs.Jobs.{NamesJob}
+use Rattle.command_line.proofs.Answered.{named_by, unnamed}
+use Rattle.command_line.proofs.Getters.{held}
 use Rattle.command_line.proofs.Refused.{parse_refused, value_refused}
 use Rattle.command_line.proofs.asked.read_job.Goals as goal
 
@@ -11,4 +14,8 @@ returns-in_err-matches-clause-refused g c =
 
 pub returns-in_ok-error-in-None-clause-refused : goal.returns-in_ok-error-in-None-clause-refused
 returns-in_ok-error-in-None-clause-refused g c = value_refused (map g.S.AsStr.text c.args.words.now) c.in_ok-error-in-None.field-0 c.in_ok-error-in-None.ensures.kind
-    (unnamed (map g.S.AsStr.text c.args.words.now) c.args.command.now c.in_ok-matches.matches c.requires.0 c.in_ok-matches.ensures.ok.2 (c.asked.ensures.none (search rules)))
+    (unnamed (map g.S.AsStr.text c.args.words.now) c.args.command.now c.in_ok-matches.matches c.requires.0 c.in_ok-matches.ensures.ok.2 (c.in_ok-job.ensures.none (search rules)))
+
+pub returns-in-Some-clause-named : goal.returns-in-Some-clause-named
+returns-in-Some-clause-named g c = named_by (map g.S.AsStr.text c.args.words.now) c.args.command.now c.in_ok-matches.matches c.requires.0 c.in_ok-matches.ensures.ok.2 c.in-Some.job
+    (held (NamesJob (subcommand_rows_of c.in_ok-matches.matches)) c.in_ok-job.field-0 c.in-Some.job c.in_ok-job.ensures.named (search rules))

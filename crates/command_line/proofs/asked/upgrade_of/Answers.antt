@@ -1,27 +1,26 @@
-use Rattle.std.proofs.Common.{rules, ◌≡◌, None, codes}
+use Rattle.std.proofs.Common.{rules, codes, refl}
 use Rattle.clap.specs.Words.{found_of, rows_of}
-use Rattle.command_line.proofs.Naming.{given, missing, no_difference, no_new, no_old}
+use Rattle.command_line.proofs.Getters.{given, missing}
+use Rattle.command_line.proofs.Lacking.{lacks, same_twice}
 use Rattle.command_line.proofs.asked.upgrade_of.Goals as goal
 
 pub returns-in_err-old-clause-none : goal.returns-in_err-old-clause-none
-returns-in_err-old-clause-none c =
-    let none : c.get_str.result ≡ None = search rules in
-    λ _. no_old (rows_of (found_of c.args.inner.now)) (missing (found_of c.args.inner.now) (codes "OLD") _ c.get_str.ensures none)
+returns-in_err-old-clause-none c = λ _. lacks (codes "upgrade") (codes "OLD") (rows_of (found_of c.args.inner.now)) refl
+    (missing (found_of c.args.inner.now) (codes "OLD") _ c.get_str.ensures (search rules))
 
 pub returns-in_err-new-clause-none : goal.returns-in_err-new-clause-none
-returns-in_err-new-clause-none c =
-    let none : c.get_str-2.result ≡ None = search rules in
-    λ _. no_new (rows_of (found_of c.args.inner.now)) (missing (found_of c.args.inner.now) (codes "NEW") _ c.get_str-2.ensures none)
+returns-in_err-new-clause-none c = λ _. lacks (codes "upgrade") (codes "NEW") (rows_of (found_of c.args.inner.now)) refl
+    (missing (found_of c.args.inner.now) (codes "NEW") _ c.get_str-2.ensures (search rules))
 
 pub returns-then-eq-clause-none : goal.returns-then-eq-clause-none
-returns-then-eq-clause-none c = λ _. no_difference (rows_of (found_of c.args.inner.now)) c.in_ok-old.old.now c.in_ok-new.new.now
+returns-then-eq-clause-none c = λ _. same_twice (rows_of (found_of c.args.inner.now)) c.in_ok-old.old.now c.in_ok-new.new.now
     (given (found_of c.args.inner.now) (codes "OLD") c.get_str.result c.in_ok-old.old c.get_str.ensures (search rules))
     (given (found_of c.args.inner.now) (codes "NEW") c.get_str-2.result c.in_ok-new.new c.get_str-2.ensures (search rules))
     (search rules)
 
 pub returns-clause-named : goal.returns-clause-named
 returns-clause-named c = (
-  search rules,
+  refl,
   given (found_of c.args.inner.now) (codes "OLD") c.get_str.result c.in_ok-old.old c.get_str.ensures (search rules),
   given (found_of c.args.inner.now) (codes "NEW") c.get_str-2.result c.in_ok-new.new c.get_str-2.ensures (search rules),
   search rules,

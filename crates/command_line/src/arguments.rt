@@ -1,0 +1,66 @@
+// What the matches say of an argument.
+ghost use Rattle.std.specs.Prelude.{◌≡◌, IfSome, IsNone, IfOk, Some, codes, map};
+ghost use Rattle.std.specs.List.{All};
+ghost use Rattle.clap.specs.Words.{IsUnsignedIn, found_of, rows_of};
+ghost use Rattle.command_line.specs.Arguments.{GivesNoNumber, IsFlag, IsNumber, IsOption, number_of, texts_of};
+ghost use Rattle.command_line.specs.Commands.{greatest_number};
+
+use clap::ArgMatches;
+use std::alloc::{AllocError, Global};
+
+// The number that a word writes, or `None` where it writes no number from `least` to `most`.
+fn number_in(word: &str, least: u64, most: u64) -> Option<u64>
+    ensures named { IfSome result (IsNumber least most word.now) }
+    ensures none { IsNone result → IsUnsignedIn least most word.now → ⊥ }
+{
+    match word.parse::<u64>() {
+        Ok(number) if least <= number && number <= most => Some(number),
+        _ => None,
+    }
+}
+
+// The number that an option gives: `Some(None)` where the option is left out, and `None` where its word writes no number
+// from `least` to `most`.
+pub(crate) fn option_of(
+    inner: &ArgMatches<'_>,
+    name: &str,
+    least: u64,
+    most: u64,
+) -> Option<Option<u64>>
+    ensures named { IfSome result (IsOption (rows_of (found_of inner.now)) name.now least most) }
+    ensures none { IsNone result → GivesNoNumber (rows_of (found_of inner.now)) name.now least most }
+{
+    match inner.get_str(name) {
+        Some(word) => {
+            let number = number_in(word, least, most)?;
+            Some(Some(number))
+        }
+        None => Some(None),
+    }
+}
+
+// The numbers that words write, in their order, or `None` where one of the words writes none. Fails where memory runs out.
+pub(crate) fn numbers_in(alloc: Global, words: &[&str]) -> Result<Option<Vec<u64>>, AllocError>
+    ensures named { IfOk result (λ o. IfSome o (λ numbers. numbers.items ≡ map number_of (texts_of words.now)
+        × All (IsUnsignedIn 0 greatest_number) (texts_of words.now))) }
+    ensures none { IfOk result (λ o. IsNone o → All (IsUnsignedIn 0 greatest_number) (texts_of words.now) → ⊥) }
+{
+    let mut numbers = Vec::with_capacity(alloc, words.len())?;
+    for word in words {
+        match number_in(word, 0, u64::MAX) {
+            Some(number) => numbers.push(number)?,
+            None => return Ok(None),
+        }
+    }
+    Ok(Some(numbers))
+}
+
+// Whether a flag is given.
+pub(crate) fn flag_of(inner: &ArgMatches<'_>, name: &str) -> bool
+    ensures { IsFlag (rows_of (found_of inner.now)) name.now result }
+{
+    match inner.get_str(name) {
+        Some(word) => word == "true",
+        None => false,
+    }
+}
