@@ -1,5 +1,6 @@
 mod AcceptedDescriptions
 mod BuiltImages
 mod DescribedImages
+mod Observed
 mod RunImages
 mod UpgradedImages

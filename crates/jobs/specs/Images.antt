@@ -1,5 +1,5 @@
 -- What the commands do with images.
-use Rattle.std.specs.Prelude.{◌≡◌, ◌≢◌, ◌↔◌, ◌<◌, ℕ, List, [], ◌∷◌, codes, decimal, map, Option, Some, Result, Ok, Err}
+use Rattle.std.specs.Prelude.{◌≡◌, ◌≢◌, ◌↔◌, ◌<◌, ℕ, List, [], ◌∷◌, codes, decimal, Bool, map, Option, Some, Result, Ok, Err}
 use Rattle.std.specs.Io.KnownBytes.{Appends}
 use Rattle.toml.specs.Data.{Members}
 use Rattle.toml.specs.Parse.{parse_document}
@@ -7,6 +7,7 @@ use Rattle.model.specs.declared.frame.Frame.{Frame}
 use Rattle.model.specs.declared.geometry.Geometry.{Geometry}
 use Rattle.model.specs.Keepable.{IsSoundFrames, world_at}
 use Rattle.model.specs.Machine.{Saved}
+use Rattle.model.specs.Run.{Turn}
 use Rattle.model.specs.Text.{line_of, spaced}
 use Rattle.device.specs.Disk.{Disk}
 use Rattle.layout.specs.Image.{Encodes, SavedState}
@@ -31,12 +32,14 @@ use Rattle.image_describer.specs.Describes.{Describes, IsBrief}
 use Rattle.image_describer.specs.Text.{description_text}
 use Rattle.image_drawer.specs.Graph.{graph_text}
 use Rattle.image_builder.specs.Upgraded.{IsNotUpgraded, Upgrades}
-use Rattle.runs.specs.KernelRuns.{RunsOver}
+use Rattle.runs.specs.declared.cause.Stop.{Stop}
+use Rattle.runs.specs.KernelRuns.{RunsOver, RunsSeen}
 use Rattle.script.specs.declared.fault.RunFault.{RunFault}
 use Rattle.script.specs.declared.fault.RunFault.TheVariants as run
 use Rattle.script.specs.Writing.{AppendsFront}
 use Rattle.jobs.specs.declared.fault.Fault.{Fault}
 use Rattle.jobs.specs.declared.fault.Fault.TheVariants as fault
+use Rattle.jobs.specs.Faults.{IsRunEnd}
 
 -- what is told of an image that was built, and of one that can be opened
 abbrev pub built_text : ℕ → List ℕ

@@ -323,9 +323,10 @@ fn serve(
             Err(status) => Ok(status),
         },
         Job::Check { image } => check(rt, image, writer, errors),
+        Job::Explain { .. } | Job::Info { .. } | Job::Reach { .. } => Ok(2),
         Job::Upgrade { old, new } => upgrade(rt, old, new, writer, errors),
-        Job::Describe { image } => describe(rt, image, writer, errors),
-        Job::Draw { image } => draw(rt, image, writer, errors),
+        Job::Describe { image, .. } => describe(rt, image, writer, errors),
+        Job::Draw { image, .. } => draw(rt, image, writer, errors),
     }
 }
 

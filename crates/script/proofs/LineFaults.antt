@@ -4,7 +4,7 @@ use Rattle.std.specs.Prelude.{slice_get}
 use Rattle.std.specs.List.{All}
 use Rattle.std.proofs.lemmas.Bool.{cases_lt}
 use Rattle.std.proofs.lemmas.Bool.Decides.{nat_tests}
-use Rattle.std.proofs.lemmas.List.{length-append, take_all}
+use Rattle.std.proofs.lemmas.List.{take_all}
 use Rattle.std.specs.Int.{IsInRange}
 use Rattle.std.proofs.lemmas.Fmt.{decimal_digit}
 use Rattle.std.proofs.lemmas.Int.Digits.{digits_more}
@@ -21,7 +21,7 @@ use Rattle.script.specs.declared.line_fault.LineFault.{LineFault}
 use Rattle.script.specs.declared.line_fault.LineFault.TheVariants as fault
 use Rattle.script.specs.Keywords.{keyword_name}
 use Rattle.script.specs.LineFaults.{AreOperands, HasWord, IsFaultOf, IsOperand, IsWordFault, Names, are_registers}
-use Rattle.script.specs.Reading.{Words, number_at, words_of}
+use Rattle.script.specs.Reading.{Words, number_at}
 use Rattle.script.proofs.Commands.{all_four, number_again, number_takes}
 use Rattle.script.proofs.Numbers.{digits_are_decimal}
 

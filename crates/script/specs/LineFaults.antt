@@ -1,5 +1,5 @@
 -- Why a line is bad.
-use Rattle.std.specs.Prelude.{◌≡◌, ◌≢◌, ℕ, ◌<◌, ◌≤◌, ◌^◌, suc, if◌then◌else◌, Bool, true, false, Some, List, [], ◌∷◌, ◌++◌, length, codes, decimal, get_or, slice_get}
+use Rattle.std.specs.Prelude.{◌≡◌, ℕ, ◌<◌, ◌≤◌, ◌^◌, suc, if◌then◌else◌, Bool, true, false, Some, List, [], ◌∷◌, ◌++◌, length, codes, decimal, get_or, slice_get}
 use Rattle.std.specs.Str.Parse.{AllDigits, digits_value}
 use Rattle.model.specs.Text.{spaced}
 use Rattle.script.specs.declared.keyword.Keyword.{Keyword}

@@ -1,5 +1,4 @@
-use Rattle.std.proofs.Common.{◌≡◌, ◌<◌, ◌≤◌, ◌∷◌, None, arith, sym, ◌∙◌, rules}
-use Rattle.script.specs.Reading.{number_at}
+use Rattle.std.proofs.Common.{arith, sym, ◌∙◌}
 use Rattle.script.proofs.LineFaults.{no_number, operand_here, register_fault, word_fault_here}
 use Rattle.script.proofs.line_fault.operand_fault.Goals as goal
 
