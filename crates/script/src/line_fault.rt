@@ -50,8 +50,8 @@ impl LineFault {
             LineFault::Tab => line.word(b"tab"),
             LineFault::EmptyWord(place) => add_numbered(line, b"word", place, b"is empty"),
             LineFault::NoCommand => line.word(b"unknown command"),
-            LineFault::FewWords(count) => add_numbered(line, b"fewer than", count, b"words"),
-            LineFault::ManyWords(count) => add_numbered(line, b"more than", count, b"words"),
+            LineFault::FewWords(count) => add_number(line, b"fewer words than", count),
+            LineFault::ManyWords(count) => add_number(line, b"more words than", count),
             LineFault::NoNumber(place) => add_numbered(line, b"word", place, b"is no number"),
             LineFault::LeadingZero(place) => {
                 add_numbered(line, b"word", place, b"has a leading zero")
@@ -64,6 +64,15 @@ impl LineFault {
             }
         }
     }
+}
+
+// Adds a space, a word and a number.
+fn add_number(line: &mut LineText, word: &[u8], number: u64)
+    requires { length line.old + length word.now ≤ 290 }
+    ensures text { line.new ≡ line.old ++ 32 ∷ spaced (word.now ∷ decimal number ∷ []) }
+    ensures short { length line.new ≤ length line.old + length word.now + 22 }
+{
+    line.named(word, number);
 }
 
 // Adds a space, a word, a number and another word.
