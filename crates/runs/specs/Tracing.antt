@@ -1,5 +1,5 @@
 -- What a trace says of a run, and where a strict run ends.
-use Rattle.std.specs.Prelude.{◌≡◌, ◌≢◌, ℕ, ◌+◌, ◌-◌, ◌^◌, min, Bool, true, false, not, Option, None, Some, List, [], ◌∷◌, ◌++◌, codes, decimal}
+use Rattle.std.specs.Prelude.{◌≡◌, ◌≢◌, ℕ, ◌+◌, ◌-◌, ◌^◌, min, Bool, true, false, Option, None, Some, List, [], ◌∷◌, ◌++◌, codes, decimal}
 use Rattle.std.specs.Io.KnownBytes.{Appends}
 use Rattle.model.specs.declared.answer.Answer.{Answer}
 use Rattle.model.specs.declared.answer.Answer.TheVariants as answer
@@ -105,9 +105,9 @@ pub record Sees {V : Type 0} (contents : V → Option (List ℕ)) (g : Geometry)
   pub ends : Ends g new.line t old.options.strict on new.stop
 
 -- a tracer that saw no line
-pub record IsNewTracer {V : Type 0} (errors : V) (options : TraceOptions) (new : Tracer V) : Type 0 where
-  pub errors : new.errors ≡ errors
-  pub options : new.options ≡ options
+pub record IsNewTracer {V : Type 0} (writer : V) (chosen : TraceOptions) (new : Tracer V) : Type 0 where
+  pub errors : new.errors ≡ writer
+  pub options : new.options ≡ chosen
   pub place : new.line ≡ 0
   pub none_lost : new.is_lost ≡ false
   pub none_stopped : new.stop ≡ None
@@ -118,14 +118,19 @@ pub record IsSame {V : Type 0} (old new : Tracer V) : Type 0 where
   pub place : new.line ≡ old.line
   pub stop : new.stop ≡ old.stop
 
--- a strict run ends here
-pub record EndsAt {V : Type 0} (why : Cause) (old new : Tracer V) (on : Bool) : Type 0 where
+-- a line with a cause ends a strict run, at its place
+abbrev pub EndsIf : Bool → Option Cause → ℕ → Bool → Option Stop → Type 0
+EndsIf true (Some why) place on stop = (on ≡ false) × (stop ≡ Some (record { line = place; cause = why }))
+EndsIf true None place on stop = on ≡ true
+EndsIf false None place on stop = on ≡ true
+EndsIf false (Some why) place on stop = on ≡ true
+
+-- a line was counted, and its trace written
+pub record Notes {V : Type 0} (contents : V → Option (List ℕ)) (at : ℕ) (text : List ℕ) (why : Option Cause) (old new : Tracer V) (on : Bool) : Type 0 where
   pub options : new.options ≡ old.options
-  pub place : new.line ≡ old.line
-  pub is_lost : new.is_lost ≡ old.is_lost
-  pub errors : new.errors ≡ old.errors
-  pub on : on ≡ not old.options.strict
-  pub stop : old.options.strict ≡ true → new.stop ≡ Some (record { line = old.line; cause = why })
+  pub place : new.line ≡ at
+  pub written : IsTraced old.options.trace old.is_lost new.is_lost (contents old.errors) (contents new.errors) (line_of text)
+  pub ends : EndsIf old.options.strict why at on new.stop
 
 -- where a tracer ended the run
 abbrev pub stop_of : {V : Type 0} → Tracer V → Option Stop

@@ -1,5 +1,5 @@
 // Why a strict run ends at a line.
-ghost use Rattle.std.specs.Prelude.{◌≡◌, ◌≤◌, ◌∷◌, ◌++◌, length};
+ghost use Rattle.std.specs.Prelude.{◌≡◌, ◌+◌, ◌≤◌, ◌∷◌, ◌++◌, length};
 ghost use Rattle.runs.specs.Tracing.{cause_text, code_text, code_word};
 
 use model::{Answer, Refusal, ResultCode};

@@ -21,7 +21,7 @@ pub trait Observer {
     /// Sees a bad line. The text is the line, or `None` where that has more than 256 bytes.
     fn bad(&mut self, text: Option<&[u8]>) -> bool
         requires { IfSome text (λ t. Says t.now Line.Bad) }
-        ensures { (g : Geometry) (t : Turn) → IsTextOf (option_map (λ x. x.now) text) t.line
+        ensures { (g : Geometry) (t : Turn) → IsTextOf (option_map (λ x. x.now) text.entry) t.line
             → t.reply ≡ BadLine → sees g t self.old self.new result };
 
     /// Sees a command, its answer, and the result code of the order that an invocation gave.

@@ -39,7 +39,7 @@ fn take<D: Device, S: ObjectStore<D>, W: Write, O: Observer>(
 ) -> Result<bool, RunFault>
     requires { IfSome text (λ t. Says t.now line.now) }
     ensures turn { (g : Geometry) (m : Machine) (whole : List ℕ) → Stands D.disk S.view S.parts g kernel.old m
-        → IsTextOf (option_map (λ t. t.now) text) whole → Says whole line.now
+        → IsTextOf (option_map (λ t. t.now) text.entry) whole → Says whole line.now
         → TakesTurn D.disk S.view S.parts O.sees g m whole line.now kernel.old kernel.new observer.old observer.new
         (W.contents writer.old) (W.contents writer.new) result }
 {

@@ -19,6 +19,7 @@ pub struct Served {
 }
 
 #[inline(always)]
+#[tactic(auto, unfolding(crate::specs::Stub::told_code))]
 pub fn step_with_code<D: Device, S: ObjectStore<D>>(
     kernel: &mut Kernel<D, S>,
     alloc: Global,

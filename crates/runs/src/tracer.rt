@@ -1,10 +1,10 @@
 // What becomes of each line of a run, on standard error.
-ghost use Rattle.std.specs.Prelude.{◌≡◌, ◌<◌, ◌≤◌, ◌∷◌, [], ◌++◌, List, ℕ, IfNone, IfSome, codes, length, option_map};
+ghost use Rattle.std.specs.Prelude.{◌≡◌, ◌+◌, ◌-◌, ◌<◌, ◌≤◌, ◌^◌, ◌∷◌, [], ◌++◌, List, ℕ, IfNone, IfSome, Some, codes, length, min, option_map};
 ghost use Rattle.model.specs.Text.{Says, line_of, spaced};
 ghost use Rattle.script.specs.Keywords.{command_name};
 ghost use Rattle.script.specs.LineFaults.{IsFaultOf};
 ghost use Rattle.script.specs.Lines.{IsTextOf};
-ghost use Rattle.runs.specs.Tracing.{EndsAt, IsCauseIn, IsNewTracer, IsOutcome, IsSame, IsTraced, Sees, cause_text, place_text};
+ghost use Rattle.runs.specs.Tracing.{EndsIf, IsCauseIn, IsNewTracer, IsOutcome, IsSame, IsTraced, Notes, Sees, cause_text, place_text};
 
 use crate::cause::{Cause, Stop, add_code};
 use crate::observer::Observer;
@@ -64,7 +64,10 @@ impl<V: Write> Tracer<V> {
             (V.contents self.old.errors) (V.contents self.new.errors) (line_of line) }
         ensures same { IsSame self.old self.new }
     {
-        if !self.options.trace || self.is_lost {
+        if !self.options.trace {
+            return;
+        }
+        if self.is_lost {
             return;
         }
         match line.write_to(&mut self.errors) {
@@ -73,9 +76,34 @@ impl<V: Write> Tracer<V> {
         }
     }
 
+    // The number of the next line.
+    fn next(&self) -> u64
+        ensures { result ≡ min (self.now.line + 1) (2 ^ 64 - 1) }
+    {
+        self.line.saturating_add(1)
+    }
+
+    // Counts a line, writes its trace, and ends a strict run there if it has a cause. It returns
+    // whether the run goes on.
+    fn note(&mut self, place: u64, text: LineText, cause: Option<Cause>) -> bool
+        requires { length text < 320 }
+        ensures { Notes V.contents place text cause self.old self.new result }
+    {
+        self.line = place;
+        self.write(text);
+        match cause {
+            Some(cause) => self.end_at(cause),
+            None => true,
+        }
+    }
+
     // Ends the run at this line, if it is strict. It returns whether the run goes on.
     fn end_at(&mut self, cause: Cause) -> bool
-        ensures { EndsAt cause self.old self.new result }
+        ensures ends { EndsIf self.old.options.strict (Some cause) self.old.line result self.new.stop }
+        ensures options { self.new.options ≡ self.old.options }
+        ensures place { self.new.line ≡ self.old.line }
+        ensures is_lost { self.new.is_lost ≡ self.old.is_lost }
+        ensures errors { self.new.errors ≡ self.old.errors }
     {
         if !self.options.strict {
             return true;
@@ -133,7 +161,7 @@ fn answer_trace(
 // Why a line is bad, of which this is the text, or which is too long.
 fn fault_of(text: Option<&[u8]>) -> LineFault
     requires { IfSome text (λ t. Says t.now Line.Bad) }
-    ensures { (line : List ℕ) → IsTextOf (option_map (λ t. t.now) text) line → IsFaultOf line result }
+    ensures { (line : List ℕ) → IsTextOf (option_map (λ t. t.now) text.entry) line → IsFaultOf line result }
 {
     match text {
         Some(text) => why_bad(text),
@@ -159,23 +187,19 @@ impl<V: Write> Observer for Tracer<V> {
     ghost sees = { λ g t old new on. Sees V.contents g t old new on };
 
     fn skip(&mut self) -> bool {
-        self.line = self.line.saturating_add(1);
+        self.line = self.next();
         true
     }
 
     fn bad(&mut self, text: Option<&[u8]>) -> bool {
-        self.line = self.line.saturating_add(1);
+        let place = self.next();
         let fault = fault_of(text);
-        self.write(bad_trace(self.line, fault));
-        self.end_at(Cause::BadLine(fault))
+        self.note(place, bad_trace(place, fault), Some(Cause::BadLine(fault)))
     }
 
     fn answer(&mut self, command: &Command, answer: &Answer, code: Option<ResultCode>) -> bool {
-        self.line = self.line.saturating_add(1);
-        self.write(answer_trace(self.line, command, answer, code));
-        match cause_of(answer, code) {
-            Some(cause) => self.end_at(cause),
-            None => true,
-        }
+        let place = self.next();
+        let cause = cause_of(answer, code);
+        self.note(place, answer_trace(place, command, answer, code), cause)
     }
 }

@@ -47,9 +47,9 @@ pub loop-reader-preserved-in-Continue-branch-4 : goal.loop-reader-preserved-in-C
 loop-reader-preserved-in-Continue-branch-4 g c = record {
   sized = c.read_piece.ensures.size ∙ c.loop-reader.invariant.sized;
   read = piece_on g.D.Device.disk g.S.ObjectStore.view g.S.PresentFrames.parts g.O.Observer.sees g.met.D.Device.only_now c.args.kernel.now c.loop-reader.kernel c.args.observer.now c.loop-reader.observer c.loop-reader.line
-    (g.R.Script.unread c.args.reader.now) (g.R.Script.unread c.loop-reader.reader) (g.R.Script.unread c.read_piece.new.self) (g.W.Write.contents c.args.writer.now) (g.W.Write.contents c.pass_on.new.self)
-    (passed_on g.D.Device.disk g.S.ObjectStore.view g.S.PresentFrames.parts g.O.Observer.sees g.met.D.Device.only_now c.args.kernel.now c.loop-reader.kernel c.args.observer.now c.loop-reader.observer c.loop-reader.line (g.R.Script.unread c.args.reader.now) (g.R.Script.unread c.loop-reader.reader) (g.R.Script.unread c.loop-reader.reader)
-    (g.W.Write.contents c.args.writer.now) (g.W.Write.contents c.loop-reader.writer) c.loop-reader.invariant.read (g.W.Write.contents c.pass_on.new.self) c.in_ok-pass_on.ensures.bytes)
+      (g.R.Script.unread c.args.reader.now) (g.R.Script.unread c.loop-reader.reader) (g.R.Script.unread c.read_piece.new.self) (g.W.Write.contents c.args.writer.now) (g.W.Write.contents c.pass_on.new.self)
+      (passed_on g.D.Device.disk g.S.ObjectStore.view g.S.PresentFrames.parts g.O.Observer.sees g.met.D.Device.only_now c.args.kernel.now c.loop-reader.kernel c.args.observer.now c.loop-reader.observer c.loop-reader.line (g.R.Script.unread c.args.reader.now) (g.R.Script.unread c.loop-reader.reader) (g.R.Script.unread c.loop-reader.reader)
+      (g.W.Write.contents c.args.writer.now) (g.W.Write.contents c.loop-reader.writer) c.loop-reader.invariant.read (g.W.Write.contents c.pass_on.new.self) c.in_ok-pass_on.ensures.bytes)
       (take c.in-Bytes.count c.read_piece.new.piece) c.take_piece.new.kernel c.take_piece.new.observer (g.W.Write.contents c.take_piece.new.writer) (subst (λ (p : Piece). ReadsPiece (g.R.Script.unread c.loop-reader.reader) (g.R.Script.unread c.read_piece.new.self) c.read_piece.new.piece (Ok p)) c.in-Bytes.is c.in_ok-count.ensures.bytes).1
       c.take_piece.new.line c.in_ok-take_piece-in-Bytes.ensures.goes_on;
   none_failed = search rules;
