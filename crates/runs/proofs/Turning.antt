@@ -1,5 +1,5 @@
 -- Turns of a kernel, one after another.
-use Rattle.std.proofs.Common.{◌≡◌, ◌⊎◌, ℕ, ◌<◌, suc, take, drop, length, Bool, true, false, List, [], ◌∷◌, ◌++◌, Option, None, Some, Ok, Err, refl, sym, ap, ◌∙◌, subst, ⊎_elim, inl, inr, append_assoc, append-nil, arith}
+use Rattle.std.proofs.Common.{◌≡◌, ◌≢◌, ◌⊎◌, ℕ, ◌<◌, suc, take, drop, length, Bool, true, false, List, [], ◌∷◌, ◌++◌, Option, None, Some, Ok, Err, refl, sym, ap, ◌∙◌, subst, ⊎_elim, inl, inr, append_assoc, append-nil, arith}
 use Rattle.std.specs.Prelude.{◌↔◌, slice_index_or, IfErr, IsTrue, OnErr, OnOk, Result}
 use Rattle.std.proofs.KnownBytes.{Consumes-trans}
 use Rattle.std.specs.Io.KnownBytes.{Appends, Consumes, IsAtEnd, Keeps}
@@ -67,10 +67,14 @@ none_told disk reply fine = record {
 -- one turn more
 pub seen_more : {O : Type 0} (sees : Turn → O → O → Bool → Type 0) (old mid new : O) (ts : List Turn) (t : Turn) (on : Bool) →
     AreSeen sees old mid ts true → sees t mid new on → AreSeen sees old new (ts ++ t ∷ []) on
-seen_more sees old mid new [] t true same seen = inl (new, subst (λ x. sees t x new true) same.0 seen, refl, refl)
+seen_more sees old mid new [] t true same seen = inl (new, subst (λ x. sees t x new true) same.0 seen, (refl, refl))
 seen_more sees old mid new [] t false same seen = inr (refl, refl, subst (λ x. sees t x new false) same.0 seen)
 seen_more sees old mid new (u ∷ us) t on are seen =
     ⊎_elim (λ goes. inl (goes.0, goes.1, seen_more sees goes.0 mid new us t on goes.2 seen)) (λ ends. let never : true ≡ false = ends.1 in cc) are
+
+-- a fault of the writer is none of the reader
+pub not_read : (e : RunFault) → e ≡ fault.Write → e ≢ fault.Read
+not_read e is read = let never : fault.Write ≡ fault.Read = sym is ∙ read in absurd cc
 
 -- whether the run ends after a line that was taken, and by which fault
 abbrev pub Ending : Result Bool RunFault → RunFault → Type 0

@@ -2,8 +2,8 @@
 ghost use Rattle.std.specs.Prelude.{◌≡◌, ◌+◌, ◌≤◌, ◌∷◌, ◌++◌, length};
 ghost use Rattle.runs.specs.Tracing.{cause_text, code_text, code_word};
 
-use model::{Answer, Refusal, ResultCode};
-use script::{LineFault, LineText, answer_line};
+use model::{Refusal, ResultCode};
+use script::{LineFault, LineText, refusal_line};
 
 /// Why a strict run ends at a line.
 #[derive(Clone, Copy, PartialEq, Eq, Debug)]
@@ -69,7 +69,7 @@ impl Cause {
                 fault.add_to(line);
             }
             Cause::Refused(refusal) => {
-                line.word(answer_line(&Answer::Refused(refusal)).as_bytes());
+                line.word(refusal_line(refusal).as_bytes());
             }
             Cause::Code(code) => add_code(line, code),
         }

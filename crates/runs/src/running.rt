@@ -1,5 +1,5 @@
 // Runs of scripts over a kernel.
-ghost use Rattle.std.specs.Prelude.{◌≡◌, ◌<◌, ◌++◌, ℕ, List, [], Option, length, option_map, slice_index_or, take, OnOk, IfErr, IsErrOf, IfNone, IfSome};
+ghost use Rattle.std.specs.Prelude.{◌≡◌, ◌≢◌, ◌<◌, ◌++◌, ℕ, List, [], Option, length, option_map, slice_index_or, take, OnOk, IfErr, IsErrOf, IfNone, IfSome};
 ghost use Rattle.model.specs.declared.geometry.Geometry.{Geometry};
 ghost use Rattle.model.specs.Machine.{Machine};
 ghost use Rattle.model.specs.Run.{lines_of};
@@ -42,6 +42,7 @@ fn take<D: Device, S: ObjectStore<D>, W: Write, O: Observer>(
         → IsTextOf (option_map (λ t. t.now) text.entry) whole → Says whole line.now
         → TakesTurn D.disk S.view S.parts O.sees g m whole line.now kernel.old kernel.new observer.old observer.new
         (W.contents writer.old) (W.contents writer.new) result }
+    ensures fault { IfErr result (λ e. e ≡ RunFault.Write) }
 {
     match line {
         Line::Skip => Ok(observer.skip()),
@@ -83,6 +84,7 @@ fn take_line<D: Device, S: ObjectStore<D>, W: Write, O: Observer>(
         → TakesLine D.disk S.view S.parts O.sees g m (held ++ bytes.now) kernel.old kernel.new observer.old observer.new
         (W.contents writer.old) (W.contents writer.new) result }
     ensures begun { (held : List ℕ) → Holds line.old held → Holds line.new [] }
+    ensures fault { IfErr result (λ e. e ≡ RunFault.Write) }
 {
     if line.is_empty() {
         return take(
@@ -112,6 +114,7 @@ fn take_held<D: Device, S: ObjectStore<D>, W: Write, O: Observer>(
         → TakesLine D.disk S.view S.parts O.sees g m held kernel.old kernel.new observer.old observer.new
         (W.contents writer.old) (W.contents writer.new) result }
     ensures begun { Holds line.new [] }
+    ensures fault { IfErr result (λ e. e ≡ RunFault.Write) }
 {
     let taken = take(alloc, kernel, line.text(), &line.says(), writer, observer);
     line.clear();
@@ -133,6 +136,7 @@ fn take_piece<D: Device, S: ObjectStore<D>, W: Write, O: Observer>(
     ensures stops { IfErr result (λ e. (g : Geometry) (m : Machine) (start : Power D S) (first : O) (text : List ℕ) (output : Option (List ℕ))
         → SoFar D.disk S.view S.parts O.sees g m start kernel.old first observer.old text line.old output (W.contents writer.old)
         → Stopped D.disk S.view S.parts O.sees (BeginsWith (text ++ piece.now)) e g m start kernel.new first observer.new output (W.contents writer.new)) }
+    ensures fault { IfErr result (λ e. e ≢ RunFault.Read) }
 {
     let mut rest = piece;
     while let Some(end) = end_of_line(rest) {
@@ -160,6 +164,7 @@ fn take_rest<D: Device, S: ObjectStore<D>, W: Write, O: Observer>(
     ensures stops { IfErr result (λ e. (g : Geometry) (m : Machine) (start : Power D S) (first : O) (text : List ℕ) (output : Option (List ℕ))
         → SoFar D.disk S.view S.parts O.sees g m start kernel.old first observer.old text line.old output (W.contents writer.old)
         → Stopped D.disk S.view S.parts O.sees (λ lines. lines_of text ≡ lines) e g m start kernel.new first observer.new output (W.contents writer.new)) }
+    ensures fault { IfErr result (λ e. e ≢ RunFault.Read) }
 {
     if line.is_empty() {
         return Ok(());

@@ -23,6 +23,6 @@ pub use line_text::LineText;
 pub use lines::LineBuffer;
 pub use named::{capability_of, state_of};
 pub use parse::parse_line;
-pub use print::{answer_line, print_answer, print_bad_line};
+pub use print::{answer_line, print_answer, print_bad_line, refusal_line};
 pub use shown::state_word;
 pub use writing::write_fully;

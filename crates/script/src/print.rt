@@ -22,8 +22,8 @@ fn unjournaled_line(why: Unjournaled) -> LineText
     }
 }
 
-// The line of a refusal.
-fn refusal_line(refusal: Refusal) -> LineText
+/// The line of a refusal.
+pub fn refusal_line(refusal: Refusal) -> LineText
     ensures text { result ≡ refusal_text refusal }
     ensures short { length result ≤ 41 }
 {
