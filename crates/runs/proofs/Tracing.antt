@@ -61,7 +61,7 @@ module _ {V : Type 0} (contents : V → Option (List ℕ)) (g : Geometry) (t : T
       causes : (w : Cause) → IsCauseIn a told w → IsCauseOf g t w
       causes (cause.BadLine fault) is = absurd is
       causes (cause.Refused r) is = (c, says, a, reply, is)
-      causes (cause.Code k) is = (c, says, a, reply, coded ∙ is.0, is.1)
+      causes (cause.Code k) is = (c, says, a, reply, (coded ∙ is.0, is.1))
 
       some_causes : (w : Option Cause) → IfSome w (IsCauseIn a told) → IfSome w (IsCauseOf g t)
       some_causes None is = tt
@@ -78,8 +78,8 @@ module _ {V : Type 0} (contents : V → Option (List ℕ)) (g : Geometry) (t : T
       is_cause_in (cause.Refused r) is = sym (same_answer is.2 is.3) ∙ is.4
       is_cause_in (cause.Code k) is = (
         sym coded ∙ subst (λ (d : Command). told_code g t.before d a ≡ Some k) (same_command is.0 is.1)
-            (subst (λ (b : Answer). told_code g t.before is.0 b ≡ Some k) (same_answer is.2 is.3) is.4),
-        is.5,
+            (subst (λ (b : Answer). told_code g t.before is.0 b ≡ Some k) (same_answer is.2 is.3) is.4.0),
+        is.4.1,
       )
 
       no_causes : (w : Option Cause) → IfNone w ((v : Cause) → IsCauseIn a told v → ⊥) → IfNone w ((v : Cause) → IsCauseOf g t v → ⊥)
