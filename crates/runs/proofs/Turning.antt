@@ -1,6 +1,6 @@
 -- Turns of a kernel, one after another.
 use Rattle.std.proofs.Common.{◌≡◌, ◌≢◌, ◌⊎◌, ℕ, ◌<◌, suc, take, drop, length, Bool, true, false, List, [], ◌∷◌, ◌++◌, Option, None, Some, Ok, Err, refl, sym, ap, ◌∙◌, subst, ⊎_elim, inl, inr, append_assoc, append-nil, arith}
-use Rattle.std.specs.Prelude.{◌↔◌, slice_index_or, IfErr, IsTrue, OnErr, OnOk, Result}
+use Rattle.std.specs.Prelude.{◌↔◌, slice_index_or, IfErr, IsTrue, Result}
 use Rattle.std.proofs.KnownBytes.{Consumes-trans}
 use Rattle.std.specs.Io.KnownBytes.{Appends, Consumes, IsAtEnd, Keeps}
 use Rattle.model.specs.declared.answer.Answer.{Answer}
@@ -28,7 +28,7 @@ use Rattle.script.specs.declared.fault.RunFault.{RunFault}
 use Rattle.script.specs.declared.fault.RunFault.TheVariants as fault
 use Rattle.script.specs.declared.lines.LineBuffer.{LineBuffer}
 use Rattle.script.specs.Lines.{Holds, IsOneLine}
-use Rattle.script.specs.Writing.{AppendsFront, Writes}
+use Rattle.script.specs.Writing.{AppendsFront}
 use Rattle.runs.specs.KernelRuns.{AreFirst, AreLines, AreSeen, AreTurnsOf, BeginsWith, Does, IsCutShort, IsLeftIn, IsRunOf, IsToldBy, IsTurnOf, EndsBy, RunsOver, RunsSeen, lines_in, tells_fault}
 use Rattle.runs.specs.Stub.{told_code}
 use Rattle.runs.specs.Taking.{Ended, IsWritten, SoFar, Stopped, StopsBy, TakesLine, TakesTurn}

@@ -6,7 +6,7 @@ use Rattle.model.specs.declared.command.Command.{Command}
 use Rattle.model.specs.declared.command.Command.TheVariants as command
 use Rattle.model.specs.declared.geometry.Geometry.{Geometry}
 use Rattle.model.specs.declared.line.Line.TheVariants as line
-use Rattle.model.specs.Run.{Reply, Nothing, BadLine, Told, Turn}
+use Rattle.model.specs.Run.{Reply, Told, Turn}
 use Rattle.model.specs.Text.{Says}
 use Rattle.runs.specs.declared.unsaved.Unsaved.{Unsaved}
 

@@ -1,4 +1,4 @@
-use Rattle.std.proofs.Common.{Err, Ok, refl, rules, subst, ◌∙◌, take}
+use Rattle.std.proofs.Common.{Ok, refl, rules, subst, ◌∙◌, take}
 use Rattle.std.proofs.lemmas.Result.{err_from_is_err_and}
 use Rattle.runs.specs.declared.script_pieces.Piece.{Piece}
 use Rattle.runs.specs.Taking.{ReadsPiece}

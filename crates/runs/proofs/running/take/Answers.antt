@@ -1,4 +1,4 @@
-use Rattle.std.proofs.Common.{Err, Ok, List, ℕ, option_map, refl, sym, subst}
+use Rattle.std.proofs.Common.{Err, Ok, option_map, refl, sym, subst}
 use Rattle.std.proofs.lemmas.Result.{err_from_is_err_and}
 use Rattle.script.specs.Lines.{IsTextOf}
 use Rattle.runs.proofs.Turning.{answered, is_bad, skipped}

@@ -1,4 +1,4 @@
-use Rattle.std.proofs.Common.{[], Err, Ok, Bool, false, true, refl, subst}
+use Rattle.std.proofs.Common.{[], Err, Ok, refl}
 use Rattle.std.proofs.lemmas.Result.{err_from_is_err_and}
 use Rattle.script.specs.declared.fault.RunFault.TheVariants as fault
 use Rattle.runs.proofs.ScriptLines.{rest_of}
