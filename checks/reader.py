@@ -192,3 +192,22 @@ def read(data):
     for bank, used in usages(frames).items():
         need(used <= frames[bank].slots[0].number, 10)
     return Saved(shape, header, logged, frames)
+
+
+def littered(data):
+    """The sectors of the clusters with a byte other than 0 where no frame lies: of those at home, and of the log's slots."""
+    shape, offsets = shape_of(data), {}
+    if shape.version == 1:
+        return []
+    for home in shape.homes[: shape.nodes]:
+        offsets.setdefault(home.sector, []).append(home.offset)
+    logged = logged_in(data, shape, header_of(data, shape))
+    clusters = [*offsets.items(), *((sector, offsets[shape.homes[it].sector]) for it, sector in logged.items() if it < shape.nodes)]
+
+    def rest(sector, begins):
+        bytes_there = bytearray(data[SECTOR * sector : SECTOR * (sector + 8)])
+        for begin in begins:
+            bytes_there[begin : begin + 800] = bytes(800)
+        return any(bytes_there)
+
+    return [sector for sector, begins in clusters if rest(sector, begins)]

@@ -1,5 +1,5 @@
 -- What an object without an entry holds is read: nothing that is seen is another.
-use Rattle.std.proofs.Common.{◌≡◌, ℕ, ◌<◌, ◌≤◌, List, length, Option, None, sym, ap, subst, ◌∙◌, arith}
+use Rattle.std.proofs.Common.{◌≡◌, ℕ, ◌<◌, ◌≤◌, List, length, Option, None, refl, sym, ap, subst, ◌∙◌, arith}
 use Rattle.model.specs.Frame.{header_at, held_at}
 use Rattle.model.specs.Sound.{object_count}
 use Rattle.device.specs.Disk.{Disk}
@@ -54,5 +54,6 @@ module _ {D : Type 0} (disk : D → Disk) (d : DurableState D) (m : Memory) (lef
       aside = ap (λ (t : Stored). record { frozen = frozen_seen t m left; saved = t.saved; to_move = t.to_move }) reads.stored;
       later = later;
       grows = omega arith;
+      most = refl;
       looks = λ none idle. reads.any_moment;
     })

@@ -25,6 +25,7 @@ module _ {D : Type 0} (disk : D → Disk) where
     aside = first.aside;
     later = first.later;
     grows = first.grows;
+    most = first.most;
     looks = first.looks;
   }
 
@@ -34,6 +35,7 @@ module _ {D : Type 0} (disk : D → Disk) where
     aside = first.aside;
     later = first.later;
     grows = first.grows;
+    most = first.most;
     looks = first.looks;
   }
 

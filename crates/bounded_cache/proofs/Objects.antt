@@ -1,5 +1,5 @@
 -- What is seen of a cache of which one object was changed.
-use Rattle.std.proofs.Common.{◌≡◌, inl, inr, ℕ, ◌<◌, true, List, length, set, map, Option, Some, None, IsSome, is_some, option_map, true≢false, refl, sym, ap, ◌∙◌, arith, length-set}
+use Rattle.std.proofs.Common.{◌≡◌, inl, inr, ℕ, ◌<◌, true, List, length, set, map, Option, Some, None, IsSome, is_some, option_map, true≢false, refl, sym, ap, subst, ◌∙◌, arith, length-set}
 use Rattle.std.proofs.lemmas.Option.{none-some, same_Some}
 use Rattle.std.proofs.lemmas.List.FromFn.{get_or-map-range_with_len}
 use Rattle.std.proofs.Math.ListN.{get_or-map}
@@ -16,8 +16,9 @@ use Rattle.device.specs.Disk.{Disk}
 use Rattle.migrator.specs.Durable.{DurableState, FrozenPuts, Stored, stored_of}
 use Rattle.cache_entries.specs.declared.entry.Entry.{Entry}
 use Rattle.cache_entries.specs.Entries.{entry_at, with_entry, holding, present_of, room_of}
+use Rattle.cache_entries.specs.Order.{AreOrdered}
 use Rattle.bounded_cache.specs.Memory.{Memory, Owed, mark_at, present_body, content_at, newest_body, contents_in, owed_in}
-use Rattle.bounded_cache.specs.Cache.{CacheState, IsCache, IsAnnouncedIn, IsFetchedIn, cache_of, seats_in, seat_at, with_content_in}
+use Rattle.bounded_cache.specs.Cache.{CacheState, IsBounded, IsCache, IsAnnouncedIn, IsFetchedIn, cache_of, seats_in, seat_at, with_content_in}
 use Rattle.bounded_cache.proofs.Changing.{Changes, kept_of, with_objects, still_cache, contents_changed, contents_same, frozen_same, owed_same}
 
 -- another header in its place, of the same role
@@ -190,6 +191,19 @@ some_room (Some e) some = refl
 pub seat_in : (es : List (Option Entry)) (n : ℕ) → seat_at (seats_in es) n ≡ option_map room_of (entry_at es n)
 unfolding seats_in
 seat_in es n = get_or-map (option_map room_of) es n None
+
+same_room : (o : Option Entry) → is_some (option_map room_of o) ≡ is_some o
+same_room None = refl
+same_room (Some e) = refl
+
+-- the entries of a cache are no more than its capacity
+pub bounded_seen : {D : Type 0} (disk : D → Disk) (d : DurableState D) (m : Memory) (left : ℕ) (order : List ℕ) (most_entries : ℕ) (s : CacheState D) → cache_of disk d m left order most_entries ≡ s
+    → AreOrdered (record { at = m.entries; order = order; most = most_entries }) → IsBounded s
+bounded_seen {D} disk d m left order most_entries s view are = subst (λ (t : CacheState D). IsBounded t) view (record {
+  listed = λ n. are.listed n ∙ sym (ap is_some (seat_in m.entries n) ∙ same_room (entry_at m.entries n));
+  once = are.once;
+  few = are.few;
+})
 
 pub present_is : (o : Option Entry) (c : Content Cap) (r : Role) (newest : Content Cap) → option_map present_of o ≡ Some c → present_body o r newest ≡ c
 present_is None c r newest is = absurd (none-some c is)

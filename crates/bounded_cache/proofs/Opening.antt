@@ -121,7 +121,7 @@ module _ (s : Stored) (hs fh : List ObjectHeader) (fh_count : length fh ≡ leng
   }
 
 -- the same of a durable store that was opened
-module _ {D : Type 0} (disk : D → Disk) (device : D) (d : DurableState D) (hs fh : List ObjectHeader) (fh_count : length fh ≡ length hs) (opened : OpensDurable disk device d hs) where
+module _ {D : Type 0} (disk : D → Disk) (device : D) (d : DurableState D) (hs fh : List ObjectHeader) (fh_count : length fh ≡ length hs) (opened : OpensDurable disk device d) (took : hs ≡ headers (stored_of disk d).saved.frames) where
   abbrev st : Stored
   st = stored_of disk d
 
@@ -132,15 +132,15 @@ module _ {D : Type 0} (disk : D → Disk) (device : D) (d : DurableState D) (hs 
   roles_are = held_roles (disk device).sectors (disk device).seen st.saved opened.holds
 
   pub open_stands : IsCache (stored_of disk d) (blank_memory hs fh) 0 0
-  open_stands = open_cache st hs fh fh_count opened.headers_are roles_are count_is opened.working opened.frozen
+  open_stands = open_cache st hs fh fh_count took roles_are count_is opened.working opened.frozen
 
   pub open_opens : (most : ℕ) → OpensStore disk device (parts_of disk (cache_of disk d (blank_memory hs fh) 0 [] most)) (view_of disk (cache_of disk d (blank_memory hs fh) 0 [] most))
   unfolding untouched
   open_opens most = record {
     sound = opened.sound;
     holds = opened.holds;
-    frames = open_frames st hs fh fh_count opened.headers_are roles_are count_is opened.working opened.frozen;
-    touched = ap (λ (k : ℕ). replicate k false) (each st hs fh fh_count opened.headers_are roles_are count_is opened.working opened.frozen ∙ count_is);
+    frames = open_frames st hs fh fh_count took roles_are count_is opened.working opened.frozen;
+    touched = ap (λ (k : ℕ). replicate k false) (each st hs fh fh_count took roles_are count_is opened.working opened.frozen ∙ count_is);
     frozen = ap (option_map (λ (f : FrozenPuts). record { frames = frozen_in st (blank_memory hs fh); size = f.size; left = 0 })) opened.frozen;
     to_move = opened.to_move;
     durable = opened.durable;

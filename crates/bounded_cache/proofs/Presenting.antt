@@ -106,5 +106,6 @@ module _ {D : Type 0} (disk : D → Disk) where
     aside = refl;
     later = omega arith;
     grows = omega arith;
+    most = refl;
     looks = λ none idle. peeks_started (disk s.durable.beneath) (only_now s.durable.beneath);
   }

@@ -234,6 +234,7 @@ module _ {D : Type 0} (disk : D → Disk) (d : DurableState D) (m : Memory) (lef
               ∙ ap (λ (t : CacheState D). record { frozen = s.frozen; saved = (stored_of disk t.durable).saved; to_move = (stored_of disk t.durable).to_move }) view;
           later = subst (λ (t : CacheState D). (disk t.durable.beneath).failures ≤ (disk new.beneath).failures) view later;
           grows = omega arith;
+          most = refl;
           looks = λ none idle. absurd (omega (arith, none, some_touched s.touched n (ap (λ (t : CacheState D). mark_at t.touched n) (sym view) ∙ touched_here)));
         })
 

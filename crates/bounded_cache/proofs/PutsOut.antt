@@ -101,6 +101,7 @@ module _ {D : Type 0} (disk : D → Disk) (d : DurableState D) (m : Memory) (lef
         ∙ ap (λ (t : CacheState D). record { frozen = s.frozen; saved = (stored_of disk t.durable).saved; to_move = (stored_of disk t.durable).to_move }) view;
     later = subst (λ (t : CacheState D). (disk t.durable.beneath).failures ≤ (disk new.beneath).failures) view later;
     grows = omega arith;
+    most = refl;
     looks = λ none idle. absurd (none-some (record { frames = frozen_in (stored_of disk d) m; size = running_here.0.size; left = left })
         (sym (sym (ap (option_map (λ (f : FrozenPuts). record { frames = frozen_in (stored_of disk d) m; size = f.size; left = left })) running_here.1) ∙ ap (λ (t : CacheState D). t.frozen) view ∙ idle)));
   }

@@ -1,5 +1,5 @@
 -- The object store that holds so many objects in memory.
-use Rattle.std.specs.Prelude.{◌≡◌, ◌⊎◌, ℕ, ◌<◌, ◌≤◌, Bool, true, false, Option, Some, None, IsSome, option_map, count_by, List, ◌∷◌, length, map, slice_index_or, slice_set, ◌||◌}
+use Rattle.std.specs.Prelude.{◌≡◌, ◌⊎◌, ℕ, ◌<◌, ◌≤◌, Bool, true, false, Option, Some, None, IsSome, is_some, option_map, count_by, List, ◌∷◌, length, map, slice_index_or, slice_set, ◌||◌}
 use Rattle.std.specs.List.{range_with_len}
 use Rattle.model.specs.declared.capability.Cap.{Cap}
 use Rattle.model.specs.declared.frame.ObjectHeader.{ObjectHeader}
@@ -9,6 +9,7 @@ use Rattle.model.specs.declared.object.Role.TheVariants as role
 use Rattle.model.specs.Frame.{header_at}
 use Rattle.model.specs.Keepable.{AreKeepable}
 use Rattle.model.specs.Machine.{touched_count}
+use Rattle.model.specs.Revoke.{is_member}
 use Rattle.model.specs.Sound.{object_count}
 use Rattle.device.specs.Disk.{Disk}
 use Rattle.device.specs.Moments.{Peeks}
@@ -21,7 +22,7 @@ use Rattle.object_store.specs.Store.{FrozenFrames, Aside, View, stabilized}
 use Rattle.cache_entries.specs.declared.entry.Entry.{Entry}
 use Rattle.bounded_cache.specs.declared.held.Held.{Held}
 use Rattle.cache_entries.specs.Entries.{entry_at, room_of}
-use Rattle.cache_entries.specs.Order.{without}
+use Rattle.cache_entries.specs.Order.{AllDiffer, without}
 use Rattle.bounded_cache.specs.Memory.{Memory, Owed, Nothing, owed_body, mark_at, present_at, frozen_at, contents_in, frozen_in, owed_in}
 
 -- ---- what is seen of it
@@ -88,10 +89,17 @@ module _ {D : Type 0} (disk : D → Disk) where
     pub aside : aside_of t ≡ aside_of s
     pub later : (disk s.durable.beneath).failures ≤ (disk t.durable.beneath).failures
     pub grows : touched_count s.touched ≤ touched_count t.touched
+    pub most : t.most ≡ s.most
     pub looks : touched_count t.touched ≡ 0 → s.frozen ≡ None → Peeks (disk s.durable.beneath) (disk t.durable.beneath)
 
 abbrev pub seat_at : List (Option (Content Cap)) → ℕ → Option (Content Cap)
 seat_at seats n = slice_index_or seats n None
+
+-- the number of entries is at most the capacity: each number with an entry stands once in the order of use
+pub record IsBounded {D : Type 0} (s : CacheState D) : Type 0 where
+  pub listed : (n : ℕ) → is_member s.order n ≡ is_some (seat_at s.seats n)
+  pub once : AllDiffer s.order
+  pub few : length s.order ≤ s.most
 
 abbrev pub owed_at : List Owed → ℕ → Owed
 owed_at owed n = slice_index_or owed n Nothing

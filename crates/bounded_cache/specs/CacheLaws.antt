@@ -23,6 +23,7 @@ module _ {D : Type 0} (disk : D → Disk) where
     aside = refl;
     later = omega arith;
     grows = omega arith;
+    most = refl;
     looks = λ none idle. peeks_started (disk s.durable.beneath) (only_now s.durable.beneath);
   }
 
@@ -33,6 +34,7 @@ module _ {D : Type 0} (disk : D → Disk) where
     aside = second.aside ∙ first.aside;
     later = omega (arith, first.later, second.later);
     grows = omega (arith, first.grows, second.grows);
+    most = second.most ∙ first.most;
     looks = λ none idle.
         let one = first.looks (omega (arith, none, second.grows)) idle in
         let two = second.looks none (ap (λ (a : Aside). a.frozen) first.aside ∙ idle) in
@@ -47,6 +49,7 @@ module _ {D : Type 0} (disk : D → Disk) where
     aside = first.aside;
     later = first.later;
     grows = first.grows;
+    most = first.most;
     looks = first.looks;
   }
 

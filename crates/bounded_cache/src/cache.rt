@@ -83,7 +83,7 @@ impl<D: Device> Model for BoundedCache<D> {
 
 impl<D: Device> BoundedCache<D> {
     ghost use Rattle.bounded_cache.specs.Memory.{Nothing, Shared, Apart, let_go, mark_at, masked};
-    ghost use Rattle.bounded_cache.specs.Cache.{GoesOnIn, IsFetchedIn, IsAnnouncedIn, on_device, owed_at, parts_of, pending_count, seat_at, with_content_in, with_seat, without_seat};
+    ghost use Rattle.bounded_cache.specs.Cache.{GoesOnIn, IsBounded, IsFetchedIn, IsAnnouncedIn, on_device, owed_at, parts_of, pending_count, seat_at, with_content_in, with_seat, without_seat};
     ghost use Rattle.cache_entries.specs.Order.{without};
     ghost use Rattle.bounded_cache.specs.contracts.cache.BoundedCache.{the_row};
 
@@ -100,6 +100,14 @@ impl<D: Device> BoundedCache<D> {
         ensures { result.now ≡ self.now.headers }
     {
         &self.table
+    }
+
+    /// The number of objects in memory: never more than the capacity that the cache was opened with.
+    pub fn len(&self) -> usize
+        ensures count { result ≡ length self.now.order }
+        ensures bounded { IsBounded self.now }
+    {
+        self.entries.len()
     }
 
     /// What an object holds that is in memory.

@@ -154,3 +154,14 @@ keeps_on h old mid new first second = record {
   elsewhere = elsewhere_on (header_sector h) 2 old mid new first.elsewhere second.elsewhere;
   committed = second.committed ∙ first.committed;
 }
+
+pub new_on : (h : CheckpointHeader) (old mid new : Image) → KeepsHeader h old mid → HasNew h mid new → HasNew h old new
+new_on h old mid new kept next = record {
+  written = next.written;
+  elsewhere = elsewhere_on (header_sector h) 2 old mid new kept.elsewhere next.elsewhere;
+  committed = next.committed;
+}
+
+pub either_on : (h : CheckpointHeader) (old mid new : Image) → KeepsHeader h old mid → IsOldOrNew h mid new → IsOldOrNew h old new
+either_on h old mid new first (inl kept) = inl (keeps_on h old mid new first kept)
+either_on h old mid new first (inr next) = inr (new_on h old mid new first next)

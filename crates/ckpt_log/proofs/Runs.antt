@@ -10,7 +10,7 @@ use Rattle.device.specs.Moments.{Elapses, LeavesOnly, Peeks}
 use Rattle.device.proofs.Images.{agrees_is, elsewhere_same}
 use Rattle.device.proofs.Moments.{OnlyNow, CountsNow, in_one_call, leaves_weaker, leaves_on, ends}
 use Rattle.ckpt_log.specs.Commit.{header_sector, gate_sector, IsInOrder, IsInOrderAfter, CommitsOne, Precedes, KeepsHeader, HasNew, IsOldOrNew, IsOld}
-use Rattle.ckpt_log.proofs.Commits.{closing_keeps, header_keeps, opening, precedes_on, keeps_on}
+use Rattle.ckpt_log.proofs.Commits.{closing_keeps, either_on, header_keeps, opening, precedes_on, keeps_on}
 
 -- what a crash leaves while a gate is closed where it is open
 abbrev pub IsClosing : ℕ → Image → Image → Type 0
@@ -37,6 +37,16 @@ pub opening_run : (h : CheckpointHeader) (at : ℕ) (image : Image) {old new : D
 opening_run h at image {old} {new} place fits next written run =
     leaves_weaker {old = old} {new = new} {P = λ c. Elsewhere at 1 image c} (λ c. IsOldOrNew h image c)
     (λ c is. opening h image c fits next written (subst (λ (i : ℕ). Elsewhere i 1 image c) place is)) run
+
+-- a header is written under a closed gate, and then its gate is opened
+pub preparing_run : (h : CheckpointHeader) (image : Image) {old new : Disk} → LeavesOnly old new (λ c. KeepsHeader h image c) → LeavesOnly old new (λ c. IsOldOrNew h image c)
+preparing_run h image {old} {new} run = leaves_weaker {old = old} {new = new} {P = λ c. KeepsHeader h image c} (λ c. IsOldOrNew h image c) (λ c kept. inl kept) run
+
+pub publishing_run : (h : CheckpointHeader) (image mid_image : Image) {old mid new : Disk} → KeepsHeader h image mid_image
+    → LeavesOnly old mid (λ c. KeepsHeader h image c) → LeavesOnly mid new (λ c. IsOldOrNew h mid_image c) → LeavesOnly old new (λ c. IsOldOrNew h image c)
+publishing_run h image mid_image {old} {mid} {new} kept first second =
+    leaves_on {old = old} {mid = mid} {new = new} {P = λ c. IsOldOrNew h image c} (preparing_run h image {old = old} {new = mid} first)
+    (leaves_weaker {old = mid} {new = new} {P = λ c. IsOldOrNew h mid_image c} (λ c. IsOldOrNew h image c) (λ c is. either_on h image mid_image c kept is) second)
 
 -- ---- from a disk whose writes aren't durable
 
@@ -81,3 +91,10 @@ commit_order h {old} {mid} {new} left same first second =
     leaves_on {old = old} {mid = mid} {new = new} {P = λ c. IsInOrderAfter h old c} first
     (leaves_weaker {old = mid} {new = new} {P = λ c. IsInOrder h mid.seen c} (λ c. IsInOrderAfter h old c)
     (λ c is. (old.seen, left, subst (λ (image : Image). IsInOrder h image c) (agrees_is mid.seen old.seen same) is)) second)
+
+-- the header stands while its gate is opened
+pub publishing_order : (h : CheckpointHeader) (image : Image) {old mid new : Disk} → LeavesOnly old mid (λ c. IsInOrder h image c) → LeavesOnly mid new (λ c. c (header_sector h) ≡ header_bytes h)
+    → LeavesOnly old new (λ c. IsInOrder h image c)
+publishing_order h image {old} {mid} {new} first second =
+    leaves_on {old = old} {mid = mid} {new = new} {P = λ c. IsInOrder h image c} first
+    (leaves_weaker {old = mid} {new = new} {P = λ c. c (header_sector h) ≡ header_bytes h} (λ c. IsInOrder h image c) (λ c is. inr (inr is)) second)

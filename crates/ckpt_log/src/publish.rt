@@ -60,23 +60,6 @@ fn put_header<D: Device>(device: &mut D, at: u64, header: CheckpointHeader) -> R
     put_sector(device, at, &bytes)
 }
 
-// Writes an open gate into its sector.
-fn put_open_gate<D: Device>(device: &mut D, at: u64) -> Result<(), Failed>
-    requires inside { at < (D.disk device.old).sectors }
-    requires durable { Only (D.disk device.old).seen (D.disk device.old) }
-    ensures written { OnOk result ((D.disk device.new).seen at ≡ gate_bytes Open) }
-    ensures durable { OnOk result (Only (D.disk device.new).seen (D.disk device.new)) }
-    ensures size { (D.disk device.new).sectors ≡ (D.disk device.old).sectors }
-    ensures elsewhere { Elsewhere at 1 (D.disk device.old).seen (D.disk device.new).seen }
-    ensures any_moment { LeavesOnly (D.disk device.old) (D.disk device.new)
-        (λ c. Elsewhere at 1 (D.disk device.old).seen c) }
-    ensures cause { Counts (D.disk device.old) (D.disk device.new) result }
-{
-    let mut gate = [0; SECTOR_SIZE];
-    encode_gate(Gate::Open, &mut gate);
-    put_sector(device, at, &gate)
-}
-
 // Closes the gate of a header where it is open, and writes the header under it. A crash at any
 // moment leaves the committed header that there is.
 fn prepare<D: Device>(device: &mut D, header: CheckpointHeader) -> Result<(), Failed>
@@ -121,30 +104,10 @@ fn open_gate<D: Device>(device: &mut D, header: CheckpointHeader) -> Result<(), 
         (λ c. c (header_sector header) ≡ header_bytes header) }
     ensures cause { Counts (D.disk device.old) (D.disk device.new) result }
 {
-    put_open_gate(device, HeaderSlot::of(header).gate())
-}
-
-// Commits a header where all is durable that was written before it.
-fn publish_durable<D: Device>(device: &mut D, header: CheckpointHeader) -> Result<(), Failed>
-    requires inside { 5 ≤ (D.disk device.old).sectors }
-    requires durable { Only (D.disk device.old).seen (D.disk device.old) }
-    requires next { Precedes (D.disk device.old).seen header }
-
-    ensures committed { OnOk result
-        (HasNew header (D.disk device.old).seen (D.disk device.new).seen) }
-    ensures opened { OnOk result
-        ((D.disk device.new).seen (gate_sector header) ≡ gate_bytes Open) }
-    ensures seen { IsOldOrNew header (D.disk device.old).seen (D.disk device.new).seen }
-    ensures durable { OnOk result (Only (D.disk device.new).seen (D.disk device.new)) }
-    ensures size { (D.disk device.new).sectors ≡ (D.disk device.old).sectors }
-    ensures any_moment { LeavesOnly (D.disk device.old) (D.disk device.new)
-        (λ c. IsOldOrNew header (D.disk device.old).seen c) }
-    ensures in_order { LeavesOnly (D.disk device.old) (D.disk device.new)
-        (λ c. IsInOrder header (D.disk device.old).seen c) }
-    ensures cause { Counts (D.disk device.old) (D.disk device.new) result }
-{
-    prepare(device, header)?;
-    open_gate(device, header)
+    let at = HeaderSlot::of(header).gate();
+    let mut gate = [0; SECTOR_SIZE];
+    encode_gate(Gate::Open, &mut gate);
+    put_sector(device, at, &gate)
 }
 
 impl<'a> Log<'a> {
@@ -186,6 +149,7 @@ impl<'a> Log<'a> {
         ensures cause { Counts (D.disk device.old) (D.disk device.new) result }
     {
         device.sync()?;
-        publish_durable(device, header)
+        prepare(device, header)?;
+        open_gate(device, header)
     }
 }

@@ -3,9 +3,10 @@ ghost use Rattle.std.specs.Prelude.{◌≡◌, ◌<◌, ◌≤◌, length, IfOk,
 ghost use Rattle.model.specs.declared.object.Content.TheVariants as content;
 ghost use Rattle.device.specs.Calls.{Counts};
 ghost use Rattle.layout.specs.Frame.{IsFrameOf, frame_bytes, frame_of, page_frame_bytes};
-ghost use Rattle.layout.specs.Homes.{place_length};
+ghost use Rattle.layout.specs.Homes.{place_length, shape_of};
 ghost use Rattle.layout.specs.Image.{bytes_at, sectors_from, slot_sector};
 ghost use Rattle.frame_io.specs.Calls.{ReadsOnly, WritesAt};
+ghost use Rattle.frame_io.specs.Clusters.{HasZerosBeside};
 ghost use Rattle.frame_io.specs.Fault.{CountsFailed};
 ghost use Rattle.frame_io.specs.Frames.{IsObject, IsRefused};
 
@@ -49,8 +50,8 @@ impl<'a> Log<'a> {
     }
 
     /// Writes the frame of an object into a slot of the half of a generation, and touches that slot
-    /// alone: a crash at any moment leaves all other sectors as they could have been left before.
-    /// It is refused exactly where the device fails, and the sectors may then hold any bytes.
+    /// alone: a crash at any moment leaves all other sectors as they could have been left before. In a cluster all bytes
+    /// beside the frame are 0. It is refused exactly where the device fails, and the sectors may then hold any bytes.
     pub fn write_slot<D: Device>(
         &self,
         device: &mut D,
@@ -66,6 +67,9 @@ impl<'a> Log<'a> {
             (slot_sector self.now generation slot) self.now number
             ≡ frame_bytes self.now.geometry number
             (record { header = header; content = content.now })) }
+        ensures beside { OnOk result (HasZerosBeside (shape_of self.now number)
+            (sectors_from (D.disk device.new).seen (slot_sector self.now generation slot)
+            (place_length self.now number))) }
         ensures writes { WritesAt (slot_sector self.now generation slot)
             (place_length self.now number) (D.disk device.old) (D.disk device.new) }
         ensures cause { Counts (D.disk device.old) (D.disk device.new) result }

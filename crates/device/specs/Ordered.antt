@@ -1,4 +1,4 @@
--- Two runs of sectors, of which the second is written once the first is durable.
+-- Two runs of sectors. The second is written once the first is durable.
 use Rattle.std.specs.Prelude.{◌⊎◌, ℕ, List}
 use Rattle.device.specs.Disk.{Image}
 use Rattle.device.specs.Calls.{sectors_of, AreSectors, Elsewhere}

@@ -1,4 +1,4 @@
-// Writes of which each is durable before the next begins, over any device.
+// Writes, each durable before the next begins, over any device.
 ghost use Rattle.std.specs.Prelude.{◌≡◌, ◌≤◌, ◌+◌, ◌%◌, length, OnOk};
 ghost use Rattle.device.specs.Disk.{Image};
 ghost use Rattle.device.specs.Calls.{Elsewhere, sectors_of, AreSectors, Only, Counts};

@@ -170,7 +170,7 @@ fn a_sync_without_room_makes_nothing_durable(rt: HostRuntime) -> Result<(), Fail
     refused_syncs(&rt, &mut memory)
 }
 
-// A device that stops after so many calls, after the calls of `rewritten`, a sync and a read; and
+// A device that stops after some calls, after the calls of `rewritten`, a sync and a read; and
 // which of them succeeded.
 fn stopped(alloc: Global, calls: u64, outcome: Outcome) -> Result<(Fuse<Memory>, [bool; 5]), Fail>
     ensures { IfOk result (λ r. (fused memory_disk r.0).sectors ≡ 4) }

@@ -10,7 +10,7 @@ use std::test::Fail;
 // A device that was opened or made, or why it wasn't.
 type Opened<D> = Result<D, FileFault>;
 
-// A file at this path with so many bytes, each of them 3.
+// A file at this path with `length` bytes, each of them 3.
 fn write_threes(rt: &HostRuntime, path: &str, length: usize) -> Result<(), Fail> {
     let bytes = vec![in rt.alloc(); 3; length]?;
     fs::write(rt, path, bytes.as_slice())?;
@@ -24,7 +24,7 @@ fn taken(rt: &HostRuntime, path: &str) -> Result<Vec<u8>, Fail> {
     Ok(bytes)
 }
 
-// There are so many bytes: 8 from one place to another, and else 3.
+// There are `length` bytes: 8 from one place to another, and else 3.
 fn are_threes(rt: &impl Abort, bytes: &[u8], length: usize, from: usize, to: usize) {
     assert_eq!(rt; bytes.len(), length);
     for (place, byte) in bytes.iter().enumerate() {
@@ -204,7 +204,7 @@ fn a_file_that_fails_fails_from_then_on(rt: HostRuntime) -> Result<(), Fail> {
     Ok(())
 }
 
-// Beside a device in a file, what another one is told there that is opened, opened to be read, or
+// The fault of a second device in a file that has one: opened, opened to be read, or
 // made.
 fn told_beside<D: Device>(
     rt: &HostRuntime,

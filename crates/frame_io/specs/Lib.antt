@@ -1,3 +1,4 @@
 pub mod Calls
+pub mod Clusters
 pub mod Fault
 pub mod Frames

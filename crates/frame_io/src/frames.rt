@@ -7,9 +7,11 @@ ghost use Rattle.layout.specs.Frame.{IsFrameOf, frame_bytes, frame_of, page_fram
 ghost use Rattle.layout.specs.Image.{sectors_from, shaped_at};
 ghost use Rattle.layout.specs.Shape.{IsShapeFor, shape_length};
 ghost use Rattle.frame_io.specs.Calls.{ReadsOnly, WritesAt};
+ghost use Rattle.frame_io.specs.Clusters.{HasZerosBeside, IsAlone};
 ghost use Rattle.frame_io.specs.Fault.{CountsFailed};
 ghost use Rattle.frame_io.specs.Frames.{IsHeaderAt, IsObject, IsRefused};
 
+use crate::clusters::blank_behind;
 use crate::fault::ReadFault;
 use crate::sectors::{read_sectors, write_sectors};
 use device::{Device, Failed, SECTOR_SIZE};
@@ -18,6 +20,9 @@ use layout::{
     encode_frame, encode_page, header_in, pack_node, unpack_node,
 };
 use model::{Cap, Content, Geometry, ObjectHeader};
+
+// The places for nodes in a cluster.
+const PLACES: u64 = 5;
 
 // Reads the frame of a node's number in 2 sectors of its own.
 fn read_node_frame<D: Device>(
@@ -185,8 +190,7 @@ fn write_node_frame<D: Device>(
     write_sectors(device, at, 2, &node)
 }
 
-// Writes the frame of a node's number into the 8 sectors of a cluster, with zeros in the place of
-// each other rank.
+// Writes the frame of a node's number into the 8 sectors of a cluster, with zeros beside it.
 fn write_packed_frame<D: Device>(
     device: &mut D,
     at: u64,
@@ -201,6 +205,7 @@ fn write_packed_frame<D: Device>(
     requires inside { at + 8 ≤ (D.disk device.old).sectors }
     ensures written { OnOk result (shaped_at (D.disk device.new).seen at (shape.Packed rank)
         ≡ frame_bytes geometry number (record { header = header; content = content.now })) }
+    ensures alone { OnOk result (IsAlone rank (sectors_from (D.disk device.new).seen at 8)) }
     ensures writes { WritesAt at 8 (D.disk device.old) (D.disk device.new) }
     ensures cause { Counts (D.disk device.old) (D.disk device.new) result }
 {
@@ -208,6 +213,7 @@ fn write_packed_frame<D: Device>(
     encode_frame(geometry, number, header, content, &mut node);
     let mut cluster = [0; CLUSTER_BYTES];
     pack_node(&node, rank as usize, &mut cluster);
+    blank_behind(&mut cluster, PLACES);
     write_sectors(device, at, 8, &cluster)
 }
 
@@ -256,7 +262,7 @@ pub fn write_page<D: Device>(
 
 /// Writes the frame of an object of this shape into the sectors from `at` on, and touches those
 /// alone: a crash at any moment leaves all other sectors as they could have been left before. In a
-/// cluster the places of the other nodes get zeros. It is refused exactly where the device fails,
+/// cluster all bytes beside the frame are 0. It is refused exactly where the device fails,
 /// and those sectors may then hold any bytes. No memory is taken.
 pub fn write_frame<D: Device>(
     device: &mut D,
@@ -271,6 +277,8 @@ pub fn write_frame<D: Device>(
     requires inside { at + shape_length shape ≤ (D.disk device.old).sectors }
     ensures written { OnOk result (shaped_at (D.disk device.new).seen at shape
         ≡ frame_bytes geometry number (record { header = header; content = content.now })) }
+    ensures beside { OnOk result (HasZerosBeside shape
+        (sectors_from (D.disk device.new).seen at (shape_length shape))) }
     ensures writes { WritesAt at (shape_length shape) (D.disk device.old) (D.disk device.new) }
     ensures cause { Counts (D.disk device.old) (D.disk device.new) result }
 {

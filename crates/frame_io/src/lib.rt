@@ -3,10 +3,12 @@
 //! write do to the device, and why nothing is read.
 #![tactic(auto)]
 
+mod clusters;
 mod fault;
 mod frames;
 mod sectors;
 
+pub use clusters::blank_behind;
 pub use fault::ReadFault;
 pub use frames::{read_frame, read_header, read_packed, write_frame, write_page};
 pub use sectors::{read_sectors, write_sectors};

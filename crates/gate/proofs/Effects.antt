@@ -13,6 +13,7 @@ use Rattle.model.specs.declared.geometry.Geometry.{Geometry}
 use Rattle.model.specs.declared.object.Object.{Object}
 use Rattle.model.specs.declared.object.State.TheVariants.{Available}
 use Rattle.model.specs.declared.order.Arguments.{Arguments}
+use Rattle.model.specs.declared.order.ResultCode.{ResultCode}
 use Rattle.model.specs.Frame.{objects_of}
 use Rattle.model.specs.Invoke.{Effect, can_start, invoke, on_kernel_object, ordered, through_gate}
 use Rattle.model.specs.Keepable.{AreCurrent, AreKeepable, IsSoundFrames, world_at}
@@ -34,7 +35,7 @@ use Rattle.capability.specs.declared.order.OrderPlan.{OrderPlan}
 use Rattle.capability.specs.declared.order.Reply.{Reply}
 use Rattle.capability.specs.Changes.{changed}
 use Rattle.space_bank.specs.Planning.{writer_count, writers}
-use Rattle.gate.specs.Invoke.{Invokes, IsAsked, IsKernelObject, Overfills}
+use Rattle.gate.specs.Invoke.{Invokes, IsAsked, IsKernelObject, Overfills, result_code}
 use Rattle.gate.specs.Ordering.{IsPlanned, answered, arguments_of, finished, ordered_by, state_before}
 use Rattle.gate.specs.Plan.{FitsCap, fetched_of}
 use Rattle.gate.proofs.Fits.{held_fits}
@@ -63,6 +64,22 @@ object_by g os i (Start p key) object = absurd object
 object_by g os i (Resume p) object = absurd object
 object_by g os i (Bank b) object = refl
 object_by g os i Discrim object = refl
+
+-- the result code of an invocation by the capability that is invoked
+abbrev pub code_by : Geometry → List Object → Invocation → Capability → Option ResultCode
+code_by g os i c = elim c [ Start q key ↦ None | Resume q ↦ None | _ ↦ Some (ordered g os i).code ]
+
+object_code : (g : Geometry) (os : List Object) (i : Invocation) (c : Capability) → IsKernelObject c → code_by g os i c ≡ Some (ordered g os i).code
+object_code g os i Void object = refl
+object_code g os i (Number n) object = refl
+object_code g os i (Page o a) object = refl
+object_code g os i (Node o a) object = refl
+object_code g os i (Space o h a) object = refl
+object_code g os i (Process p) object = refl
+object_code g os i (Start p key) object = absurd object
+object_code g os i (Resume p) object = absurd object
+object_code g os i (Bank b) object = refl
+object_code g os i Discrim object = refl
 
 pub object_invoked : (g : Geometry) (os : List Object) (i : Invocation) (caller : Caller) → IsAsked os i caller → IsKernelObject caller.invoked → invoke g os i ≡ Some (on_kernel_object g os i)
 object_invoked g os i caller is object = invoke_is g os i ∙ ap (invoked_by g os i) (sym is.invoked) ∙ object_by g os i caller.invoked object
@@ -181,3 +198,10 @@ module _ (g : Geometry) (os : List Object) (i : Invocation) (caller : Caller) (p
         subst (FitsCap g) (ap (λ (o : OrderOutcome). o.capability) planned.plans.here)
         (held_fits g (order g os caller.invoked word args).objects outcome.now.frame.kinds few (order g os caller.invoked word args).capability
         (held_to (order g os caller.invoked word args).objects (order g os caller.invoked word args).capability outcome.held))
+
+    -- the code of the plan is the order's
+    pub order_code : IsKernelObject caller.invoked → result_code g os i ≡ Some plan.reply.code
+    order_code object =
+        ap (code_by g os i) (sym is.invoked)
+        ∙ object_code g os i caller.invoked object
+        ∙ ap Some (ap (λ (o : OrderOutcome). o.code) ordered_asked ∙ planned.plans.code (state_before caller.operation os caller.process) (frame_before caller.operation os caller.process process))

@@ -17,9 +17,9 @@ use Rattle.model_laws.proofs.SoundOrders.{IsNow}
 use Rattle.model_laws.proofs.SoundParts.{held_to}
 use Rattle.gate.specs.declared.gates.Gate.{Gate}
 use Rattle.capability.specs.declared.order.Caller.{Caller}
-use Rattle.gate.specs.Invoke.{IsAsked, entered, gate_capability, received, written_through}
+use Rattle.gate.specs.Invoke.{IsAsked, entered, gate_capability, received, result_code, written_through}
 use Rattle.gate.specs.Plan.{FitsCap}
-use Rattle.gate.proofs.Effects.{invoke_is, invoked_by}
+use Rattle.gate.proofs.Effects.{code_by, invoke_is, invoked_by}
 use Rattle.gate.proofs.Fits.{held_fits, resume_fits}
 
 -- its effect
@@ -53,6 +53,14 @@ pub gate_stalled : (g : Geometry) (os : List Object) (i : Invocation) (caller : 
     (gate.is_resume || can_start os i gate.process) ≡ false → invoke g os i ≡ None
 gate_stalled g os i caller gate is same can =
     invoke_is g os i ∙ ap (invoked_by g os i) (sym is.invoked ∙ same) ∙ stalled_by g os i gate.process gate.key gate.is_resume can
+
+-- it has no result code
+no_code : (g : Geometry) (os : List Object) (i : Invocation) (q key : ℕ) (b : Bool) → code_by g os i (gate_capability (made q key b)) ≡ None
+no_code g os i q key true = refl
+no_code g os i q key false = refl
+
+pub gate_code : (g : Geometry) (os : List Object) (i : Invocation) (caller : Caller) (gate : Gate) → IsAsked os i caller → caller.invoked ≡ gate_capability gate → result_code g os i ≡ None
+gate_code g os i caller gate is same = ap (code_by g os i) (sym is.invoked ∙ same) ∙ no_code g os i gate.process gate.key gate.is_resume
 
 -- a gate is that of a process
 gate_names : (os : List Object) (q key : ℕ) (b : Bool) → NamesItsKind os (gate_capability (made q key b)) → IsTrue (is_process os q)

@@ -1,11 +1,12 @@
 -- What comes of an invocation, from what its looks, its announcing and its change told.
-use Rattle.std.proofs.Common.{◌≡◌, ℕ, ◌+◌, ◌^◌, ◌<◌, ◌≤◌, Bool, List, None, Some, Result, Ok, Err, refl, sym, ap, ◌∙◌, subst, ⊎_elim, arith}
+use Rattle.std.proofs.Common.{◌≡◌, ℕ, ◌+◌, ◌^◌, ◌<◌, ◌≤◌, Bool, List, Option, None, Some, Result, Ok, Err, refl, sym, ap, ◌∙◌, subst, ⊎_elim, arith}
 use Rattle.std.proofs.lemmas.Bool.{cases_lt}
-use Rattle.std.specs.Prelude.{IsErrOf, IsTrue, OnErr}
+use Rattle.std.specs.Prelude.{IfOk, IsErrOf, IsTrue, OnErr}
 use Rattle.model.specs.declared.command.Command.TheVariants as command
 use Rattle.model.specs.declared.command.Invocation.{Invocation}
 use Rattle.model.specs.declared.geometry.Geometry.{Geometry}
 use Rattle.model.specs.declared.object.Object.{Object}
+use Rattle.model.specs.declared.order.ResultCode.{ResultCode}
 use Rattle.model.specs.Invoke.{Effect, invoke}
 use Rattle.model.specs.Keepable.{AreCurrent, AreKeepable}
 use Rattle.model.specs.Machine.{touching, touched_count}
@@ -16,7 +17,7 @@ use Rattle.capability.specs.declared.present.PrepareFault.TheVariants as prepare
 use Rattle.capability.specs.Parts.{IsUnchanged, Looks, Parts, Prepares, Renews, frames_of, objects_in}
 use Rattle.gate.specs.declared.fault.InvokeFault.{InvokeFault}
 use Rattle.gate.specs.declared.fault.InvokeFault.TheVariants as fault
-use Rattle.gate.specs.Invoke.{Invoked, Invokes, Overfills, fault_of}
+use Rattle.gate.specs.Invoke.{Invoked, Invokes, Overfills, fault_of, result_code}
 use Rattle.gate.proofs.Effects.{invokes_by, overfills_by, sound_after}
 use Rattle.gate.proofs.Fits.{in_geometry}
 use Rattle.gate.proofs.Listed.{full_fault, on_ok}
@@ -24,7 +25,7 @@ use Rattle.gate.proofs.Renewing.{renews_looked}
 use Rattle.gate.proofs.Standing.{LooksAs, keeps_looked, looked_as, looked_keepable, looked_objects, looks_again, prepared_as}
 
 -- no want of memory or failure is told as a process that isn't available
-never_stalled : (e : PrepareFault) → IsErrOf {T = Unit {0}} (Err (fault_of e)) fault.Stalled → ⊥
+never_stalled : (e : PrepareFault) → IsErrOf {T = Option ResultCode} (Err (fault_of e)) fault.Stalled → ⊥
 never_stalled prepare.NoMemory is = cc
 never_stalled prepare.LogFull is = cc
 never_stalled prepare.Failed is = cc
@@ -46,6 +47,10 @@ on_err : {T E : Type 0} (r : Result T E) {P Q : Type 0} → (P → Q) → OnErr 
 on_err (Ok x) f p = tt
 on_err (Err e) f p = f p
 
+if_ok : {T E : Type 0} (r : Result T E) {P Q : T → Type 0} → ((x : T) → P x → Q x) → IfOk r P → IfOk r Q
+if_ok (Ok x) f p = f x p
+if_ok (Err e) f p = tt
+
 -- what rose by no failure stayed
 unrisen : (m n : ℕ) → m ≤ n → (m < n → ⊥) → n ≡ m
 unrisen m n later stayed = ⊎_elim (λ (rose : m < n). absurd (stayed rose)) (λ (within : n ≤ m). omega arith) (cases_lt m n)
@@ -55,6 +60,7 @@ module _ {S : Type 0} (parts : S → Parts) (Leads : S → S → Type 0) (i : In
   pub unlooked : {T : Type 0} (s t : S) (e : PrepareFault) → Looks {T = T} parts Leads s t (Err e) → Invoked parts Leads s t i (Err (fault_of e))
   unlooked s t e looks = record {
     done = tt;
+    code = tt;
     stalled = λ is. absurd (never_stalled e is);
     full = λ is. absurd (looks.room (full_fault e is));
     sound = tt;
@@ -81,6 +87,7 @@ module _ {S : Type 0} (parts : S → Parts) (Leads : S → S → Type 0) (i : In
     pub found_stalled : invoke (parts s).geometry (objects_in (parts s)) i ≡ None → Invoked parts Leads s t i (Err fault.Stalled)
     found_stalled none = record {
       done = tt;
+      code = tt;
       stalled = λ is. none;
       full = λ is. cc;
       sound = tt;
@@ -92,9 +99,10 @@ module _ {S : Type 0} (parts : S → Parts) (Leads : S → S → Type 0) (i : In
       leads = looks.aside.leads;
     }
 
-    pub invoked_looked : (r : Result (Unit {0}) InvokeFault) → Invoked parts Leads t u i r → Invoked parts Leads s u i r
+    pub invoked_looked : (r : Result (Option ResultCode) InvokeFault) → Invoked parts Leads t u i r → Invoked parts Leads s u i r
     invoked_looked r is = record {
       done = on_ok r (before (λ g os ts. Invokes g i os ts (objects_in (parts u)) (parts u).touched)) is.done;
+      code = if_ok r (λ code told. before (λ g os ts. code ≡ result_code g os i) told) is.code;
       stalled = λ e. before (λ g os ts. invoke g os i ≡ None) (is.stalled e);
       full = λ e. before (λ g os ts. Overfills g i os ts) (is.full e);
       sound = on_ok r (keeps_looked (parts s) (parts t) (parts u) (looked_as looks.aside)) is.sound;
@@ -116,6 +124,7 @@ module _ {S : Type 0} (parts : S → Parts) (Leads : S → S → Type 0) (i : In
       pub unannounced : {U : Type 0} (f : PrepareFault) → Prepares {T = U} parts Leads t u ns (Err f) → Invoked parts Leads s u i (Err (fault_of f))
       unannounced f told = record {
         done = tt;
+        code = tt;
         stalled = λ is. absurd (never_stalled f is);
         full = λ is. overfills_by (parts s).geometry i (objects_in (parts s)) (parts s).touched e invoked
             (subst (λ (ms : List ℕ). (parts s).geometry.log < touched_count (touching (parts s).touched ms)) written
@@ -144,12 +153,14 @@ module _ {S : Type 0} (parts : S → Parts) (Leads : S → S → Type 0) (i : In
         pub carried_out : (parts u).touched ≡ (parts m).touched → (parts u).geometry ≡ (parts m).geometry → Leads m u → objects_in (parts u) ≡ e.objects
             → Fits (command.Invoke i) → IsTrue (is_running_process (objects_in (parts s)) i.process) → AreCurrent (frames_of (parts u))
             → ((age : ℕ) → age + 1 < 2 ^ 64 → AreKeepable (parts m).geometry age (frames_of (parts m)) → AreKeepable (parts m).geometry (age + 1) (frames_of (parts u)))
-            → Renews (parts s) (parts u) → Invoked parts Leads s u i (Ok tt)
-        carried_out touched geometry leads objects fits running current keepable renews = record {
+            → Renews (parts s) (parts u) → (code : Option ResultCode) → code ≡ result_code (parts s).geometry (objects_in (parts s)) i
+            → Invoked parts Leads s u i (Ok code)
+        carried_out touched geometry leads objects fits running current keepable renews code is = record {
           done = invokes_by (parts s).geometry i (objects_in (parts s)) (objects_in (parts u)) (parts s).touched (parts u).touched e invoked objects
               (touched ∙ told.touched ∙ ap (λ (ts : List Bool). touching ts ns) looks.aside.touched ∙ ap (touching (parts s).touched) written)
               (subst (λ (ts : List Bool). touched_count ts ≤ (parts s).geometry.log) (sym touched)
               (subst (λ (g : Geometry). touched_count (parts m).touched ≤ g.log) there.geometry told.within));
+          code = is;
           stalled = λ is. cc;
           full = λ is. cc;
           sound = λ age young sound. sound_after (parts s).geometry age (frames_of (parts s)) (frames_of (parts u)) i e young fits running invoked objects sound

@@ -261,6 +261,7 @@ object_planned g os us i caller plan args first list same now few fits is args_a
     } in
     planned_by g os i caller plan args first list (written_of plan.change) args_are first_is listed (record {
       here = sym (subst (λ (vs : List Object). outcome_of vs plan ≡ order g vs c (slice_index i.words 0) args) same as_planned);
+      code = λ vs frame. (changes vs (λ p. (frame.alike p).annex ∙ ap (λ (ws : List Object). annex_at ws p) (sym same))).code;
       objects = λ vs frame. (changes vs (λ p. (frame.alike p).annex ∙ ap (λ (ws : List Object). annex_at ws p) (sym same))).objects;
       written = λ vs frame. (changes vs (λ p. (frame.alike p).annex ∙ ap (λ (ws : List Object). annex_at ws p) (sym same))).written;
       may = λ vs frame then. edit_change g vs (written_of plan.change) plan.change (edit_alike g os vs frame (written_of plan.change) plan.change may);
@@ -281,6 +282,7 @@ bank_plans g os b w asked args plan list now bank names is listed plans =
     λ us frame. bank_ordered g us b w asked args is ∙ plans.outcome us frame in
     record {
       here = at os (frame_refl os);
+      code = λ us frame. ap (λ (o : OrderOutcome). o.code) (at us frame);
       objects = λ us frame. ap (λ (o : OrderOutcome). o.objects) (at us frame);
       written = λ us frame. ap (λ (o : OrderOutcome). o.written) (at us frame);
       may = λ us frame then. bank_change g us list plan.change (plans.may us frame then);

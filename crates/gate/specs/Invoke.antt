@@ -1,5 +1,5 @@
--- What an invocation comes to over a store of present frames.
-use Rattle.std.specs.Prelude.{◌≡◌, ◌↔◌, ℕ, ◌+◌, ◌^◌, ◌<◌, ◌≤◌, Bool, List, [], ◌∷◌, None, Some, if◌then◌else◌, slice_set, Result, OnOk, OnErr, IsErrOf}
+-- What an invocation does to a store of present frames.
+use Rattle.std.specs.Prelude.{◌≡◌, ◌↔◌, ℕ, ◌+◌, ◌^◌, ◌<◌, ◌≤◌, Bool, List, [], ◌∷◌, Option, None, Some, if◌then◌else◌, slice_set, Result, IfOk, OnOk, OnErr, IsErrOf}
 use Rattle.model.specs.declared.capability.Capability.{Capability}
 use Rattle.model.specs.declared.capability.Capability.TheVariants.{Start, Resume}
 use Rattle.model.specs.declared.command.Invocation.{Invocation}
@@ -7,7 +7,8 @@ use Rattle.model.specs.declared.command.Operation.{Operation}
 use Rattle.model.specs.declared.command.Operation.TheVariants.{Call, Send}
 use Rattle.model.specs.declared.geometry.Geometry.{Geometry}
 use Rattle.model.specs.declared.object.Object.{Object}
-use Rattle.model.specs.Invoke.{Effect, invoke, after_gate, deliver}
+use Rattle.model.specs.declared.order.ResultCode.{ResultCode}
+use Rattle.model.specs.Invoke.{Effect, invoke, after_gate, deliver, ordered}
 use Rattle.model.specs.Keepable.{IsSoundFrames}
 use Rattle.model.specs.Machine.{touching, touched_count}
 use Rattle.model.specs.Revoke.{consume}
@@ -55,14 +56,19 @@ pub record IsAsked (os : List Object) (i : Invocation) (caller : Caller) : Type 
   pub annex : caller.annex ≡ annex_at os i.process
   pub invoked : caller.invoked ≡ register_at os i.process i.register
 
+-- the result code of an invocation: its order's, or none through a gate
+abbrev pub result_code : Geometry → List Object → Invocation → Option ResultCode
+result_code g os i = elim (register_at os i.process i.register) [ Start q key ↦ None | Resume q ↦ None | _ ↦ Some (ordered g os i).code ]
+
 -- frames that are sound at an age are sound at the next
 abbrev pub KeepsSoundFrames : Parts → Parts → Type 0
 KeepsSoundFrames old new = (age : ℕ) → age < 2 ^ 62 → IsSoundFrames old.geometry age (frames_of old) → IsSoundFrames old.geometry (age + 1) (frames_of new)
 
--- What comes of an invocation, which changes nothing where it isn't carried out. The parameters are ghost members of a
--- store of present frames.
-pub record Invoked {S : Type 0} (parts : S → Parts) (Leads : S → S → Type 0) (old new : S) (i : Invocation) (result : Result (Unit {0}) InvokeFault) : Type 0 where
+-- The outcome of an invocation. After an error nothing has changed. The parameters are ghost members of a store of
+-- present frames.
+pub record Invoked {S : Type 0} (parts : S → Parts) (Leads : S → S → Type 0) (old new : S) (i : Invocation) (result : Result (Option ResultCode) InvokeFault) : Type 0 where
   pub done : OnOk result (Invokes (parts old).geometry i (objects_in (parts old)) (parts old).touched (objects_in (parts new)) (parts new).touched)
+  pub code : IfOk result (λ code. code ≡ result_code (parts old).geometry (objects_in (parts old)) i)
   pub stalled : IsErrOf result fault.Stalled → invoke (parts old).geometry (objects_in (parts old)) i ≡ None
   pub full : IsErrOf result fault.LogFull → Overfills (parts old).geometry i (objects_in (parts old)) (parts old).touched
   pub sound : OnOk result (KeepsSoundFrames (parts old) (parts new))

@@ -1,4 +1,4 @@
--- What an invocation of a kernel object comes to over a store of present frames.
+-- An invocation of a kernel object over a store of present frames: its plan, its change, its reply.
 use Rattle.std.specs.Prelude.{◌≡◌, ℕ, ◌<◌, ◌++◌, true, List, drop, length, if◌then◌else◌, slice_index, slice_index_or}
 use Rattle.std.specs.List.{All}
 use Rattle.model.specs.declared.capability.Capability.{Capability}
@@ -23,19 +23,19 @@ use Rattle.capability.specs.Parts.{Parts, Renews}
 use Rattle.space_bank.specs.Planning.{writer_count, writers}
 use Rattle.gate.specs.Plan.{MayChange}
 
--- what an order is given by an invocation
+-- the arguments that an invocation gives its order
 abbrev pub arguments_of : List Object → Invocation → Arguments
 arguments_of os i = record { first = slice_index i.words 1; second = slice_index i.words 2; capability = slice_index_or (sent_by os i) 0 Void }
 
--- the objects as the order finds them: a process that returns is available
+-- the objects that the order finds: a process that returns is available
 abbrev pub state_before : Operation → List Object → ℕ → List Object
 state_before operation os p = elim operation [ Return ↦ with_state os p Available | _ ↦ os ]
 
--- the objects after the reply to a process that called, which is dropped where it doesn't run any more
+-- the objects after the reply to a process that called; the reply is dropped if the process doesn't run any more
 abbrev pub answered : Operation → ℕ → List Object → Reply → List Object
 answered operation p os reply = elim operation [ Call ↦ if is_running_process os p then deliver os p (message_of reply) else os | _ ↦ os ]
 
--- the objects after the order of a caller, which writes the numbers of a list
+-- the objects after a caller's order, which writes the listed numbers
 abbrev pub ordered_by : List Object → Caller → List ℕ → OrderPlan → List Object
 ordered_by os caller list plan = changed (state_before caller.operation os caller.process) list plan.change
 
@@ -43,10 +43,11 @@ ordered_by os caller list plan = changed (state_before caller.operation os calle
 abbrev pub finished : List Object → Caller → List ℕ → OrderPlan → List Object
 finished os caller list plan = answered caller.operation caller.process (ordered_by os caller list plan) plan.reply
 
--- An order on a capability is planned that writes the numbers of a list. Whatever else changes in words, slots and states
--- before it is carried out, it makes the change of the plan, and that may be made.
+-- The plan of an order that writes the listed numbers. Words, slots and states may change before the order is carried
+-- out: it still has the plan's code, makes the plan's change, and may make it.
 pub record Plans (g : Geometry) (os : List Object) (c : Capability) (word : ℕ) (args : Arguments) (list : List ℕ) (plan : OrderPlan) : Type 0 where
   pub here : order g os c word args ≡ outcome_by os list plan
+  pub code : (us : List Object) → SameFrame os us → (order g us c word args).code ≡ plan.reply.code
   pub objects : (us : List Object) → SameFrame os us → (order g us c word args).objects ≡ changed us list plan.change
   pub written : (us : List Object) → SameFrame os us → (order g us c word args).written ≡ list
   pub may : (us : List Object) → SameFrame os us → IsNow g us → MayChange g us list plan.change
@@ -54,13 +55,13 @@ pub record Plans (g : Geometry) (os : List Object) (c : Capability) (word : ℕ)
       → annex_at (changed us list plan.change) p ≡ annex_at us p
   pub known : All (λ n. n < length os) list
 
--- a plan, and what is listed: behind the numbers that the invocation writes itself those that its order writes
+-- a plan, and the list: the numbers that the invocation writes itself, then those that its order writes
 pub record IsPlanned (g : Geometry) (os : List Object) (i : Invocation) (caller : Caller) (plan : OrderPlan) (list : List ℕ) : Type 0 where
   pub plans : Plans g os caller.invoked (slice_index i.words 0) (arguments_of os i) (drop (writer_count caller.operation) list) plan
   pub listed : list ≡ writers caller.operation caller.process caller.annex ++ drop (writer_count caller.operation) list
 
--- What lies beside the objects goes on as it was, and counts of allocations rise where objects are given up. The
--- parameters are ghost members of a store of present frames.
+-- The geometry, the touched numbers and the failures stay, and a count of allocations rises where its object is given up.
+-- The parameters are ghost members of a store of present frames.
 pub record GoesOnBeside {S : Type 0} (parts : S → Parts) (Leads : S → S → Type 0) (old new : S) : Type 0 where
   pub renews : Renews (parts old) (parts new)
   pub touched : (parts new).touched ≡ (parts old).touched

@@ -1,4 +1,4 @@
--- What an order on a kernel object comes to, before it is made.
+-- The plan of an order on a kernel object, before anything changes.
 use Rattle.std.specs.Prelude.{◌≡◌, ◌⊎◌, ℕ, ◌<◌, ◌≤◌, Option, None, Some, List, IsTrue}
 use Rattle.model.specs.declared.capability.Capability.{Capability}
 use Rattle.model.specs.declared.capability.Capability.TheVariants.{Number, Page, Node, Space, Process}
@@ -19,12 +19,13 @@ use Rattle.capability.specs.Changes.{changed, outcome_by, written_of}
 use Rattle.space_bank.specs.Allocating.{numbers_of}
 use Rattle.space_bank.specs.Carrying.{MayMake}
 
--- what comes of an order on one object that goes as planned
+-- the outcome of an order on one object, as planned
 abbrev pub outcome_of : List Object → OrderPlan → OrderOutcome
 outcome_of os plan = outcome_by os (written_of plan.change) plan
 
--- an outcome changes what the plan changes, and writes what it writes
+-- an outcome has the plan's code, objects and written numbers
 pub record ChangesAs (os : List Object) (plan : OrderPlan) (outcome : OrderOutcome) : Type 0 where
+  pub code : outcome.code ≡ plan.reply.code
   pub objects : outcome.objects ≡ changed os (written_of plan.change) plan.change
   pub written : outcome.written ≡ written_of plan.change
 

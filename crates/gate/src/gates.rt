@@ -16,7 +16,7 @@ use crate::fault::InvokeFault;
 use crate::looking::{all_sent, look_at_process};
 use crate::written::Written;
 use capability::{Caller, PrepareFault, PresentFrames, objects, roots};
-use model::{Capability, Invocation, Message, Operation, State};
+use model::{Capability, Invocation, Message, Operation, ResultCode, State};
 use std::alloc::Global;
 
 /// The gate that is invoked: of which process, with which key, and whether it works only once.
@@ -179,7 +179,7 @@ pub fn invoke_gate<F: PresentFrames>(
     invocation: &Invocation,
     caller: Caller,
     gate: Gate,
-) -> Result<(), InvokeFault>
+) -> Result<Option<ResultCode>, InvokeFault>
     requires sound { AreSound (F.parts store.old) }
     requires running { IsTrue (is_running_process
         (objects_in (F.parts store.old)) invocation.now.process) }
@@ -198,5 +198,5 @@ pub fn invoke_gate<F: PresentFrames>(
     }
     announce(alloc, store, invocation, gate.process, annex)?;
     enter(store, invocation, gate, annex, sent);
-    Ok(())
+    Ok(None)
 }

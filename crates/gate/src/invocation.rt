@@ -11,29 +11,29 @@ use crate::gates::{gate_of, invoke_gate};
 use crate::kernel_object::invoke_order;
 use crate::looking::{ask, numbers_fit};
 use capability::PresentFrames;
-use model::Invocation;
+use model::{Invocation, ResultCode};
 use space_bank::Banks;
 use std::alloc::Global;
 
 /// Carries out the invocation of a capability by a running process (EROS, KeyKOS: call, return and
 /// send).
 ///
-/// What is invoked and sent is read first. Through a gate, a start or resume capability, it is
-/// delivered to another process; a resume capability works once, and is void from then on wherever
-/// it is held. Any other capability is a kernel object, whose order is carried out and, where it
-/// was called, answered. What is counted of banks beside the objects stays what there is, and the
-/// count of allocations of a number rises by one where its object is given up, and else stays.
+/// The invoked and the sent capabilities are read before anything changes. A start or resume
+/// capability is a gate: the message goes to another process, and the result is `None`. A resume
+/// capability works once: every copy of it is void afterwards. Any other capability is a kernel
+/// object: its order is carried out, a `call` gets the reply, and the result is the order's code.
+/// `banks` keeps the usages of the banks as they are after it. The count of allocations of a number
+/// rises by one if its object is given up.
 ///
-/// An error changes nothing: `Stalled` exactly where the process that would be started isn't
-/// available, `LogFull` exactly where the numbers written since the last checkpoint with those that
-/// the invocation writes would be more than half of the log holds, `NoMemory` where memory ran out,
-/// and `Failed` exactly where the device failed.
+/// An error changes nothing. `Stalled`: the process behind the start capability isn't available.
+/// `LogFull`: with what the invocation writes, more numbers were written since the last checkpoint
+/// than half of the log holds. `NoMemory`: memory ran out. `Failed`: the device failed.
 pub fn invoke<F: PresentFrames>(
     alloc: Global,
     store: &mut F,
     banks: &mut Banks,
     invocation: Invocation,
-) -> Result<(), InvokeFault>
+) -> Result<Option<ResultCode>, InvokeFault>
     requires sound { AreSound (F.parts store.old) }
     requires process { IsTrue (is_running_process
         (objects_in (F.parts store.old)) invocation.process) }

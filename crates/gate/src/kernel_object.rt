@@ -21,7 +21,7 @@ use crate::fault::InvokeFault;
 use crate::looking::{look_at_named, order_arguments};
 use crate::orders::plan;
 use capability::{BankChange, Caller, Change, OrderPlan, PrepareFault, PresentFrames};
-use model::{Arguments, Capability, Invocation};
+use model::{Arguments, Capability, Invocation, ResultCode};
 use space_bank::Banks;
 use std::alloc::Global;
 
@@ -161,15 +161,15 @@ fn announce<F: PresentFrames>(
     store.prepare(alloc, &fetched, listed)
 }
 
-/// An invocation of a kernel object by a running process: the order is carried out and, where it
-/// was called, its reply delivered, unless the process was given up with it.
+/// An invocation of a kernel object by a running process. The order is carried out. A `call` gets
+/// the reply, unless the order gave the caller up. The result is the order's code.
 pub fn invoke_order<F: PresentFrames>(
     alloc: Global,
     store: &mut F,
     banks: &mut Banks,
     invocation: &Invocation,
     caller: Caller,
-) -> Result<(), InvokeFault>
+) -> Result<Option<ResultCode>, InvokeFault>
     requires sound { AreSound (F.parts store.old) }
     requires running { IsTrue (is_running_process
         (objects_in (F.parts store.old)) invocation.now.process) }
@@ -188,5 +188,5 @@ pub fn invoke_order<F: PresentFrames>(
     let plan = plan_order(alloc, store, banks, invocation, caller)?;
     announce(alloc, store, banks.listed(), caller, plan.change)?;
     carry_out(store, banks, invocation, caller, plan);
-    Ok(())
+    Ok(Some(plan.reply.code))
 }

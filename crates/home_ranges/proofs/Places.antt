@@ -21,7 +21,7 @@ use Rattle.layout.specs.Shape.{node_shape, shape_bytes, shape_length}
 use Rattle.layout.specs.Superblock.{Plan, IsPlan, Cover, IsOfOneKind, IsWithin, IsApart, IsInside, extent_at, extents, nodes_length, range_extent, half_extent, half_start}
 use Rattle.layout.proofs.Halves.{itself, apart_inside, apart_turned, many, half_at}
 use Rattle.frame_io.specs.Frames.{IsObject}
-use Rattle.home_ranges.specs.Home.{HaveHome, HoldsHome}
+use Rattle.home_ranges.specs.Home.{EndsInZeros, HaveHome, HoldsHome}
 use Rattle.home_ranges.specs.Laws.{home_extent, PlacesAreWithin, PlacesAreApart, NumbersAreApart, PlacesSpareLog}
 
 abbrev pub range_at : List HomeRange → ℕ → HomeRange
@@ -542,3 +542,30 @@ own_told p q number s e fits is own told = itself_alone q number (subst IsPlan e
 pub cluster_told : (p q : Plan) (number rank n : ℕ) (r : HomeRange) → p ≡ q → IsPlan p → IsObject q.geometry number → Some r ≡ range_with p.ranges number → Packed rank ≡ shape_of q number → n ≡ min (r.count - (number - r.first)) (5 - rank)
     → HaveHome q number n
 cluster_told p q number rank n r e fits is told shape count = cluster_shared q number (subst IsPlan e fits) is r rank n (told ∙ ap (λ (x : Plan). range_with x.ranges number) e) (sym shape) count
+
+-- the frames of all that have the home of the first node stay where those in the places of these do
+pub cluster_stays : (p : Plan) (first n : ℕ) (old new : List ℕ) → IsPlan p → IsObject p.geometry first → shape_of p first ≡ Packed 0 → HaveHome p first n
+    → ((rank : ℕ) → rank < n → shape_bytes (Packed rank) new ≡ shape_bytes (Packed rank) old)
+    → (a : ℕ) → IsObject p.geometry a → home_place p a ≡ home_place p first → shape_bytes (shape_of p a) new ≡ shape_bytes (shape_of p a) old
+cluster_stays p first n old new fits is shape have stays a is_a same =
+    let at = ranked p a first fits is_a is shape same in
+    let few = have.all a is_a at.0 same in
+    ap (λ (s : Shape). shape_bytes s new) at.2 ∙ stays (a - first) (omega (arith, few, at.0)) ∙ ap (λ (s : Shape). shape_bytes s old) (sym at.2)
+
+-- what was written to a home, where it is told in two ways
+pub written_bytes : {T E : Type 0} (result : Result T E) (p : Plan) (number at n : ℕ) (s : Shape) (bytes : List ℕ) (image : Image) → at ≡ home_place p number → s ≡ shape_of p number → n ≡ shape_length s
+    → OnOk result (sectors_from image at n ≡ bytes) → OnOk result (sectors_from image (home_place p number) (place_length p number) ≡ bytes)
+written_bytes (Ok done) p number at n s bytes image place shape size written =
+    ap (λ (k : ℕ). sectors_from image k (place_length p number)) (sym place) ∙ ap (λ (k : ℕ). sectors_from image at k) (ap shape_length (sym shape) ∙ sym size) ∙ written
+written_bytes (Err error) p number at n s bytes image place shape size written = tt
+
+-- the zeros of a cluster stand where it was written
+pub zeros_in : {T E : Type 0} (result : Result T E) (p : Plan) (first : ℕ) (there bytes : List ℕ) → OnOk result (there ≡ bytes) → EndsInZeros p first bytes → OnOk result (EndsInZeros p first there)
+zeros_in (Ok done) p first there bytes written zeros = subst (EndsInZeros p first) (sym written) zeros
+zeros_in (Err error) p first there bytes written zeros = tt
+
+pub zeros_home : {T E : Type 0} (result : Result T E) (p : Plan) (first : ℕ) (new : Image) (bytes : List ℕ) → shape_of p first ≡ Packed 0 → OnOk result (sectors_from new (home_place p first) (place_length p first) ≡ bytes)
+    → EndsInZeros p first bytes → OnOk result (EndsInZeros p first (sectors_from new (home_place p first) 8))
+zeros_home (Ok done) p first new bytes shape written zeros =
+    subst (EndsInZeros p first) (sym written ∙ ap (λ (s : Shape). sectors_from new (home_place p first) (shape_length s)) shape) zeros
+zeros_home (Err error) p first new bytes shape written zeros = tt

@@ -5,6 +5,7 @@ use Rattle.layout.specs.Homes.{home_place, shape_of}
 use Rattle.layout.specs.Image.{bytes_at}
 use Rattle.layout.specs.Shape.{shape_bytes}
 use Rattle.layout.specs.Superblock.{Plan}
+use Rattle.frame_io.specs.Clusters.{IsBlankBehind}
 use Rattle.frame_io.specs.Frames.{IsObject}
 
 -- the bytes of a home are the frames of all that have it
@@ -16,3 +17,7 @@ pub record HaveHome (p : Plan) (number n : ℕ) : Type 0 where
   pub object : (k : ℕ) → k < n → IsObject p.geometry (number + k)
   pub same : (k : ℕ) → k < n → home_place p (number + k) ≡ home_place p number
   pub all : (a : ℕ) → IsObject p.geometry a → number ≤ a → home_place p a ≡ home_place p number → a < number + n
+
+-- behind the frames of all nodes that have the home of the first one a cluster has zeros
+abbrev pub EndsInZeros : Plan → ℕ → List ℕ → Type 0
+EndsInZeros p first bytes = (n : ℕ) × HaveHome p first n × IsBlankBehind n bytes

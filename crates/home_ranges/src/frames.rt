@@ -3,7 +3,7 @@ ghost use Rattle.std.specs.Prelude.{◌≡◌, ◌*◌, ◌≤◌, length, IfOk,
 ghost use Rattle.device.specs.Calls.{Counts};
 ghost use Rattle.layout.specs.Frame.{IsFrameOf, frame_of};
 ghost use Rattle.layout.specs.Homes.{home_place, place_length};
-ghost use Rattle.layout.specs.Image.{bytes_at};
+ghost use Rattle.layout.specs.Image.{bytes_at, sectors_from};
 ghost use Rattle.frame_io.specs.Calls.{ReadsOnly, WritesAt};
 ghost use Rattle.frame_io.specs.Fault.{CountsFailed};
 ghost use Rattle.frame_io.specs.Frames.{IsObject, IsRefused};
@@ -60,6 +60,8 @@ impl<'a> Home<'a> {
         requires inside { self.now.total ≤ (D.disk device.old).sectors }
         ensures written { OnOk result
             (HoldsHome self.now number bytes.now (D.disk device.new).seen) }
+        ensures bytes { OnOk result (sectors_from (D.disk device.new).seen (home_place self.now number)
+            (place_length self.now number) ≡ bytes.now) }
         ensures writes { WritesAt (home_place self.now number)
             (place_length self.now number) (D.disk device.old) (D.disk device.new) }
         ensures cause { Counts (D.disk device.old) (D.disk device.new) result }

@@ -1,11 +1,13 @@
 // Where frames lie at home.
-ghost use Rattle.std.specs.Prelude.{◌≡◌, ◌+◌, ◌≤◌};
+ghost use Rattle.std.specs.Prelude.{◌≡◌, ℕ, ◌+◌, ◌≤◌, length};
+ghost use Rattle.layout.specs.declared.shape.Shape.TheVariants as shape;
 ghost use Rattle.layout.specs.Homes.{home_place, node_offset, place_in, place_length, shape_of};
-ghost use Rattle.layout.specs.Shape.{IsShapeFor};
+ghost use Rattle.layout.specs.Shape.{IsShapeFor, shape_bytes};
 ghost use Rattle.layout.specs.Superblock.{IsPlan};
 ghost use Rattle.frame_io.specs.Frames.{IsObject};
-ghost use Rattle.home_ranges.specs.Home.{HaveHome};
+ghost use Rattle.home_ranges.specs.Home.{EndsInZeros, HaveHome};
 
+use frame_io::blank_behind;
 use layout::{HomeRange, Shape, Superblock, Version};
 use model::Geometry;
 use std::marker::Model;
@@ -99,6 +101,21 @@ impl<'a> Home<'a> {
             },
             None => 1,
         }
+    }
+
+    /// Makes the bytes of a cluster 0 that lie behind its nodes, of which `first` is the first. The frames of the nodes
+    /// stay.
+    pub fn blank_rest(&self, first: u64, cluster: &mut [u8])
+        requires object { IsObject self.now.geometry first }
+        requires shape { shape_of self.now first ≡ shape.Packed 0 }
+        requires cluster { length cluster.old ≡ 4096 }
+        ensures rest { EndsInZeros self.now first cluster.new }
+        ensures frames { (n : ℕ) → IsObject self.now.geometry n → home_place self.now n ≡ home_place self.now first
+            → shape_bytes (shape_of self.now n) cluster.new ≡ shape_bytes (shape_of self.now n) cluster.old }
+        ensures size { length cluster.new ≡ 4096 }
+    {
+        let nodes = self.sharers(first);
+        blank_behind(cluster, nodes);
     }
 
     /// How many objects there are, and how many slots in a half of the log.

@@ -1,5 +1,5 @@
 -- What `upgrade` writes, and why it doesn't.
-use Rattle.std.specs.Prelude.{◌⊎◌, ◌↔◌, ℕ, ◌+◌, ◌<◌, ◌≤◌, List, [], ◌∷◌}
+use Rattle.std.specs.Prelude.{◌≡◌, ◌⊎◌, ◌↔◌, ℕ, ◌+◌, ◌<◌, ◌≤◌, List, [], ◌∷◌}
 use Rattle.device.specs.Disk.{Disk, Image}
 use Rattle.device.specs.Calls.{Elsewhere}
 use Rattle.layout.specs.declared.directory.Entry.{Entry}
@@ -9,6 +9,8 @@ use Rattle.checkpoint.specs.declared.open_fault.OpenFault.{OpenFault}
 use Rattle.checkpoint.specs.declared.open_fault.OpenFault.TheVariants as opening
 use Rattle.checkpoint.specs.Opened.{Looks}
 use Rattle.checkpoint.specs.Saved.{Holds, SavedFrames, kept_of}
+use Rattle.capability.specs.Parts.{frames_of}
+use Rattle.object_cache.specs.PlainStore.{StoreState, parts_of, saved_by}
 use Rattle.image_writer.specs.Laid.{laid_again}
 use Rattle.kernel.specs.Denotes.{IsSoundSaved}
 use Rattle.kernel.specs.Opening.{RefusesToOpen}
@@ -50,6 +52,24 @@ IsNotUpgraded disk old sectors (fault.Old why) = IsNotOpened disk old why
 IsNotUpgraded disk old sectors fault.Small = NeedsMore (disk old) sectors
 IsNotUpgraded disk old sectors fault.Failed = Unit {0}
 IsNotUpgraded disk old sectors fault.NoMemory = Unit {0}
+
+-- why the image on an old device isn't opened to be upgraded
+abbrev pub IsRefusedAsOld : {D : Type 0} → (D → Disk) → D → UpgradeFault → Type 0
+IsRefusedAsOld disk old (fault.Old why) = IsNotOpened disk old why
+IsRefusedAsOld disk old fault.NoMemory = Unit {0}
+IsRefusedAsOld disk old _ = ⊥
+
+-- a store has in memory all that its device saves, and that stands for a sound world
+pub record IsWhole {D : Type 0} (disk : D → Disk) (s : StoreState D) : Type 0 where
+  pub saves : Encodes (disk s.durable.beneath).seen (disk s.durable.beneath).sectors (saved_by disk s)
+  pub sound : IsSoundSaved (saved_by disk s).plan.geometry (kept_of (saved_by disk s))
+  pub present : frames_of (parts_of disk s) ≡ (saved_by disk s).frames
+
+-- a store was made of an old device, which was only read and didn't fail: it saves what the device does
+pub record IsOpenedFrom {D : Type 0} (disk : D → Disk) (old : D) (s : StoreState D) : Type 0 where
+  pub saves : Encodes (disk old).seen (disk old).sectors (saved_by disk s)
+  pub looks : Looks (disk old) (disk s.durable.beneath)
+  pub failures : (disk s.durable.beneath).failures ≡ (disk old).failures
 
 -- What a crash leaves while an image is upgraded: what saved frames it holds, if any, it could have left before, or they
 -- are those of the old device.

@@ -19,4 +19,4 @@ pub use building::{build, sectors_needed};
 pub use closable::ClosableDevice;
 pub use fault::BuildFault;
 pub use upgrade_fault::UpgradeFault;
-pub use upgrading::{upgrade, upgrade_and_count, upgraded_sectors};
+pub use upgrading::{OldImage, upgrade, upgrade_and_count, upgraded_sectors};

@@ -1,5 +1,5 @@
 // Writing what an image saves to another, by version 2 of the layout.
-ghost use Rattle.std.specs.Prelude.{◌≡◌, ◌≢◌, ◌<◌, ◌≤◌, ◌↔◌, ℕ, length, IfOk, IfErr, IsErrOf, OnOk};
+ghost use Rattle.std.specs.Prelude.{◌≡◌, ◌≢◌, ◌<◌, ◌≤◌, ◌↔◌, ℕ, length, IfOk, IfErr, IsErrOf, OnErr, OnOk};
 ghost use Rattle.device.specs.Disk.{Image};
 ghost use Rattle.device.specs.Calls.{Elsewhere};
 ghost use Rattle.device.specs.Moments.{LeavesOnly};
@@ -17,11 +17,11 @@ ghost use Rattle.migrator.specs.Durable.{saved_state, seen_of};
 ghost use Rattle.model.specs.Frame.{frames_in};
 ghost use Rattle.object_cache.specs.PlainStore.{parts_of, saved_by};
 ghost use Rattle.capability.specs.Parts.{frames_of};
-ghost use Rattle.image_builder.specs.Upgraded.{IsLeftUpgrading, IsNotOpened, IsNotUpgraded, IsOnlyRead, ReadsAndCloses, Upgrades, numbered, upgraded};
+ghost use Rattle.image_builder.specs.Upgraded.{IsLeftUpgrading, IsNotUpgraded, IsOpenedFrom, IsRefusedAsOld, ReadsAndCloses, Upgrades, numbered, upgraded};
 
 use crate::closable::ClosableDevice;
 use crate::upgrade_fault::UpgradeFault;
-use checkpoint::OpenFault;
+use checkpoint::{OpenFault, OpenRefused};
 use device::Device;
 use image_writer::{lay_out_again, write_saved};
 use kernel::{Live, wake};
@@ -30,6 +30,7 @@ use migrator::{Durable, superblock_of};
 use model::{Cap, Content, ObjectHeader};
 use object_cache::PlainStore;
 use std::alloc::{AllocError, Global};
+use std::marker::Model;
 
 /// How many sectors a device needs for what the image on another saves, by version 2 of the layout.
 /// It reads the superblock alone.
@@ -172,34 +173,79 @@ fn of_old(why: OpenFault) -> UpgradeFault
     }
 }
 
-// Opens an old device as a kernel does, and writes what its image saves over whatever a new one holds, by version 2 of
-// the layout; answers how many sectors the new image has, and gives the old device back.
-fn open_and_write<D: Device, E: Device>(
-    alloc: Global,
-    old: D,
-    new: &mut E,
-) -> (Result<u64, UpgradeFault>, D)
-    ensures upgraded { IfOk result.0 (λ total.
-        (done : Upgrades (D.disk old) (E.disk new.old) (E.disk new.new))
-        × (total ≡ (laid_again Two done.state.plan).total)) }
-    ensures refused { IfErr result.0 (λ fault.
-        IsNotUpgraded D.disk old (E.disk new.old).sectors fault) }
-    ensures untouched { IfErr result.0 (λ fault. fault ≢ UpgradeFault.Failed → new.new ≡ new.old) }
-    ensures any_moment { LeavesOnly (E.disk new.old) (E.disk new.new)
-        (λ c. IsLeftUpgrading (D.disk old) (E.disk new.old) c) }
-    ensures size { (E.disk new.new).sectors ≡ (E.disk new.old).sectors }
-    ensures later { (E.disk new.old).failures ≤ (E.disk new.new).failures }
-    ensures cause { IsErrOf result.0 UpgradeFault.Failed
-        ↔ ((E.disk new.old).failures < (E.disk new.new).failures) }
-    ensures reads { IsOnlyRead (D.disk old) (D.disk result.1)
-        (IsErrOf result.0 (UpgradeFault.Old OpenFault.Failed)) }
-{
-    match wake::<D, PlainStore<D>>(alloc, old, ()) {
-        Ok(live) => {
-            let Live { store, .. } = live;
-            write_store(alloc, store, new)
+/// An old image that was opened and read whole, to be written to a new device by version 2 of the
+/// layout. Nothing has been written to the old device.
+#[derive(Drop)]
+pub struct OldImage<D: Device> {
+    store: PlainStore<D>,
+}
+
+impl<D: Device> Model for OldImage<D> {
+    ghost use Rattle.object_cache.specs.PlainStore.{StoreState};
+    ghost use Rattle.image_builder.specs.Upgraded.{IsWhole};
+
+    ghost Value = { StoreState D };
+
+    ghost view = { λ image. image.store };
+
+    ghost invariant = { λ image. IsWhole D.disk image.store };
+}
+
+impl<D: ClosableDevice> OldImage<D> {
+    /// Opens an old device as a kernel does, and reads its image whole.
+    ///
+    /// `Old` exactly where a kernel doesn't open the device, with its reason, but for want of
+    /// memory, and `NoMemory` where memory ran out; no other fault comes. A refusal closes the
+    /// device, which was only read.
+    pub fn open(alloc: Global, old: D) -> Result<OldImage<D>, UpgradeFault>
+        ensures opened { IfOk result (λ image. IsOpenedFrom D.disk old image) }
+        ensures refused { IfErr result (λ fault. IsRefusedAsOld D.disk old fault) }
+        ensures reads { OnErr result (ReadsAndCloses D.disk D.was_closed old
+            (IsErrOf result (UpgradeFault.Old OpenFault.Failed))) }
+    {
+        match wake::<D, PlainStore<D>>(alloc, old, ()) {
+            Ok(live) => {
+                let Live { store, .. } = live;
+                Ok(OldImage { store })
+            }
+            Err(refused) => {
+                let OpenRefused { fault, device } = refused;
+                device.close();
+                Err(of_old(fault))
+            }
         }
-        Err(refused) => (Err(of_old(refused.fault)), refused.device),
+    }
+
+    /// How many sectors a device needs for what the image saves, by version 2 of the layout.
+    pub fn sectors(&self) -> u64
+        ensures { result ≡ (laid_again Two (saved_by D.disk self.now).plan).total }
+    {
+        lay_out_again(Version::Two, self.store.superblock()).total()
+    }
+
+    /// Writes what the image saves over whatever a new device holds, as `upgrade` does, with its
+    /// faults but `Old`; answers how many sectors the new image has, and closes the old device.
+    pub fn write_to<E: Device>(self, alloc: Global, new: &mut E) -> Result<u64, UpgradeFault>
+        ensures upgraded { (old : D) → IsOpenedFrom D.disk old self → IfOk result (λ total.
+            (done : Upgrades (D.disk old) (E.disk new.old) (E.disk new.new))
+            × (total ≡ (laid_again Two done.state.plan).total)) }
+        ensures refused { (old : D) → IsOpenedFrom D.disk old self → IfErr result (λ fault.
+            IsNotUpgraded D.disk old (E.disk new.old).sectors fault) }
+        ensures untouched { IfErr result (λ fault. fault ≢ UpgradeFault.Failed → new.new ≡ new.old) }
+        ensures any_moment { (old : D) → IsOpenedFrom D.disk old self
+            → LeavesOnly (E.disk new.old) (E.disk new.new)
+            (λ c. IsLeftUpgrading (D.disk old) (E.disk new.old) c) }
+        ensures size { (E.disk new.new).sectors ≡ (E.disk new.old).sectors }
+        ensures later { (E.disk new.old).failures ≤ (E.disk new.new).failures }
+        ensures cause { IsErrOf result UpgradeFault.Failed
+            ↔ ((E.disk new.old).failures < (E.disk new.new).failures) }
+        ensures reads { (old : D) → IsOpenedFrom D.disk old self
+            → ReadsAndCloses D.disk D.was_closed old
+            (IsErrOf result (UpgradeFault.Old OpenFault.Failed)) }
+    {
+        let (written, old) = write_store(alloc, self.store, new);
+        old.close();
+        written
     }
 }
 
@@ -226,9 +272,10 @@ pub fn upgrade_and_count<D: ClosableDevice, E: Device>(
     ensures reads { ReadsAndCloses D.disk D.was_closed old
         (IsErrOf result (UpgradeFault.Old OpenFault.Failed)) }
 {
-    let (outcome, old) = open_and_write(alloc, old, new);
-    old.close();
-    outcome
+    match OldImage::open(alloc, old) {
+        Ok(image) => image.write_to(alloc, new),
+        Err(fault) => Err(fault),
+    }
 }
 
 /// Opens an old device as a kernel does, and writes what its image saves over whatever a new one

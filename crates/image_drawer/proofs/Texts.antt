@@ -91,12 +91,12 @@ five_joined a b c d e = simp append_assoc
 four_joined : (a b c d : List ℕ) → (a ++ (b ++ c)) ++ d ≡ a ++ (b ++ (c ++ d))
 four_joined a b c d = simp append_assoc
 
-pub arrow_put : (holder target : ℕ) (place capability style : List ℕ)
-    → (((((((decimal holder ++ 32 ∷ codes "->") ++ 32 ∷ decimal target) ++ 32 ∷ codes "[label=\"") ++ place) ++ 32 ∷ capability) ++ codes "\"") ++ style) ++ codes "]"
-    ≡ spaced (decimal holder ∷ codes "->" ∷ decimal target ∷ (codes "[label=\"" ++ spaced (place ∷ capability ∷ []) ++ codes "\"" ++ style ++ codes "]") ∷ [])
-arrow_put holder target place capability style =
-    nine_joined (decimal holder) (32 ∷ codes "->") (32 ∷ decimal target) (32 ∷ codes "[label=\"") place (32 ∷ capability) (codes "\"") style (codes "]")
-    ∙ ap (λ (l : List ℕ). decimal holder ++ ((32 ∷ codes "->") ++ ((32 ∷ decimal target) ++ ((32 ∷ codes "[label=\"") ++ l)))) (sym (five_joined place (32 ∷ capability) (codes "\"") style (codes "]")))
+pub arrow_put : (holder target : ℕ) (place kind style : List ℕ)
+    → (((((((decimal holder ++ 32 ∷ codes "->") ++ 32 ∷ decimal target) ++ 32 ∷ codes "[label=\"") ++ place) ++ kind) ++ codes "\"") ++ style) ++ codes "]"
+    ≡ spaced (decimal holder ∷ codes "->" ∷ decimal target ∷ (codes "[label=\"" ++ place ++ kind ++ codes "\"" ++ style ++ codes "]") ∷ [])
+arrow_put holder target place kind style =
+    nine_joined (decimal holder) (32 ∷ codes "->") (32 ∷ decimal target) (32 ∷ codes "[label=\"") place kind (codes "\"") style (codes "]")
+    ∙ ap (λ (l : List ℕ). decimal holder ++ ((32 ∷ codes "->") ++ ((32 ∷ decimal target) ++ ((32 ∷ codes "[label=\"") ++ l)))) (sym (five_joined place kind (codes "\"") style (codes "]")))
 
 pub process_put : (root annex key : ℕ) (state : List ℕ)
     → (((((((decimal root ++ 32 ∷ codes "[label=\"process") ++ 32 ∷ decimal root) ++ 32 ∷ codes "annex") ++ 32 ∷ decimal annex) ++ codes "\\n") ++ state) ++ 32 ∷ codes "key") ++ 32 ∷ decimal key
@@ -106,6 +106,21 @@ process_put root annex key state =
     ∙ ap (λ (l : List ℕ). decimal root ++ ((32 ∷ codes "[label=\"process") ++ 32 ∷ l))
     (sym (four_joined (decimal root) (32 ∷ codes "annex") (32 ∷ decimal annex) (codes "\\n" ++ (state ++ ((32 ∷ codes "key") ++ 32 ∷ decimal key)))))
 
+seven_joined : (a b c d e f g : List ℕ) → (((((a ++ b) ++ c) ++ d) ++ e) ++ f) ++ g ≡ a ++ (b ++ (c ++ (d ++ (e ++ (f ++ g)))))
+seven_joined a b c d e f g = simp append_assoc
+
+pub cluster_put : (owner number : ℕ)
+    → (((((codes "subgraph cluster_" ++ decimal owner) ++ 32 ∷ codes "{ label=\"bank") ++ 32 ∷ decimal owner) ++ codes "\"") ++ 32 ∷ decimal number) ++ 32 ∷ codes "}"
+    ≡ spaced ((codes "subgraph cluster_" ++ decimal owner) ∷ codes "{" ∷ codes "label=\"bank" ∷ (decimal owner ++ codes "\"") ∷ decimal number ∷ codes "}" ∷ [])
+cluster_put owner number =
+    seven_joined (codes "subgraph cluster_") (decimal owner) (32 ∷ codes "{ label=\"bank") (32 ∷ decimal owner) (codes "\"") (32 ∷ decimal number) (32 ∷ codes "}")
+    ∙ sym (spaced_out (decimal owner) (decimal number))
+  where
+    spaced_out : (o n : List ℕ) → spaced ((codes "subgraph cluster_" ++ o) ∷ codes "{" ∷ codes "label=\"bank" ∷ (o ++ codes "\"") ∷ n ∷ codes "}" ∷ [])
+        ≡ codes "subgraph cluster_" ++ (o ++ ((32 ∷ codes "{ label=\"bank") ++ ((32 ∷ o) ++ (codes "\"" ++ ((32 ∷ n) ++ (32 ∷ codes "}"))))))
+    spaced_out o n = simp append_assoc
+
 -- a box in three pieces
-pub box_pieces : (number : ℕ) (first more : List ℕ) → box_line number (first ++ more) ≡ (spaced (decimal number ∷ (codes "[label=\"" ++ first) ∷ []) ++ more) ++ codes "\"]\n"
-box_pieces number first more = simp append_assoc
+pub box_pieces : (number : ℕ) (first more shape : List ℕ)
+    → box_line number (first ++ more) shape ≡ (spaced (decimal number ∷ (codes "[label=\"" ++ first) ∷ []) ++ more) ++ (codes "\" shape=" ++ shape ++ codes "]\n")
+box_pieces number first more shape = simp append_assoc

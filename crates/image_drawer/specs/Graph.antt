@@ -2,7 +2,7 @@
 use Rattle.std.specs.Prelude.{ℕ, ◌==◌, if◌then◌else◌, Option, None, Some, List, [], ◌∷◌, ◌++◌, map, codes, decimal, unwrap_or}
 use Rattle.std.specs.List.{flat_map}
 use Rattle.model.specs.declared.capability.Capability.{Capability}
-use Rattle.model.specs.declared.capability.Capability.TheVariants.{Void, Number, Discrim}
+use Rattle.model.specs.declared.capability.Capability.TheVariants.{Void, Number, Space, Start, Resume, Discrim}
 use Rattle.model.specs.declared.object.State.{State}
 use Rattle.model.specs.Capability.{access_bits, named}
 use Rattle.model.specs.Text.{capability_text, line_of, spaced, state_text}
@@ -61,14 +61,14 @@ arrows d = flat_map process_arrows d.processes.items ++ flat_map node_arrows d.n
 abbrev pub next_line : List ℕ → List ℕ
 next_line text = codes "\\n" ++ text
 
--- a box with these lines
-abbrev pub box_line : ℕ → List ℕ → List ℕ
-box_line number lines = line_of (spaced (decimal number ∷ (codes "[label=\"" ++ lines ++ codes "\"]") ∷ []))
+-- a box with these lines, of this shape
+abbrev pub box_line : ℕ → List ℕ → List ℕ → List ℕ
+box_line number lines shape = line_of (spaced (decimal number ∷ (codes "[label=\"" ++ lines ++ codes "\" shape=" ++ shape ++ codes "]") ∷ []))
 
 -- what names nothing and isn't void is a line of its holder's box
 abbrev pub plain_line : List ℕ → ℕ → Capability → List ℕ
-plain_line name index (Number n) = next_line (spaced (name ∷ decimal index ∷ capability_text (Number n) ∷ []))
-plain_line name index Discrim = next_line (spaced (name ∷ decimal index ∷ capability_text Discrim ∷ []))
+plain_line name index (Number n) = next_line (spaced ((name ++ decimal index) ∷ capability_text (Number n) ∷ []))
+plain_line name index Discrim = next_line (spaced ((name ++ decimal index) ∷ capability_text Discrim ∷ []))
 plain_line name index _ = []
 
 abbrev pub plain_lines : List ℕ → List SlotEntry → List ℕ
@@ -81,26 +81,33 @@ word_of_state (Some state) = state_text state
 
 -- the box of each kind
 unfoldable pub bank_box : BankEntry → List ℕ
-bank_box b = box_line b.number (spaced (codes "bank" ∷ decimal b.number ∷ []) ++ next_line (spaced (codes "limit" ∷ decimal b.limit ∷ [])))
+bank_box b = box_line b.number (spaced (codes "bank" ∷ decimal b.number ∷ []) ++ next_line (spaced (codes "limit" ∷ decimal b.limit ∷ []))) (codes "house")
 
 unfoldable pub process_box : ProcessEntry → List ℕ
 process_box p = box_line p.root (spaced (codes "process" ∷ decimal p.root ∷ codes "annex" ∷ decimal p.annex ∷ [])
-    ++ next_line (spaced (word_of_state p.state ∷ codes "key" ∷ decimal p.key ∷ [])) ++ plain_lines (codes "register") p.registers.items)
+    ++ next_line (spaced (word_of_state p.state ∷ codes "key" ∷ decimal p.key ∷ [])) ++ plain_lines (codes "r") p.registers.items) (codes "ellipse")
 
 unfoldable pub node_box : NodeEntry → List ℕ
-node_box n = box_line n.number (spaced (codes "node" ∷ decimal n.number ∷ []) ++ plain_lines (codes "slot") n.slots.items)
+node_box n = box_line n.number (spaced (codes "node" ∷ decimal n.number ∷ []) ++ plain_lines (codes "s") n.slots.items) (codes "box")
 
 unfoldable pub page_box : PageEntry → List ℕ
-page_box p = box_line p.number (spaced (codes "page" ∷ decimal p.number ∷ []))
+page_box p = box_line p.number (spaced (codes "page" ∷ decimal p.number ∷ [])) (codes "note")
 
--- an owner and what it owns
+-- what is owned lies in the cluster of its owner
 unfoldable pub owner_line : ℕ × ℕ → List ℕ
-owner_line p = line_of (spaced (decimal p.0 ∷ codes "->" ∷ decimal p.1 ∷ codes "[color=gray arrowhead=none]" ∷ []))
+owner_line p = line_of (spaced ((codes "subgraph cluster_" ++ decimal p.0) ∷ codes "{" ∷ codes "label=\"bank" ∷ (decimal p.0 ++ codes "\"") ∷ decimal p.1 ∷ codes "}" ∷ []))
 
 abbrev pub place_text : Place → List ℕ
 place_text place.Space = codes "space"
-place_text (place.Register i) = spaced (codes "register" ∷ decimal i ∷ [])
-place_text (place.Slot i) = spaced (codes "slot" ∷ decimal i ∷ [])
+place_text (place.Register i) = codes "r" ++ decimal i
+place_text (place.Slot i) = codes "s" ++ decimal i
+
+-- what the object that is named doesn't show: the height of a space, the key of a start, and that it is a resume
+abbrev pub kind_text : Capability → List ℕ
+kind_text (Space object height access) = codes " height " ++ decimal height
+kind_text (Start process key) = codes " start " ++ decimal key
+kind_text (Resume process) = codes " resume"
+kind_text _ = []
 
 -- what is read-only is dashed, and what is weak dotted
 abbrev pub style_text : ℕ → List ℕ
@@ -109,7 +116,7 @@ style_text access = if access == 0 then [] else if access == 1 then codes " styl
 -- an arrow with its label
 unfoldable pub arrow_line : Arrow → List ℕ
 arrow_line a = line_of (spaced (decimal a.holder ∷ codes "->" ∷ decimal a.target
-    ∷ (codes "[label=\"" ++ spaced (place_text a.place ∷ capability_text a.capability ∷ []) ++ codes "\"" ++ style_text (access_bits a.capability) ++ codes "]") ∷ []))
+    ∷ (codes "[label=\"" ++ place_text a.place ++ kind_text a.capability ++ codes "\"" ++ style_text (access_bits a.capability) ++ codes "]") ∷ []))
 
 -- the lines of the boxes, of the owners and of the arrows
 abbrev pub box_lines : Description → List ℕ
@@ -121,7 +128,11 @@ owner_lines d = flat_map owner_line (owners d)
 abbrev pub arrow_lines : Description → List ℕ
 arrow_lines d = flat_map arrow_line (arrows d)
 
+-- how all is drawn: from left to right, in small letters
+abbrev pub head_lines : List ℕ
+head_lines = line_of (codes "digraph eros {") ++ line_of (codes "graph [rankdir=LR]")
+    ++ line_of (codes "node [fontsize=10 height=0 margin=0.05]") ++ line_of (codes "edge [fontsize=8]")
+
 -- the whole graph
 unfoldable pub graph_text : Description → List ℕ
-graph_text d = line_of (codes "digraph eros {") ++ line_of (codes "node [shape=box]")
-    ++ box_lines d ++ owner_lines d ++ arrow_lines d ++ line_of (codes "}")
+graph_text d = head_lines ++ box_lines d ++ owner_lines d ++ arrow_lines d ++ line_of (codes "}")

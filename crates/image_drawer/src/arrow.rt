@@ -3,9 +3,9 @@ ghost use Rattle.std.specs.Prelude.{◌≡◌, ◌+◌, ◌≤◌, ◌++◌, len
 ghost use Rattle.std.specs.List.{flat_map};
 ghost use Rattle.model.specs.Capability.{access_bits};
 ghost use Rattle.script.specs.Writing.{Writes};
-ghost use Rattle.image_drawer.specs.Graph.{arrow_line, arrow_of, place_text, style_text};
+ghost use Rattle.image_drawer.specs.Graph.{arrow_line, arrow_of, kind_text, place_text, style_text};
 
-use crate::lines::begin;
+use crate::lines::{begin, push_number};
 use bitflags::Flags;
 use model::{Access, Capability};
 use script::{LineText, RunFault};
@@ -33,22 +33,37 @@ pub struct Arrow {
     pub target: u64,
 }
 
-// Adds the name of a place.
+// Adds the short name of a place: `r4` is register 4, and `s0` slot 0.
 fn push_place(line: &mut LineText, place: Place)
     requires { length line.old ≤ 100 }
     ensures text { line.new ≡ line.old ++ place_text place }
-    ensures short { length line.new ≤ length line.old + 29 }
+    ensures short { length line.new ≤ length line.old + 21 }
 {
     match place {
         Place::Space => line.push(b"space"),
         Place::Register(index) => {
-            line.push(b"register");
-            line.number(index);
+            line.push(b"r");
+            push_number(line, index);
         }
         Place::Slot(index) => {
-            line.push(b"slot");
-            line.number(index);
+            line.push(b"s");
+            push_number(line, index);
         }
+    }
+}
+
+// Adds what the object alone doesn't show: the height of a space, the key of a start, and that it is a resume.
+#[tactic(auto, using(std::proofs::Common::append_assoc))]
+fn push_kind(line: &mut LineText, capability: Capability)
+    requires { length line.old ≤ 200 }
+    ensures text { line.new ≡ line.old ++ kind_text capability }
+    ensures short { length line.new ≤ length line.old + 28 }
+{
+    match capability {
+        Capability::Space { height, .. } => line.named(b"height", u64::from(height)),
+        Capability::Start { key, .. } => line.named(b"start", u64::from(key)),
+        Capability::Resume(_) => line.word(b"resume"),
+        _ => {}
     }
 }
 
@@ -87,7 +102,7 @@ impl Arrow {
         line.number(self.target);
         line.word(b"[label=\"");
         push_place(&mut line, self.place);
-        line.capability(self.capability);
+        push_kind(&mut line, self.capability);
         line.push(b"\"");
         push_style(&mut line, access_of(self.capability));
         line.push(b"]");

@@ -72,8 +72,8 @@ fn draw_all_arrows<W: Write>(description: &Description, writer: &mut W) -> Resul
     draw_arrows(description.nodes.as_slice(), writer)
 }
 
-/// Writes the graph of a description in DOT: a box for each object that it names, each joined to the
-/// bank that owns it, and an arrow for each capability that names an object.
+/// Writes the graph of a description in DOT: a box for each object that it names, in the cluster of
+/// the bank that owns it, and an arrow for each capability that names an object.
 ///
 /// `Err(RunFault::Write)` where the writer fails or takes nothing: what was written is then a
 /// beginning of that text. It takes no memory.
@@ -81,7 +81,10 @@ pub fn draw<W: Write>(description: &Description, writer: &mut W) -> Result<(), R
     ensures { Writes (W.contents writer.old) (W.contents writer.new) result
         (graph_text description.now) }
 {
-    write_fully(writer, b"digraph eros {\nnode [shape=box]\n")?;
+    write_fully(
+        writer,
+        b"digraph eros {\ngraph [rankdir=LR]\nnode [fontsize=10 height=0 margin=0.05]\nedge [fontsize=8]\n",
+    )?;
     draw_all_boxes(description, writer)?;
     draw_all_owners(description, writer)?;
     draw_all_arrows(description, writer)?;

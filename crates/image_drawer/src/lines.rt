@@ -1,5 +1,5 @@
-// Lines that begin with a number.
-ghost use Rattle.std.specs.Prelude.{◌≡◌, ◌≤◌, decimal, length};
+// Numbers in lines.
+ghost use Rattle.std.specs.Prelude.{◌≡◌, ◌+◌, ◌++◌, ◌≤◌, decimal, length};
 
 use itoa::Buffer;
 use script::LineText;
@@ -11,4 +11,14 @@ pub(crate) fn begin(number: u64) -> LineText
 {
     let mut buffer = Buffer::new();
     LineText::new(buffer.format(number).as_bytes())
+}
+
+/// Adds the number, with no space before it.
+pub(crate) fn push_number(line: &mut LineText, number: u64)
+    requires { length line.old ≤ 300 }
+    ensures text { line.new ≡ line.old ++ decimal number }
+    ensures short { length line.new ≤ length line.old + 20 }
+{
+    let mut buffer = Buffer::new();
+    line.push(buffer.format(number).as_bytes());
 }

@@ -3,22 +3,25 @@ ghost use Rattle.std.specs.List.{flat_map};
 ghost use Rattle.script.specs.Writing.{Writes};
 ghost use Rattle.image_drawer.specs.Graph.{joined, owner_line};
 
-use crate::lines::begin;
-use script::RunFault;
+use crate::lines::push_number;
+use script::{LineText, RunFault};
 use std::io::Write;
 
-// Writes the line of an owner and what it owns.
+// Writes the line that puts what a bank owns into the cluster of that bank.
 fn draw_joined<W: Write>(owner: u64, number: u64, writer: &mut W) -> Result<(), RunFault>
     ensures { Writes (W.contents writer.old) (W.contents writer.new) result (owner_line (owner, number)) }
 {
-    let mut line = begin(owner);
-    line.word(b"->");
+    let mut line = LineText::new(b"subgraph cluster_");
+    push_number(&mut line, owner);
+    line.word(b"{ label=\"bank");
+    line.number(owner);
+    line.push(b"\"");
     line.number(number);
-    line.word(b"[color=gray arrowhead=none]");
+    line.word(b"}");
     line.print(writer)
 }
 
-/// Writes the line of an owner and what it owns, unless that is itself.
+/// Writes the line of an owner and what it owns, unless the object owns itself.
 pub(crate) fn draw_owner<W: Write>(owner: u64, number: u64, writer: &mut W) -> Result<(), RunFault>
     ensures { Writes (W.contents writer.old) (W.contents writer.new) result
         (flat_map owner_line (joined owner number)) }

@@ -54,7 +54,7 @@ impl Part for BankEntry {
         line.number(self.number);
         line.push(b"\\nlimit");
         line.number(self.limit);
-        line.push(b"\"]");
+        line.push(b"\" shape=house]");
         line.print(writer)
     }
 
@@ -104,8 +104,8 @@ impl Part for ProcessEntry {
 
     fn draw_box<W: Write>(&self, writer: &mut W) -> Result<(), RunFault> {
         write_fully(writer, begin_process(self).as_bytes())?;
-        draw_plain_slots(b"register", self.registers.as_slice(), writer)?;
-        write_fully(writer, b"\"]\n")
+        draw_plain_slots(b"r", self.registers.as_slice(), writer)?;
+        write_fully(writer, b"\" shape=ellipse]\n")
     }
 
     fn draw_owner<W: Write>(&self, writer: &mut W) -> Result<(), RunFault> {
@@ -138,8 +138,8 @@ impl Part for NodeEntry {
 
     fn draw_box<W: Write>(&self, writer: &mut W) -> Result<(), RunFault> {
         write_fully(writer, begin_node(self.number).as_bytes())?;
-        draw_plain_slots(b"slot", self.slots.as_slice(), writer)?;
-        write_fully(writer, b"\"]\n")
+        draw_plain_slots(b"s", self.slots.as_slice(), writer)?;
+        write_fully(writer, b"\" shape=box]\n")
     }
 
     fn draw_owner<W: Write>(&self, writer: &mut W) -> Result<(), RunFault> {
@@ -162,7 +162,7 @@ impl Part for PageEntry {
         let mut line = begin(self.number);
         line.word(b"[label=\"page");
         line.number(self.number);
-        line.push(b"\"]");
+        line.push(b"\" shape=note]");
         line.print(writer)
     }
 

@@ -7,6 +7,7 @@ ghost use Rattle.image_drawer.specs.Graph.{arrow_line, arrows_at, plain_line, pl
 ghost use Rattle.image_drawer.specs.declared.arrow.Place.TheVariants as place;
 
 use crate::arrow::{Place, draw_arrow};
+use crate::lines::push_number;
 use description::SlotEntry;
 use model::Capability;
 use script::{LineText, RunFault, write_fully};
@@ -37,7 +38,7 @@ fn draw_plain<W: Write>(
         Capability::Number(_) | Capability::Discrim => {
             let mut line = LineText::new(b"\\n");
             line.push(name);
-            line.number(index);
+            push_number(&mut line, index);
             line.capability(capability);
             write_fully(writer, line.as_bytes())
         }

@@ -6,7 +6,7 @@ use Rattle.model.specs.declared.geometry.Geometry.{Geometry}
 use Rattle.model.specs.Frame.{frame_at}
 use Rattle.layout.specs.declared.shape.Shape.TheVariants.{Packed}
 use Rattle.layout.specs.Frame.{frame_bytes}
-use Rattle.layout.specs.Homes.{shape_of}
+use Rattle.layout.specs.Homes.{home_place, shape_of}
 use Rattle.layout.specs.Shape.{shape_bytes}
 use Rattle.layout.specs.Superblock.{Plan, IsPlan}
 use Rattle.frame_io.specs.Frames.{IsObject}
@@ -33,6 +33,11 @@ all_in p frames number n cluster fits is first have so_far a is_a same =
     let few = have.all a is_a at.0 same in
     let one : number + (a - number) ≡ a = omega (arith, at.0) in
     ap (λ s. shape_bytes s cluster) at.2 ∙ so_far (a - number) (omega (arith, few, at.0)) ∙ ap (λ (m : ℕ). frame_bytes p.geometry m (frame_at frames m)) one
+
+-- and they stay where the rest is made zeros
+pub blank_in : (p : Plan) (frames : List Frame) (number : ℕ) (old new : List ℕ) → ((a : ℕ) → IsObject p.geometry a → home_place p a ≡ home_place p number → shape_bytes (shape_of p a) new ≡ shape_bytes (shape_of p a) old)
+    → AreFramesOf p frames number old → AreFramesOf p frames number new
+blank_in p frames number old new stays are a is same = stays a is same ∙ are a is same
 
 -- a number that has the home of the first is of a node
 pub shares_node : (p : Plan) (number n k : ℕ) → IsPlan p → IsObject p.geometry number → shape_of p number ≡ Packed 0 → HaveHome p number n → k < n → number + k < p.geometry.nodes

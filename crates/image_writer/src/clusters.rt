@@ -7,6 +7,7 @@ ghost use Rattle.layout.specs.Shape.{shape_bytes};
 ghost use Rattle.frame_io.specs.Frames.{IsObject};
 ghost use Rattle.model.specs.Frame.{frames_in};
 ghost use Rattle.model.specs.Sound.{object_count};
+ghost use Rattle.home_ranges.specs.Home.{EndsInZeros};
 ghost use Rattle.image_writer.specs.Homes.{AreFramesOf};
 
 use home_ranges::Home;
@@ -37,8 +38,8 @@ fn put_node(
     pack_node(&node, rank as usize, cluster);
 }
 
-/// Puts the frames of a cluster's nodes into its 4096 bytes, each from the header and the content
-/// of its number: of this one, which has rank 0, and of all others.
+/// Fills the 4096 bytes of a cluster, of which `number` is the first node: with the frame of each of its nodes, from the
+/// header and the content of its number, and with zeros behind them.
 pub(crate) fn fill_cluster(
     home: &Home,
     number: u64,
@@ -53,6 +54,7 @@ pub(crate) fn fill_cluster(
     requires cluster { length cluster.old ≡ 4096 }
     ensures frames { AreFramesOf home.now (frames_in headers.now contents.now) number
         cluster.new }
+    ensures zeros { EndsInZeros home.now number cluster.new }
     ensures size { length cluster.new ≡ 4096 }
 {
     let geometry = home.geometry();
@@ -67,4 +69,5 @@ pub(crate) fn fill_cluster(
             cluster,
         );
     }
+    home.blank_rest(number, cluster);
 }

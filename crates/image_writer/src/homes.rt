@@ -5,13 +5,14 @@ ghost use Rattle.device.specs.Moments.{LeavesOnly};
 ghost use Rattle.layout.specs.declared.shape.Shape.TheVariants as shape;
 ghost use Rattle.layout.specs.Frame.{frame_bytes};
 ghost use Rattle.layout.specs.Homes.{home_place, place_length, shape_of};
-ghost use Rattle.layout.specs.Image.{bytes_at};
+ghost use Rattle.layout.specs.Image.{bytes_at, sectors_from};
 ghost use Rattle.layout.specs.Superblock.{IsPlan};
 ghost use Rattle.frame_io.specs.Calls.{WritesAt};
 ghost use Rattle.frame_io.specs.Frames.{IsObject};
 ghost use Rattle.model.specs.Frame.{frames_in};
 ghost use Rattle.model.specs.Sound.{object_count};
 ghost use Rattle.ckpt_log.specs.Closing.{AreClosed};
+ghost use Rattle.home_ranges.specs.Home.{EndsInZeros};
 ghost use Rattle.image_writer.specs.Homes.{IsHome, frames_before};
 ghost use Rattle.image_writer.specs.Written.{AreHome, LeavesClosed};
 
@@ -80,8 +81,7 @@ fn write_page<D: Device>(
     home.write_frame(device, number, &page)
 }
 
-// Writes the home of all nodes of a cluster, of which this one has rank 0, with zeros in the places
-// of ranks that none has.
+// Writes the home of all nodes of a cluster, of which this one has rank 0, with zeros behind them.
 fn write_cluster<D: Device>(
     device: &mut D,
     home: &Home,
@@ -96,6 +96,8 @@ fn write_cluster<D: Device>(
     requires inside { home.now.total ≤ (D.disk device.old).sectors }
     ensures written { OnOk result (IsHome home.now (frames_in headers.now contents.now) number
         (D.disk device.new).seen) }
+    ensures zeros { OnOk result (EndsInZeros home.now number
+        (sectors_from (D.disk device.new).seen (home_place home.now number) 8)) }
     ensures writes { WritesAt (home_place home.now number) (place_length home.now number)
         (D.disk device.old) (D.disk device.new) }
     ensures cause { Counts (D.disk device.old) (D.disk device.new) result }

@@ -1,17 +1,18 @@
 // The log of an image that is written: the slots of its directory's entries, and the directory.
-ghost use Rattle.std.specs.Prelude.{◌≡◌, ◌*◌, ◌<◌, ◌≤◌, length, OnOk};
+ghost use Rattle.std.specs.Prelude.{◌≡◌, ◌-◌, ◌*◌, ◌<◌, ◌≤◌, length, OnOk};
 ghost use Rattle.device.specs.Calls.{Counts, Elsewhere};
 ghost use Rattle.device.specs.Moments.{LeavesOnly};
 ghost use Rattle.layout.specs.declared.shape.Shape.TheVariants as shape;
 ghost use Rattle.layout.specs.Directory.{IsDirectory, directory_bytes};
 ghost use Rattle.layout.specs.Homes.{place_length, shape_of};
-ghost use Rattle.layout.specs.Image.{directory_in, half_sector, slot_sector};
+ghost use Rattle.layout.specs.Image.{directory_in, half_sector, sectors_from, slot_sector};
 ghost use Rattle.layout.specs.Superblock.{IsPlan, half_extent};
 ghost use Rattle.frame_io.specs.Calls.{WritesAt};
 ghost use Rattle.frame_io.specs.Frames.{IsObject};
 ghost use Rattle.model.specs.Frame.{frames_in};
 ghost use Rattle.model.specs.Sound.{object_count};
 ghost use Rattle.ckpt_log.specs.Closing.{AreClosed};
+ghost use Rattle.home_ranges.specs.Home.{EndsInZeros};
 ghost use Rattle.image_writer.specs.Homes.{LieAt};
 ghost use Rattle.image_writer.specs.Written.{AreInSlots, LeavesClosed};
 
@@ -25,8 +26,8 @@ use model::{Cap, Content, ObjectHeader};
 
 const CLUSTER_SECTORS: usize = 8;
 
-// Writes the slot of an entry whose node has this rank in its cluster: the frames of all nodes of
-// that.
+// Writes the slot of an entry whose node has this rank in its cluster: the frames of all nodes of the cluster, and zeros
+// behind them.
 fn write_cluster<D: Device>(
     device: &mut D,
     log: &Log,
@@ -47,6 +48,8 @@ fn write_cluster<D: Device>(
     requires inside { home.now.total ≤ (D.disk device.old).sectors }
     ensures written { OnOk result (LieAt home.now (frames_in headers.now contents.now) entry.object
         (slot_sector home.now generation entry.slot) (D.disk device.new).seen) }
+    ensures zeros { OnOk result (EndsInZeros home.now (entry.object - rank)
+        (sectors_from (D.disk device.new).seen (slot_sector home.now generation entry.slot) 8)) }
     ensures writes { WritesAt (slot_sector home.now generation entry.slot)
         (place_length home.now entry.object) (D.disk device.old) (D.disk device.new) }
     ensures cause { Counts (D.disk device.old) (D.disk device.new) result }

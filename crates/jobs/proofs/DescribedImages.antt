@@ -1,10 +1,12 @@
 -- What the command that describes comes to, and what its text is built as.
-use Rattle.std.proofs.Common.{◌≡◌, ℕ, List, Some, Result, Ok, sym, ap, ◌∙◌, subst}
+use Rattle.std.proofs.Common.{◌≡◌, ℕ, List, Some, Result, Ok, refl, sym, ap, ◌∙◌, subst}
 use Rattle.std.proofs.lemmas.Option.{same_Some}
 use Rattle.toml.specs.Data.{Members}
 use Rattle.toml.specs.Parse.{parse_document}
 use Rattle.model.specs.declared.frame.Frame.{Frame}
 use Rattle.model.specs.declared.geometry.Geometry.{Geometry}
+use Rattle.model.specs.declared.object.Object.{Object}
+use Rattle.model.specs.Frame.{objects_of}
 use Rattle.model.specs.Keepable.{IsSoundFrames, world_at}
 use Rattle.model.specs.World.{World}
 use Rattle.model.specs.Machine.{Saved}
@@ -15,7 +17,7 @@ use Rattle.checkpoint.specs.declared.open_fault.OpenFault.{OpenFault}
 use Rattle.checkpoint.specs.Opened.{Looks}
 use Rattle.checkpoint.specs.Saved.{Holds, SavedFrames}
 use Rattle.migrator.specs.Durable.{saved_state, seen_of}
-use Rattle.capability.specs.Parts.{frames_of}
+use Rattle.capability.specs.Parts.{AreSound, frames_of, objects_in}
 use Rattle.image_writer.specs.Written.{first_saved}
 use Rattle.kernel.specs.declared.power.Live.{Live}
 use Rattle.kernel.specs.Opening.{Wakes}
@@ -31,20 +33,21 @@ use Rattle.image_describer.specs.Text.{description_text}
 use Rattle.object_cache.specs.PlainStore.{StoreState, parts_of, view_of}
 use Rattle.jobs.specs.Images.{DescribesSaved, IsDescriptionOf, OpensAndDescribes, TellsWhole}
 use Rattle.jobs.specs.Laws.{DescribedIsDenoted}
+use Rattle.jobs.specs.Reaching.{HoldsOfSaved}
 
 -- A store that was made of a device.
 module _ {D : Type 0} (disk : D → Disk) (seen_left : (d : D) → (disk d).may_leave (disk d).seen) (device : D) (l : Live (StoreState D)) (wakes : Wakes disk (view_of disk) (parts_of disk) device l) where
   -- what is saved, as the device gives it
-  abbrev state_of : SavedState
+  abbrev pub state_of : SavedState
   state_of = saved_state (seen_of disk l.store.durable) l.store.durable.books
 
-  encodes : Encodes (disk device).seen (disk device).sectors state_of
+  pub encodes : Encodes (disk device).seen (disk device).sectors state_of
   encodes =
       let beneath = l.store.durable.beneath in
       subst (λ (i : Image). Encodes i (disk device).sectors state_of) (agrees_is (disk beneath).seen (disk device).seen wakes.looks.seen)
       (subst (λ (n : ℕ). Encodes (disk beneath).seen n state_of) wakes.looks.size (wakes.up.store (disk beneath).seen (seen_left beneath)))
 
-  sound : IsSoundFrames state_of.plan.geometry state_of.header.age state_of.frames
+  pub sound : IsSoundFrames state_of.plan.geometry state_of.header.age state_of.frames
   sound = wakes.up.sound.saved.sound
 
   pub sound_at : (age : ℕ) → age ≡ state_of.header.age → IsSoundFrames (parts_of disk l.store).geometry age (frames_of (parts_of disk l.store))
@@ -52,8 +55,11 @@ module _ {D : Type 0} (disk : D → Disk) (seen_left : (d : D) → (disk d).may_
       subst (λ (n : ℕ). IsSoundFrames state_of.plan.geometry n (frames_of (parts_of disk l.store))) (sym is)
       (subst (λ (fs : List Frame). IsSoundFrames state_of.plan.geometry state_of.header.age fs) (sym wakes.frames) sound)
 
+  pub are_sound : AreSound (parts_of disk l.store)
+  are_sound = (state_of.header.age, sound_at state_of.header.age refl)
+
   module _ (back : D) (same : back ≡ l.store.durable.beneath) where
-    looked : Looks (disk device) (disk back)
+    pub looked : Looks (disk device) (disk back)
     looked = subst (λ (d : D). Looks (disk device) (disk d)) (sym same) wakes.looks
 
     pub saved : (age : ℕ) → age ≡ state_of.header.age → (d : Description) → IsDescriptionOf l.store.durable.books.plan age (frames_of (parts_of disk l.store)) d → DescribesSaved disk device back d
@@ -63,6 +69,17 @@ module _ {D : Type 0} (disk : D → Disk) (seen_left : (d : D) → (disk d).may_
       sound = sound;
       whole = subst (λ (n : ℕ). IsDescriptionOf state_of.plan n state_of.frames d) age_is
           (subst (λ (fs : List Frame). IsDescriptionOf state_of.plan age fs d) wakes.frames whole);
+      failures = ap (λ (d : D). (disk d).failures) same ∙ wakes.failures;
+      looks = looked;
+    }
+
+    -- all objects that are saved
+    pub read : (os : List Object) → os ≡ objects_in (parts_of disk l.store) → HoldsOfSaved disk device back (λ us. os ≡ us)
+    read os is = record {
+      state = state_of;
+      encodes = encodes;
+      sound = sound;
+      holds = is ∙ ap (λ (fs : List Frame). objects_of fs) wakes.frames;
       failures = ap (λ (d : D). (disk d).failures) same ∙ wakes.failures;
       looks = looked;
     }

@@ -1,6 +1,6 @@
 -- What the command that upgrades comes to.
-use Rattle.std.proofs.Common.{◌≡◌, ℕ, List, Option, Ok, Err, ap, subst}
-use Rattle.std.specs.Prelude.{◌↔◌, IsErrOf, Result}
+use Rattle.std.proofs.Common.{◌≡◌, ℕ, List, Option, Ok, Err, refl, ap, arith, subst, sym, ◌∙◌}
+use Rattle.std.specs.Prelude.{◌↔◌, IfErr, IsErrOf, OnErr, OnOk, Result}
 use Rattle.std.specs.Io.KnownBytes.{Appends}
 use Rattle.model.specs.Text.{line_of}
 use Rattle.device.specs.Disk.{Disk}
@@ -9,7 +9,7 @@ use Rattle.checkpoint.specs.declared.open_fault.OpenFault.TheVariants as opening
 use Rattle.image_writer.specs.Laid.{laid_again}
 use Rattle.image_builder.specs.declared.upgrade_fault.UpgradeFault.{UpgradeFault}
 use Rattle.image_builder.specs.declared.upgrade_fault.UpgradeFault.TheVariants as upgrade
-use Rattle.image_builder.specs.Upgraded.{ReadsAndCloses, Upgrades}
+use Rattle.image_builder.specs.Upgraded.{IsRefusedAsOld, ReadsAndCloses, Upgrades}
 use Rattle.script.specs.Writing.{AppendsFront}
 use Rattle.jobs.specs.declared.fault.Fault.{Fault}
 use Rattle.jobs.specs.declared.fault.Fault.TheVariants as fault
@@ -26,6 +26,25 @@ module _ {D E : Type 0} (disk : D → Disk) (new_disk : E → Disk) (old : D) (b
   pub upgraded_untold : AppendsFront output output_left (line_of (upgraded_text total)) → UpgradesImage disk new_disk old before new output output_left (Err fault.CannotWriteOutput)
   upgraded_untold told = (done.0, subst (λ (n : ℕ). AppendsFront output output_left (line_of (upgraded_text n))) done.1 told)
 
+  -- the total was told, or couldn't be
+  pub total_told : (result : Result (Unit {0}) Fault) → OnOk result (Appends output output_left (line_of (upgraded_text total))) → OnErr result (AppendsFront output output_left (line_of (upgraded_text total)))
+      → IfErr result (λ f. f ≡ fault.CannotWriteOutput) → UpgradesImage disk new_disk old before new output output_left result
+  total_told (Ok a) told front is = upgraded_told told
+  total_told (Err f) told front is = subst (λ (x : Fault). let r : Result (Unit {0}) Fault = Err x in UpgradesImage disk new_disk old before new output output_left r) (sym is) (upgraded_untold front)
+
+-- that isn't told as a failure of the old device
+pub never_old : (result : Result (Unit {0}) Fault) → IfErr result (λ f. f ≡ fault.CannotWriteOutput) → IsErrOf result old_failed → ⊥
+never_old (Ok a) is told = cc
+never_old (Err f) is told = let same : f ≡ old_failed = cc in let other : fault.CannotWriteOutput ≡ old_failed = sym is ∙ same in cc
+
+-- an old device that is refused leaves the new one as it was
+pub old_refused : {D E : Type 0} (disk : D → Disk) (new_disk : E → Disk) (old : D) (before : E) (output : Option (List ℕ)) (why : UpgradeFault) → IsRefusedAsOld disk old why
+    → (let r : Result (Unit {0}) Fault = Err (fault.Upgrade why) in UpgradesImage disk new_disk old before before output output r)
+old_refused disk new_disk old before output (upgrade.Old why) is = (is, (λ _. refl), (λ same. cc, λ rose. absurd (omega (arith, rose))), refl)
+old_refused disk new_disk old before output upgrade.Small is = absurd is
+old_refused disk new_disk old before output upgrade.Failed is = absurd is
+old_refused disk new_disk old before output upgrade.NoMemory is = (tt, (λ _. refl), (λ same. cc, λ rose. absurd (omega (arith, rose))), refl)
+
 -- what was only read was so whichever way its failure is told
 pub read_told : {D : Type 0} (disk : D → Disk) (was_closed : D → Type 0) (old : D) (told other : Type 0) → (other → told) → (told → other) → ReadsAndCloses disk was_closed old told → ReadsAndCloses disk was_closed old other
 read_told disk was_closed old told other back on read =
@@ -39,9 +58,9 @@ read_upgraded disk was_closed old total read told never =
     read_told disk was_closed old (IsErrOf r (upgrade.Old opening.Failed)) (IsErrOf told old_failed) (λ is. absurd (never is)) (λ is. cc) read
 
 -- of none it is
-pub read_refused : {D : Type 0} (disk : D → Disk) (was_closed : D → Type 0) (old : D) (why : UpgradeFault) → (let r : Result ℕ UpgradeFault = Err why in ReadsAndCloses disk was_closed old (IsErrOf r (upgrade.Old opening.Failed)))
+pub read_refused : {D T : Type 0} (disk : D → Disk) (was_closed : D → Type 0) (old : D) (why : UpgradeFault) → (let r : Result T UpgradeFault = Err why in ReadsAndCloses disk was_closed old (IsErrOf r (upgrade.Old opening.Failed)))
     → (let told : Result (Unit {0}) Fault = Err (fault.Upgrade why) in ReadsAndCloses disk was_closed old (IsErrOf told old_failed))
-read_refused disk was_closed old why read =
-    let r : Result ℕ UpgradeFault = Err why in
+read_refused {D} {T} disk was_closed old why read =
+    let r : Result T UpgradeFault = Err why in
     let told : Result (Unit {0}) Fault = Err (fault.Upgrade why) in
     read_told disk was_closed old (IsErrOf r (upgrade.Old opening.Failed)) (IsErrOf told old_failed) (λ is. cc) (λ is. cc) read

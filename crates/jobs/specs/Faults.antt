@@ -64,6 +64,7 @@ fault_text (fault.Build why) = build_text why
 fault_text (fault.Open why) = open_text why
 fault_text (fault.Upgrade why) = upgrade_text why
 fault_text (fault.Stopped stop) = stop_text stop
+fault_text (fault.NoProcess p) = spaced (codes "eros: no process" ∷ decimal p ∷ [])
 
 -- a run that was ended by its observer has a place where it was
 abbrev pub HasStop : Result (Result (Unit {0}) RunFault) OpenFault → Option Stop → Type 0

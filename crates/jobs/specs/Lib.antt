@@ -1,4 +1,6 @@
 pub mod Faults
 pub mod Images
+pub mod Info
 pub mod Laws
 pub mod Shell
+pub mod Reaching

@@ -36,6 +36,8 @@ pub enum Fault {
     Upgrade(UpgradeFault),
     /// A strict run ended at a line.
     Stopped(Stop),
+    /// This number isn't the number of a process.
+    NoProcess(u64),
 }
 
 /// The end of a run, where the device was opened, as a fault of the command. A run that its observer
@@ -138,6 +140,7 @@ impl Fault {
             Fault::Open(fault) => open_line(fault),
             Fault::Upgrade(fault) => upgrade_line(fault),
             Fault::Stopped(stop) => stop_line(stop),
+            Fault::NoProcess(number) => LineText::numbered(b"eros: no process", number),
         }
     }
 

@@ -1,40 +1,79 @@
 // The command that upgrades an image.
-ghost use Rattle.std.specs.Prelude.{◌≡◌, IsErrOf, Result};
+ghost use Rattle.std.specs.Prelude.{◌≡◌, IfErr, IsErrOf, OnErr, OnOk, Result};
+ghost use Rattle.std.specs.Io.KnownBytes.{Appends};
+ghost use Rattle.model.specs.Text.{line_of};
 ghost use Rattle.device.specs.Moments.{LeavesOnly};
-ghost use Rattle.image_builder.specs.Upgraded.{IsLeftUpgrading, ReadsAndCloses};
+ghost use Rattle.image_builder.specs.Upgraded.{IsLeftUpgrading, IsOpenedFrom, ReadsAndCloses};
+ghost use Rattle.script.specs.Writing.{AppendsFront};
 ghost use Rattle.jobs.specs.Faults.{IsTold, status_of};
-ghost use Rattle.jobs.specs.Images.{UpgradesImage, old_failed};
+ghost use Rattle.jobs.specs.Images.{UpgradesImage, old_failed, upgraded_text};
 
 use crate::fault::{Fault, status};
 use device::Device;
-use image_builder::{ClosableDevice, upgrade_and_count};
+use image_builder::{ClosableDevice, OldImage};
 use script::LineText;
 use std::alloc::Global;
 use std::io::Write;
 
-// Upgrades an image, and tells how many sectors the new one has.
-fn upgrade_and_tell<D: ClosableDevice, E: Device, W: Write>(
-    alloc: Global,
-    old: D,
-    new: &mut E,
-    writer: &mut W,
-) -> Result<(), Fault>
-    ensures upgraded { UpgradesImage D.disk E.disk old new.old new.new
-        (W.contents writer.old) (W.contents writer.new) result }
-    ensures any_moment { LeavesOnly (E.disk new.old) (E.disk new.new)
-        (λ c. IsLeftUpgrading (D.disk old) (E.disk new.old) c) }
-    ensures reads { ReadsAndCloses D.disk D.was_closed old (IsErrOf result old_failed) }
+// Writes how many sectors an upgraded image has.
+fn tell_total<W: Write>(total: u64, writer: &mut W) -> Result<(), Fault>
+    ensures told { OnOk result (Appends (W.contents writer.old) (W.contents writer.new)
+        (line_of (upgraded_text total))) }
+    ensures front { OnErr result (AppendsFront (W.contents writer.old) (W.contents writer.new)
+        (line_of (upgraded_text total))) }
+    ensures fault { IfErr result (λ fault. fault ≡ Fault.CannotWriteOutput) }
 {
-    let total = match upgrade_and_count(alloc, old, new) {
-        Ok(total) => total,
-        Err(fault) => return Err(Fault::Upgrade(fault)),
-    };
     let mut line = LineText::numbered(b"upgraded", total);
     line.word(b"sectors");
     match line.write_to(writer) {
         Ok(()) => Ok(()),
         Err(_) => Err(Fault::CannotWriteOutput),
     }
+}
+
+// Writes what an old image saves to a new device, and tells how many sectors the new image has.
+fn write_and_tell<D: ClosableDevice, E: Device, W: Write>(
+    alloc: Global,
+    image: OldImage<D>,
+    new: &mut E,
+    writer: &mut W,
+) -> Result<(), Fault>
+    ensures upgraded { (old : D) → IsOpenedFrom D.disk old image
+        → UpgradesImage D.disk E.disk old new.old new.new
+        (W.contents writer.old) (W.contents writer.new) result }
+    ensures any_moment { (old : D) → IsOpenedFrom D.disk old image
+        → LeavesOnly (E.disk new.old) (E.disk new.new)
+        (λ c. IsLeftUpgrading (D.disk old) (E.disk new.old) c) }
+    ensures reads { (old : D) → IsOpenedFrom D.disk old image
+        → ReadsAndCloses D.disk D.was_closed old (IsErrOf result old_failed) }
+{
+    match image.write_to(alloc, new) {
+        Ok(total) => tell_total(total, writer),
+        Err(fault) => Err(Fault::Upgrade(fault)),
+    }
+}
+
+/// Writes what an old image that was opened saves over a new device by version 2 of the layout, as
+/// `upgrade_image` does, and closes the old device; the lines and the status are the same.
+pub fn upgrade_opened<D: ClosableDevice, E: Device, W: Write, V: Write>(
+    alloc: Global,
+    image: OldImage<D>,
+    new: &mut E,
+    writer: &mut W,
+    errors: &mut V,
+) -> u8
+    ensures upgraded { (outcome : Result (Unit {0}) Fault) × (result ≡ status_of outcome)
+        × IsTold outcome (V.contents errors.old) (V.contents errors.new)
+        × ((old : D) → IsOpenedFrom D.disk old image
+        → UpgradesImage D.disk E.disk old new.old new.new
+        (W.contents writer.old) (W.contents writer.new) outcome
+        × ReadsAndCloses D.disk D.was_closed old (IsErrOf outcome old_failed)) }
+    ensures any_moment { (old : D) → IsOpenedFrom D.disk old image
+        → LeavesOnly (E.disk new.old) (E.disk new.new)
+        (λ c. IsLeftUpgrading (D.disk old) (E.disk new.old) c) }
+{
+    let outcome = write_and_tell(alloc, image, new, writer);
+    status(outcome, errors)
 }
 
 /// Opens an old device as a run does, writes what its image saves over a new one by version 2 of the
@@ -60,6 +99,8 @@ pub fn upgrade_image<D: ClosableDevice, E: Device, W: Write, V: Write>(
     ensures any_moment { LeavesOnly (E.disk new.old) (E.disk new.new)
         (λ c. IsLeftUpgrading (D.disk old) (E.disk new.old) c) }
 {
-    let outcome = upgrade_and_tell(alloc, old, new, writer);
-    status(outcome, errors)
+    match OldImage::open(alloc, old) {
+        Ok(image) => upgrade_opened(alloc, image, new, writer, errors),
+        Err(fault) => status(Err(Fault::Upgrade(fault)), errors),
+    }
 }

@@ -1,4 +1,5 @@
 mod Acts
+mod Codes
 pub mod Denoted
 mod Crashes
 mod JournalSteps

@@ -1,4 +1,4 @@
--- Which machine a kernel stands for, and what serving a command comes to.
+-- The machine that a kernel stands for, and how it serves a command.
 use Rattle.std.specs.Prelude.{◌≡◌, ◌↔◌, ℕ, ◌<◌, ◌≤◌, ◌==◌, Bool, not, Option, None, Some, List, [], ◌∷◌, ◌++◌, length, map}
 use Rattle.std.specs.List.{range_with_len}
 use Rattle.model.specs.declared.answer.Answer.{Answer}
@@ -9,6 +9,7 @@ use Rattle.model.specs.declared.command.Command.{Command}
 use Rattle.model.specs.declared.command.Command.TheVariants as command
 use Rattle.model.specs.declared.frame.Frame.{Frame}
 use Rattle.model.specs.declared.geometry.Geometry.{Geometry}
+use Rattle.model.specs.declared.order.ResultCode.{ResultCode}
 use Rattle.model.specs.Frame.{frame_at}
 use Rattle.model.specs.Keepable.{IsSoundFrames, world_at}
 use Rattle.model.specs.Machine.{Frozen, Running, Machine, Up, Down, candidates}
@@ -20,6 +21,8 @@ use Rattle.checkpoint.specs.declared.checkpoint_fault.CheckpointFault.TheVariant
 use Rattle.checkpoint.specs.declared.committed.Checkpoint.{Checkpoint}
 use Rattle.object_store.specs.Store.{Aside, FrozenFrames, View}
 use Rattle.space_bank.specs.Banks.{AreCounted, BanksState}
+use Rattle.processes.specs.declared.served.Served.{Served}
+use Rattle.processes.specs.Machine.{code_with}
 use Rattle.kernel.specs.declared.power.Live.{Live}
 use Rattle.kernel.specs.declared.power.Power.{Power}
 use Rattle.kernel.specs.declared.power.Power.TheVariants as power
@@ -76,6 +79,11 @@ refusal_by fault.Failed = refusal.Fault
 -- no device
 abbrev pub nothing : Disk
 nothing = record { sectors = 0; seen = λ k. []; may_leave = λ c. ⊥; moment = 0; left_since = λ t c. ⊥; failures = 0 }
+
+-- the result code beside an answer: that of an order which an invocation carried out, and else none
+abbrev pub told_code : Geometry → Machine → Command → Answer → Option ResultCode
+told_code g (Up r) (command.Invoke i) a = code_with g r.now.objects i a
+told_code g m c a = None
 
 -- a command is answered with `Fault` exactly where the count of failures rises
 pub record IsCaused (old new : Disk) (a : Answer) : Type 0 where
@@ -158,6 +166,10 @@ module _ {D S : Type 0} (disk : D → Disk) (view : S → View D) (parts : S →
   abbrev pub HasNoneToMove : Power D S → Command → Type 0
   HasNoneToMove (power.Up l) (command.Migrate n) = (view l.store).aside.saved.entries ≡ 0
   HasNoneToMove _ _ = ⊥
+
+  -- the code is the result code of the command, whichever machine the kernel stands for
+  abbrev pub HasCode : Power D S → Command → Served → Type 0
+  HasCode p c served = (g : Geometry) (m : Machine) → Stands g p m → served.code ≡ told_code g m c served.answer
 
   -- there is a device beneath a kernel
   abbrev pub HasDevice : Power D S → Type 0

@@ -1,7 +1,7 @@
 // The kernel.
 ghost use Rattle.std.specs.Prelude.{IfOk, IfErr};
 ghost use Rattle.processes.specs.Machine.{IsUnlooked};
-ghost use Rattle.kernel.specs.Standing.{HasNoneToMove, IsCaused, IsDeviceOf, IsTold, SameDevice, Serves, disk_of};
+ghost use Rattle.kernel.specs.Standing.{HasCode, HasNoneToMove, IsCaused, IsDeviceOf, IsTold, SameDevice, Serves, disk_of};
 ghost use Rattle.kernel.specs.Opening.{Opens, RefusesToOpen};
 
 use crate::machine::Machine;
@@ -9,6 +9,7 @@ use checkpoint::{Checkpoint, OpenRefused};
 use device::Device;
 use model::{Answer, Command};
 use object_store::ObjectStore;
+use processes::Served;
 use std::alloc::Global;
 use std::marker::Model;
 
@@ -68,6 +69,21 @@ impl<D: Device, S: ObjectStore<D>> Kernel<D, S> {
             → SameDevice D.disk S.view S.parts self.old self.new }
         ensures cause { IsCaused (disk_of D.disk S.view S.parts self.old)
             (disk_of D.disk S.view S.parts self.new) result }
+    {
+        self.step_with_code(alloc, command).answer
+    }
+
+    /// Serves one command, as `step` does, and tells the result code too. The code is that of the
+    /// order if the command invoked a kernel object and the answer is `Done`, and else `None`.
+    pub fn step_with_code(&mut self, alloc: Global, command: Command) -> Served
+        ensures serves { Serves D.disk S.view S.parts self.old command result.answer self.new }
+        ensures untouched { IsUnlooked result.answer
+            → SameDevice D.disk S.view S.parts self.old self.new }
+        ensures none_to_move { HasNoneToMove D.disk S.view S.parts self.old command
+            → SameDevice D.disk S.view S.parts self.old self.new }
+        ensures cause { IsCaused (disk_of D.disk S.view S.parts self.old)
+            (disk_of D.disk S.view S.parts self.new) result.answer }
+        ensures code { HasCode D.disk S.view S.parts self.old command result }
     {
         self.machine.step(alloc, command)
     }

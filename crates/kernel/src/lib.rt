@@ -12,4 +12,5 @@ mod waking;
 
 pub use kernel::Kernel;
 pub use power::Live;
+pub use processes::Served;
 pub use waking::wake;

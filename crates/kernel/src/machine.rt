@@ -5,8 +5,8 @@ ghost use Rattle.model.specs.declared.geometry.Geometry.{Geometry};
 ghost use Rattle.model.specs.Machine.{Saved};
 ghost use Rattle.model.specs.Step.{opens};
 ghost use Rattle.kernel.specs.Denotes.{Leaves};
-ghost use Rattle.processes.specs.Machine.{IsToldOnce, IsUnlooked, NeedsNoLook, answer_of};
-ghost use Rattle.kernel.specs.Standing.{Asks, GoesDown, HasDevice, HasNoneToMove, IsCaused, IsSomeMachine, SameDevice, Serves, disk_of};
+ghost use Rattle.processes.specs.Machine.{IsServedOnce, IsUnlooked, NeedsNoLook, answer_with};
+ghost use Rattle.kernel.specs.Standing.{Asks, GoesDown, HasCode, HasDevice, HasNoneToMove, IsCaused, IsSomeMachine, SameDevice, Serves, disk_of};
 ghost use Rattle.kernel.specs.Opening.{IsNoReason, IsSomeDown, Opens, RefusesToOpen, Reopened, refused_by};
 
 use crate::power::{Live, Power};
@@ -16,6 +16,7 @@ use checkpoint::{OpenFault, OpenRefused};
 use device::{Device, Failed};
 use model::{Answer, Command, Refusal};
 use object_store::ObjectStore;
+use processes::Served;
 use std::alloc::Global;
 use std::mem;
 
@@ -55,21 +56,22 @@ impl<D: Device, S: ObjectStore<D>> Machine<D, S> {
         }
     }
 
-    // Asks the store, where it is up.
-    fn ask(&mut self, alloc: Global, command: Command) -> Result<Answer, Failed>
+    // Asks the store, if it is up.
+    fn ask(&mut self, alloc: Global, command: Command) -> Result<Served, Failed>
         requires some { IsSomeMachine D.disk S.view S.parts self.old.power }
         requires goes_on { opens command ≡ false }
-        ensures asks { Asks D.disk S.view S.parts self.old.power command (answer_of result)
+        ensures asks { Asks D.disk S.view S.parts self.old.power command (answer_with result)
             self.new.power }
-        ensures untouched { IsUnlooked (answer_of result)
+        ensures untouched { IsUnlooked (answer_with result)
             → SameDevice D.disk S.view S.parts self.old.power self.new.power }
         ensures none_to_move { HasNoneToMove D.disk S.view S.parts self.old.power command
             → SameDevice D.disk S.view S.parts self.old.power self.new.power }
-        ensures told_once { IsToldOnce result }
+        ensures told_once { IsServedOnce result }
+        ensures code { IfOk result (λ served. HasCode D.disk S.view S.parts self.old.power command served) }
     {
         match &mut self.power {
             Power::Up(live) => serve::<D, S>(alloc, live, command),
-            Power::Down(_) | Power::Between => Ok(Answer::Refused(Refusal::Down)),
+            Power::Down(_) | Power::Between => Ok(Served::from(Answer::Refused(Refusal::Down))),
         }
     }
 
@@ -84,22 +86,23 @@ impl<D: Device, S: ObjectStore<D>> Machine<D, S> {
     }
 
     // Serves a command that doesn't open the device. After a failure the machine is down.
-    fn go_on(&mut self, alloc: Global, command: Command) -> Answer
+    fn go_on(&mut self, alloc: Global, command: Command) -> Served
         requires some { IsSomeMachine D.disk S.view S.parts self.old.power }
         requires goes_on { opens command ≡ false }
-        ensures serves { Serves D.disk S.view S.parts self.old.power command result self.new.power }
-        ensures untouched { IsUnlooked result
+        ensures serves { Serves D.disk S.view S.parts self.old.power command result.answer self.new.power }
+        ensures untouched { IsUnlooked result.answer
             → SameDevice D.disk S.view S.parts self.old.power self.new.power }
         ensures none_to_move { HasNoneToMove D.disk S.view S.parts self.old.power command
             → SameDevice D.disk S.view S.parts self.old.power self.new.power }
         ensures cause { IsCaused (disk_of D.disk S.view S.parts self.old.power)
-            (disk_of D.disk S.view S.parts self.new.power) result }
+            (disk_of D.disk S.view S.parts self.new.power) result.answer }
+        ensures code { HasCode D.disk S.view S.parts self.old.power command result }
     {
         match self.ask(alloc, command) {
-            Ok(answer) => answer,
+            Ok(served) => served,
             Err(Failed) => {
                 self.go_down();
-                Answer::Refused(Refusal::Fault)
+                Served::from(Answer::Refused(Refusal::Fault))
             }
         }
     }
@@ -156,21 +159,22 @@ impl<D: Device, S: ObjectStore<D>> Machine<D, S> {
         self.rise(alloc, device)
     }
 
-    /// Serves one command. `BadNumber`, `NoProcess` and `Down` are told without a call of the device,
-    /// and so is what is left to migrate where nothing was.
-    pub fn step(&mut self, alloc: Global, command: Command) -> Answer
+    /// Serves one command. `BadNumber`, `NoProcess` and `Down` make no call of the device, and
+    /// neither does `Migrate` where nothing was left to migrate.
+    pub fn step(&mut self, alloc: Global, command: Command) -> Served
         requires { IsSomeMachine D.disk S.view S.parts self.old.power }
-        ensures serves { Serves D.disk S.view S.parts self.old.power command result self.new.power }
-        ensures untouched { IsUnlooked result
+        ensures serves { Serves D.disk S.view S.parts self.old.power command result.answer self.new.power }
+        ensures untouched { IsUnlooked result.answer
             → SameDevice D.disk S.view S.parts self.old.power self.new.power }
         ensures none_to_move { HasNoneToMove D.disk S.view S.parts self.old.power command
             → SameDevice D.disk S.view S.parts self.old.power self.new.power }
         ensures cause { IsCaused (disk_of D.disk S.view S.parts self.old.power)
-            (disk_of D.disk S.view S.parts self.new.power) result }
+            (disk_of D.disk S.view S.parts self.new.power) result.answer }
+        ensures code { HasCode D.disk S.view S.parts self.old.power command result }
     {
         match command {
-            Command::Restart => self.restart(alloc),
-            Command::Cut => self.cut(alloc),
+            Command::Restart => Served::from(self.restart(alloc)),
+            Command::Cut => Served::from(self.cut(alloc)),
             other => self.go_on(alloc, other),
         }
     }

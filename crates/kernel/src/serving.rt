@@ -1,16 +1,19 @@
 // What a machine that is up serves.
-ghost use Rattle.std.specs.Prelude.{◌≡◌, false};
+ghost use Rattle.std.specs.Prelude.{◌≡◌, false, IfOk};
 ghost use Rattle.model.specs.declared.command.Command.TheVariants as command;
+ghost use Rattle.model.specs.declared.command.Command.TheVariants.{Invoke};
+ghost use Rattle.model.specs.declared.command.Invocation.{Invocation};
 ghost use Rattle.model.specs.Step.{opens};
 ghost use Rattle.kernel.specs.declared.power.Power.TheVariants as power;
-ghost use Rattle.processes.specs.Machine.{IsToldOnce, IsUnlooked, answer_of};
-ghost use Rattle.kernel.specs.Standing.{HasNoneToMove, IsCaused, IsSomeUp, ServesUp, disk_at};
+ghost use Rattle.processes.specs.Machine.{IsServedOnce, IsToldOnce, IsUnlooked, answer_of, answer_with};
+ghost use Rattle.kernel.specs.Standing.{HasCode, HasNoneToMove, IsCaused, IsSomeUp, ServesUp, disk_at};
 
 use crate::power::Live;
 use crate::{checkpoints, journaling};
 use device::{Device, Failed};
 use model::{Answer, Command, Refusal};
 use object_store::ObjectStore;
+use processes::Served;
 use std::alloc::Global;
 
 // Asks that an object leave memory. It is refused by `BadNumber` where no object has the number. It
@@ -32,15 +35,16 @@ fn evict<D: Device, S: ObjectStore<D>>(live: &mut Live<S>, number: u64) -> Resul
     Ok(Answer::Done)
 }
 
-/// Serves a command that doesn't open the device, by a store that is up. Fails exactly where the
-/// device does.
-pub fn serve<D: Device, S: ObjectStore<D>>(
+// Serves a command that isn't an invocation and doesn't open the device.
+#[inline(always)]
+fn serve_other<D: Device, S: ObjectStore<D>>(
     alloc: Global,
     live: &mut Live<S>,
     command: Command,
 ) -> Result<Answer, Failed>
     requires up { IsSomeUp D.disk S.view S.parts live.old }
     requires goes_on { opens command ≡ false }
+    requires other { (i : Invocation) → command ≡ Invoke i → ⊥ }
     ensures serves { ServesUp D.disk S.view S.parts live.old command (answer_of result) live.new }
     ensures cause { IsCaused (disk_at D.disk S.view S.parts live.old)
         (disk_at D.disk S.view S.parts live.new) (answer_of result) }
@@ -51,13 +55,6 @@ pub fn serve<D: Device, S: ObjectStore<D>>(
     ensures told_once { IsToldOnce result }
 {
     match command {
-        Command::Invoke(invocation) => processes::invoke(
-            alloc,
-            &mut live.store,
-            &mut live.banks,
-            &mut live.age,
-            invocation,
-        ),
         Command::Load { process, address } => {
             processes::load(alloc, &mut live.store, live.age, process, address)
         }
@@ -75,6 +72,41 @@ pub fn serve<D: Device, S: ObjectStore<D>>(
         Command::Commit => checkpoints::commit::<D, S>(live),
         Command::Migrate { count } => checkpoints::migrate::<D, S>(live, count),
         Command::Journal { number } => journaling::journal::<D, S>(live, number),
+        Command::Invoke(_) => unreachable!(),
         Command::Restart | Command::Cut => unreachable!(),
+    }
+}
+
+/// Serves a command that doesn't open the device, by a store that is up. Fails exactly where the
+/// device does.
+pub fn serve<D: Device, S: ObjectStore<D>>(
+    alloc: Global,
+    live: &mut Live<S>,
+    command: Command,
+) -> Result<Served, Failed>
+    requires up { IsSomeUp D.disk S.view S.parts live.old }
+    requires goes_on { opens command ≡ false }
+    ensures serves { ServesUp D.disk S.view S.parts live.old command (answer_with result) live.new }
+    ensures cause { IsCaused (disk_at D.disk S.view S.parts live.old)
+        (disk_at D.disk S.view S.parts live.new) (answer_with result) }
+    ensures untouched { IsUnlooked (answer_with result)
+        → (S.view live.new.store).beneath ≡ (S.view live.old.store).beneath }
+    ensures none_to_move { HasNoneToMove D.disk S.view S.parts (power.Up live.old) command
+        → (S.view live.new.store).beneath ≡ (S.view live.old.store).beneath }
+    ensures told_once { IsServedOnce result }
+    ensures code { IfOk result (λ served. HasCode D.disk S.view S.parts (power.Up live.old) command served) }
+{
+    match command {
+        Command::Invoke(invocation) => processes::invoke(
+            alloc,
+            &mut live.store,
+            &mut live.banks,
+            &mut live.age,
+            invocation,
+        ),
+        _ => match serve_other::<D, S>(alloc, live, command) {
+            Ok(answer) => Ok(Served::from(answer)),
+            Err(Failed) => Err(Failed),
+        },
     }
 }

@@ -1,4 +1,4 @@
--- A sound world, as frames of which none was ever given up: these are sound.
+-- A sound world, as frames whose counts never rose: these are sound.
 use Rattle.std.proofs.Common.{◌≡◌, ℕ, ◌^◌, ◌<◌, Bool, true, false, List, [], ◌∷◌, length, map, slice_index, slice_index_or, refl, sym, ap, ◌∙◌, subst, arith}
 use Rattle.std.specs.List.{All}
 use Rattle.std.proofs.Math.ListN.{get_or-map}
@@ -121,7 +121,7 @@ module _ (g : Geometry) (w : World) (few : object_count g < 2 ^ 64) (sound : IsS
     };
   }
 
-  -- a sound world of which nothing was given up, as sound frames
+  -- a sound world whose counts never rose, as sound frames
   pub fresh_sound_frames : IsSoundFrames g w.age (map fresh_frame w.objects)
   fresh_sound_frames =
       let fs = map fresh_frame w.objects in

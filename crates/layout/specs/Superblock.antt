@@ -36,7 +36,7 @@ ranges_bytes rs = flat_map range_bytes rs
 abbrev pub unused : HomeRange
 unused = record { first = 0; count = 0; sector = 0 }
 
--- the sector of a superblock: eight ranges, of which the last are unused
+-- the sector of a superblock: eight ranges, the unused ones last
 unfoldable pub superblock_bytes : Plan → List ℕ
 superblock_bytes p =
     codes "EROSCKPT" ++ half_number (version_number p.version) ++ half_number (length p.ranges)
@@ -72,7 +72,7 @@ abbrev pub Cover : Geometry → ℕ → List HomeRange → Type 0
 Cover g n [] = n ≡ g.nodes + g.pages
 Cover g n (r ∷ rs) = IsNext g r n × Cover g (n + r.count) rs
 
--- how many sectors the frames of so many nodes take: 2 each, or 8 for each five and for the rest
+-- how many sectors the frames of this number of nodes take: 2 each, or 8 for each five and for the rest
 abbrev pub nodes_length : Version → ℕ → ℕ
 nodes_length One count = 2 * count
 nodes_length Two count = 8 * ((count + 4) / 5)

@@ -25,7 +25,7 @@ pub struct Extent {
     pub length: u64,
 }
 
-// How many sectors the frames of so many nodes take.
+// How many sectors the frames of `count` nodes take.
 fn nodes_length(version: Version, count: u64) -> u64
     requires { count ≤ 8192 }
     ensures { result ≡ nodes_length version count }

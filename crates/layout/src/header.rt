@@ -52,7 +52,7 @@ pub fn encode_header(header: CheckpointHeader, into: &mut [u8])
     put_number(into, 32, header.age);
 }
 
-/// Reads the 512 bytes of a header's sector, on a device whose log half has room for so many
+/// Reads the 512 bytes of a header's sector, on a device whose log half has room for `room`
 /// objects. All that is no spelling of such a header is a `BadHeader`.
 pub fn decode_header(bytes: &[u8], room: u64) -> Result<CheckpointHeader, BadImage>
     requires { length bytes.now ≡ 512 }

@@ -32,7 +32,7 @@ fn header(role: Role) -> ObjectHeader {
     }
 }
 
-// Encodes and decodes a frame so many times, and tells how often it was read back.
+// Encodes and decodes a frame some rounds, and prints how often it was read back.
 fn code(
     number: u64,
     header: ObjectHeader,
@@ -54,7 +54,7 @@ fn code(
     done
 }
 
-// Copies words to bytes and back so many times, with byteorder's slice calls.
+// Copies words to bytes and back `rounds` times, with byteorder's slice calls.
 fn copy_words(words: &mut [u64], bytes: &mut [u8], rounds: u64) -> u64
     requires { length bytes.old ≡ 8 * length words.old }
 {

@@ -504,7 +504,7 @@ fn refused_superblocks(rt: HostRuntime) {
     }
 }
 
-// How many sectors so many nodes take by each version.
+// How many sectors a number of nodes takes in each version.
 #[test]
 fn sectors_of_ranges(rt: HostRuntime) {
     for (count, one, two) in [

@@ -15,6 +15,6 @@ past_of m = events_of m.entries.items
 abbrev pub state_of : Mirror → State
 state_of m = now_of m.first.items m.entries.items
 
--- it as a device with so many failures
+-- a mirror as a device with this number of failures
 abbrev pub disk_of_mirror : ℕ → Mirror → Disk
 disk_of_mirror failures m = disk_of m.sectors (image_of m.first.items) (past_of m) failures

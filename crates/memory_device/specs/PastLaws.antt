@@ -22,7 +22,7 @@ module _ (sectors : ℕ) (first : Image) (past : List Event) where
       let all : take left.0 past ≡ past = take_all left.0 past left.1 in
       subst (λ (es : List Event). MayLeave sectors (replay (at_first first) es) c) all left.3
 
--- bytes for so many sectors are whole ones
+-- 512 bytes for each sector make whole sectors
 pub image_whole : (sectors : ℕ) (bytes : List ℕ) → length bytes ≡ 512 * sectors → All (λ b. b < 256) bytes → IsWhole sectors (image_of bytes)
 image_whole sectors bytes size fits = record {
   size = λ i lt. length-take-le 512 (drop (512 * i) bytes) (omega (arith, size, length-drop (512 * i) bytes));

@@ -9,7 +9,7 @@ use Rattle.memory_device.specs.Record.{events_of, names}
 abbrev pub now_of : List ℕ → List RecordEntry → State
 now_of first entries = replay (at_first (image_of first)) (events_of entries)
 
--- sectors of which these entries are not synced
+-- sectors with these entries, the last ones unsynced
 abbrev pub state_with : List ℕ → List ℕ → List RecordEntry → State
 state_with present synced unsynced = record { present = image_of present; durable = image_of synced; unsynced = names unsynced }
 

@@ -1,5 +1,5 @@
-//! Devices with a record of what was done to them: `Memory` is one in memory, whose power cuts leave
-//! what it is told, and `Fuse` makes any device stop after some calls.
+//! Devices with a record of what was done to them: `Memory` is one in memory, made with the outcome of
+//! its power cuts, and `Fuse` makes any device stop after some calls.
 #![tactic(auto)]
 
 mod fuse;

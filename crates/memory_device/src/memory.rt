@@ -26,7 +26,7 @@ pub struct Memory {
 impl Memory {
     ghost use Rattle.memory_device.specs.Memory.{memory_disk, memory_past, room_left, outcome_of};
 
-    /// A device of so many sectors, all zeros, of which nothing is unsynced. Its record has room
+    /// A device of `sectors` sectors, all zeros and all synced. Its record has room
     /// for `room` entries, and its power cuts leave `outcome`. The only error is want of memory.
     pub fn new(
         alloc: Global,

@@ -24,7 +24,8 @@ use Rattle.home_ranges.proofs.Shared.{begins}
 use Rattle.ckpt_log.specs.Places.{place_extent, slot_extent}
 use Rattle.ckpt_log.proofs.Places.{frames_in_slots, halves_within, slots_apart}
 use Rattle.migrator.specs.Completed.{IsFilled, IsComplete, AreComplete, Keeps, KeepsOne}
-use Rattle.migrator.specs.Gathered.{IsGathered}
+use Rattle.home_ranges.specs.Home.{EndsInZeros}
+use Rattle.migrator.specs.Gathered.{HasZerosAt, IsGathered}
 use Rattle.migrator.specs.Mended.{Unwritten, mended, IsUnwritten, IfUnwritten}
 use Rattle.migrator.specs.Put.{slot_bytes}
 use Rattle.migrator.specs.Spared.{Touches}
@@ -53,6 +54,14 @@ filled image p generation rank e node old new fits is shape gathered read packed
 
 -- ---- it is written into the slot of its entry
 
+-- the rest of it was made zeros
+pub filled_on : (image : Image) (p : Plan) (generation first : ℕ) (e : Entry) (old new : List ℕ) → home_place p first ≡ home_place p e.object → IsObject p.geometry e.object
+    → ((n : ℕ) → IsObject p.geometry n → home_place p n ≡ home_place p first → shape_bytes (shape_of p n) new ≡ shape_bytes (shape_of p n) old) → IsFilled image p generation e old → IsFilled image p generation e new
+filled_on image p generation first e old new home is stays was = record {
+  own = stays e.object is (sym home) ∙ was.own;
+  others = λ n is_n same differ. stays n is_n (same ∙ sym home) ∙ was.others n is_n same differ;
+}
+
 half_of_slot : (p : Plan) (generation slot : ℕ) → slot < p.geometry.log → IsInside (record { sector = slot_sector p generation slot; length = 8 }) (half_extent p.geometry (half_sector p generation))
 half_of_slot p generation slot low = record { starts = omega arith; ends = omega (arith, low) }
 
@@ -64,6 +73,13 @@ cluster_read image u size =
     (whole_sectors (mended image (Some u)) u.sector u.bytes (omega (arith, size)) (λ j lt.
     let few : u.sector + j - u.sector ≡ j = omega arith in
     sym (mended_here image u (u.sector + j) (omega arith) (omega (arith, lt, size)) ∙ ap (image_of u.bytes) few)))
+
+-- the zeros of a cluster stand in the slot that it was written into
+pub zeros_written : (p : Plan) (n : ℕ) (old new : Image) (u : Unwritten) (now : Option Unwritten) → length u.bytes ≡ 4096 → mended new now ≡ mended old (Some u) → now ≡ None → HasZerosAt p n u.bytes
+    → HasZerosAt p n (sectors_from new u.sector 8)
+zeros_written p n old new u now size seen none zeros rank shape =
+    let there : new ≡ mended old (Some u) = ap (mended new) (sym none) ∙ seen in
+    subst (EndsInZeros p (n - rank)) (sym (ap (λ (image : Image). sectors_from image u.sector 8) there ∙ cluster_read old u size)) (zeros rank shape)
 
 pub packed_read : (image : Image) (u : Unwritten) (p : Plan) (n rank : ℕ) → length u.bytes ≡ 4096 → shape_of p n ≡ Packed rank → bytes_at (mended image (Some u)) u.sector p n ≡ shape_bytes (shape_of p n) u.bytes
 packed_read image u p n rank size shape =

@@ -2,8 +2,6 @@
 use Rattle.std.proofs.Common.{◌≡◌, ℕ, ◌+◌, ◌-◌, None, List, length, take, refl, sym, ap, subst, ◌∙◌, arith}
 use Rattle.std.specs.Prelude.{replicate}
 use Rattle.std.proofs.lemmas.List.{length-replicate}
-use Rattle.model.specs.declared.frame.ObjectHeader.{ObjectHeader}
-use Rattle.model.specs.Frame.{headers}
 use Rattle.device.specs.Disk.{Image, Disk}
 use Rattle.device.specs.Calls.{Only}
 use Rattle.device.proofs.Images.{agrees_is}
@@ -38,7 +36,7 @@ none_put image p generation ps blank = record {
 abbrev pub first_books : Plan → CheckpointHeader → List Entry → List Place → List Place → Books
 first_books p h es fs ws = record { plan = p; header = h; directory = take h.entries es; moved = 0; frozen = fs; size = None; working = ws; unwritten = None }
 
-module _ (old new : Disk) (p : Plan) (h : CheckpointHeader) (es : List Entry) (hs : List ObjectHeader) (fs ws : List Place) (looks : Looks old new) (plan : HasPlan old.seen old.sectors p) (read : IsRead old.seen p h es hs)
+module _ (old new : Disk) (p : Plan) (h : CheckpointHeader) (es : List Entry) (fs ws : List Place) (looks : Looks old new) (plan : HasPlan old.seen old.sectors p) (read : IsRead old.seen p h es)
     (frozen : fs ≡ replicate (count_of p) Nowhere) (working : ws ≡ replicate (count_of p) Nowhere) where
   same : old.seen ≡ new.seen
   same = sym (agrees_is new.seen old.seen looks.seen)
@@ -46,8 +44,8 @@ module _ (old new : Disk) (p : Plan) (h : CheckpointHeader) (es : List Entry) (h
   plan_new : HasPlan new.seen new.sectors p
   plan_new = subst (λ (i : Image). HasPlan i new.sectors p) same (subst (λ (k : ℕ). HasPlan old.seen k p) (sym looks.size) plan)
 
-  read_new : IsRead new.seen p h es hs
-  read_new = subst (λ (i : Image). IsRead i p h es hs) same read
+  read_new : IsRead new.seen p h es
+  read_new = subst (λ (i : Image). IsRead i p h es) same read
 
   first_kept : IsKept new.sectors new.seen (first_books p h es fs ws)
   first_kept = record {
@@ -75,26 +73,26 @@ module _ (old new : Disk) (p : Plan) (h : CheckpointHeader) (es : List Entry) (h
   first_holds : Holds old.sectors old.seen (stored_in new.seen (first_books p h es fs ws)).saved
   first_holds = holds old.sectors old.seen (saved_state new.seen (first_books p h es fs ws)) first_state
 
-  first_headers : hs ≡ headers (stored_in new.seen (first_books p h es fs ws)).saved.frames
-  first_headers = read_new.headers_are
-
   first_working : (stored_in new.seen (first_books p h es fs ws)).working ≡ replicate (length (stored_in new.seen (first_books p h es fs ws)).saved.frames) Absent
   first_working =
       puts_blank new.seen p (h.generation + 1) (length (frames_read new.seen p h.generation (take h.entries es))) ws (λ n. ap (λ (qs : List Place). place_at qs n) working ∙ blank_at (count_of p) n)
       (length_read new.seen p h.generation (take h.entries es))
 
+  -- the frames that were read are those of the store
+  pub first_frames : frames_read old.seen p h.generation (take h.entries es) ≡ (stored_in new.seen (first_books p h es fs ws)).saved.frames
+  first_frames = ap (λ (i : Image). frames_read i p h.generation (take h.entries es)) same
+
   pub first_durable : IsDurable new (first_books p h es fs ws)
   first_durable = record { kept = first_kept; unwritten = tt }
 
 -- so a store is opened
-pub first_opens : {D : Type 0} (disk : D → Disk) (device back : D) (p : Plan) (h : CheckpointHeader) (es : List Entry) (hs : List ObjectHeader) (fs ws : List Place) → Looks (disk device) (disk back) → HasPlan (disk device).seen (disk device).sectors p
-    → IsRead (disk device).seen p h es hs → fs ≡ replicate (count_of p) Nowhere → ws ≡ replicate (count_of p) Nowhere → Only (disk back).seen (disk back) → (disk back).failures ≡ (disk device).failures
-    → OpensDurable disk device (record { beneath = back; books = first_books p h es fs ws }) hs
-first_opens disk device back p h es hs fs ws looks plan read frozen working only failures = record {
-  sound = first_sound (disk device) (disk back) p h es hs fs ws looks plan read frozen working only;
-  holds = first_holds (disk device) (disk back) p h es hs fs ws looks plan read frozen working;
-  headers_are = first_headers (disk device) (disk back) p h es hs fs ws looks plan read frozen working;
-  working = first_working (disk device) (disk back) p h es hs fs ws looks plan read frozen working;
+pub first_opens : {D : Type 0} (disk : D → Disk) (device back : D) (p : Plan) (h : CheckpointHeader) (es : List Entry) (fs ws : List Place) → Looks (disk device) (disk back) → HasPlan (disk device).seen (disk device).sectors p
+    → IsRead (disk device).seen p h es → fs ≡ replicate (count_of p) Nowhere → ws ≡ replicate (count_of p) Nowhere → Only (disk back).seen (disk back) → (disk back).failures ≡ (disk device).failures
+    → OpensDurable disk device (record { beneath = back; books = first_books p h es fs ws })
+first_opens disk device back p h es fs ws looks plan read frozen working only failures = record {
+  sound = first_sound (disk device) (disk back) p h es fs ws looks plan read frozen working only;
+  holds = first_holds (disk device) (disk back) p h es fs ws looks plan read frozen working;
+  working = first_working (disk device) (disk back) p h es fs ws looks plan read frozen working;
   frozen = refl;
   to_move = let all : h.entries - 0 ≡ h.entries = omega arith in all;
   durable = only;

@@ -16,9 +16,9 @@ use Rattle.layout.specs.Superblock.{Plan, IsPlan}
 use Rattle.layout.proofs.Clusters.{length-zeros}
 use Rattle.frame_io.specs.Calls.{ReadsOnly, WritesAt}
 use Rattle.frame_io.specs.Frames.{IsObject}
-use Rattle.home_ranges.specs.Home.{HaveHome}
+use Rattle.home_ranges.specs.Home.{EndsInZeros, HaveHome, HoldsHome}
 use Rattle.home_ranges.proofs.Places.{IsOwn, alone, ranked}
-use Rattle.migrator.specs.Gathered.{IsGathered, IsCopied}
+use Rattle.migrator.specs.Gathered.{HasZerosAt, IsGathered, IsCopied}
 use Rattle.migrator.specs.Spared.{Touches}
 use Rattle.migrator.proofs.Spared.{reads_then}
 use Rattle.migrator.proofs.PlacesApart.{in_slot}
@@ -103,3 +103,29 @@ pub cluster_touched : (old mid new : Disk) (p q : Plan) (first : ℕ) → q ≡ 
 cluster_touched old mid new p q first same shape reads writes =
     let there = subst (λ (x : Plan). WritesAt (home_place x first) (place_length x first) mid new) same writes in
     reads_then (home_place p first) 8 old mid new reads (subst (λ (n : ℕ). WritesAt (home_place p first) n mid new) (ap shape_length shape) there)
+
+-- ---- the zeros of a cluster
+
+same_rank : (a b : ℕ) → Packed a ≡ Packed b → a ≡ b
+same_rank a b same = cc
+
+pub zeros_at : (p : Plan) (n rank : ℕ) (bytes : List ℕ) → shape_of p n ≡ Packed rank → EndsInZeros p (n - rank) bytes → HasZerosAt p n bytes
+zeros_at p n rank bytes shape zeros other is = subst (λ (r : ℕ). EndsInZeros p (n - r) bytes) (same_rank rank other (sym shape ∙ is)) zeros
+
+-- a number whose home is its own lies in no cluster
+pub no_cluster : {T E : Type 0} (result : Result T E) (p : Plan) (n : ℕ) (s : Shape) (bytes : List ℕ) → IsOwn s → s ≡ shape_of p n → OnOk result (HasZerosAt p n bytes)
+no_cluster (Ok done) p n s bytes own shape = λ rank is. absurd (subst IsOwn (shape ∙ is) own)
+no_cluster (Err error) p n s bytes own shape = tt
+
+-- what was gathered is copied, though the rest of the cluster was made zeros
+pub copied_blank : {T E : Type 0} (result : Result T E) (old new : Image) (p : Plan) (generation : ℕ) (es : List Entry) (first : ℕ) (gathered blank : List ℕ) → IsGathered old p generation es first gathered
+    → ((n : ℕ) → IsObject p.geometry n → home_place p n ≡ home_place p first → shape_bytes (shape_of p n) blank ≡ shape_bytes (shape_of p n) gathered)
+    → OnOk result (HoldsHome p first blank new) → OnOk result (IsCopied old new p generation es first)
+copied_blank (Ok done) old new p generation es first gathered blank are stays held = λ n is same. held n is same ∙ stays n is same ∙ are n is same
+copied_blank (Err error) old new p generation es first gathered blank are stays held = tt
+
+-- the home of the first of a cluster is that of each
+pub zeros_there : {T E : Type 0} (result : Result T E) (p : Plan) (n rank : ℕ) (new : Image) → shape_of p n ≡ Packed rank → home_place p (n - rank) ≡ home_place p n
+    → OnOk result (EndsInZeros p (n - rank) (sectors_from new (home_place p (n - rank)) 8)) → OnOk result (HasZerosAt p n (sectors_from new (home_place p n) 8))
+zeros_there (Ok done) p n rank new shape home zeros = zeros_at p n rank (sectors_from new (home_place p n) 8) shape (subst (λ (at : ℕ). EndsInZeros p (n - rank) (sectors_from new at 8)) home zeros)
+zeros_there (Err error) p n rank new shape home zeros = tt

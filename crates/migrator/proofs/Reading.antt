@@ -1,13 +1,10 @@
--- Reads one after the other, and the headers of the frames that they find.
-use Rattle.std.proofs.Common.{◌≡◌, ℕ, ◌+◌, ◌<◌, Result, Ok, Err, List, [], ◌∷◌, ◌++◌, length, refl, sym, ap, subst, ◌∙◌, inl, inr, ⊎_elim, arith}
+-- Reads one after the other, and the frames that they find.
+use Rattle.std.proofs.Common.{◌≡◌, ℕ, ◌+◌, ◌<◌, Result, Ok, Err, List, [], ◌∷◌, ◌++◌, refl, sym, subst, ◌∙◌, inl, inr, ⊎_elim, arith}
 use Rattle.std.specs.Prelude.{map, IfOk, IfErr}
 use Rattle.std.specs.List.{range_with_len}
 use Rattle.std.proofs.lemmas.Bool.{cases_lt}
-use Rattle.std.proofs.lemmas.List.{same_lists, length-map, get_or-map}
-use Rattle.std.proofs.lemmas.List.FromFn.{length-map-range_with_len, get_or-map-range_with_len, map-range_with_len_more}
+use Rattle.std.proofs.lemmas.List.FromFn.{map-range_with_len_more}
 use Rattle.model.specs.declared.frame.Frame.{Frame}
-use Rattle.model.specs.declared.frame.ObjectHeader.{ObjectHeader}
-use Rattle.model.specs.Frame.{headers, blank_frame}
 use Rattle.device.specs.Disk.{Image, Disk}
 use Rattle.device.specs.Calls.{Only}
 use Rattle.device.specs.Moments.{Elapses}
@@ -60,28 +57,16 @@ reads_none disk only_now = record {
   time = record { later = omega arith; nothing_else = λ t x le left. inl left; keeps = λ t x le left. left };
 }
 
--- the headers of the first frames
-abbrev pub headers_until : Image → Plan → ℕ → List Entry → ℕ → List ObjectHeader
-headers_until image p generation es k = map (λ n. (frame_read image p generation es n).header) (range_with_len 0 k)
+-- the first frames
+abbrev pub frames_until : Image → Plan → ℕ → List Entry → ℕ → List Frame
+frames_until image p generation es k = map (frame_read image p generation es) (range_with_len 0 k)
 
-pub headers_more : (image : Image) (p : Plan) (generation : ℕ) (es : List Entry) (k : ℕ) (hs new : List ObjectHeader) → hs ≡ headers_until image p generation es k → new ≡ hs ++ (frame_read image p generation es k).header ∷ []
-    → new ≡ headers_until image p generation es (k + 1)
-headers_more image p generation es k hs new is more =
-    more ∙ ap (λ (xs : List ObjectHeader). xs ++ (frame_read image p generation es k).header ∷ []) is
-    ∙ sym (map-range_with_len_more (λ n. (frame_read image p generation es n).header) 0 k k (omega arith))
+pub frames_more : (image : Image) (p : Plan) (generation : ℕ) (es : List Entry) (k : ℕ) → frames_until image p generation es k ++ frame_read image p generation es k ∷ [] ≡ frames_until image p generation es (k + 1)
+frames_more image p generation es k = sym (map-range_with_len_more (frame_read image p generation es) 0 k k (omega arith))
 
-pub headers_all : (image : Image) (p : Plan) (generation : ℕ) (es : List Entry) → headers_until image p generation es (count_of p) ≡ headers (frames_read image p generation es)
+pub frames_all : (image : Image) (p : Plan) (generation : ℕ) (es : List Entry) → frames_until image p generation es (count_of p) ≡ frames_read image p generation es
 unfolding frames_read
-headers_all image p generation es =
-    let f : ℕ → Frame = frame_read image p generation es in
-    let fs : List Frame = map f (range_with_len 0 (count_of p)) in
-    let size : length fs ≡ count_of p = length-map-range_with_len f 0 (count_of p) in
-    same_lists (map (λ n. (f n).header) (range_with_len 0 (count_of p))) (map (λ x. x.header) fs)
-    (length-map-range_with_len (λ n. (f n).header) 0 (count_of p) ∙ sym size ∙ sym (length-map fs (λ (x : Frame). x.header)))
-    (λ i d lt.
-    let few : i < count_of p = omega (arith, lt, length-map-range_with_len (λ n. (f n).header) 0 (count_of p)) in
-    get_or-map-range_with_len (λ n. (f n).header) 0 (count_of p) i i d few (omega arith)
-    ∙ sym (get_or-map (λ (x : Frame). x.header) fs i blank_frame d (omega (arith, few, size)) ∙ ap (λ (x : Frame). x.header) (get_or-map-range_with_len f 0 (count_of p) i i blank_frame few (omega arith))))
+frames_all image p generation es = refl
 
 pub spelt_more : (image : Image) (p : Plan) (age generation : ℕ) (es : List Entry) (k : ℕ) → ((n : ℕ) → n < k → IsSpelt image p age generation es n) → IsSpelt image p age generation es k
     → (n : ℕ) → n < k + 1 → IsSpelt image p age generation es n

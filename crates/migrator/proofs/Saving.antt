@@ -1,8 +1,8 @@
 -- A directory is written, and a header is published over it.
-use Rattle.std.proofs.Common.{◌≡◌, ◌⊎◌, ℕ, ◌+◌, Result, Ok, Err, List, sym, subst, ◌∙◌, inl, inr, ⊎_elim}
+use Rattle.std.proofs.Common.{◌≡◌, ◌⊎◌, ℕ, ◌+◌, Result, Ok, Err, List, refl, sym, subst, ◌∙◌, inl, inr, ⊎_elim}
 use Rattle.std.specs.Prelude.{OnOk, OnErr}
 use Rattle.device.specs.Disk.{Image, Disk}
-use Rattle.device.specs.Calls.{Only}
+use Rattle.device.specs.Calls.{Elsewhere, Only}
 use Rattle.device.specs.Moments.{LeavesOnly}
 use Rattle.device.proofs.Images.{agrees_is}
 use Rattle.device.proofs.Moments.{leaves_weaker, leaves_on}
@@ -16,13 +16,13 @@ use Rattle.layout.specs.Spelt.{AreSpelt, state_in}
 use Rattle.layout.specs.Superblock.{Plan}
 use Rattle.layout.proofs.Spelling.{length_read, read_at, spelt_same}
 use Rattle.frame_io.specs.Calls.{WritesAt}
-use Rattle.ckpt_log.specs.Commit.{CommitsOne, Precedes, HasNew, IsOld}
+use Rattle.ckpt_log.specs.Commit.{header_sector, CommitsOne, Precedes, HasNew, IsOld}
 use Rattle.ckpt_log.specs.CommitLaws.{IsReady}
 use Rattle.ckpt_log.specs.Places.{directory_extent}
 use Rattle.ckpt_log.proofs.BesideHeaders.{next_follows}
 use Rattle.ckpt_log.proofs.Denoted.{old_denoted, new_denoted}
 use Rattle.migrator.specs.Durable.{LeavesState}
-use Rattle.migrator.specs.Saving.{MaySave}
+use Rattle.migrator.specs.Saving.{MaySave, SavesOnly}
 use Rattle.migrator.proofs.Spared.{touches, frame_stays, state_stays, state_spared, sound_spared, moments_spared}
 use Rattle.migrator.proofs.PlacesApart.{homes_behind}
 
@@ -102,10 +102,17 @@ module _ (old mid : Disk) (p : Plan) (h : CheckpointHeader) (es : List Entry) (n
         subst (λ (k : ℕ). Encodes c k (state_in old.seen p next fs)) (sym (size ∙ writes.size))
         (subst (λ (i : Image). Encodes i old.sectors (state_in old.seen p next fs)) (sym (agrees_is c new.seen (only c may_leave))) (new_state new.seen has))
 
--- two facts of a success make a third
-pub both_ok : {T E P Q R : Type 0} (r : Result T E) → (P → Q → R) → OnOk r P → OnOk r Q → OnOk r R
-both_ok (Ok x) f p q = f p q
-both_ok (Err e) f p q = tt
+-- what is written in all
+pub only_directory : (p : Plan) (next : CheckpointHeader) (old mid : Disk) → WritesAt (directory_sector p next.generation) (directory_length next.entries) old mid → SavesOnly p next old.seen mid.seen
+only_directory p next old mid writes = record {
+  between = mid.seen;
+  directory = writes.elsewhere;
+  header = record { before = λ i lt. refl; after = λ i le. refl };
+}
+
+pub only_both : (p : Plan) (next : CheckpointHeader) (old mid new : Disk) → WritesAt (directory_sector p next.generation) (directory_length next.entries) old mid → Elsewhere (header_sector next) 2 mid.seen new.seen
+    → SavesOnly p next old.seen new.seen
+only_both p next old mid new writes published = record { between = mid.seen; directory = writes.elsewhere; header = published }
 
 pub on_err : {T E P : Type 0} (r : Result T E) → P → OnErr r P
 on_err (Ok x) p = tt

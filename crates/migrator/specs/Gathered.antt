@@ -1,13 +1,15 @@
 -- What goes home with a saved frame.
-use Rattle.std.specs.Prelude.{◌≡◌, ℕ, ◌<◌, List}
+use Rattle.std.specs.Prelude.{◌≡◌, ℕ, ◌-◌, ◌<◌, List}
 use Rattle.device.specs.Disk.{Image}
 use Rattle.layout.specs.declared.directory.Entry.{Entry}
+use Rattle.layout.specs.declared.shape.Shape.TheVariants.{Packed}
 use Rattle.layout.specs.Directory.{entry_at}
 use Rattle.layout.specs.Homes.{home_place, shape_of}
 use Rattle.layout.specs.Image.{bytes_at, frame_in}
 use Rattle.layout.specs.Shape.{shape_bytes}
 use Rattle.layout.specs.Superblock.{Plan}
 use Rattle.frame_io.specs.Frames.{IsObject}
+use Rattle.home_ranges.specs.Home.{EndsInZeros}
 
 -- the bytes of a home are the saved frames of all that have it
 abbrev pub IsGathered : Image → Plan → ℕ → List Entry → ℕ → List ℕ → Type 0
@@ -20,3 +22,7 @@ IsCopied old new p generation es number = (n : ℕ) → IsObject p.geometry n �
 -- no entry before it is of an object that has the same home
 abbrev pub IsFirst : Plan → List Entry → ℕ → Type 0
 IsFirst p es i = (j : ℕ) → j < i → home_place p (entry_at es j).object ≡ home_place p (entry_at es i).object → ⊥
+
+-- where a node lies in a cluster, the bytes of the cluster have zeros behind its nodes
+abbrev pub HasZerosAt : Plan → ℕ → List ℕ → Type 0
+HasZerosAt p n bytes = (rank : ℕ) → shape_of p n ≡ Packed rank → EndsInZeros p (n - rank) bytes

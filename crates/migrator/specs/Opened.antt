@@ -1,18 +1,16 @@
 -- What opening a device comes to.
 use Rattle.std.specs.Prelude.{◌≡◌, ℕ, None, List, length, take, replicate, ⊤}
 use Rattle.model.specs.declared.frame.Frame.{Frame}
-use Rattle.model.specs.Frame.{headers}
 use Rattle.layout.specs.declared.directory.Entry.{Entry}
 use Rattle.layout.specs.declared.header.CheckpointHeader.{CheckpointHeader}
 use Rattle.layout.specs.declared.bad_image.BadImage.{BadImage}
 use Rattle.layout.specs.declared.bad_image.BadImage.TheVariants as bad
 use Rattle.layout.specs.declared.bad_image.BadImage.TheVariants.{BadFrame}
 use Rattle.layout.specs.Frame.{IsFrameOf}
-use Rattle.layout.specs.Spelt.{AreSpelt, frames_read}
+use Rattle.layout.specs.Spelt.{AreSpelt}
 use Rattle.layout.specs.Superblock.{Plan}
 use Rattle.checkpoint.specs.declared.open_fault.OpenFault.{OpenFault}
 use Rattle.checkpoint.specs.declared.open_fault.OpenFault.TheVariants as refusal
-use Rattle.model.specs.declared.frame.ObjectHeader.{ObjectHeader}
 use Rattle.device.specs.Disk.{Image, Disk}
 use Rattle.device.specs.Calls.{Only}
 use Rattle.layout.specs.Image.{IsBadBy, HasHeader, HasDirectory, frame_in}
@@ -47,19 +45,16 @@ IsBadAt image p h es n refusal.Failed = ⊤
 IsBadAt image p h es n refusal.NoMemory = ⊤
 IsBadAt image p h es n (refusal.Bad reason) = (reason ≡ BadFrame) × ((f : Frame) → IsFrameOf p.geometry h.age n (frame_in image p h.generation es n) f → ⊥)
 
--- all that is saved was read: the header, its directory at the front of the entries, and the headers of all frames
-pub record IsRead (image : Image) (p : Plan) (h : CheckpointHeader) (es : List Entry) (hs : List ObjectHeader) : Type 0 where
+-- all that is saved was read: the header, its directory at the front of the entries, and all frames
+pub record IsRead (image : Image) (p : Plan) (h : CheckpointHeader) (es : List Entry) : Type 0 where
   pub header : HasHeader image p h
   pub directory : HasDirectory image p h (take h.entries es)
   pub spelt : AreSpelt image p h.age h.generation (take h.entries es)
-  pub headers_are : hs ≡ headers (frames_read image p h.generation (take h.entries es))
 
--- a device was opened, and nothing was written: the store holds what it saves, the headers are those of its saved
--- frames, and a crash leaves what a read gives
-pub record OpensDurable {D : Type 0} (disk : D → Disk) (device : D) (s : DurableState D) (hs : List ObjectHeader) : Type 0 where
+-- a device was opened, and nothing was written: the store holds what it saves, and a crash leaves what a read gives
+pub record OpensDurable {D : Type 0} (disk : D → Disk) (device : D) (s : DurableState D) : Type 0 where
   pub sound : is_sound disk s
   pub holds : Holds (disk device).sectors (disk device).seen (stored_of disk s).saved
-  pub headers_are : hs ≡ headers (stored_of disk s).saved.frames
   pub working : (stored_of disk s).working ≡ replicate (length (stored_of disk s).saved.frames) Absent
   pub frozen : (stored_of disk s).frozen ≡ None
   pub to_move : (stored_of disk s).to_move ≡ (stored_of disk s).saved.entries

@@ -1,19 +1,14 @@
 -- The memory of a store.
-use Rattle.std.specs.Prelude.{◌≡◌, ◌≤◌, None, [], length, replicate, vec_capacity}
+use Rattle.std.specs.Prelude.{◌≡◌, ◌≤◌, None, length, replicate, vec_capacity}
 use Rattle.layout.specs.Spelt.{count_of}
 use Rattle.layout.specs.Superblock.{Plan}
 use Rattle.migrator.specs.declared.durable.open.Reserve.{Reserve}
 use Rattle.migrator.specs.declared.table.Place.TheVariants.{Nowhere}
 
--- room for a directory and another, for the places of all objects, none of which has one, and for a cluster
-pub record IsTables (p : Plan) (r : Reserve) : Type 0 where
+-- memory for a directory and another, for the places of all objects, none of which has one, and for a cluster
+pub record IsReserve (p : Plan) (r : Reserve) : Type 0 where
   pub directory : length r.directories.saved.items ≡ p.geometry.log
   pub room : 4096 ≤ vec_capacity r.directories.saved
   pub frozen : r.tables.frozen ≡ replicate (count_of p) Nowhere
   pub working : r.tables.working ≡ replicate (count_of p) Nowhere
   pub buffer : r.buffer ≡ None
-
--- and for the headers of all objects, of which none was read
-pub record IsReserve (p : Plan) (r : Reserve) : Type 0 where
-  pub tables : IsTables p r
-  pub headers : r.headers.items ≡ []

@@ -5,9 +5,10 @@ ghost use Rattle.device.specs.Calls.{Counts};
 ghost use Rattle.device.specs.Disk.{Image};
 ghost use Rattle.layout.specs.Frame.{frame_bytes};
 ghost use Rattle.layout.specs.Header.{IsHeader};
-ghost use Rattle.layout.specs.Image.{slot_sector};
-ghost use Rattle.layout.specs.Homes.{place_length};
+ghost use Rattle.layout.specs.Image.{sectors_from, slot_sector};
+ghost use Rattle.layout.specs.Homes.{place_length, shape_of};
 ghost use Rattle.frame_io.specs.Calls.{WritesAt};
+ghost use Rattle.frame_io.specs.Clusters.{HasZerosBeside};
 ghost use Rattle.frame_io.specs.Frames.{IsObject};
 ghost use Rattle.checkpoint.specs.Saved.{most};
 ghost use Rattle.migrator.specs.Durable.{GoesOnDisk, IsDurable, IsKept, frozen_generation, left_of, seen_by, stored_in, stored_on, with_frozen, with_working, working_generation};
@@ -70,6 +71,8 @@ fn put_frame<D: Device>(
     ensures written { OnOk result
         (slot_bytes (D.disk device.new).seen plan.now generation (slot_for table.old number) number
         ≡ frame_bytes plan.now.geometry number (record { header = header; content = content.now })) }
+    ensures beside { OnOk result (HasZerosBeside (shape_of plan.now number) (sectors_from (D.disk device.new).seen
+        (slot_sector plan.now generation (slot_for table.old number)) (place_length plan.now number))) }
     ensures writes { WritesAt (slot_sector plan.now generation (slot_for table.old number))
         (place_length plan.now number) (D.disk device.old) (D.disk device.new) }
     ensures cause { Counts (D.disk device.old) (D.disk device.new) result }

@@ -2,15 +2,17 @@
 ghost use Rattle.std.specs.Prelude.{◌≡◌, ◌+◌, ◌<◌, ◌≤◌, None, Some, true, false, length, IfOk, OnOk, OnErr};
 ghost use Rattle.device.specs.Calls.{Counts};
 ghost use Rattle.layout.specs.declared.shape.Shape.TheVariants as shape;
-ghost use Rattle.layout.specs.Directory.{IsDirectory};
+ghost use Rattle.layout.specs.Directory.{IsDirectory, entry_at};
 ghost use Rattle.layout.specs.Frame.{frame_of};
 ghost use Rattle.layout.specs.FrameReader.{frame_from};
 ghost use Rattle.layout.specs.Homes.{shape_of};
+ghost use Rattle.layout.specs.Image.{sectors_from, slot_sector};
 ghost use Rattle.layout.specs.Shape.{shape_bytes};
 ghost use Rattle.layout.specs.Superblock.{IsPlan};
 ghost use Rattle.frame_io.specs.Calls.{ReadsOnly};
 ghost use Rattle.frame_io.specs.Frames.{IsObject};
 ghost use Rattle.migrator.specs.Completed.{AreComplete, IsComplete, IsFilled, Keeps, KeepsOne};
+ghost use Rattle.migrator.specs.Gathered.{HasZerosAt, IsFirst};
 ghost use Rattle.migrator.specs.Mended.{IfUnwritten, IsSpeltIn, Unwritten, mended};
 ghost use Rattle.migrator.specs.Spared.{Touches};
 
@@ -19,6 +21,7 @@ use crate::turn::is_first;
 use ckpt_log::Log;
 use device::{Device, Failed};
 use frame_io::read_packed;
+use home_ranges::Home;
 use layout::{
     Body, CLUSTER_BYTES, Entry, NODE_FRAME_BYTES, Room, Shape, Superblock, decode_frame, pack_node,
     unpack_node,
@@ -48,7 +51,7 @@ impl Model for ClusterBuffer {
 }
 
 // Puts a cluster together for the slot of a node that has this rank in it: its frame that lies there,
-// the frames of the other nodes from home, and zeros where there is no node.
+// the frames of the other nodes from home, and zeros behind them.
 fn fill<D: Device>(
     device: &mut D,
     plan: &Superblock,
@@ -65,6 +68,7 @@ fn fill<D: Device>(
     requires cluster { length cluster.old ≡ 4096 }
     requires inside { plan.now.total ≤ (D.disk device.old).sectors }
     ensures filled { OnOk result (IsFilled (D.disk device.old).seen plan.now generation entry cluster.new) }
+    ensures zeros { OnOk result (HasZerosAt plan.now entry.object cluster.new) }
     ensures size { length cluster.new ≡ 4096 }
     ensures reads { ReadsOnly (D.disk device.old) (D.disk device.new) }
     ensures cause { Counts (D.disk device.old) (D.disk device.new) result }
@@ -87,6 +91,8 @@ fn fill<D: Device>(
         &mut node,
     )?;
     pack_node(&node, rank as usize, &mut whole);
+    let home = Home::new(plan);
+    home.blank_rest(entry.object - rank, &mut whole);
     cluster.copy_from_slice(&whole);
     Ok(())
 }
@@ -175,6 +181,9 @@ impl ClusterBuffer {
         ensures none { OnOk result (self.new ≡ None) }
         ensures complete { OnOk result (IsComplete (D.disk device.new).seen plan.now generation
             entries.now index) }
+        ensures zeros { OnOk result (IsFirst plan.now entries.now index → HasZerosAt plan.now
+            (entry_at entries.now index).object (sectors_from (D.disk device.new).seen
+            (slot_sector plan.now generation (entry_at entries.now index).slot) 8)) }
         ensures keeps { KeepsOne plan.now generation entries.now index (D.disk device.old)
             (D.disk device.new) self.new }
         ensures cause { Counts (D.disk device.old) (D.disk device.new) result }

@@ -6,7 +6,8 @@ ghost use Rattle.layout.specs.Directory.{IsDirectory};
 ghost use Rattle.layout.specs.Homes.{home_place, place_length, shape_of};
 ghost use Rattle.layout.specs.Image.{sectors_from, slot_in};
 ghost use Rattle.frame_io.specs.Frames.{IsObject};
-ghost use Rattle.migrator.specs.Gathered.{IsCopied};
+ghost use Rattle.home_ranges.specs.Home.{EndsInZeros};
+ghost use Rattle.migrator.specs.Gathered.{HasZerosAt, IsCopied};
 ghost use Rattle.migrator.specs.Spared.{Touches};
 
 use crate::gather::gather;
@@ -44,7 +45,8 @@ fn copy_page<D: Device>(device: &mut D, from: u64, to: u64) -> Result<(), Failed
     write_sectors(device, to, 9, &page)
 }
 
-// Writes the home of a cluster, of which this is the first node: the saved frames of all that have it.
+// Writes the home of a cluster, of which this is the first node: the saved frames of all that have it, and zeros behind
+// them.
 fn copy_cluster<D: Device>(
     device: &mut D,
     plan: &Superblock,
@@ -58,6 +60,8 @@ fn copy_cluster<D: Device>(
     requires inside { plan.now.total ≤ (D.disk device.old).sectors }
     ensures copied { OnOk result (IsCopied (D.disk device.old).seen (D.disk device.new).seen
         plan.now generation directory.now first) }
+    ensures zeros { OnOk result (EndsInZeros plan.now first
+        (sectors_from (D.disk device.new).seen (home_place plan.now first) 8)) }
     ensures touches { Touches (home_place plan.now first) 8
         (D.disk device.old) (D.disk device.new) }
     ensures cause { Counts (D.disk device.old) (D.disk device.new) result }
@@ -65,11 +69,12 @@ fn copy_cluster<D: Device>(
     let mut cluster = [0; CLUSTER_BYTES];
     gather(device, plan, generation, directory, first, &mut cluster)?;
     let home = Home::new(plan);
+    home.blank_rest(first, &mut cluster);
     home.write_frame(device, first, &cluster)
 }
 
-/// Writes the home of an entry's object: the saved frames of all that have it. At `Failed` its
-/// sectors may hold any bytes.
+/// Writes the home of an entry's object: the saved frames of all that have it, and zeros in the rest of a cluster. At
+/// `Failed` its sectors may hold any bytes.
 pub(crate) fn copy_home<D: Device>(
     device: &mut D,
     plan: &Superblock,
@@ -84,6 +89,8 @@ pub(crate) fn copy_home<D: Device>(
     requires inside { plan.now.total ≤ (D.disk device.old).sectors }
     ensures copied { OnOk result (IsCopied (D.disk device.old).seen (D.disk device.new).seen
         plan.now generation directory.now entry.object) }
+    ensures zeros { OnOk result (HasZerosAt plan.now entry.object
+        (sectors_from (D.disk device.new).seen (home_place plan.now entry.object) 8)) }
     ensures touches { Touches (home_place plan.now entry.object)
         (place_length plan.now entry.object) (D.disk device.old) (D.disk device.new) }
     ensures cause { Counts (D.disk device.old) (D.disk device.new) result }

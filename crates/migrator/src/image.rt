@@ -1,6 +1,6 @@
 // Reading an image whole: every saved frame is looked at once.
-ghost use Rattle.std.specs.Prelude.{◌≡◌, ℕ, ◌+◌, ◌<◌, ◌≤◌, ◌∷◌, ◌++◌, [], length, IfOk, IfErr, OnOk};
-ghost use Rattle.model.specs.Frame.{headers};
+ghost use Rattle.std.specs.Prelude.{◌≡◌, ℕ, ◌+◌, ◌<◌, ◌≤◌, ◌∷◌, ◌++◌, [], List, length, take, IfOk, IfErr, OnOk};
+ghost use Rattle.model.specs.declared.frame.Frame.{Frame};
 ghost use Rattle.device.specs.Calls.{Only};
 ghost use Rattle.layout.specs.Directory.{IsDirectory};
 ghost use Rattle.layout.specs.Image.{HasPlan};
@@ -10,39 +10,40 @@ ghost use Rattle.frame_io.specs.Frames.{IsObject};
 ghost use Rattle.migrator.specs.Opened.{IsBadAt, IsRead};
 ghost use Rattle.checkpoint.specs.Opened.{IsBadFor, CountsOpen, Looks};
 
+use crate::intake::Intake;
 use crate::read::{read_saved, superblock_of};
 use checkpoint::OpenFault;
 use ckpt_log::Log;
 use device::Device;
 use frame_io::ReadFault;
 use layout::{CheckpointHeader, Entry, Room, Superblock};
-use model::ObjectHeader;
+use std::alloc::Global;
 
-// Reads the saved frame of an object, and puts its header behind those that are there.
-fn read_header<D: Device>(
+// Reads the saved frame of an object, which is taken behind those before it.
+fn take_frame<D: Device, I: Intake>(
+    alloc: Global,
     device: &mut D,
     plan: &Superblock,
     header: CheckpointHeader,
     directory: &[Entry],
     number: u64,
     room: &mut Room,
-    headers: &mut Vec<ObjectHeader>,
+    taken: &mut I,
 ) -> Result<(), OpenFault>
     requires directory { IsDirectory plan.now.geometry directory.now }
     requires object { IsObject plan.now.geometry number }
     requires inside { plan.now.total ≤ (D.disk device.old).sectors }
     ensures spelt { OnOk result (IsSpelt (D.disk device.old).seen plan.now header.age
         header.generation directory.now number) }
-    ensures header { OnOk result (headers.new.items ≡ headers.old.items
-        ++ (frame_read (D.disk device.old).seen plan.now header.generation directory.now
-        number).header ∷ []) }
+    ensures took { OnOk result ((fs : List Frame) → I.Took taken.old fs → I.Took taken.new
+        (fs ++ frame_read (D.disk device.old).seen plan.now header.generation directory.now number ∷ [])) }
     ensures refused { IfErr result (λ e. IsBadAt (D.disk device.old).seen plan.now header
         directory.now number e) }
     ensures reads { ReadsOnly (D.disk device.old) (D.disk device.new) }
     ensures cause { CountsOpen (D.disk device.old) (D.disk device.new) result }
 {
     match read_saved(device, plan, header, directory, number, room) {
-        Ok(read) => match headers.push(read.0) {
+        Ok(read) => match taken.take(alloc, read, room) {
             Ok(()) => Ok(()),
             Err(_) => Err(OpenFault::NoMemory),
         },
@@ -67,23 +68,23 @@ pub(crate) fn read_plan<D: Device>(device: &mut D) -> Result<Superblock, OpenFau
     }
 }
 
-// Reads the saved frames of all objects, and their headers into an empty list.
-fn read_headers<D: Device>(
+// Reads the saved frames of all objects, which are taken.
+fn take_frames<D: Device, I: Intake>(
+    alloc: Global,
     device: &mut D,
     plan: &Superblock,
     header: CheckpointHeader,
     directory: &[Entry],
     room: &mut Room,
-    into: &mut Vec<ObjectHeader>,
+    taken: &mut I,
 ) -> Result<(), OpenFault>
     requires directory { IsDirectory plan.now.geometry directory.now }
     requires inside { plan.now.total ≤ (D.disk device.old).sectors }
-    requires none { into.old.items ≡ [] }
+    requires none { I.Took taken.old [] }
     ensures spelt { OnOk result (AreSpelt (D.disk device.old).seen plan.now header.age
         header.generation directory.now) }
-    ensures headers { OnOk result (into.new.items
-        ≡ headers (frames_read (D.disk device.old).seen plan.now header.generation
-        directory.now)) }
+    ensures took { OnOk result (I.Took taken.new
+        (frames_read (D.disk device.old).seen plan.now header.generation directory.now)) }
     ensures refused { IfErr result (λ e. (n : ℕ) × (n < count_of plan.now)
         × IsBadAt (D.disk device.old).seen plan.now header directory.now n e) }
     ensures reads { ReadsOnly (D.disk device.old) (D.disk device.new) }
@@ -91,25 +92,27 @@ fn read_headers<D: Device>(
 {
     let geometry = plan.geometry();
     for number in 0..geometry.nodes + geometry.pages {
-        read_header(device, plan, header, directory, number, room, into)?;
+        take_frame(alloc, device, plan, header, directory, number, room, taken)?;
     }
     Ok(())
 }
 
-/// Reads what is committed, and every saved frame: the directory into the first of the entries, and
-/// the headers of all frames into an empty list. Each refusal has the least reason that holds.
-pub(crate) fn read_image<D: Device>(
+/// Reads what is committed, and every saved frame once: the directory into the first of the entries, and the frames are
+/// taken. Each refusal has the least reason that holds.
+pub(crate) fn read_image<D: Device, I: Intake>(
+    alloc: Global,
     device: &mut D,
     plan: &Superblock,
     directory: &mut [Entry],
     room: &mut Room,
-    headers: &mut Vec<ObjectHeader>,
+    taken: &mut I,
 ) -> Result<CheckpointHeader, OpenFault>
     requires plan { HasPlan (D.disk device.old).seen (D.disk device.old).sectors plan.now }
     requires length { length directory.old ≡ plan.now.geometry.log }
-    requires none { headers.old.items ≡ [] }
-    ensures found { IfOk result (λ h.
-        IsRead (D.disk device.old).seen plan.now h directory.new headers.new.items) }
+    requires none { I.Took taken.old [] }
+    ensures found { IfOk result (λ h. IsRead (D.disk device.old).seen plan.now h directory.new) }
+    ensures took { IfOk result (λ h. I.Took taken.new
+        (frames_read (D.disk device.old).seen plan.now h.generation (take h.entries directory.new))) }
     ensures refused { IfErr result (λ e.
         IsBadFor (D.disk device.old).seen (D.disk device.old).sectors e) }
     ensures length { length directory.new ≡ length directory.old }
@@ -120,7 +123,7 @@ pub(crate) fn read_image<D: Device>(
     match log.find_committed(device, directory) {
         Ok(header) => {
             let named = &directory[..header.entries as usize];
-            match read_headers(device, plan, header, named, room, headers) {
+            match take_frames(alloc, device, plan, header, named, room, taken) {
                 Ok(()) => Ok(header),
                 Err(fault) => Err(fault),
             }

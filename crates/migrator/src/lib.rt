@@ -9,11 +9,12 @@ mod durable;
 mod find;
 mod gather;
 mod image;
+mod intake;
 mod read;
-mod save;
 mod table;
 mod turn;
 
 pub use checkpoint::{Checkpoint, CheckpointFault, OpenFault, OpenRefused};
 pub use durable::{Durable, Opened};
+pub use intake::Intake;
 pub use read::superblock_of;

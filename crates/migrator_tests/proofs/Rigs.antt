@@ -3,7 +3,6 @@ use Rattle.std.proofs.Common.{◌≡◌, ℕ, ◌+◌, ◌<◌, Bool, true, fals
 use Rattle.std.specs.Prelude.{◌≤◌, OnOk, OnErr, length, replicate}
 use Rattle.std.specs.Result.{is_ok}
 use Rattle.model.specs.declared.frame.Frame.{Frame}
-use Rattle.model.specs.declared.frame.ObjectHeader.{ObjectHeader}
 use Rattle.model.specs.declared.geometry.Geometry.{Geometry}
 use Rattle.model.specs.Keepable.{IsKeepable, AreKeepable}
 use Rattle.device.specs.Disk.{Image, Disk}
@@ -27,8 +26,8 @@ saved_keepable size image saved holds =
     let s : SavedState = holds.0 in
     subst (λ (x : SavedFrames). AreKeepable x.geometry x.age x.frames) holds.2 (record { count = holds.1.count; each = λ n lt. (holds.1.each n lt).0 })
 
-pub rig_opened : {D : Type 0} (disk : D → Disk) (device : D) (s : DurableState D) (hs : List ObjectHeader) (size : ℕ) → OpensDurable disk device s hs → IsRig disk true 0 0 size s
-rig_opened disk device s hs size opens = record {
+pub rig_opened : {D : Type 0} (disk : D → Disk) (device : D) (s : DurableState D) (size : ℕ) → OpensDurable disk device s → IsRig disk true 0 0 size s
+rig_opened disk device s size opens = record {
   sound = λ _. opens.sound;
   load = record {
     saved = saved_keepable (disk device).sectors (disk device).seen (stored_of disk s).saved opens.holds;

@@ -19,12 +19,12 @@ IsPage _ = ⊥
 abbrev pub AreLight : Geometry → List Put → Type 0
 AreLight g puts = (n : ℕ) (f : Frame) → put_at puts n ≡ Kept f → IsKeepable g 0 n f
 
--- so many slots are used at most, by frames that can be kept at any age
+-- at most `slots` slots are used, by frames that can be kept at any age
 pub record IsLight (g : Geometry) (slots : ℕ) (puts : List Put) : Type 0 where
   pub light : AreLight g puts
   pub few : sum_of held_slot puts ≤ slots
 
--- the same of a checkpoint on its way, which writes so many objects
+-- the same for a checkpoint on its way, which writes `size` objects
 pub record IsLightFor (g : Geometry) (slots size : ℕ) (f : FrozenPuts) : Type 0 where
   pub put : IsLight g slots f.put
   pub size_is : f.size ≡ size

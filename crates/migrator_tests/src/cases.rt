@@ -5,7 +5,7 @@ use checkpoint::CheckpointFault;
 use device::{Device, Failed};
 use memory_device::Outcome;
 use migrator::Durable;
-use model::Role;
+use model::{ObjectHeader, Role};
 use std::alloc::Global;
 use std::test::Fail;
 
@@ -35,7 +35,7 @@ const STEPS: &[Step] = &[
     Step::Hold(&[(&[3], 103), (&[4], 102), (&[17], 104)]),
     Step::Open,
     Step::Hold(&[]),
-    // A device that fails is told of. Freezing makes no call of it, the others one each.
+    // A failure of the device is reported. Freezing makes no call of it, the others one each.
     Step::Image(AT_HOME, OPENING),
     Step::NoPut(3),
     Step::Fetch(4, Err(Failed)),
@@ -210,7 +210,7 @@ const PAGES: [u64; 8] = [16, 17, 18, 19, 20, 21, 22, 23];
 
 const NODES: [u64; 8] = [0, 1, 2, 3, 4, 5, 6, 7];
 
-// So many objects, of which these are pages and these are nodes.
+// A number of objects, the pages among them, and the nodes.
 const COUNTS: [(u64, &[u64], &[u64]); 4] = [
     (0, &[], &[]),
     (1, &[16], &[]),
@@ -237,13 +237,15 @@ fn what_is_committed_is_there_after_a_cut(rt: HostRuntime) -> Result<(), Fail> {
 
 // How many headers come out, and whether each is that of its object.
 fn headers_of<D: Device>(alloc: Global, device: D) -> Result<(usize, bool), Fail> {
-    let opened = Durable::open(alloc, device).ok().ok_or("it opens")?;
+    let opened = Durable::open::<Vec<ObjectHeader>>(alloc, device)
+        .ok()
+        .ok_or("it opens")?;
     let mut are_right = true;
-    for (number, header) in opened.headers.iter().enumerate() {
+    for (number, header) in opened.taken.iter().enumerate() {
         let role = if number < 16 { Role::Bank } else { Role::Page };
         are_right = are_right && header.role == role && header.owner == 7;
     }
-    Ok((opened.headers.len(), are_right))
+    Ok((opened.taken.len(), are_right))
 }
 
 #[test]

@@ -1,4 +1,4 @@
-// An image of the greatest size, of which every second object is put.
+// An image of the greatest size. Every second object is put.
 use crate::images::{build, opened};
 use crate::rig::Rig;
 use checkpoint::CheckpointFault;

@@ -15,7 +15,7 @@ use std::alloc::Global;
 use std::process::Abort;
 use std::test::Fail;
 
-// A superblock of so many objects: the nodes lie at home from sector 5 on, behind them the pages,
+// A superblock for this number of objects: the nodes lie at home from sector 5 on, behind them the pages,
 // and behind those the two halves of the log.
 fn superblock(geometry: Geometry) -> Option<Superblock> {
     let Geometry { nodes, pages, log } = geometry;
@@ -87,7 +87,7 @@ fn put_home<D: Device>(
     write_frame(device, place, shape, geometry, number, header, &content)
 }
 
-/// Writes an image of so many objects, of generation 0 and with nothing in the log. The values are
+/// Writes an image of generation 0 with nothing in the log. The values are
 /// the numbers.
 pub(crate) fn build<D: Device>(alloc: Global, device: D, geometry: Geometry) -> Result<D, Failed> {
     let mut device = device;
@@ -119,7 +119,7 @@ pub(crate) const AT_HOME: &[Step] = &[];
 /// Objects that lie in the log, in the order in which they are put there.
 pub(crate) const LOGGED: &[Values] = &[(&[17], 517), (&[3], 503), (&[9], 509)];
 
-/// What an image of generation 1 went through of which they lie in the log.
+/// The steps of an image of generation 1 whose frames lie in the log.
 pub(crate) const IN_LOG: &[Step] = &[
     Step::Put(LOGGED),
     Step::Freeze(3, Ok(())),

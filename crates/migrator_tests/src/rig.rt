@@ -7,7 +7,7 @@ use checkpoint::{Checkpoint, CheckpointFault, OpenFault, OpenRefused};
 use device::{Device, Failed};
 use layout::Room;
 use migrator::{Durable, Opened};
-use model::{MAX_AGE, Role};
+use model::{MAX_AGE, ObjectHeader, Role};
 use std::alloc::Global;
 use std::marker::Model;
 
@@ -22,7 +22,7 @@ pub(crate) struct Rig<D: Device> {
     /// Whether no commit, no journal and no migration failed.
     sound: bool,
     /// How many slots are used at most by what was put since the last checkpoint began, and by
-    /// what was put for the one on its way, which writes so many objects.
+    /// what was put for the one on its way, and how many objects that one writes.
     working: u64,
     frozen: u64,
     size: u64,
@@ -48,7 +48,7 @@ impl<D: Device> Rig<D> {
                 device,
             });
         };
-        let Opened { store, .. } = Durable::open(alloc, device)?;
+        let Opened { store, .. } = Durable::open::<Vec<ObjectHeader>>(alloc, device)?;
         Ok(Rig {
             store,
             room,
@@ -59,7 +59,7 @@ impl<D: Device> Rig<D> {
         })
     }
 
-    /// What is told of the committed checkpoint.
+    /// The committed checkpoint.
     pub(crate) fn saved(&self) -> Checkpoint {
         self.store.saved()
     }
@@ -108,7 +108,7 @@ impl<D: Device> Rig<D> {
         self.store.put_frozen(number, header, &content)
     }
 
-    /// Freezes what was put, for a checkpoint that writes so many objects.
+    /// Freezes what was put, for a checkpoint that writes `size` objects.
     pub(crate) fn freeze(&mut self, size: u64) -> Result<(), CheckpointFault> {
         if size < self.working || size > self.store.geometry().log {
             return Err(CheckpointFault::Failed);
@@ -138,7 +138,7 @@ impl<D: Device> Rig<D> {
         }
     }
 
-    /// Copies so many of the saved frames home, and answers how many are left.
+    /// Copies up to `count` saved frames home, and answers how many are left.
     pub(crate) fn migrate(&mut self, count: u64) -> Result<u64, Failed> {
         if !self.sound {
             return Err(Failed);

@@ -14,7 +14,7 @@ pub(crate) type Values = (&'static [u64], u64);
 /// A call of a store, and what it answers.
 #[derive(Clone, Copy)]
 pub(crate) enum Step<'a> {
-    /// What follows is over an image that went through steps, and stops after so many calls.
+    /// What follows is over an image that went through steps, and stops after this number of calls.
     Image(&'a [Step<'a>], u64),
     /// Objects are put with values, in this order.
     Put(&'a [Values]),
@@ -26,17 +26,17 @@ pub(crate) enum Step<'a> {
     Fetch(u64, Result<u64, Failed>),
     /// Objects have these values, and all others of 24 their numbers.
     Hold(&'a [Values]),
-    /// A checkpoint of so many objects begins.
+    /// A checkpoint of this number of objects begins.
     Freeze(u64, Result<(), CheckpointFault>),
     /// The checkpoint is committed at an age, as a generation.
     Commit(u64, Result<u64, CheckpointFault>),
     /// A page is journaled with a value at an age, as a generation.
     Journal(u64, u64, u64, Result<u64, CheckpointFault>),
-    /// So many objects are copied home, and so many are left.
+    /// The first number of objects are copied home, and the second are left.
     Migrate(u64, Result<u64, Failed>),
-    /// So many are copied and so many are left, one time after another, of three that stay readable.
+    /// Pairs of numbers copied and left, one time after another. The three objects stay readable.
     Copy(&'a [(u64, u64)]),
-    /// A generation and an age are saved, with so many entries.
+    /// A generation and an age are saved, with this number of entries.
     Saved(u64, u64, u64),
     /// The device is opened again.
     Open,
@@ -77,8 +77,8 @@ fn hold<D: Device>(rig: &mut Rig<D>, values: &[Values]) -> Result<bool, Failed> 
     Ok(true)
 }
 
-// Whether of three objects in the log as many are left as told after each migration of so many, and
-// all are read.
+// Whether each migration leaves the expected number of the three objects in the log, and all are
+// read.
 fn copy<D: Device>(rig: &mut Rig<D>, copies: &[(u64, u64)]) -> Result<bool, Failed> {
     for (count, left) in copies {
         let is_left = rig.migrate(*count)? == *left;
@@ -149,7 +149,7 @@ fn taken<D: Device>(alloc: Global, rig: Rig<D>, step: Step) -> Result<Rig<D>, Fa
     }
 }
 
-/// Opens a device and takes steps from one up to the next image, each of which has to be answered as
+/// Opens a device and takes steps from one up to the next image. Each step has to be answered as
 /// it says. Gives the device back.
 pub(crate) fn take_from<D: Device>(
     rt: &impl Abort,

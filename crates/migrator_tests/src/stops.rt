@@ -25,7 +25,7 @@ fn run<D: Device>(alloc: Global, device: D, steps: &[Step]) -> (Option<usize>, D
     }
 }
 
-// The same on a device that stops after so many calls, with a power cut behind.
+// The same on a device that stops after `calls` calls, with a power cut behind.
 fn stopped(alloc: Global, device: Memory, steps: &[Step], calls: u64) -> (Option<usize>, Memory) {
     let (done, device) = run(alloc, Fuse::new(device, calls), steps);
     let mut device = device;
@@ -60,7 +60,7 @@ const SECOND: &[Step] = &[
 // count.
 const MISPLACED: &[Step] = &[Step::Misplace];
 
-// What an image went through, and a checkpoint of a generation at age 3, of so many objects with
+// What an image went through, and a checkpoint of a generation at age 3, of objects with
 // values; and how many calls are made up to the end of opening, putting, freezing, committing and
 // migrating.
 type Writing = (&'static [Step<'static>], u64, u64, [Values; 3], [u64; 5]);
@@ -77,7 +77,7 @@ const WRITINGS: [Writing; 6] = [
     (SECOND, 2, 3, FEW, [30, 33, 33, 42, 56]),
 ];
 
-// How many of these parts are done where the device stops after so many calls.
+// How many of these parts are done where the device stops after `calls` calls.
 fn done_at(ends: [u64; 5], calls: u64) -> usize {
     let mut done = 0;
     for end in ends {

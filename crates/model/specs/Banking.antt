@@ -29,7 +29,7 @@ free_nodes g os = are_free os (range_with_len 0 g.nodes)
 unfoldable pub free_pages : Geometry → List Object → List ℕ
 free_pages g os = are_free os (range_with_len g.nodes g.pages)
 
--- whether so many more objects of a bank pass the limit of no bank in its chain
+-- whether this number of further objects of a bank stays within the limit of each bank in its chain
 unfoldable pub has_room : List Object → ℕ → ℕ → Bool
 has_room os b count = list_all (λ c. nat_le (usage os c + count) (limit_in (content_at os c))) (chain os b)
 
@@ -105,7 +105,7 @@ abbrev pub freed : List Object → ℕ → List ℕ → OrderOutcome
 freed os b [] = refused os code.BadCapability
 freed os b (n ∷ ns) = if owner_at os n == b then made (rescind (n ∷ ns) os) (n ∷ ns) Void else refused os code.NotFromThisBank
 
--- What a bank is asked. The least code that applies is told: no room below a limit, then no free number, then a
+-- The orders of a bank. The least code that applies is the answer: no room below a limit, then no free number, then a
 -- chain of 16 banks already.
 unfoldable pub on_bank : Geometry → List Object → ℕ → BankOrder → Arguments → OrderOutcome
 on_bank g os b bank.NewPage args =

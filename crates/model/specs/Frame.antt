@@ -38,7 +38,7 @@ frames_in (h ∷ hs) (c ∷ cs) = record { header = h; content = c } ∷ frames_
 abbrev pub held_at : List (Content Cap) → ℕ → Content Cap
 held_at cs n = slice_index_or cs n content.Free
 
--- a void capability as it is held
+-- a held void capability
 abbrev pub void_held : Cap
 void_held = record { what = Void; count = 0 }
 

@@ -66,7 +66,7 @@ replied os i outcome = elim i.operation [
   | _ ↦ os
 ]
 
--- what the order of an invocation of a kernel object comes to
+-- the outcome of the order of an invocation of a kernel object
 abbrev pub ordered : Geometry → List Object → Invocation → OrderOutcome
 ordered g os i = order g (after_order os i) (register_at os i.process i.register) (slice_index i.words 0)
     (record { first = slice_index i.words 1; second = slice_index i.words 2; capability = slice_index_or (sent_by os i) 0 Void })

@@ -48,7 +48,7 @@ pub record AreKeptSlots (g : Geometry) (age : ℕ) (slots : List Cap) : Type 0 w
   pub count : length slots ≡ 32
   pub each : All (IsKeptCap g age) slots
 
--- words of 64 bits, so many
+-- a list of `count` words of 64 bits
 pub record AreKeptWords (count : ℕ) (words : List ℕ) : Type 0 where
   pub count_is : length words ≡ count
   pub each : All (λ w. w < 2 ^ 64) words

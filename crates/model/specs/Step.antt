@@ -119,7 +119,7 @@ writing s os age written renewed =
 abbrev pub freezing : Running → Option Frozen → Running
 freezing s frozen = record s { frozen = frozen }
 
--- a checkpoint begins: the age rises, all is frozen as it is, and nothing is written since
+-- a checkpoint begins: the age rises, all present objects are frozen, and nothing is written since
 abbrev pub frozen_now : Geometry → Running → Outcome
 frozen_now g s =
     let size = touched_count s.touched in

@@ -114,13 +114,13 @@ pub enum Answer {
     /// The word that a load read.
     Value(u64),
     MemoryFault(MemoryFault),
-    /// A checkpoint began, with so many objects written since the last one.
+    /// A checkpoint began; the number counts the objects written since the last one.
     Frozen(u64),
-    /// So many frozen objects aren't in the log yet, or so many saved ones aren't home.
+    /// How many frozen objects aren't in the log yet, or how many saved ones aren't home.
     Left(u64),
     /// The frozen state is the saved one, and this its generation.
     Committed(u64),
-    /// The page is saved as it is, and this is the generation of what is saved.
+    /// The page is saved; the number is the new saved generation.
     Journaled(u64),
     /// The machine was opened, and stands at this generation and age.
     At { generation: u64, age: u64 },

@@ -51,7 +51,7 @@ pub enum Capability {
     Discrim,
 }
 
-/// A capability as it is held: it conveys authority only while its count is that of its object.
+/// A held capability. It conveys authority only while its count equals that of its object.
 #[derive(Clone, Copy, PartialEq, Eq, Debug)]
 pub struct Cap {
     pub what: Capability,

@@ -122,17 +122,17 @@ pub enum Command {
     },
     /// Freezes the state.
     Checkpoint,
-    /// Writes so many frozen objects to the log.
+    /// Writes up to `count` frozen objects to the log.
     Stabilize {
         count: u64,
     },
     /// Makes the frozen state the saved one.
     Commit,
-    /// Moves so many saved objects home.
+    /// Moves up to `count` saved objects home.
     Migrate {
         count: u64,
     },
-    /// Saves a page as it is, without a checkpoint.
+    /// Saves the present words of a page, without a checkpoint.
     Journal {
         number: u64,
     },

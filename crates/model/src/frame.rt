@@ -16,7 +16,7 @@ pub struct ObjectHeader {
     pub owner: u64,
 }
 
-/// An object as it is kept: its capabilities have counts, and may be stale.
+/// An object with its counts, as an image keeps it. Its capabilities have counts too, and may be stale.
 #[derive(Drop)]
 pub struct Frame {
     pub header: ObjectHeader,

@@ -1,4 +1,4 @@
-//! The abstract machine of a persistent capability system, and the plain types that it is told in.
+//! The abstract machine of a persistent capability system, and the plain types of its commands and answers.
 #![tactic(auto)]
 
 pub mod access;

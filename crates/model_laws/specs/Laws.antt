@@ -97,7 +97,7 @@ LogFullIsExact = (g : Geometry) (s : Running) (i : Invocation) (e : Effect) →
     (refusal_of g s (command.Invoke i) ≡ Some refusal.LogFull) ↔ (g.log < touched_count (touching s.touched e.written))
 
 -- a store that reaches a page which it may write is refused as log full exactly where the numbers touched with that page
--- are too many, and one that comes to a memory fault isn't refused
+-- are too many, and one that ends in a memory fault isn't refused
 abbrev pub StoreLogFullIsExact : Type 0
 StoreLogFullIsExact = (g : Geometry) (s : Running) (p address value : ℕ) → IsTrue (is_running_process s.now.objects p) →
     ((page : ℕ) → writable (reached s.now.objects p address) ≡ Ok page →

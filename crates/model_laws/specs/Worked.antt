@@ -33,7 +33,7 @@ with_all_nodes_written w =
     let s = at_world w in
     record { now = s.now; touched = replicate 16 true ++ replicate 8 false; renewed = s.renewed; frozen = s.frozen; saved = s.saved; to_move = s.to_move }
 
--- what a command comes to: its first refusal, or what carrying it out tells
+-- the outcome of a command: its first refusal, or the answer of carrying it out
 abbrev pub answered : Machine → Command → Outcome
 answered s c = elim (refusal_of small s c) [ Some why ↦ outcome (answer.Refused why) s | None ↦ carried_out small s c ]
 
@@ -390,7 +390,7 @@ AsksNodes = IsRow (at_world f0) (
     (codes "show 5", command.Show 5, codes "node 5 owner 0" ∷ codes "slot 2 number 77" ∷ codes "end" ∷ []) ∷
     [])
 
--- kinds of capabilities are told apart
+-- a discrim capability answers the kind of the capability that it is sent
 abbrev pub Classifies : Type 0
 Classifies = IsRow (at_world s0) (
     (codes "call 1 8 1 0 0 0 1 0 0 0", does Call 1 8 (1 ∷ 0 ∷ 0 ∷ 0 ∷ []) 1, codes "done" ∷ []) ∷ (

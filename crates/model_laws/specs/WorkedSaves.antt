@@ -185,7 +185,7 @@ SavesPage turns = IsRow (at_world i0) (
     (codes "migrate 9", command.Migrate 9, codes "left 0" ∷ []) ∷
     turns)
 
--- a page is saved as it is, without a checkpoint, and goes home before the next
+-- a page is saved without a checkpoint, and goes home before the next one
 abbrev pub Journals : Type 0
 Journals = SavesPage (
     (codes "journal 16", command.Journal 16, codes "journaled 3" ∷ []) ∷

@@ -29,7 +29,7 @@ after s (c ∷ cs) = after (answered s c).after cs
 abbrev pub told_saved : List Saved → List (ℕ × ℕ × ℕ)
 told_saved saved = map (λ at. (at.generation, at.world.age, at.entries)) saved
 
--- what a command comes to is a step of the machine
+-- the outcome of a command is a step of the machine
 abbrev pub AnswersBySteps : Type 0
 AnswersBySteps = (s : Machine) (c : Command) → Step small (Up s) c (answered s c).answer (Up (answered s c).after)
 

@@ -49,7 +49,7 @@ CutsLines =
     × (lines_of (codes "show 5" ++ 10 ∷ []) ≡ codes "show 5" ∷ [])
     × (lines_of (10 ∷ codes "cut" ++ 10 ∷ 10 ∷ codes "#" ++ 10 ∷ []) ≡ [] ∷ codes "cut" ∷ [] ∷ codes "#" ∷ [])
 
--- a turn that leaves the machine of World I0 as it is
+-- a turn that leaves the machine of World I0 unchanged
 abbrev pub i0_turn : List ℕ → Reply → Turn
 i0_turn line reply = record { line = line; before = Up (at_world i0); reply = reply; after = Up (at_world i0) }
 

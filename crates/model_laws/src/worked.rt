@@ -51,7 +51,7 @@ pub fn asks_nodes()
     ensures { AsksNodes }
 {}
 
-/// Kinds of capabilities are told apart.
+/// A discrim capability answers the kind of the capability that it is sent.
 pub fn classifies()
     ensures { Classifies }
 {}
@@ -171,7 +171,7 @@ pub fn counts_written()
     ensures { CountsWritten }
 {}
 
-/// A page is saved as it is, without a checkpoint, and goes home before the next.
+/// A page is saved without a checkpoint, and goes home before the next one.
 pub fn journals()
     ensures { Journals }
 {}
@@ -186,7 +186,7 @@ pub fn journals_words()
     ensures { JournalsWords }
 {}
 
-/// What a command comes to in these rows is a step of the machine.
+/// The outcome of each command in these rows is a step of the machine.
 pub fn answers_by_steps()
     ensures { AnswersBySteps }
 {}

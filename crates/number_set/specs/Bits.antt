@@ -12,7 +12,7 @@ abbrev pub digit : Bool → ℕ
 digit true = 1
 digit false = 0
 
--- the marks of so many numbers that are kept as bits
+-- the marks of this number of numbers, kept as bits
 unfoldable pub marks_of : ℕ → List ℕ → List Bool
 marks_of count words = map (λ n. nat_eq (bit_of words n) 1) (range_with_len 0 count)
 

@@ -6,7 +6,7 @@ use crate::bits::{WORD_BITS, first_clear, first_summed, has_bit, put_bit};
 use std::alloc::{AllocError, Global};
 use std::marker::Model;
 
-/// Some of so many numbers, from 0 on.
+/// A set of numbers from 0 up to a count.
 ///
 /// A number is in the set where its bit in `words` is set, and a word isn't 0 where its bit in
 /// `summary` is set: the next number of the set is found by a look at one word and at the summary,
@@ -30,7 +30,7 @@ impl Model for NumberSet {
 }
 
 impl NumberSet {
-    /// A set of none of so many numbers. Fails only where memory runs out.
+    /// An empty set of numbers below `count`. Fails only if memory runs out.
     pub fn new(alloc: Global, count: usize) -> Result<NumberSet, AllocError>
         ensures { IfOk result (λ numbers. numbers ≡ replicate count false) }
     {

@@ -1,5 +1,5 @@
 -- The object store that holds all present objects in memory.
-use Rattle.std.specs.Prelude.{◌≡◌, ◌≢◌, ℕ, ◌≤◌, true, false, Some, None, option_map, List, length, replicate, slice_index_or}
+use Rattle.std.specs.Prelude.{◌≡◌, ◌≢◌, ℕ, ◌≤◌, true, false, Some, None, option_map, List, length, map, replicate, slice_index_or}
 use Rattle.model.specs.declared.capability.Cap.{Cap}
 use Rattle.model.specs.declared.frame.Frame.{Frame}
 use Rattle.model.specs.declared.object.Content.{Content}
@@ -27,6 +27,10 @@ pub record StoreState (D : Type 0) : Type 0 where
 
 abbrev pub present_frames : PlainState → List Frame
 present_frames p = frames_in p.headers p.contents
+
+-- the bodies of frames
+abbrev pub bodies_of : List Frame → List (Content Cap)
+bodies_of fs = map (λ (f : Frame). f.content) fs
 
 abbrev pub frozen_in : Stored → List Frame → FrozenPuts → FrozenFrames
 frozen_in s fs f = record { frames = fs; size = f.size; left = left_of f }

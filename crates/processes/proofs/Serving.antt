@@ -11,6 +11,7 @@ use Rattle.model.specs.declared.command.Invocation.{Invocation}
 use Rattle.model.specs.declared.frame.Frame.{Frame}
 use Rattle.model.specs.declared.geometry.Geometry.{Geometry}
 use Rattle.model.specs.declared.object.Object.{Object}
+use Rattle.model.specs.declared.order.ResultCode.{ResultCode}
 use Rattle.model.specs.declared.frame.ObjectHeader.{ObjectHeader}
 use Rattle.model.specs.Frame.{frames_in, header_at, objects_of}
 use Rattle.model.specs.Invoke.{invoke}
@@ -27,7 +28,7 @@ use Rattle.capability.specs.declared.present.PrepareFault.{PrepareFault}
 use Rattle.capability.specs.declared.present.PrepareFault.TheVariants as prepare
 use Rattle.gate.specs.declared.fault.InvokeFault.{InvokeFault}
 use Rattle.gate.specs.declared.fault.InvokeFault.TheVariants as fault
-use Rattle.gate.specs.Invoke.{Invokes, KeepsSoundFrames, Overfills}
+use Rattle.gate.specs.Invoke.{Invokes, KeepsSoundFrames, Overfills, result_code}
 use Rattle.device.specs.declared.device.Failed.{Failed}
 use Rattle.space_bank.proofs.Renewing.{renews_after, renews_none}
 use Rattle.processes.specs.Machine.{Performs, answer_of, machine_at, renewed_by}
@@ -187,14 +188,19 @@ module _ (age : ℕ) (old mid new : Parts) (i : Invocation) (same : AreSame old 
       refused_after refusal.Fault unchanged (omega (arith, rose)) (λ e. rose, λ r. refl)
       (λ renewed frozen saved to_move other. absurd (other refl))
 
--- what a fault of an invocation isn't
-pub done_unfailed : (let r : Result (Unit {0}) InvokeFault = Ok tt in IsErrOf r fault.Failed) → ⊥
-done_unfailed e = cc
+-- the result code is the same after a look
+pub code_looked : (old mid : Parts) (i : Invocation) → AreSame old mid → (code : Option ResultCode) → code ≡ result_code mid.geometry (objects_in mid) i → code ≡ result_code old.geometry (objects_in old) i
+code_looked old mid i same code is =
+    is ∙ ap (λ (g : Geometry). result_code g (objects_in mid) i) same.geometry ∙ ap (λ (fs : List Frame). result_code old.geometry (objects_of fs) i) (same_frames old mid same)
 
-pub fault_is : (f k : InvokeFault) → f ≡ k → (let r : Result (Unit {0}) InvokeFault = Err f in IsErrOf r k)
+-- what a fault of an invocation isn't
+pub done_unfailed : (code : Option ResultCode) → (let r : Result (Option ResultCode) InvokeFault = Ok code in IsErrOf r fault.Failed) → ⊥
+done_unfailed code e = cc
+
+pub fault_is : (f k : InvokeFault) → f ≡ k → (let r : Result (Option ResultCode) InvokeFault = Err f in IsErrOf r k)
 fault_is f k is = ap (λ (e : InvokeFault). Err e) is
 
-pub fault_unfailed : (f k : InvokeFault) → f ≡ k → (k ≡ fault.Failed → ⊥) → (let r : Result (Unit {0}) InvokeFault = Err f in IsErrOf r fault.Failed) → ⊥
+pub fault_unfailed : (f k : InvokeFault) → f ≡ k → (k ≡ fault.Failed → ⊥) → (let r : Result (Option ResultCode) InvokeFault = Err f in IsErrOf r fault.Failed) → ⊥
 fault_unfailed f k is other e = let d : f ≡ fault.Failed = cc in other (sym is ∙ d)
 
 -- what is shown of an object

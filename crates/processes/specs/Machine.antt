@@ -1,4 +1,4 @@
--- The machine of present frames, and what a command comes to over them.
+-- The machine of present frames, and the steps over them.
 use Rattle.std.specs.Prelude.{◌≡◌, ◌≢◌, ◌↔◌, ℕ, ◌<◌, ◌≤◌, Bool, Option, None, Some, List, true, false, Result, Ok, Err}
 use Rattle.device.specs.declared.device.Failed.{Failed}
 use Rattle.model.specs.declared.answer.Answer.{Answer}
@@ -6,12 +6,17 @@ use Rattle.model.specs.declared.answer.Answer.TheVariants as answer
 use Rattle.model.specs.declared.answer.Refusal.{Refusal}
 use Rattle.model.specs.declared.answer.Refusal.TheVariants as refusal
 use Rattle.model.specs.declared.command.Command.{Command}
+use Rattle.model.specs.declared.command.Invocation.{Invocation}
+use Rattle.model.specs.declared.geometry.Geometry.{Geometry}
 use Rattle.model.specs.declared.object.Object.{Object}
+use Rattle.model.specs.declared.order.ResultCode.{ResultCode}
 use Rattle.model.specs.Keepable.{IsSoundFrames, world_at}
 use Rattle.model.specs.Machine.{Frozen, Saved, Machine, Up, renewing}
 use Rattle.model.specs.Step.{Step}
 use Rattle.model.specs.World.{is_process, is_running_process}
 use Rattle.capability.specs.Parts.{Parts, Renews, frames_of, objects_in}
+use Rattle.gate.specs.Invoke.{result_code}
+use Rattle.processes.specs.declared.served.Served.{Served}
 
 -- the machine whose objects now are those of present frames
 abbrev pub machine_at : ℕ → Parts → List Bool → Option Frozen → Saved → ℕ → Machine
@@ -31,6 +36,20 @@ answer_of (Err failed) = answer.Refused refusal.Fault
 abbrev pub IsToldOnce : Result Answer Failed → Type 0
 IsToldOnce (Ok a) = a ≢ answer.Refused refusal.Fault
 IsToldOnce (Err failed) = Unit {0}
+
+-- the same for an answer with its result code
+abbrev pub answer_with : Result Served Failed → Answer
+answer_with (Ok served) = served.answer
+answer_with (Err failed) = answer.Refused refusal.Fault
+
+abbrev pub IsServedOnce : Result Served Failed → Type 0
+IsServedOnce (Ok served) = served.answer ≢ answer.Refused refusal.Fault
+IsServedOnce (Err failed) = Unit {0}
+
+-- the result code beside an answer to an invocation
+abbrev pub code_with : Geometry → List Object → Invocation → Answer → Option ResultCode
+code_with g os i answer.Done = result_code g os i
+code_with g os i _ = None
 
 -- a refusal that is told without a look at an object: there is no such number, process or machine
 abbrev pub NeedsNoLook : Refusal → Type 0

@@ -6,19 +6,20 @@ ghost use Rattle.file_device.specs.FileDevice.{file_disk};
 
 use bounded_cache::{BoundedCache, Capacity};
 use command_line::{Job, JobFault, Script, job};
-use device::MAX_SECTORS;
+use device::{Device, MAX_SECTORS};
 use file_device::{FileDevice, FileFault};
-use image_builder::{Blueprint, upgraded_sectors};
+use image_builder::{Blueprint, OldImage};
 use jobs::{
-    Fault, ShellInput, build_image, check_image, describe_image, draw_image, finish, run_image,
-    run_shell, run_traced, upgrade_image,
+    Fault, ShellInput, build_image, check_image, describe_image, draw_image, finish, info_image,
+    reach_image, run_image, run_shell, run_traced, upgrade_opened,
 };
+use memory_device::Fuse;
 use object_cache::PlainStore;
 use object_store::ObjectStore;
 use runs::{ScriptReader, TraceOptions, Tracer};
 use std::fs::{self, File};
 use std::io::{self, BufWriter, ErrorKind, IsTerminal, Read, Stderr, Stdout};
-use std::os::unix::fs::MetadataExt;
+use std::os::unix::fs::{FileTypeExt, MetadataExt};
 use std::process::ExitCode;
 use toml::Table;
 
@@ -97,8 +98,24 @@ fn open(rt: &HostRuntime, image: &str) -> Result<FileDevice, Fault> {
     }
 }
 
+// Refuses a file that is neither a regular file nor a block device, such as a FIFO: opening one to read
+// waits until somebody writes to it. If the file is replaced before it is opened, the command may still
+// wait, but what it then opens is checked like any other image.
+fn refuse_pipe(rt: &HostRuntime, image: &str) -> Result<(), Fault> {
+    let kind = match fs::metadata(rt, image) {
+        Ok(found) => found.file_type(),
+        Err(error) => return Err(of_io(&error, Fault::CannotOpenImage)),
+    };
+    if kind.is_file() || kind.is_block_device() {
+        Ok(())
+    } else {
+        Err(Fault::CannotOpenImage)
+    }
+}
+
 // The same, which nothing is written to.
 fn open_to_read(rt: &HostRuntime, image: &str) -> Result<FileDevice, Fault> {
+    refuse_pipe(rt, image)?;
     match FileDevice::open_to_read(rt, image) {
         Ok(device) => Ok(device),
         Err(fault) => Err(of_file(fault, Fault::CannotOpenImage)),
@@ -126,10 +143,50 @@ enum Mode {
     Shell,
 }
 
-// Runs a script over the image on a device, by a store of this kind, and gives the status.
-fn run_by<S: ObjectStore<FileDevice>, R: Read + Drop>(
+// Runs a script over the image on a device, by a store of this kind, traces it, and gives the status.
+fn trace_by<D: Device + Drop, S: ObjectStore<D>, R: Read + Drop>(
     rt: &HostRuntime,
-    device: FileDevice,
+    device: D,
+    setting: S::Setting,
+    script: R,
+    options: TraceOptions,
+    writer: &mut BufWriter<Stdout>,
+    errors: &mut Stderr,
+) -> u8 {
+    let mut script = ScriptReader::new(script);
+    let mut tracer = Tracer::new(rt.stderr(), options);
+    let done = run_traced::<D, S, _, _, _, _>(
+        rt.alloc(),
+        device,
+        setting,
+        &mut script,
+        writer,
+        &mut tracer,
+        errors,
+    );
+    done.status
+}
+
+// Runs the lines that a shell is given over the image on a device, and gives the status. It prompts
+// if standard input and standard error are a terminal.
+fn shell_by<D: Device + Drop, S: ObjectStore<D>, R: Read + Drop>(
+    rt: &HostRuntime,
+    device: D,
+    setting: S::Setting,
+    lines: R,
+    writer: &mut BufWriter<Stdout>,
+    errors: &mut Stderr,
+) -> u8 {
+    let is_prompting = rt.stdin().is_terminal() && rt.stderr().is_terminal();
+    let mut input = ShellInput::new(lines, rt.stderr(), is_prompting);
+    let done = run_shell::<D, S, _, _, _>(rt.alloc(), device, setting, &mut input, writer, errors);
+    done.status
+}
+
+// Runs a script over the image on a device, by a store of this kind, and gives the status.
+fn run_by<D: Device + Drop, S: ObjectStore<D>, R: Read + Drop>(
+    rt: &HostRuntime,
+    device: D,
     setting: S::Setting,
     script: R,
     mode: Mode,
@@ -139,7 +196,7 @@ fn run_by<S: ObjectStore<FileDevice>, R: Read + Drop>(
     match mode {
         Mode::Plain => {
             let mut script = ScriptReader::new(script);
-            let done = run_image::<FileDevice, S, _, _, _>(
+            let done = run_image::<D, S, _, _, _>(
                 rt.alloc(),
                 device,
                 setting,
@@ -150,39 +207,16 @@ fn run_by<S: ObjectStore<FileDevice>, R: Read + Drop>(
             done.status
         }
         Mode::Traced(options) => {
-            let mut script = ScriptReader::new(script);
-            let mut tracer = Tracer::new(rt.stderr(), options);
-            let done = run_traced::<FileDevice, S, _, _, _, _>(
-                rt.alloc(),
-                device,
-                setting,
-                &mut script,
-                writer,
-                &mut tracer,
-                errors,
-            );
-            done.status
+            trace_by::<D, S, R>(rt, device, setting, script, options, writer, errors)
         }
-        Mode::Shell => {
-            let is_prompting = rt.stdin().is_terminal() && rt.stderr().is_terminal();
-            let mut input = ShellInput::new(script, rt.stderr(), is_prompting);
-            let done = run_shell::<FileDevice, S, _, _, _>(
-                rt.alloc(),
-                device,
-                setting,
-                &mut input,
-                writer,
-                errors,
-            );
-            done.status
-        }
+        Mode::Shell => shell_by::<D, S, R>(rt, device, setting, script, writer, errors),
     }
 }
 
 // Runs a script over the image on a device, with a bounded cache where it has a capacity, and gives the status.
-fn run_on<R: Read + Drop>(
+fn run_on<D: Device + Drop, R: Read + Drop>(
     rt: &HostRuntime,
-    device: FileDevice,
+    device: D,
     cache: Option<Capacity>,
     script: R,
     mode: Mode,
@@ -190,30 +224,50 @@ fn run_on<R: Read + Drop>(
     errors: &mut Stderr,
 ) -> u8 {
     match cache {
-        Some(capacity) => run_by::<BoundedCache<FileDevice>, R>(
-            rt, device, capacity, script, mode, writer, errors,
-        ),
-        None => run_by::<PlainStore<FileDevice>, R>(rt, device, (), script, mode, writer, errors),
+        Some(capacity) => {
+            run_by::<D, BoundedCache<D>, R>(rt, device, capacity, script, mode, writer, errors)
+        }
+        None => run_by::<D, PlainStore<D>, R>(rt, device, (), script, mode, writer, errors),
     }
 }
 
-// Runs a script over an image, and gives the status.
-fn run(
+// Opens a script, runs it over the image on a device, and gives the status.
+fn run_script<D: Device + Drop>(
     rt: &HostRuntime,
-    image: &str,
+    device: D,
     script: &Script<'_>,
     cache: Option<Capacity>,
     mode: Mode,
     writer: &mut BufWriter<Stdout>,
     errors: &mut Stderr,
 ) -> Result<u8, Fault> {
-    let device = open(rt, image)?;
     match script {
         Script::Input => Ok(run_on(rt, device, cache, rt.stdin(), mode, writer, errors)),
         Script::File(path) => match File::open(rt, *path) {
             Ok(file) => Ok(run_on(rt, device, cache, file, mode, writer, errors)),
             Err(error) => Err(of_io(&error, Fault::CannotReadScript)),
         },
+    }
+}
+
+// Runs a script over an image, and gives the status. After `stop_after` calls the image's device fails.
+fn run(
+    rt: &HostRuntime,
+    image: &str,
+    script: &Script<'_>,
+    cache: Option<Capacity>,
+    mode: Mode,
+    stop_after: Option<u64>,
+    writer: &mut BufWriter<Stdout>,
+    errors: &mut Stderr,
+) -> Result<u8, Fault> {
+    let device = open(rt, image)?;
+    match stop_after {
+        Some(calls) => {
+            let device = Fuse::new(device, calls);
+            run_script(rt, device, script, cache, mode, writer, errors)
+        }
+        None => run_script(rt, device, script, cache, mode, writer, errors),
     }
 }
 
@@ -229,7 +283,8 @@ fn check(
     Ok(done.status)
 }
 
-// Writes what an image saves to a new one by version 2 of the layout, and gives the status.
+// Writes what an image saves to a new one by version 2 of the layout, and gives the status. The new
+// file is made only once the old image was opened and read whole.
 fn upgrade(
     rt: &HostRuntime,
     old: &str,
@@ -237,10 +292,10 @@ fn upgrade(
     writer: &mut BufWriter<Stdout>,
     errors: &mut Stderr,
 ) -> Result<u8, Fault> {
-    let mut device = open_to_read(rt, old)?;
-    let sectors = upgraded_sectors(&mut device).map_err(Fault::Open)?;
-    let mut upgraded = create(rt, sectors, old, new)?;
-    Ok(upgrade_image(rt.alloc(), device, &mut upgraded, writer, errors))
+    let device = open_to_read(rt, old)?;
+    let image = OldImage::open(rt.alloc(), device).map_err(Fault::Upgrade)?;
+    let mut upgraded = create(rt, image.sectors(), old, new)?;
+    Ok(upgrade_opened(rt.alloc(), image, &mut upgraded, writer, errors))
 }
 
 // Describes an image, and gives the status.
@@ -264,6 +319,32 @@ fn draw(
 ) -> Result<u8, Fault> {
     let device = open_to_read(rt, image)?;
     let done = draw_image(rt.alloc(), device, writer, errors);
+    Ok(done.status)
+}
+
+// Prints the sizes of an image and the state of its checkpoint, and gives the status.
+fn info(
+    rt: &HostRuntime,
+    image: &str,
+    writer: &mut BufWriter<Stdout>,
+    errors: &mut Stderr,
+) -> Result<u8, Fault> {
+    let device = open_to_read(rt, image)?;
+    let done = info_image(rt.alloc(), device, writer, errors);
+    Ok(done.status)
+}
+
+// Writes what processes can ever change, or how they can change one object, and gives the status.
+fn reach(
+    rt: &HostRuntime,
+    image: &str,
+    processes: &[u64],
+    shows: Option<u64>,
+    writer: &mut BufWriter<Stdout>,
+    errors: &mut Stderr,
+) -> Result<u8, Fault> {
+    let device = open_to_read(rt, image)?;
+    let done = reach_image(rt.alloc(), device, processes, shows, writer, errors);
     Ok(done.status)
 }
 
@@ -302,31 +383,31 @@ fn serve(
             cache,
             trace,
             strict,
-            ..
-        } => {
-            let mode = mode_of(*trace, *strict);
-            match capacity_of(*cache) {
-                Ok(cache) => run(rt, image, script, cache, mode, writer, errors),
-                Err(status) => Ok(status),
+            stop_after,
+        } => match capacity_of(*cache) {
+            Ok(cache) => {
+                let mode = mode_of(*trace, *strict);
+                run(rt, image, script, cache, mode, *stop_after, writer, errors)
             }
-        }
+            Err(status) => Ok(status),
+        },
         Job::Shell { image, cache } => match capacity_of(*cache) {
-            Ok(cache) => run(
-                rt,
-                image,
-                &Script::Input,
-                cache,
-                Mode::Shell,
-                writer,
-                errors,
-            ),
+            Ok(cache) => {
+                let lines = Script::Input;
+                run(rt, image, &lines, cache, Mode::Shell, None, writer, errors)
+            }
             Err(status) => Ok(status),
         },
         Job::Check { image } => check(rt, image, writer, errors),
-        Job::Explain { .. } | Job::Info { .. } | Job::Reach { .. } => Ok(2),
         Job::Upgrade { old, new } => upgrade(rt, old, new, writer, errors),
-        Job::Describe { image, .. } => describe(rt, image, writer, errors),
-        Job::Draw { image, .. } => draw(rt, image, writer, errors),
+        Job::Describe { image } => describe(rt, image, writer, errors),
+        Job::Draw { image } => draw(rt, image, writer, errors),
+        Job::Info { image } => info(rt, image, writer, errors),
+        Job::Reach {
+            image,
+            processes,
+            shows,
+        } => reach(rt, image, processes, *shows, writer, errors),
     }
 }
 

@@ -16,7 +16,7 @@ use Rattle.runs.specs.declared.cause.Cause.{Cause}
 use Rattle.runs.specs.declared.cause.Cause.TheVariants as cause
 use Rattle.runs.specs.declared.cause.Stop.{Stop}
 use Rattle.runs.specs.declared.tracer.Tracer.{Tracer}
-use Rattle.runs.specs.Stub.{told_code}
+use Rattle.kernel.specs.Standing.{told_code}
 use Rattle.runs.specs.Tracing.{Ends, EndsIf, IsCauseIn, IsCauseOf, IsOutcome, IsTrace, IsTraced, Notes, Sees, cause_text, place_text}
 use Rattle.runs.proofs.TurnLists.{appends_none}
 

@@ -30,7 +30,7 @@ use Rattle.script.specs.declared.lines.LineBuffer.{LineBuffer}
 use Rattle.script.specs.Lines.{Holds, IsOneLine}
 use Rattle.script.specs.Writing.{AppendsFront}
 use Rattle.runs.specs.KernelRuns.{AreFirst, AreLines, AreSeen, AreTurnsOf, BeginsWith, Does, IsCutShort, IsLeftIn, IsRunOf, IsToldBy, IsTurnOf, EndsBy, RunsOver, RunsSeen, lines_in, tells_fault}
-use Rattle.runs.specs.Stub.{told_code}
+use Rattle.kernel.specs.Standing.{told_code}
 use Rattle.runs.specs.Taking.{Ended, IsWritten, SoFar, Stopped, StopsBy, TakesLine, TakesTurn}
 use Rattle.runs.proofs.ScriptLines.{begins_with, bytes_more, line_more, line_taken, lines_whole, lines_with_rest, no_lines}
 use Rattle.runs.proofs.TurnLists.{appends_kept, appends_more, appends_none, lines_more, output_more, run_more}

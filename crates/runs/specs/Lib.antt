@@ -3,5 +3,4 @@ pub mod KernelRuns
 pub mod Taking
 pub mod Tracing
 pub mod Reader
-pub mod Stub
 pub mod Unsaved

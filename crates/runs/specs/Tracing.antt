@@ -21,7 +21,7 @@ use Rattle.runs.specs.declared.cause.Cause.TheVariants as cause
 use Rattle.runs.specs.declared.cause.Stop.{Stop}
 use Rattle.runs.specs.declared.tracer.TraceOptions.{TraceOptions}
 use Rattle.runs.specs.declared.tracer.Tracer.{Tracer}
-use Rattle.runs.specs.Stub.{told_code}
+use Rattle.kernel.specs.Standing.{told_code}
 
 -- Texts
 

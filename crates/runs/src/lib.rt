@@ -7,7 +7,6 @@ mod output;
 mod running;
 mod script_pieces;
 mod script_reader;
-mod stub;
 mod tracer;
 mod unsaved;
 

@@ -3,7 +3,7 @@ ghost use Rattle.std.specs.Prelude.{◌≡◌, Bool, true, IfSome, option_map};
 ghost use Rattle.model.specs.declared.geometry.Geometry.{Geometry};
 ghost use Rattle.model.specs.Run.{BadLine, Nothing, Told, Turn};
 ghost use Rattle.model.specs.Text.{Says};
-ghost use Rattle.runs.specs.Stub.{told_code};
+ghost use Rattle.kernel.specs.Standing.{told_code};
 ghost use Rattle.script.specs.Lines.{IsTextOf};
 
 use model::{Answer, Command, Line, ResultCode};

@@ -13,7 +13,6 @@ ghost use Rattle.runs.specs.Taking.{Ended, SoFar, Stopped, TakesLine, TakesTurn}
 use crate::observer::Observer;
 use crate::output::Output;
 use crate::script_pieces::{Piece, Script};
-use crate::stub::step_with_code;
 use device::Device;
 use kernel::Kernel;
 use memchr::memchr;
@@ -52,7 +51,7 @@ fn take<D: Device, S: ObjectStore<D>, W: Write, O: Observer>(
             Ok(goes_on)
         }
         Line::Command(command) => {
-            let served = step_with_code(kernel, alloc, *command);
+            let served = kernel.step_with_code(alloc, *command);
             let goes_on = observer.answer(command, &served.answer, served.code);
             print_answer(&served.answer, writer)?;
             Ok(goes_on)

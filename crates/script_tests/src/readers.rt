@@ -1,4 +1,4 @@
-// Runs of scripts that come in pieces, or of which the reader is interrupted or fails.
+// Runs of scripts that come in pieces, or whose reader is interrupted or fails.
 ghost use Rattle.model.specs.Keepable.{AreKeepable};
 ghost use Rattle.capability.specs.Parts.{frames_of};
 ghost use Rattle.capability.specs.Plain.{parts_of};
@@ -19,7 +19,7 @@ const ASKED: usize = 4096;
 
 const WIDTHS: [usize; 4] = [1, 7, 4095, 4096];
 
-/// Gives a piece of some bytes, and then pieces of so many at a time. Where it interrupts it does
+/// Gives a piece of some bytes, and then pieces of `width` bytes. Where it interrupts it does
 /// so before each, and at the end it fails where it is to. It keeps whether another number of bytes
 /// was asked for.
 #[derive(Drop)]
@@ -34,7 +34,7 @@ struct Pieces<'a> {
 }
 
 impl Pieces<'_> {
-    // All bytes, so many at a time.
+    // All bytes, `width` at a time.
     fn new(rest: &[u8], width: usize, interrupts: bool) -> Pieces<'_> {
         Pieces {
             rest,

@@ -1,4 +1,4 @@
-// Lines, answers, faults and sizes of which no script over an image shows all.
+// Lines, answers, faults and sizes that no script over an image shows.
 use capability::{ObjectTable, PrepareFault};
 use gate::InvokeFault;
 use image_writer::{NumberRange, lay_out};
@@ -61,7 +61,7 @@ fn has_text(rt: &impl Abort, alloc: Global, answer: &Answer, expected: &[u8]) {
     assert_eq!(rt; text.as_slice(), expected);
 }
 
-// A process of which all is as long as it can be.
+// A process whose text is as long as it can be.
 fn longest_root() -> Description {
     Description {
         number: u64::MAX,

@@ -16,7 +16,7 @@ use std::io::{BufWriter, ErrorKind, Write};
 use std::process::Abort;
 use std::test::Fail;
 
-// Takes so many bytes at a time, as long as it has room, and then fails or takes nothing. It is
+// Takes `width` bytes at a time, as long as it has room, and then fails or takes nothing. It is
 // interrupted before each time.
 #[derive(Drop)]
 struct Narrow {
@@ -84,7 +84,7 @@ fn has_taken(
     assert_eq!(rt; writer.taken.as_slice(), &text[..room.min(text.len())]);
 }
 
-// An answer is written to writers with more and more room, which take so many bytes at a time.
+// An answer is written to writers with more and more room, which take `width` bytes at a time.
 fn is_written(rt: &impl Abort, alloc: Global, answer: &Answer, text: &[u8], width: usize) {
     for fails in [false, true] {
         for room in 0..text.len() + 2 {

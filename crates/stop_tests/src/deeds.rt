@@ -11,7 +11,7 @@ use std::alloc::Global;
 use std::io::Write;
 
 // Upgrades the image of a task to a device that holds what the task has for a script, where they
-// pass so many calls.
+// pass some calls.
 fn upgrade_once(
     alloc: Global,
     old_calls: u64,
@@ -25,7 +25,7 @@ fn upgrade_once(
     Ok(run_upgrade(alloc, old, new, task.last, told)?)
 }
 
-// Does a deed once, over devices of which one passes so many calls, and answers whether it stopped.
+// Does a deed once, over devices that pass some calls, and answers whether one stopped.
 fn do_once(
     alloc: Global,
     deed: &Deed,
@@ -48,7 +48,7 @@ fn do_once(
     }
 }
 
-// Does a deed once, writes what is told of it, and answers whether a device stopped.
+// Does a deed once, writes its result, and answers whether a device stopped.
 fn write_once<W: Write>(
     alloc: Global,
     deed: &Deed,

@@ -14,7 +14,7 @@ fn is_filled<D: Device>(device: &mut D, image: &[u8]) -> bool {
     device.write(0, image).is_ok() && device.sync().is_ok()
 }
 
-// A device with these sectors that passes so many calls.
+// A device with these sectors that passes `calls` calls.
 fn fused<D: Device>(device: D, image: &[u8], calls: u64) -> anyhow::Result<Fuse<D>> {
     let mut device = device;
     if !is_filled(&mut device, image) {
@@ -23,7 +23,7 @@ fn fused<D: Device>(device: D, image: &[u8], calls: u64) -> anyhow::Result<Fuse<
     Ok(Fuse::new(device, calls))
 }
 
-/// A device in memory with these sectors that passes so many calls.
+/// A device in memory with these sectors that passes `calls` calls.
 pub(crate) fn device_with(
     alloc: Global,
     image: &[u8],

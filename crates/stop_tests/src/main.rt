@@ -83,7 +83,7 @@ fn run_upgrades<W: Write>(
     try_outcomes(rt.alloc(), &Deed::StopNew, outcomes, &task, writer)
 }
 
-// Does what words ask, of which the first four may be files.
+// Does what words ask. The first four may be files.
 fn work(rt: &HostRuntime, files: &[String], settings: &[String]) -> anyhow::Result<()> {
     let mut writer = rt.stdout();
     match files.split_first() {

@@ -115,8 +115,8 @@ fn tell_all<D: Device, S: ObjectStore<D>>(
     Ok(is_stopped)
 }
 
-/// Runs a task over a device that passes so many calls, and answers whether it stopped. Of one that
-/// stopped before it was opened nothing is told.
+/// Runs a task over a device that passes some calls, and answers whether it stopped. If it
+/// stopped before it was opened, nothing is printed.
 pub(crate) fn run_task<D: Device, S: ObjectStore<D>>(
     alloc: Global,
     device: D,

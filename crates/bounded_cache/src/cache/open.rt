@@ -105,18 +105,22 @@ impl Reserve {
 
 impl<D: Device> BoundedCache<D> {
     /// Opens a device, and writes nothing to it. The present objects are the saved ones, and none is
-    /// in memory yet; for as many as the capacity there is room.
+    /// in memory yet. The cache never has more entries than the capacity.
     ///
     /// A refusal hands the device back: `Failed` exactly where the device failed, `NoMemory` only
     /// where memory ran out, and else the least of the reasons 1 to 7 to refuse an image.
     pub fn open(alloc: Global, device: D, capacity: Capacity) -> Result<Self, OpenRefused<D>>
         ensures opened { IfOk result (λ s.
             OpensStore D.disk device (parts_of D.disk s) (view_of D.disk s)) }
+        ensures bound { IfOk result (λ s. s.most ≡ capacity) }
         ensures refused { IfErr result (λ r. Refuses D.disk device r.device r.fault) }
     {
-        match Durable::open(alloc, device) {
+        match Durable::open::<Vec<ObjectHeader>>(alloc, device) {
             Ok(opened) => {
-                let Opened { store, headers } = opened;
+                let Opened {
+                    store,
+                    taken: headers,
+                } = opened;
                 match Reserve::new(alloc, capacity, &headers) {
                     Ok(reserve) => {
                         let Reserve {

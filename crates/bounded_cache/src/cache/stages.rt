@@ -118,6 +118,7 @@ impl<D: Device> BoundedCache<D> {
             (view_of D.disk self.old).aside.saved.entries result }
         ensures unchanged { OnErr result (self.new ≡ self.old) }
         ensures size { IfOk result (λ n. n ≡ touched_count self.old.touched) }
+        ensures most { self.new.most ≡ self.old.most }
         ensures headers { self.new.headers ≡ self.old.headers }
         ensures contents { self.new.contents ≡ self.old.contents }
         ensures touched { OnOk result (self.new.touched ≡ untouched (parts_of D.disk self.old).geometry) }

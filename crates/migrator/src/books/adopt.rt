@@ -7,7 +7,7 @@ ghost use Rattle.migrator.specs.Saving.{MayAdopt, adopted};
 
 use crate::books::Books;
 use crate::directory::Directory;
-use crate::save::save;
+use ckpt_log::Log;
 use device::{Device, Failed};
 use layout::CheckpointHeader;
 use std::mem;
@@ -37,7 +37,9 @@ impl Books {
             (stored_on (D.disk device.old) (adopted next entries.old self.old)).saved }
         ensures cause { Counts (D.disk device.old) (D.disk device.new) result }
     {
-        save(device, &self.plan, next, entries.as_slice())?;
+        let log = Log::new(&self.plan);
+        log.write_directory(device, next.generation, entries.as_slice())?;
+        log.publish(device, next)?;
         mem::swap(&mut self.directory, entries);
         self.header = next;
         self.moved = 0;

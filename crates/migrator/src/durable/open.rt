@@ -1,30 +1,33 @@
 // Opening a device.
-ghost use Rattle.std.specs.Prelude.{◌≡◌, ◌+◌, ◌≤◌, length, replicate, vec_capacity, IfOk, IfErr, OnOk};
+ghost use Rattle.std.specs.Prelude.{◌≡◌, ◌+◌, ◌≤◌, [], length, replicate, take, vec_capacity, IfOk, IfErr, OnOk};
 ghost use Rattle.device.specs.Calls.{Only};
 ghost use Rattle.layout.specs.Image.{HasPlan};
+ghost use Rattle.layout.specs.Spelt.{frames_read};
 ghost use Rattle.layout.specs.Superblock.{Plan};
 ghost use Rattle.frame_io.specs.Calls.{ReadsOnly};
+ghost use Rattle.migrator.specs.Durable.{stored_of};
 ghost use Rattle.migrator.specs.Opened.{IsRead, OpensDurable};
 ghost use Rattle.checkpoint.specs.Opened.{IsBadFor, CountsOpen, Looks, Refuses};
-ghost use Rattle.migrator.specs.Reserve.{IsReserve, IsTables};
+ghost use Rattle.migrator.specs.Reserve.{IsReserve};
 
 use crate::books::Books;
 use crate::cluster_buffer::ClusterBuffer;
 use crate::directory::{Directory, blank_entries};
 use crate::durable::Durable;
 use crate::image::{read_image, read_plan};
+use crate::intake::Intake;
 use crate::table::{Place, Table};
 use checkpoint::{OpenFault, OpenRefused};
 use device::Device;
 use layout::{CheckpointHeader, Entry, Room, Superblock};
-use model::{Geometry, ObjectHeader};
+use model::Geometry;
 use std::alloc::{AllocError, Global};
 
-/// A store that was opened, and the headers of all of its saved frames.
+/// A store that was opened, and what took its saved frames.
 #[derive(Drop)]
-pub struct Opened<D: Device> {
+pub struct Opened<D: Device, I: Intake> {
     pub store: Durable<D>,
-    pub headers: Vec<ObjectHeader>,
+    pub taken: I,
 }
 
 // Memory for the saved directory, and for another.
@@ -41,21 +44,28 @@ struct Tables {
     working: Table,
 }
 
-// All the memory that a store takes, and that opening it takes.
+// All the memory that a store takes.
 #[derive(Drop)]
 struct Reserve {
     directories: Directories,
     tables: Tables,
     buffer: ClusterBuffer,
-    headers: Vec<ObjectHeader>,
+}
+
+// What takes the frames, and room for the one that is read.
+#[derive(Drop)]
+struct Sink<I: Intake> {
+    taken: I,
+    room: Room,
 }
 
 // What was read of a device, and the memory for a store over it.
 #[derive(Drop)]
-struct Parts {
+struct Parts<I: Intake> {
     plan: Superblock,
     header: CheckpointHeader,
     reserve: Reserve,
+    taken: I,
 }
 
 impl Directories {
@@ -93,100 +103,97 @@ impl Reserve {
             directories: Directories::new(alloc, geometry.log)?,
             tables: Tables::new(alloc, count)?,
             buffer: ClusterBuffer::new(alloc)?,
-            headers: Vec::with_capacity(alloc, count)?,
         })
     }
 }
 
-// Reads an image whole, of which the superblock was read, into memory that was reserved.
-fn read_reserved<D: Device>(
-    device: &mut D,
-    plan: &Superblock,
-    reserve: &mut Reserve,
-    room: &mut Room,
-) -> Result<CheckpointHeader, OpenFault>
-    requires plan { HasPlan (D.disk device.old).seen (D.disk device.old).sectors plan.now }
-    requires reserved { IsReserve plan.now reserve.old }
-    ensures read { IfOk result (λ header. IsRead (D.disk device.old).seen plan.now header
-        reserve.new.directories.saved.items reserve.new.headers.items) }
-    ensures reserved { IsTables plan.now reserve.new }
-    ensures refused { IfErr result (λ e.
-        IsBadFor (D.disk device.old).seen (D.disk device.old).sectors e) }
-    ensures reads { ReadsOnly (D.disk device.old) (D.disk device.new) }
-    ensures cause { CountsOpen (D.disk device.old) (D.disk device.new) result }
-{
-    read_image(
-        device,
-        plan,
-        &mut reserve.directories.saved,
-        room,
-        &mut reserve.headers,
-    )
+impl<I: Intake> Sink<I> {
+    fn new(alloc: Global, geometry: Geometry) -> Result<Sink<I>, AllocError>
+        requires { geometry.nodes + geometry.pages ≤ 8192 }
+        ensures { IfOk result (λ sink. I.Took sink.taken []) }
+    {
+        Ok(Sink {
+            taken: I::new(alloc, geometry)?,
+            room: Room::new(alloc)?,
+        })
+    }
 }
 
-// Does so, and takes the superblock and the memory along.
-fn read_into<D: Device>(
+// Reads an image whole, of which the superblock was read, and takes the superblock and the memory along.
+fn read_into<D: Device, I: Intake>(
+    alloc: Global,
     device: &mut D,
     plan: Superblock,
     reserve: Reserve,
+    taken: I,
     room: &mut Room,
-) -> Result<Parts, OpenFault>
+) -> Result<Parts<I>, OpenFault>
     requires plan { HasPlan (D.disk device.old).seen (D.disk device.old).sectors plan }
     requires reserved { IsReserve plan reserve }
+    requires none { I.Took taken [] }
     ensures plan { IfOk result (λ parts. parts.plan ≡ plan) }
     ensures read { IfOk result (λ parts. IsRead (D.disk device.old).seen plan
-        parts.header parts.reserve.directories.saved.items parts.reserve.headers.items) }
-    ensures reserved { IfOk result (λ parts. IsTables plan parts.reserve) }
+        parts.header parts.reserve.directories.saved.items) }
+    ensures took { IfOk result (λ parts. I.Took parts.taken (frames_read (D.disk device.old).seen plan
+        parts.header.generation (take parts.header.entries parts.reserve.directories.saved.items))) }
+    ensures reserved { IfOk result (λ parts. IsReserve plan parts.reserve) }
     ensures refused { IfErr result (λ e.
         IsBadFor (D.disk device.old).seen (D.disk device.old).sectors e) }
     ensures reads { ReadsOnly (D.disk device.old) (D.disk device.new) }
     ensures cause { CountsOpen (D.disk device.old) (D.disk device.new) result }
 {
     let mut reserve = reserve;
-    match read_reserved(device, &plan, &mut reserve, room) {
+    let mut taken = taken;
+    let saved = &mut reserve.directories.saved;
+    match read_image(alloc, device, &plan, saved, room, &mut taken) {
         Ok(header) => Ok(Parts {
             plan,
             header,
             reserve,
+            taken,
         }),
         Err(fault) => Err(fault),
     }
 }
 
-// Does so with room that opening alone takes.
-fn read_with_room<D: Device>(
+// Does so with room, and with what takes the frames.
+fn read_with_sink<D: Device, I: Intake>(
     alloc: Global,
     device: &mut D,
     plan: Superblock,
     reserve: Reserve,
-) -> Result<Parts, OpenFault>
+) -> Result<Parts<I>, OpenFault>
     requires plan { HasPlan (D.disk device.old).seen (D.disk device.old).sectors plan }
     requires reserved { IsReserve plan reserve }
     ensures plan { IfOk result (λ parts. parts.plan ≡ plan) }
     ensures read { IfOk result (λ parts. IsRead (D.disk device.old).seen plan
-        parts.header parts.reserve.directories.saved.items parts.reserve.headers.items) }
-    ensures reserved { IfOk result (λ parts. IsTables plan parts.reserve) }
+        parts.header parts.reserve.directories.saved.items) }
+    ensures took { IfOk result (λ parts. I.Took parts.taken (frames_read (D.disk device.old).seen plan
+        parts.header.generation (take parts.header.entries parts.reserve.directories.saved.items))) }
+    ensures reserved { IfOk result (λ parts. IsReserve plan parts.reserve) }
     ensures refused { IfErr result (λ e.
         IsBadFor (D.disk device.old).seen (D.disk device.old).sectors e) }
     ensures reads { ReadsOnly (D.disk device.old) (D.disk device.new) }
     ensures cause { CountsOpen (D.disk device.old) (D.disk device.new) result }
 {
-    match Room::new(alloc) {
-        Ok(room) => {
-            let mut room = room;
-            read_into(device, plan, reserve, &mut room)
+    match Sink::new(alloc, plan.geometry()) {
+        Ok(sink) => {
+            let Sink { taken, mut room } = sink;
+            read_into(alloc, device, plan, reserve, taken, &mut room)
         }
         Err(_) => Err(OpenFault::NoMemory),
     }
 }
 
 // Reads a device whole.
-fn read_parts<D: Device>(alloc: Global, device: &mut D) -> Result<Parts, OpenFault>
+fn read_parts<D: Device, I: Intake>(alloc: Global, device: &mut D) -> Result<Parts<I>, OpenFault>
     ensures plan { IfOk result (λ parts.
         HasPlan (D.disk device.old).seen (D.disk device.old).sectors parts.plan) }
     ensures read { IfOk result (λ parts. IsRead (D.disk device.old).seen parts.plan parts.header
-        parts.reserve.directories.saved.items parts.reserve.headers.items) }
-    ensures reserved { IfOk result (λ parts. IsTables parts.plan parts.reserve) }
+        parts.reserve.directories.saved.items) }
+    ensures took { IfOk result (λ parts. I.Took parts.taken (frames_read (D.disk device.old).seen parts.plan
+        parts.header.generation (take parts.header.entries parts.reserve.directories.saved.items))) }
+    ensures reserved { IfOk result (λ parts. IsReserve parts.plan parts.reserve) }
     ensures durable { OnOk result (Only (D.disk device.new).seen (D.disk device.new)) }
     ensures refused { IfErr result (λ e.
         IsBadFor (D.disk device.old).seen (D.disk device.old).sectors e) }
@@ -195,7 +202,7 @@ fn read_parts<D: Device>(alloc: Global, device: &mut D) -> Result<Parts, OpenFau
 {
     match read_plan(device) {
         Ok(superblock) => match Reserve::new(alloc, superblock.geometry()) {
-            Ok(reserve) => read_with_room(alloc, device, superblock, reserve),
+            Ok(reserve) => read_with_sink(alloc, device, superblock, reserve),
             Err(_) => Err(OpenFault::NoMemory),
         },
         Err(fault) => Err(fault),
@@ -204,13 +211,13 @@ fn read_parts<D: Device>(alloc: Global, device: &mut D) -> Result<Parts, OpenFau
 
 impl<D: Device> Durable<D> {
     /// Opens a device, and writes nothing to it. It begins with a sync, and reads what is committed
-    /// and every saved frame, whose headers it hands out beside the store. No later call takes
-    /// memory.
+    /// and every saved frame, once: each is taken as it is read. No later call takes memory.
     ///
     /// A refusal hands the device back: `Failed` exactly where the device failed, `NoMemory` only
     /// where memory ran out, and else the least of the reasons 1 to 7 to refuse an image.
-    pub fn open(alloc: Global, device: D) -> Result<Opened<D>, OpenRefused<D>>
-        ensures opened { IfOk result (λ o. OpensDurable D.disk device o.store o.headers.items) }
+    pub fn open<I: Intake>(alloc: Global, device: D) -> Result<Opened<D, I>, OpenRefused<D>>
+        ensures opened { IfOk result (λ o. OpensDurable D.disk device o.store) }
+        ensures took { IfOk result (λ o. I.Took o.taken (stored_of D.disk o.store).saved.frames) }
         ensures refused { IfErr result (λ r. Refuses D.disk device r.device r.fault) }
     {
         let mut device = device;
@@ -220,12 +227,12 @@ impl<D: Device> Durable<D> {
                     plan,
                     header,
                     reserve,
+                    taken,
                 } = parts;
                 let Reserve {
                     directories,
                     tables,
                     buffer,
-                    headers,
                 } = reserve;
                 let books = Books {
                     plan,
@@ -242,7 +249,7 @@ impl<D: Device> Durable<D> {
                     books,
                     spare: directories.spare,
                 };
-                Ok(Opened { store, headers })
+                Ok(Opened { store, taken })
             }
             Err(fault) => Err(OpenRefused { fault, device }),
         }

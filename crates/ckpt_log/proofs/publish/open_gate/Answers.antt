@@ -1,3 +1,4 @@
+use Rattle.std.proofs.Common.{◌∙◌}
 use Rattle.ckpt_log.proofs.Commits.{opening, opened_new, gate_is}
 use Rattle.ckpt_log.proofs.Runs.{opening_run}
 use Rattle.ckpt_log.proofs.Sectors.{on_ok}
@@ -5,19 +6,19 @@ use Rattle.ckpt_log.proofs.publish.open_gate.Goals as goal
 
 pub returns-clause-committed : goal.returns-clause-committed
 returns-clause-committed g c =
-    let place = gate_is c.args.header c.of.result c.of.ensures.value c.gate.ensures.value in
-    let elsewhere = rw place at c.put_open_gate.ensures.elsewhere in
-    let written = rw place at c.put_open_gate.ensures.written in
-    on_ok c.put_open_gate.result
-    (λ gate. opened_new c.args.header (g.D.Device.disk c.args.device.now).seen (g.D.Device.disk c.put_open_gate.new.device).seen c.of.ensures.fits c.requires.next c.requires.written elsewhere gate)
+    let place = gate_is c.args.header c.of.result c.of.ensures.value c.gate-at.ensures.value in
+    let elsewhere = rw place at c.put_sector.ensures.elsewhere in
+    let written = rw place at c.put_sector.ensures.written in
+    on_ok c.put_sector.result
+    (λ gate. opened_new c.args.header (g.D.Device.disk c.args.device.now).seen (g.D.Device.disk c.put_sector.new.device).seen c.of.ensures.fits c.requires.next c.requires.written elsewhere (gate ∙ c.encode_gate.ensures))
     written
 
 pub returns-clause-seen : goal.returns-clause-seen
 returns-clause-seen g c =
-    let place = gate_is c.args.header c.of.result c.of.ensures.value c.gate.ensures.value in
-    let elsewhere = rw place at c.put_open_gate.ensures.elsewhere in
-    opening c.args.header (g.D.Device.disk c.args.device.now).seen (g.D.Device.disk c.put_open_gate.new.device).seen c.of.ensures.fits c.requires.next c.requires.written elsewhere
+    let place = gate_is c.args.header c.of.result c.of.ensures.value c.gate-at.ensures.value in
+    let elsewhere = rw place at c.put_sector.ensures.elsewhere in
+    opening c.args.header (g.D.Device.disk c.args.device.now).seen (g.D.Device.disk c.put_sector.new.device).seen c.of.ensures.fits c.requires.next c.requires.written elsewhere
 
 pub returns-clause-any_moment : goal.returns-clause-any_moment
 returns-clause-any_moment g c =
-    opening_run c.args.header c.gate.result (g.D.Device.disk c.args.device.now).seen (gate_is c.args.header c.of.result c.of.ensures.value c.gate.ensures.value) c.of.ensures.fits c.requires.next c.requires.written c.put_open_gate.ensures.any_moment
+    opening_run c.args.header c.gate-at.result (g.D.Device.disk c.args.device.now).seen (gate_is c.args.header c.of.result c.of.ensures.value c.gate-at.ensures.value) c.of.ensures.fits c.requires.next c.requires.written c.put_sector.ensures.any_moment

@@ -1,4 +1,4 @@
-use Rattle.std.proofs.Common.{◌≡◌, true, ◌||◌, List, sym, ap, subst, ◌∙◌}
+use Rattle.std.proofs.Common.{◌≡◌, true, ◌||◌, List, None, sym, ap, subst, ◌∙◌}
 use Rattle.std.specs.List.{All}
 use Rattle.std.specs.Prelude.{slice_index}
 use Rattle.std.proofs.lemmas.Result.{err_from_is_err_and}
@@ -11,7 +11,7 @@ use Rattle.model.specs.World.{is_process}
 use Rattle.capability.specs.Parts.{objects_in}
 use Rattle.gate.specs.Invoke.{entered, received, written_through}
 use Rattle.gate.specs.Plan.{FitsCap}
-use Rattle.gate.proofs.Entering.{effect_through, gate_invoked, gate_process, gate_stalled, received_fits}
+use Rattle.gate.proofs.Entering.{effect_through, gate_code, gate_invoked, gate_process, gate_stalled, received_fits}
 use Rattle.capability.proofs.Frames.{process_known}
 use Rattle.gate.proofs.Known.{running_process}
 use Rattle.gate.proofs.Invoking.{carried_out, found_stalled, unannounced}
@@ -127,3 +127,4 @@ returns g c =
     _ effect invoked (ap (written_through i.operation i.process c.args.gate.process) c.in_ok-annex.ensures.annex.0) c.announce.new.store tt c.in_ok-announce.ensures.prepares
     aside.failures aside.touched aside.geometry aside.leads objects c.requires.fits c.requires.running c.enter.ensures.current (λ age young. c.enter.ensures.keepable age young fits)
     (renews_invoked old mid (g.F.PresentFrames.parts c.enter.new.store) i effect c.requires.sound there c.requires.fits c.requires.running other invoked objects aside.allocations)
+    None (sym (gate_code old.geometry os i c.args.caller c.args.gate c.requires.asked c.requires.gate))

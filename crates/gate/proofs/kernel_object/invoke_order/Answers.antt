@@ -1,4 +1,4 @@
-use Rattle.std.proofs.Common.{ℕ, ◌<◌, List, drop, length, sym, ap, subst, ◌∙◌}
+use Rattle.std.proofs.Common.{ℕ, ◌<◌, List, Some, drop, length, sym, ap, subst, ◌∙◌}
 use Rattle.std.specs.Prelude.{IsTrue}
 use Rattle.std.specs.List.{All}
 use Rattle.std.proofs.lemmas.Result.{err_from_is_err_and}
@@ -13,7 +13,7 @@ use Rattle.space_bank.specs.Planning.{writer_count}
 use Rattle.gate.specs.Ordering.{IsPlanned, finished, ordered_by}
 use Rattle.gate.specs.Plan.{FitsCap}
 use Rattle.gate.proofs.BankStates.{annex_asked, counted_listed, counted_looked, planned_same}
-use Rattle.gate.proofs.Effects.{fetched_known, listed_known, object_invoked, order_after, order_fits, order_objects, order_written}
+use Rattle.gate.proofs.Effects.{fetched_known, listed_known, object_invoked, order_after, order_code, order_fits, order_objects, order_written}
 use Rattle.gate.proofs.Known.{running_process}
 use Rattle.gate.proofs.Invoking.{carried_out, unannounced}
 use Rattle.gate.proofs.Renewing.{renews_looked}
@@ -112,3 +112,4 @@ returns-clause-invoked g c =
     ∙ sym (order_objects old.geometry os i caller plan listed c.requires.asked planned root))
     c.requires.fits c.requires.running c.carry_out.ensures.current (λ age young. c.carry_out.ensures.keepable age young fits)
     (renews_looked old mid (g.F.PresentFrames.parts c.carry_out.new.store) there beside.renews)
+    (Some plan.reply.code) (sym (order_code old.geometry os i caller plan listed c.requires.asked planned root (now_sound old c.requires.sound) c.requires.fits c.requires.running c.requires.object))

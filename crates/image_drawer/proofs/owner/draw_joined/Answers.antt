@@ -1,8 +1,12 @@
-use Rattle.std.proofs.Common.{append_assoc}
+use Rattle.std.proofs.Common.{ap}
+use Rattle.model.specs.Text.{line_of}
 use Rattle.script.proofs.Fronts.{writes_same}
 use Rattle.image_drawer.specs.Graph.{owner_line}
+use Rattle.image_drawer.proofs.Texts.{cluster_put}
 use Rattle.image_drawer.proofs.owner.draw_joined.Goals as goal
 
 pub returns : goal.returns
 unfolding owner_line
-returns g c = writes_same _ _ _ _ _ (rw (c.word-2.ensures, c.number.ensures.text, c.word.ensures, c.begin-line.ensures.text) (simp append_assoc)) c.print.ensures
+returns g c = writes_same _ _ _ _ _
+    (rw (c.word-2.ensures, c.number-2.ensures.text, c.push.ensures, c.number.ensures.text, c.word.ensures, c.push_number.ensures.text, c.new-line.ensures) (ap line_of (cluster_put c.args.owner c.args.number)))
+    c.print.ensures

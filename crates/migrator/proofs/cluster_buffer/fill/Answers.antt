@@ -1,11 +1,11 @@
-use Rattle.std.proofs.Common.{◌≡◌, ◌∙◌, refl, sym, subst}
+use Rattle.std.proofs.Common.{◌≡◌, ◌∙◌, ◌-◌, refl, sym, subst, arith}
 use Rattle.device.specs.Disk.{Image}
 use Rattle.device.proofs.Images.{agrees_is}
 use Rattle.layout.specs.declared.shape.Shape.TheVariants.{Packed}
 use Rattle.layout.specs.Image.{sectors_from, shaped_at}
 use Rattle.home_ranges.proofs.Shared.{begins}
-use Rattle.migrator.proofs.Completing.{filled}
-use Rattle.migrator.proofs.Gathering.{packed_end}
+use Rattle.migrator.proofs.Completing.{filled, filled_on}
+use Rattle.migrator.proofs.Gathering.{packed_end, zeros_at}
 use Rattle.migrator.proofs.cluster_buffer.fill.Goals as goal
 
 pub gather-requires-clause-shape : goal.gather-requires-clause-shape
@@ -15,11 +15,25 @@ pub pack_node-requires-clause-end : goal.pack_node-requires-clause-end
 pack_node-requires-clause-end g c =
     packed_end (sectors_from (g.D.Device.disk c.read_packed.new.device).seen c.slot_sector.result 8) c.read_packed.new.node (Packed c.args.rank) c.args.rank refl (sym c.in_ok-read_packed.ensures.found) c.read_packed.ensures.length
 
+pub blank_rest-requires-clause-object : goal.blank_rest-requires-clause-object
+blank_rest-requires-clause-object g c = rw c.new-home.ensures (omega (arith, c.requires.object))
+
+pub blank_rest-requires-clause-shape : goal.blank_rest-requires-clause-shape
+blank_rest-requires-clause-shape g c = rw c.new-home.ensures (begins c.args.plan.now c.args.entry.object c.args.rank c.requires.plan c.requires.object c.requires.shape).first
+
 pub returns-clause-filled : goal.returns-clause-filled
 returns-clause-filled g c =
     let seen = agrees_is (g.D.Device.disk c.read_packed.new.device).seen (g.D.Device.disk c.gather.new.device).seen c.read_packed.ensures.reads.seen ∙ agrees_is (g.D.Device.disk c.gather.new.device).seen (g.D.Device.disk c.args.device.now).seen c.gather.ensures.reads.seen in
     let read = subst (λ (image : Image). shaped_at image c.slot_sector.result (Packed c.args.rank) ≡ c.read_packed.new.node) seen c.in_ok-read_packed.ensures.found in
     let there = rw (c.slot_sector.ensures.value, c.new-log.ensures) at read in
+    let start = begins c.args.plan.now c.args.entry.object c.args.rank c.requires.plan c.requires.object c.requires.shape in
     rw c.copy_from_slice.ensures.after
+    (filled_on (g.D.Device.disk c.args.device.now).seen c.args.plan.now c.args.generation (c.args.entry.object - c.args.rank) c.args.entry c.pack_node.new.cluster c.blank_rest.new.cluster start.home c.requires.object
+    (rw c.new-home.ensures at c.blank_rest.ensures.frames)
     (filled (g.D.Device.disk c.args.device.now).seen c.args.plan.now c.args.generation c.args.rank c.args.entry c.read_packed.new.node c.gather.new.cluster c.pack_node.new.cluster
-    c.requires.plan c.requires.object c.requires.shape c.in_ok-gather.ensures.gathered there c.pack_node.ensures.packed c.pack_node.ensures.others)
+    c.requires.plan c.requires.object c.requires.shape c.in_ok-gather.ensures.gathered there c.pack_node.ensures.packed c.pack_node.ensures.others))
+
+pub returns-clause-zeros : goal.returns-clause-zeros
+returns-clause-zeros g c =
+    rw c.copy_from_slice.ensures.after
+    (zeros_at c.args.plan.now c.args.entry.object c.args.rank c.blank_rest.new.cluster c.requires.shape (rw c.new-home.ensures at c.blank_rest.ensures.rest))

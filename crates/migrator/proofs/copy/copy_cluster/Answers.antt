@@ -1,6 +1,23 @@
 use Rattle.std.proofs.Common.{◌≡◌, rules}
-use Rattle.migrator.proofs.Gathering.{counts_on, cluster_touched}
+use Rattle.home_ranges.proofs.Places.{zeros_home}
+use Rattle.migrator.proofs.Gathering.{copied_blank, counts_on, cluster_touched}
 use Rattle.migrator.proofs.copy.copy_cluster.Goals as goal
+
+pub blank_rest-requires-clause-object : goal.blank_rest-requires-clause-object
+blank_rest-requires-clause-object g c = rw c.new-home.ensures c.requires.object
+
+pub blank_rest-requires-clause-shape : goal.blank_rest-requires-clause-shape
+blank_rest-requires-clause-shape g c = rw c.new-home.ensures c.requires.shape
+
+pub returns-clause-copied : goal.returns-clause-copied
+returns-clause-copied g c =
+    copied_blank c.write_frame.result (g.D.Device.disk c.args.device.now).seen (g.D.Device.disk c.write_frame.new.device).seen c.args.plan.now c.args.generation c.args.directory.now c.args.first
+    c.gather.new.cluster c.blank_rest.new.cluster c.in_ok-gather.ensures.gathered (rw c.new-home.ensures at c.blank_rest.ensures.frames) (rw c.new-home.ensures at c.write_frame.ensures.written)
+
+pub returns-clause-zeros : goal.returns-clause-zeros
+returns-clause-zeros g c =
+    zeros_home c.write_frame.result c.args.plan.now c.args.first (g.D.Device.disk c.write_frame.new.device).seen c.blank_rest.new.cluster c.requires.shape
+    (rw c.new-home.ensures at c.write_frame.ensures.bytes) (rw c.new-home.ensures at c.blank_rest.ensures.rest)
 
 pub returns-clause-touches : goal.returns-clause-touches
 returns-clause-touches g c =

@@ -4,7 +4,7 @@ use Rattle.layout.specs.Shape.{shape_length}
 use Rattle.home_ranges.proofs.Shared.{begins}
 use Rattle.migrator.specs.Spared.{Touches}
 use Rattle.layout.specs.declared.shape.Shape.TheVariants.{Node, Page}
-use Rattle.migrator.proofs.Gathering.{on_ok, copied_own}
+use Rattle.migrator.proofs.Gathering.{on_ok, copied_own, no_cluster, zeros_there}
 use Rattle.migrator.proofs.copy.copy_home.Goals as goal
 
 pub returns-in-Node-clause-copied : goal.returns-in-Node-clause-copied
@@ -42,3 +42,15 @@ returns-in-Packed-clause-touches g c =
     let start = begins c.args.plan.now c.args.entry.object c.in-Packed.rank c.shape.ensures.plan c.requires.object packed in
     subst (λ (n : ℕ). Touches (home_place c.args.plan.now c.args.entry.object) n (g.D.Device.disk c.args.device.now) (g.D.Device.disk c.copy_cluster.new.device)) (ap shape_length (sym packed))
     (subst (λ (at : ℕ). Touches at 8 (g.D.Device.disk c.args.device.now) (g.D.Device.disk c.copy_cluster.new.device)) start.home c.copy_cluster.ensures.touches)
+
+pub returns-in-Node-clause-zeros : goal.returns-in-Node-clause-zeros
+returns-in-Node-clause-zeros g c = no_cluster c.copy_node.result c.args.plan.now c.args.entry.object Node _ tt c.in-Node.ensures.value
+
+pub returns-in-Page-clause-zeros : goal.returns-in-Page-clause-zeros
+returns-in-Page-clause-zeros g c = no_cluster c.copy_page.result c.args.plan.now c.args.entry.object Page _ tt c.in-Page.ensures.value
+
+pub returns-in-Packed-clause-zeros : goal.returns-in-Packed-clause-zeros
+returns-in-Packed-clause-zeros g c =
+    let packed = sym c.shape.ensures.value ∙ c.in-Packed.is in
+    let start = begins c.args.plan.now c.args.entry.object c.in-Packed.rank c.shape.ensures.plan c.requires.object packed in
+    zeros_there c.copy_cluster.result c.args.plan.now c.args.entry.object c.in-Packed.rank (g.D.Device.disk c.copy_cluster.new.device).seen packed start.home c.copy_cluster.ensures.zeros

@@ -1,5 +1,4 @@
-use Rattle.std.proofs.Common.{◌≡◌, ◌≤◌, ℕ, take, sym, subst}
-use Rattle.model.specs.Frame.{headers}
+use Rattle.std.proofs.Common.{◌≤◌, ℕ, take, sym, subst}
 use Rattle.device.specs.Disk.{Image}
 use Rattle.device.proofs.Images.{agrees_is}
 use Rattle.layout.specs.Spelt.{AreSpelt, frames_read}
@@ -7,14 +6,13 @@ use Rattle.migrator.specs.Opened.{IsBadAt}
 use Rattle.migrator.proofs.Reading.{bad_frame, reads_more}
 use Rattle.migrator.proofs.image.read_image.Goals as goal
 
-pub returns-in-Ok-read_headers-clause-found : goal.returns-in-Ok-read_headers-clause-found
-returns-in-Ok-read_headers-clause-found g c =
+pub returns-in-Ok-take_frames-clause-found : goal.returns-in-Ok-take_frames-clause-found
+returns-in-Ok-take_frames-clause-found g c =
     let seen = agrees_is (g.D.Device.disk c.find_committed.new.device).seen (g.D.Device.disk c.args.device.now).seen c.find_committed.ensures.reads.seen in
     record {
       header = (rw c.new-log.ensures at c.in-Ok.ensures.found).0;
       directory = (rw c.new-log.ensures at c.in-Ok.ensures.found).1;
-      spelt = subst (λ (i : Image). AreSpelt i c.args.plan.now c.in-Ok.header.age c.in-Ok.header.generation (take c.in-Ok.header.entries c.find_committed.new.directory)) seen c.in-Ok-read_headers.ensures.spelt;
-      headers_are = subst (λ (i : Image). c.read_headers.new.into.items ≡ headers (frames_read i c.args.plan.now c.in-Ok.header.generation (take c.in-Ok.header.entries c.find_committed.new.directory))) seen c.in-Ok-read_headers.ensures.headers;
+      spelt = subst (λ (i : Image). AreSpelt i c.args.plan.now c.in-Ok.header.age c.in-Ok.header.generation (take c.in-Ok.header.entries c.find_committed.new.directory)) seen c.in-Ok-take_frames.ensures.spelt;
     }
 
 pub returns-in-Err-clause-refused : goal.returns-in-Err-clause-refused
@@ -24,14 +22,19 @@ returns-in-Err-clause-refused g c =
     bad_frame (g.D.Device.disk c.args.device.now).seen (g.D.Device.disk c.args.device.now).sectors c.args.plan.now c.in-Ok.header (take c.in-Ok.header.entries c.find_committed.new.directory) c.in-Err.ensures.refused.0 c.in-Err.fault
     c.requires.plan (rw c.new-log.ensures at c.in-Ok.ensures.found).0 (rw c.new-log.ensures at c.in-Ok.ensures.found).1 c.in-Err.ensures.refused.1 bad
 
-pub read_headers-requires-clause-none : goal.read_headers-requires-clause-none
-read_headers-requires-clause-none g c = c.requires.none
+pub take_frames-requires-clause-none : goal.take_frames-requires-clause-none
+take_frames-requires-clause-none g c = c.requires.none
 
-pub read_headers-requires-clause-inside : goal.read_headers-requires-clause-inside
-read_headers-requires-clause-inside g c = subst (λ (k : ℕ). c.args.plan.now.total ≤ k) (sym c.find_committed.ensures.reads.size) c.requires.plan.whole
+pub take_frames-requires-clause-inside : goal.take_frames-requires-clause-inside
+take_frames-requires-clause-inside g c = subst (λ (k : ℕ). c.args.plan.now.total ≤ k) (sym c.find_committed.ensures.reads.size) c.requires.plan.whole
 
-pub returns-in-Ok-read_headers-clause-reads : goal.returns-in-Ok-read_headers-clause-reads
-returns-in-Ok-read_headers-clause-reads g c = reads_more (g.D.Device.disk c.args.device.now) (g.D.Device.disk c.find_committed.new.device) (g.D.Device.disk c.read_headers.new.device) c.find_committed.ensures.reads c.read_headers.ensures.reads
+pub returns-in-Ok-take_frames-clause-reads : goal.returns-in-Ok-take_frames-clause-reads
+returns-in-Ok-take_frames-clause-reads g c = reads_more (g.D.Device.disk c.args.device.now) (g.D.Device.disk c.find_committed.new.device) (g.D.Device.disk c.take_frames.new.device) c.find_committed.ensures.reads c.take_frames.ensures.reads
 
 pub returns-in-Err-clause-reads : goal.returns-in-Err-clause-reads
-returns-in-Err-clause-reads g c = reads_more (g.D.Device.disk c.args.device.now) (g.D.Device.disk c.find_committed.new.device) (g.D.Device.disk c.read_headers.new.device) c.find_committed.ensures.reads c.read_headers.ensures.reads
+returns-in-Err-clause-reads g c = reads_more (g.D.Device.disk c.args.device.now) (g.D.Device.disk c.find_committed.new.device) (g.D.Device.disk c.take_frames.new.device) c.find_committed.ensures.reads c.take_frames.ensures.reads
+
+pub returns-in-Ok-take_frames-clause-took : goal.returns-in-Ok-take_frames-clause-took
+returns-in-Ok-take_frames-clause-took g c =
+    let seen = agrees_is (g.D.Device.disk c.find_committed.new.device).seen (g.D.Device.disk c.args.device.now).seen c.find_committed.ensures.reads.seen in
+    subst (λ (i : Image). g.I.Intake.Took c.take_frames.new.taken (frames_read i c.args.plan.now c.in-Ok.header.generation (take c.in-Ok.header.entries c.find_committed.new.directory))) seen c.in-Ok-take_frames.ensures.took

@@ -27,7 +27,7 @@ returns-in_err-print_bad_line-in-Bad-clause-turn g c h m whole stands text says 
 pub returns-in_ok-print_answer-in-Command-clause-turn : goal.returns-in_ok-print_answer-in-Command-clause-turn
 returns-in_ok-print_answer-in-Command-clause-turn g c h m whole stands text says =
     answered g.D.Device.disk g.S.ObjectStore.view g.S.PresentFrames.parts g.O.Observer.sees g.met.D.Device.only_now h m whole c.args.line.now c.in-Command.command c.step_with_code-served.result.answer c.step_with_code-served.result.code
-    c.args.kernel.now c.step_with_code-served.new.kernel c.args.observer.now c.answer-goes_on.new.self c.answer-goes_on.result
+    c.args.kernel.now c.step_with_code-served.new.self c.args.observer.now c.answer-goes_on.new.self c.answer-goes_on.result
     (g.W.Write.contents c.args.writer.now) (g.W.Write.contents c.print_answer.new.writer) (Ok c.answer-goes_on.result) c.in-Command.is says stands
     c.step_with_code-served.ensures.serves c.step_with_code-served.ensures.cause (c.step_with_code-served.ensures.code h m stands)
     (c.answer-goes_on.ensures h) (refl, c.in_ok-print_answer-in-Command.ensures)
@@ -36,7 +36,7 @@ pub returns-in_err-print_answer-in-Command-clause-turn : goal.returns-in_err-pri
 returns-in_err-print_answer-in-Command-clause-turn g c h m whole stands text says =
     let p = err_from_is_err_and c.from_residual-in_err-print_answer-in-Command.result c.from_residual-in_err-print_answer-in-Command.ensures.1 in
     rw (p.1, p.2) (answered g.D.Device.disk g.S.ObjectStore.view g.S.PresentFrames.parts g.O.Observer.sees g.met.D.Device.only_now h m whole c.args.line.now c.in-Command.command c.step_with_code-served.result.answer c.step_with_code-served.result.code
-    c.args.kernel.now c.step_with_code-served.new.kernel c.args.observer.now c.answer-goes_on.new.self c.answer-goes_on.result
+    c.args.kernel.now c.step_with_code-served.new.self c.args.observer.now c.answer-goes_on.new.self c.answer-goes_on.result
     (g.W.Write.contents c.args.writer.now) (g.W.Write.contents c.print_answer.new.writer) (Err c.in_err-print_answer-in-Command.field-0.0) c.in-Command.is says stands
     c.step_with_code-served.ensures.serves c.step_with_code-served.ensures.cause (c.step_with_code-served.ensures.code h m stands)
     (c.answer-goes_on.ensures h) c.in_err-print_answer-in-Command.ensures)

@@ -1,8 +1,8 @@
 use Rattle.std.proofs.Common.{ap}
 use Rattle.model.specs.Capability.{access_bits}
-use Rattle.model.specs.Text.{capability_text, line_of}
+use Rattle.model.specs.Text.{line_of}
 use Rattle.script.proofs.Fronts.{writes_same}
-use Rattle.image_drawer.specs.Graph.{arrow_line, place_text, style_text}
+use Rattle.image_drawer.specs.Graph.{arrow_line, kind_text, place_text, style_text}
 use Rattle.image_drawer.proofs.Texts.{arrow_put}
 use Rattle.image_drawer.proofs.arrow.Arrow.draw.Goals as goal
 
@@ -14,12 +14,12 @@ returns g c = writes_same _ _ _ _ _
       c.push_style.ensures.text,
       c.access_of.ensures,
       c.push.ensures,
-      c.capability.ensures.text,
+      c.push_kind.ensures.text,
       c.push_place.ensures.text,
       c.word-2.ensures,
       c.number.ensures.text,
       c.word.ensures,
       c.begin-line.ensures.text,
     )
-    (ap line_of (arrow_put c.args.self.holder c.args.self.target (place_text c.args.self.place) (capability_text c.args.self.capability) (style_text (access_bits c.args.self.capability)))))
+    (ap line_of (arrow_put c.args.self.holder c.args.self.target (place_text c.args.self.place) (kind_text c.args.self.capability) (style_text (access_bits c.args.self.capability)))))
     c.print.ensures

@@ -1,4 +1,4 @@
-use Rattle.std.proofs.Common.{◌∙◌, Some, Option, refl, sym, ap, subst, arith}
+use Rattle.std.proofs.Common.{◌∙◌, ◌-◌, Some, Option, refl, sym, ap, subst, arith}
 use Rattle.device.specs.Disk.{Image}
 use Rattle.device.proofs.Images.{agrees_is}
 use Rattle.layout.specs.Image.{slot_sector}
@@ -12,7 +12,7 @@ use Rattle.migrator.proofs.Counting.{ok_counts}
 use Rattle.home_ranges.proofs.Shared.{own_of}
 use Rattle.migrator.specs.Completed.{KeepsOne}
 use Rattle.migrator.specs.Mended.{Unwritten, mended}
-use Rattle.migrator.proofs.Completing.{either_of, kept_one, one_complete, own_complete, keeps_one_none, later_complete}
+use Rattle.migrator.proofs.Completing.{either_of, kept_one, one_complete, own_complete, keeps_one_none, later_complete, zeros_written}
 use Rattle.migrator.proofs.cluster_buffer.ClusterBuffer.complete_one.Goals as goal
 
 pub returns-in_default : goal.returns-in_default
@@ -23,6 +23,7 @@ returns-in_default g c =
     record {
       none = c.requires.none;
       complete = own_complete seen seen c.args.plan.now c.args.generation c.args.entries.now c.args.index c.shape.ensures.plan c.requires.directory c.requires.within own;
+      zeros = λ first rank is. absurd (c.in_default.not-Packed rank (c.shape.ensures.value ∙ is));
       keeps = subst (λ (o : Option Unwritten). KeepsOne c.args.plan.now c.args.generation c.args.entries.now c.args.index (g.D.Device.disk c.args.device.now) (g.D.Device.disk c.args.device.now) o) (sym c.requires.none)
           (keeps_one_none c.args.plan.now c.args.generation c.args.entries.now c.args.index (g.D.Device.disk c.args.device.now) (g.met.D.Device.only_now c.args.device.now));
       cause = record { never_falls = omega arith; cause = ((λ failed. absurd cc), λ rose. absurd (omega (arith, rose))) };
@@ -69,3 +70,15 @@ returns-then-not-is_first-clause-keeps g c =
 
 pub returns-then-not-is_first-clause-cause : goal.returns-then-not-is_first-clause-cause
 returns-then-not-is_first-clause-cause g c = ok_counts refl
+
+pub returns-clause-zeros : goal.returns-clause-zeros
+returns-clause-zeros g c =
+    let u : Unwritten = record { sector = slot_sector c.args.plan.now c.args.generation (entry_at c.args.entries.now c.args.index).slot; bytes = c.fill.new.cluster } in
+    let bytes = rewritten c.self.inside.bytes.items c.fill.new.cluster c.self.inside.bytes.len (c.fill.ensures.size ∙ sym c.self.invariant) c.self.inside.bytes.ok.0 in
+    let there = rw (c.slot_sector.ensures.value, c.new-log.ensures, bytes) at c.write.ensures.seen in
+    ok_then c.write.result (λ none first. zeros_written c.args.plan.now (entry_at c.args.entries.now c.args.index).object (g.D.Device.disk c.fill.new.device).seen (g.D.Device.disk c.write.new.device).seen u c.write.new.self c.fill.ensures.size there none c.in_ok-fill.ensures.zeros) c.write.ensures.written
+
+pub returns-then-not-is_first-clause-zeros : goal.returns-then-not-is_first-clause-zeros
+returns-then-not-is_first-clause-zeros g c = λ first.
+    let follows = c.is_first.ensures.no c.if-not-is_first.true in
+    absurd (first (c.args.index - 1) (omega (arith, follows.0)) follows.1)

@@ -1,27 +1,36 @@
-use Rattle.std.proofs.Common.{sym, subst, ℕ}
+use Rattle.std.proofs.Common.{sym, subst, take, ℕ}
 use Rattle.device.specs.Disk.{Image}
 use Rattle.device.proofs.Images.{agrees_is}
+use Rattle.layout.specs.Spelt.{frames_read}
 use Rattle.layout.specs.Superblock.{Plan}
 use Rattle.migrator.specs.Opened.{IsRead}
 use Rattle.checkpoint.specs.Opened.{IsBadFor}
 use Rattle.migrator.proofs.Reading.{if_both, err_weaker}
 use Rattle.migrator.proofs.durable.open.read_parts.Goals as goal
 
-pub read_with_room-requires-clause-reserved : goal.read_with_room-requires-clause-reserved
-read_with_room-requires-clause-reserved g c = c.in-Ok-new.ensures c.in-Ok.superblock (sym c.geometry.ensures.value)
+pub read_with_sink-requires-clause-reserved : goal.read_with_sink-requires-clause-reserved
+read_with_sink-requires-clause-reserved g c = c.in-Ok-new.ensures c.in-Ok.superblock (sym c.geometry.ensures.value)
 
 pub returns-in-Ok-new-clause-read : goal.returns-in-Ok-new-clause-read
 returns-in-Ok-new-clause-read g c =
     let seen = agrees_is (g.D.Device.disk c.read_plan.new.device).seen (g.D.Device.disk c.args.device.now).seen c.read_plan.ensures.looks.seen in
-    if_both c.read_with_room.result
-    (λ parts plan read. subst (λ (i : Image). IsRead i parts.plan parts.header parts.reserve.directories.saved.items parts.reserve.headers.items) seen
-    (subst (λ (p : Plan). IsRead (g.D.Device.disk c.read_plan.new.device).seen p parts.header parts.reserve.directories.saved.items parts.reserve.headers.items) (sym plan) read))
-    c.read_with_room.ensures.plan c.read_with_room.ensures.read
+    if_both c.read_with_sink.result
+    (λ parts plan read. subst (λ (i : Image). IsRead i parts.plan parts.header parts.reserve.directories.saved.items) seen
+    (subst (λ (p : Plan). IsRead (g.D.Device.disk c.read_plan.new.device).seen p parts.header parts.reserve.directories.saved.items) (sym plan) read))
+    c.read_with_sink.ensures.plan c.read_with_sink.ensures.read
+
+pub returns-in-Ok-new-clause-took : goal.returns-in-Ok-new-clause-took
+returns-in-Ok-new-clause-took g c =
+    let seen = agrees_is (g.D.Device.disk c.read_plan.new.device).seen (g.D.Device.disk c.args.device.now).seen c.read_plan.ensures.looks.seen in
+    if_both c.read_with_sink.result
+    (λ parts plan took. subst (λ (i : Image). g.I.Intake.Took parts.taken (frames_read i parts.plan parts.header.generation (take parts.header.entries parts.reserve.directories.saved.items))) seen
+    (subst (λ (p : Plan). g.I.Intake.Took parts.taken (frames_read (g.D.Device.disk c.read_plan.new.device).seen p parts.header.generation (take parts.header.entries parts.reserve.directories.saved.items))) (sym plan) took))
+    c.read_with_sink.ensures.plan c.read_with_sink.ensures.took
 
 pub returns-in-Ok-new-clause-refused : goal.returns-in-Ok-new-clause-refused
 returns-in-Ok-new-clause-refused g c =
     let seen = agrees_is (g.D.Device.disk c.read_plan.new.device).seen (g.D.Device.disk c.args.device.now).seen c.read_plan.ensures.looks.seen in
-    err_weaker c.read_with_room.result
+    err_weaker c.read_with_sink.result
     (λ e bad. subst (λ (i : Image). IsBadFor i (g.D.Device.disk c.args.device.now).sectors e) seen
     (subst (λ (k : ℕ). IsBadFor (g.D.Device.disk c.read_plan.new.device).seen k e) c.read_plan.ensures.looks.size bad))
-    c.read_with_room.ensures.refused
+    c.read_with_sink.ensures.refused

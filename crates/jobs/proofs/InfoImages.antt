@@ -1,0 +1,85 @@
+-- The lines about what a store has, and those about what its device saves.
+use Rattle.std.proofs.Common.{◌≡◌, Bool, ℕ, ◌+◌, List, [], ◌∷◌, length, map, cond, refl, sym, ap, ◌∙◌, subst, arith}
+use Rattle.std.specs.Prelude.{IfOk, Ok, Result, Vec}
+use Rattle.std.specs.List.{count_by, fold}
+use Rattle.std.specs.declared.alloc.Global.{Global}
+use Rattle.device.specs.Disk.{Disk}
+use Rattle.layout.specs.Image.{SavedState}
+use Rattle.checkpoint.specs.Saved.{kept_of}
+use Rattle.kernel.specs.declared.power.Live.{Live}
+use Rattle.kernel.specs.Denotes.{saved_of}
+use Rattle.kernel.specs.Opening.{Wakes}
+use Rattle.object_cache.specs.PlainStore.{StoreState, parts_of, saved_by, view_of}
+use Rattle.jobs.specs.declared.info.InfoLine.{InfoLine}
+use Rattle.model.specs.declared.capability.Cap.{Cap}
+use Rattle.model.specs.declared.frame.Frame.{Frame}
+use Rattle.model.specs.declared.frame.ObjectHeader.{ObjectHeader}
+use Rattle.model.specs.declared.object.Content.{Content}
+use Rattle.model.specs.declared.object.Content.TheVariants as content
+use Rattle.model.specs.declared.object.Object.{Object}
+use Rattle.model.specs.declared.object.Role.{Role}
+use Rattle.model.specs.declared.object.Role.TheVariants as role
+use Rattle.model.specs.Frame.{conveyed, frames_in, headers, object_of, objects_of}
+use Rattle.model.specs.Keepable.{world_at}
+use Rattle.model.specs.Object.{map_content}
+use Rattle.layout.specs.Superblock.{Plan}
+use Rattle.checkpoint.specs.declared.committed.Checkpoint.{Checkpoint}
+use Rattle.jobs.specs.Info.{InfoOf, has_role, info_lines, lines_over, lines_with, objects_with}
+use Rattle.jobs.proofs.DescribedImages.{encodes, looked, sound}
+
+module _ (hs : List ObjectHeader) (r : Role) where
+  same_role : (c : Content Cap) → has_role r (map_content (conveyed hs) c) ≡ has_role r c
+  same_role content.Free = refl
+  same_role (content.Page words) = refl
+  same_role (content.Node slots) = refl
+  same_role (content.Root root) = refl
+  same_role (content.Annex registers) = refl
+  same_role (content.Bank limit) = refl
+
+  role_sum : (ks : List ObjectHeader) (cs : List (Content Cap)) (n : ℕ) → length cs ≡ length ks →
+      fold (λ k o. k + cond (has_role r o.content) 1 0) n (map (object_of hs) (frames_in ks cs)) ≡ fold (λ k c. k + cond (has_role r c) 1 0) n cs
+  unfolding frames_in
+  role_sum [] [] n same = refl
+  role_sum [] (c ∷ cs) n same = absurd (omega (arith, same))
+  role_sum (k ∷ ks) [] n same = absurd (omega (arith, same))
+  role_sum (k ∷ ks) (c ∷ cs) n same =
+      ap (λ (b : Bool). fold (λ (k : ℕ) (o : Object). k + cond (has_role r o.content) 1 0) (n + cond b 1 0) (map (object_of hs) (frames_in ks cs))) (same_role c)
+      ∙ role_sum ks cs (n + cond (has_role r c) 1 0) (omega (arith, same))
+
+-- as many objects as contents have a role
+pub role_counted : (ks : List ObjectHeader) (cs : List (Content Cap)) (age : ℕ) (r : Role) → length cs ≡ length ks → objects_with r (world_at age (frames_in ks cs)) ≡ count_by (λ c. has_role r c) cs
+unfolding objects_of
+role_counted ks cs age r same = role_sum (headers (frames_in ks cs)) r ks cs 0 same
+
+-- the lines with the same numbers
+pub lines_same : (p : Plan) (saved : Checkpoint) (f g : Role → ℕ) → ((r : Role) → f r ≡ g r) → lines_with p saved f ≡ lines_with p saved g
+lines_same p saved f g same = rw (same role.Free, same role.Page, same role.Node, same role.Root, same role.Bank) refl
+
+-- the lines about what was read of a store are those about what its device saves
+pub lines_saved : (p : Plan) (told : Checkpoint) (s : SavedState) (hs : List ObjectHeader) (cs ds : List (Content Cap)) → p ≡ s.plan → told.generation ≡ s.header.generation → told.age ≡ s.header.age
+    → told.entries ≡ s.header.entries → ds ≡ cs → length cs ≡ length hs → frames_in hs cs ≡ s.frames → lines_over p told ds ≡ info_lines s.plan (saved_of (kept_of s))
+lines_saved p told s hs cs ds plan generation age entries contents whole frames =
+    let saved : Checkpoint = record { generation = s.header.generation; age = s.header.age; entries = s.header.entries } in
+    ap (λ (q : Plan). lines_over q told ds) plan
+    ∙ ap (λ (n : ℕ). lines_over s.plan (record { generation = n; age = told.age; entries = told.entries }) ds) generation
+    ∙ ap (λ (n : ℕ). lines_over s.plan (record { generation = s.header.generation; age = n; entries = told.entries }) ds) age
+    ∙ ap (λ (n : ℕ). lines_over s.plan (record { generation = s.header.generation; age = s.header.age; entries = n }) ds) entries
+    ∙ ap (λ (xs : List (Content Cap)). lines_over s.plan saved xs) contents
+    ∙ lines_same s.plan saved (λ r. count_by (λ c. has_role r c) cs) (λ r. objects_with r (world_at s.header.age s.frames))
+    (λ r. sym (role_counted hs cs s.header.age r whole) ∙ ap (λ (fs : List Frame). objects_with r (world_at s.header.age fs)) frames)
+
+-- lines that were found
+pub lines_found : {E : Type 0} (found : Result (Vec InfoLine Global) E) (lines : Vec InfoLine Global) (are : List InfoLine) → found ≡ Ok lines → IfOk found (λ v. v.items ≡ are) → lines.items ≡ are
+lines_found {E} found lines are is each = subst (λ (r : Result (Vec InfoLine Global) E). IfOk r (λ v. v.items ≡ are)) is each
+
+-- what is told of a store that was made of a device
+module _ {D : Type 0} (disk : D → Disk) (seen_left : (d : D) → (disk d).may_leave (disk d).seen) (device : D) (l : Live (StoreState D)) (wakes : Wakes disk (view_of disk) (parts_of disk) device l) where
+  pub informed : (back : D) → back ≡ l.store.durable.beneath → (lines : List InfoLine) → lines ≡ info_lines (saved_by disk l.store).plan (saved_of (kept_of (saved_by disk l.store))) → InfoOf disk device back lines
+  informed back same lines are = record {
+    state = saved_by disk l.store;
+    encodes = encodes disk seen_left device l wakes;
+    sound = sound disk seen_left device l wakes;
+    lines_are = are;
+    failures = ap (λ (d : D). (disk d).failures) same ∙ wakes.failures;
+    looks = looked disk seen_left device l wakes back same;
+  }

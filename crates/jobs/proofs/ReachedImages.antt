@@ -1,0 +1,50 @@
+-- What the command says of the objects that processes can ever change.
+use Rattle.std.proofs.Common.{◌≡◌, ℕ, List, Option, Result, Ok, Err, Vec, sym, subst}
+use Rattle.std.specs.declared.alloc.Global.{Global}
+use Rattle.model.specs.declared.object.Object.{Object}
+use Rattle.model.specs.Frame.{objects_of}
+use Rattle.device.specs.Disk.{Disk}
+use Rattle.checkpoint.specs.declared.open_fault.OpenFault.{OpenFault}
+use Rattle.checkpoint.specs.declared.open_fault.OpenFault.TheVariants as opening
+use Rattle.reach.specs.Reached.{AreSoundObjects}
+use Rattle.jobs.specs.declared.fault.Fault.{Fault}
+use Rattle.jobs.specs.declared.fault.Fault.TheVariants as fault
+use Rattle.jobs.specs.Reaching.{HoldsOfSaved, OpensAndReads, ReachesImage, TellsReach}
+
+-- what was answered is all objects that are saved
+pub objects_read : {D : Type 0} (disk : D → Disk) (device back : D) (answer : Result (Vec Object Global) OpenFault) (objects : Vec Object Global) → answer ≡ Ok objects → OpensAndReads disk device back answer
+    → HoldsOfSaved disk device back (λ os. objects.items ≡ os)
+objects_read disk device back answer objects is read = subst (λ (r : Result (Vec Object Global) OpenFault). OpensAndReads disk device back r) is read
+
+module _ {D : Type 0} (disk : D → Disk) (device back : D) (objects : List Object) (read : HoldsOfSaved disk device back (λ os. objects ≡ os)) where
+  -- they are sound
+  pub objects_sound : AreSoundObjects objects
+  objects_sound = subst AreSoundObjects (sym read.holds) (read.state.plan.geometry, read.state.header.age, read.sound.sound)
+
+  module _ (starts : List ℕ) (shows : Option ℕ) (output output_left : Option (List ℕ)) where
+    -- what is told of them is told of the objects that are saved
+    told_of_saved : (outcome : Result (Unit {0}) Fault) → TellsReach objects starts shows output output_left outcome → HoldsOfSaved disk device back (λ os. TellsReach os starts shows output output_left outcome)
+    told_of_saved outcome tells = record {
+      state = read.state;
+      encodes = read.encodes;
+      sound = read.sound;
+      holds = subst (λ (os : List Object). TellsReach os starts shows output output_left outcome) read.holds tells;
+      failures = read.failures;
+      looks = read.looks;
+    }
+
+    pub reaches_image : (outcome : Result (Unit {0}) Fault) → TellsReach objects starts shows output output_left outcome → ReachesImage disk starts shows device back output output_left outcome
+    reaches_image (Ok a) tells = told_of_saved (Ok a) tells
+    reaches_image (Err fault.CannotReadDescription) tells = absurd tells
+    reaches_image (Err fault.NotToml) tells = absurd tells
+    reaches_image (Err fault.CannotWriteImage) tells = absurd tells
+    reaches_image (Err fault.CannotOpenImage) tells = absurd tells
+    reaches_image (Err fault.CannotReadScript) tells = absurd tells
+    reaches_image (Err fault.CannotWriteOutput) tells = told_of_saved (Err fault.CannotWriteOutput) tells
+    reaches_image (Err fault.NoMemory) tells = absurd tells
+    reaches_image (Err (fault.Build why)) tells = absurd tells
+    reaches_image (Err (fault.Open opening.Failed)) tells = absurd tells
+    reaches_image (Err (fault.Open opening.NoMemory)) tells = (record { is_why = read.failures; looks = read.looks }, tells)
+    reaches_image (Err (fault.Open (opening.Bad reason))) tells = absurd tells
+    reaches_image (Err (fault.Upgrade why)) tells = absurd tells
+    reaches_image (Err (fault.NoProcess p)) tells = told_of_saved (Err (fault.NoProcess p)) tells

@@ -1,0 +1,6 @@
+use Rattle.std.proofs.Common.{◌≡◌, ◌++◌, map, take}
+use Rattle.jobs.specs.Info.{range_line}
+use Rattle.jobs.proofs.info.push_ranges.Given as goal
+
+abbrev pub invariant-loop-range : goal.invariant-loop-range
+invariant-loop-range l = l.lines.items ≡ l.fn.lines.items ++ map range_line (take l.range-index l.ranges)

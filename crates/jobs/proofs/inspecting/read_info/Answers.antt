@@ -1,0 +1,12 @@
+use Rattle.kernel.specs.Denotes.{saved_of}
+use Rattle.checkpoint.specs.Saved.{kept_of}
+use Rattle.object_cache.specs.PlainStore.{saved_by}
+use Rattle.jobs.specs.Info.{info_lines}
+use Rattle.jobs.proofs.InfoImages.{informed, lines_found}
+use Rattle.jobs.proofs.inspecting.read_info.Goals as goal
+
+pub returns-in-Ok-lines : goal.returns-in-Ok-lines
+returns-in-Ok-lines g c =
+    let s = saved_by g.D.Device.disk c.in-Ok.live.store in
+    informed g.D.Device.disk g.met.D.Device.seen_left c.args.device c.in-Ok.live c.in-Ok.ensures.opened c.lines_in-lines.result.1 c.lines_in-lines.ensures.device
+    c.in-Ok-lines.lines.items (lines_found c.lines_in-lines.result.0 c.in-Ok-lines.lines (info_lines s.plan (saved_of (kept_of s))) c.in-Ok-lines.is c.lines_in-lines.ensures.lines)

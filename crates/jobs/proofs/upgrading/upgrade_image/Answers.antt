@@ -1,0 +1,13 @@
+use Rattle.std.proofs.Common.{Err}
+use Rattle.jobs.specs.declared.fault.Fault.TheVariants as fault
+use Rattle.jobs.proofs.UpgradedImages.{old_refused, read_refused}
+use Rattle.jobs.proofs.upgrading.upgrade_image.Goals as goal
+
+pub returns-in-Err-clause-upgraded : goal.returns-in-Err-clause-upgraded
+returns-in-Err-clause-upgraded g c = (
+  Err (fault.Upgrade c.in-Err.fault),
+  c.status.ensures.status,
+  c.status.ensures.told,
+  old_refused g.D.Device.disk g.E.Device.disk c.args.old c.args.new.now (g.W.Write.contents c.args.writer.now) c.in-Err.fault c.in-Err.ensures.refused,
+  read_refused g.D.Device.disk g.D.ClosableDevice.was_closed c.args.old c.in-Err.fault c.in-Err.ensures.reads,
+)

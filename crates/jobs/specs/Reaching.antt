@@ -1,0 +1,77 @@
+-- What the command says of the objects that some processes can ever change.
+use Rattle.std.specs.Prelude.{◌≡◌, ℕ, Bool, not, Option, None, Some, List, Vec, Result, Ok, Err, IsTrue, is_some}
+use Rattle.std.specs.Io.KnownBytes.{Appends}
+use Rattle.std.specs.List.{All, find}
+use Rattle.std.specs.declared.alloc.Global.{Global}
+use Rattle.number_set.specs.Marks.{is_marked}
+use Rattle.model.specs.declared.object.Object.{Object}
+use Rattle.model.specs.Frame.{objects_of}
+use Rattle.model.specs.Keepable.{IsSoundFrames}
+use Rattle.model.specs.World.{is_process}
+use Rattle.device.specs.Disk.{Disk}
+use Rattle.layout.specs.Image.{Encodes, SavedState}
+use Rattle.checkpoint.specs.Opened.{Looks}
+use Rattle.checkpoint.specs.declared.open_fault.OpenFault.{OpenFault}
+use Rattle.checkpoint.specs.declared.open_fault.OpenFault.TheVariants as opening
+use Rattle.kernel.specs.Opening.{RefusesToOpen}
+use Rattle.script.specs.Writing.{AppendsFront}
+use Rattle.reach.specs.declared.step.Step.{Step}
+use Rattle.reach.specs.Chain.{IsShortestIfAny}
+use Rattle.reach.specs.ChainLines.{chain_text}
+use Rattle.reach.specs.Lines.{reach_text}
+use Rattle.reach.specs.Reached.{BoundsRuns, IsReach}
+use Rattle.jobs.specs.declared.fault.Fault.{Fault}
+use Rattle.jobs.specs.declared.fault.Fault.TheVariants as fault
+
+abbrev pub AreProcesses : List Object → List ℕ → Type 0
+AreProcesses os numbers = All (λ n. IsTrue (is_process os n)) numbers
+
+-- the text of the least closed set that contains some numbers; the authority bound holds for it
+pub record IsSetText (os : List Object) (starts : List ℕ) (text : List ℕ) : Type 0 where
+  pub marks : List Bool
+  pub reach : IsReach os starts (is_marked marks)
+  pub bounds : BoundsRuns os (is_marked marks)
+  pub spelled : text ≡ reach_text os marks
+
+-- the text of a shortest chain to an object, or that it is out of reach: outside the least closed set
+pub record IsChainText (os : List Object) (starts : List ℕ) (o : ℕ) (text : List ℕ) : Type 0 where
+  pub chain : Option (Vec Step Global)
+  pub shortest : IsShortestIfAny os starts o chain
+  pub reach : (inside : ℕ → Bool) → IsReach os starts inside → inside o ≡ is_some chain
+  pub spelled : text ≡ chain_text os o chain
+
+abbrev pub IsReachText : List Object → List ℕ → Option ℕ → List ℕ → Type 0
+IsReachText os starts None text = IsSetText os starts text
+IsReachText os starts (Some o) text = IsChainText os starts o text
+
+-- the numbers are those of processes, and the text was told
+abbrev pub Reaches : List Object → List ℕ → Option ℕ → (List ℕ → Type 0) → Type 0
+Reaches os starts shows Told = AreProcesses os starts × ((text : List ℕ) × IsReachText os starts shows text × Told text)
+
+-- so it was; or that couldn't be written whole; or a number isn't that of a process; or memory ran out
+abbrev pub TellsReach : List Object → List ℕ → Option ℕ → Option (List ℕ) → Option (List ℕ) → Result (Unit {0}) Fault → Type 0
+TellsReach os starts shows output output_left (Ok a) = Reaches os starts shows (Appends output output_left)
+TellsReach os starts shows output output_left (Err fault.CannotWriteOutput) = Reaches os starts shows (AppendsFront output output_left)
+TellsReach os starts shows output output_left (Err (fault.NoProcess p)) = (find (λ n. not (is_process os n)) starts ≡ Some p) × (output_left ≡ output)
+TellsReach os starts shows output output_left (Err (fault.Open opening.NoMemory)) = output_left ≡ output
+TellsReach os starts shows output output_left (Err _) = ⊥
+
+-- a device was opened with no failure, nothing was written to it at any moment, and this holds of the objects saved on it
+pub record HoldsOfSaved {D : Type 0} (disk : D → Disk) (device back : D) (Holds : List Object → Type 0) : Type 0 where
+  pub state : SavedState
+  pub encodes : Encodes (disk device).seen (disk device).sectors state
+  pub sound : IsSoundFrames state.plan.geometry state.header.age state.frames
+  pub holds : Holds (objects_of state.frames)
+  pub failures : (disk back).failures ≡ (disk device).failures
+  pub looks : Looks (disk device) (disk back)
+
+-- all saved objects were read; or the device wasn't opened, or memory ran out
+abbrev pub OpensAndReads : {D : Type 0} → (D → Disk) → D → D → Result (Vec Object Global) OpenFault → Type 0
+OpensAndReads disk device back (Ok objects) = HoldsOfSaved disk device back (λ os. objects.items ≡ os)
+OpensAndReads disk device back (Err why) = RefusesToOpen disk device back why
+
+-- what processes can ever change was told of the saved objects; or a fault; or the device wasn't opened, or memory ran out
+abbrev pub ReachesImage : {D : Type 0} → (D → Disk) → List ℕ → Option ℕ → D → D → Option (List ℕ) → Option (List ℕ) → Result (Unit {0}) Fault → Type 0
+ReachesImage disk starts shows device back output output_left (Err (fault.Open why)) = RefusesToOpen disk device back why × (output_left ≡ output)
+ReachesImage disk starts shows device back output output_left outcome =
+    HoldsOfSaved disk device back (λ os. TellsReach os starts shows output output_left outcome)

@@ -1,0 +1,93 @@
+// The command that tells what an image has room for, and how much it holds.
+ghost use Rattle.std.specs.Prelude.{◌≡◌, IfOk, Result};
+ghost use Rattle.checkpoint.specs.Saved.{kept_of};
+ghost use Rattle.capability.specs.Parts.{frames_of};
+ghost use Rattle.kernel.specs.Denotes.{saved_of};
+ghost use Rattle.object_cache.specs.PlainStore.{parts_of, saved_by};
+ghost use Rattle.jobs.specs.Faults.{IsTold, status_of};
+ghost use Rattle.jobs.specs.Info.{InspectsImage, OpensForInfo, info_lines};
+
+use crate::done::Done;
+use crate::fault::{Fault, status};
+use crate::info::{InfoLine, lines_about, print_lines};
+use checkpoint::OpenFault;
+use device::Device;
+use kernel::wake;
+use object_cache::PlainStore;
+use std::alloc::{AllocError, Global};
+use std::io::Write;
+
+// The lines about the image of a store that has all its objects as they are saved, and the device
+// beneath. Fails only where memory runs out.
+fn lines_in<D: Device>(
+    alloc: Global,
+    store: PlainStore<D>,
+) -> (Result<Vec<InfoLine>, AllocError>, D)
+    requires { frames_of (parts_of D.disk store) ≡ (saved_by D.disk store).frames }
+    ensures lines { IfOk result.0 (λ lines. lines.items
+        ≡ info_lines (saved_by D.disk store).plan (saved_of (kept_of (saved_by D.disk store)))) }
+    ensures device { result.1 ≡ store.durable.beneath }
+{
+    let (saved, present) = store.into_parts();
+    let (_headers, contents) = present.into_parts();
+    let lines = lines_about(alloc, saved.superblock(), saved.saved(), &contents);
+    (lines, saved.into_device())
+}
+
+// Opens a device, gives it back, and with it the lines about the image that it holds.
+fn read_info<D: Device>(alloc: Global, device: D) -> (Result<Vec<InfoLine>, OpenFault>, D)
+    ensures { OpensForInfo D.disk device result.1 result.0 }
+{
+    let live = match wake::<D, PlainStore<D>>(alloc, device, ()) {
+        Ok(live) => live,
+        Err(refused) => return (Err(refused.fault), refused.device),
+    };
+    let (lines, device) = lines_in(alloc, live.store);
+    match lines {
+        Ok(lines) => (Ok(lines), device),
+        Err(_) => (Err(OpenFault::NoMemory), device),
+    }
+}
+
+// Opens a device, writes the lines about the image that it holds, and gives it back.
+fn inspect_and_tell<D: Device, W: Write>(
+    alloc: Global,
+    device: D,
+    writer: &mut W,
+) -> (Result<(), Fault>, D)
+    ensures { InspectsImage D.disk device result.1 (W.contents writer.old) (W.contents writer.new) result.0 }
+{
+    let (read, device) = read_info(alloc, device);
+    match read {
+        Ok(lines) => match print_lines(&lines, writer) {
+            Ok(()) => (Ok(()), device),
+            Err(_) => (Err(Fault::CannotWriteOutput), device),
+        },
+        Err(fault) => (Err(Fault::Open(fault)), device),
+    }
+}
+
+/// Opens a device as a run does, and writes a line for each fact about its image: the version of the
+/// layout, how many nodes, pages and slots it has room for, its home ranges, its sectors, the
+/// generation, age and entries of the checkpoint that it holds, and how many objects of each kind
+/// that saves. Then the status is 0. After a fault one line is written to `errors`, and the status is
+/// 1: `bad image` with a number from 1 to 10, `device failed` or `no memory`, and `cannot write
+/// output` where the writer fails.
+///
+/// The device is given back, and nothing was written to it, at no moment.
+pub fn info_image<D: Device, W: Write, V: Write>(
+    alloc: Global,
+    device: D,
+    writer: &mut W,
+    errors: &mut V,
+) -> Done<D>
+    ensures { (outcome : Result (Unit {0}) Fault) × (result.status ≡ status_of outcome)
+        × IsTold outcome (V.contents errors.old) (V.contents errors.new)
+        × InspectsImage D.disk device result.device (W.contents writer.old) (W.contents writer.new) outcome }
+{
+    let (outcome, device) = inspect_and_tell(alloc, device, writer);
+    Done {
+        status: status(outcome, errors),
+        device,
+    }
+}

@@ -1,0 +1,154 @@
+// The command that says what processes can ever change.
+ghost use Rattle.std.specs.Prelude.{◌≡◌, None, Some, Result, length};
+ghost use Rattle.script.specs.Writing.{Writes};
+ghost use Rattle.reach.specs.ChainLines.{chain_text};
+ghost use Rattle.reach.specs.Lines.{reach_text};
+ghost use Rattle.reach.specs.Reached.{AreSoundObjects};
+ghost use Rattle.jobs.specs.Faults.{IsTold, status_of};
+ghost use Rattle.jobs.specs.Reaching.{AreProcesses, ReachesImage, TellsReach};
+
+use crate::done::Done;
+use crate::fault::{Fault, status};
+use crate::reading::read_saved;
+use checkpoint::OpenFault;
+use device::Device;
+use model::Object;
+use number_set::NumberSet;
+use reach::{Step, missing_process, print_chain, print_reach, reach, shortest_chain};
+use script::RunFault;
+use std::alloc::Global;
+use std::io::Write;
+
+// Writes a closed set, and lets it go.
+fn print_set<W: Write>(
+    objects: &[Object],
+    inside: NumberSet,
+    writer: &mut W,
+) -> Result<(), RunFault>
+    requires { length inside ≡ length objects.now }
+    ensures { Writes (W.contents writer.old) (W.contents writer.new) result (reach_text objects.now inside) }
+{
+    print_reach(objects, &inside, writer)
+}
+
+// Writes a chain, and lets it go.
+fn print_found<W: Write>(
+    objects: &[Object],
+    object: u64,
+    chain: Option<Vec<Step>>,
+    writer: &mut W,
+) -> Result<(), RunFault>
+    ensures { Writes (W.contents writer.old) (W.contents writer.new) result (chain_text objects.now object chain) }
+{
+    print_chain(objects, object, &chain, writer)
+}
+
+// Writes the least closed set that contains some processes.
+fn tell_set<W: Write>(
+    alloc: Global,
+    objects: &[Object],
+    processes: &[u64],
+    writer: &mut W,
+) -> Result<(), Fault>
+    requires sound { AreSoundObjects objects.now }
+    requires processes { AreProcesses objects.now processes.now }
+    ensures { TellsReach objects.now processes.now None (W.contents writer.old) (W.contents writer.new) result }
+{
+    match reach(alloc, objects, processes) {
+        Ok(inside) => match print_set(objects, inside, writer) {
+            Ok(()) => Ok(()),
+            Err(_) => Err(Fault::CannotWriteOutput),
+        },
+        Err(_) => Err(Fault::Open(OpenFault::NoMemory)),
+    }
+}
+
+// Writes a shortest chain from some processes to an object.
+fn tell_chain<W: Write>(
+    alloc: Global,
+    objects: &[Object],
+    processes: &[u64],
+    object: u64,
+    writer: &mut W,
+) -> Result<(), Fault>
+    requires sound { AreSoundObjects objects.now }
+    requires processes { AreProcesses objects.now processes.now }
+    ensures { TellsReach objects.now processes.now (Some object) (W.contents writer.old) (W.contents writer.new) result }
+{
+    match shortest_chain(alloc, objects, processes, object) {
+        Ok(chain) => match print_found(objects, object, chain, writer) {
+            Ok(()) => Ok(()),
+            Err(_) => Err(Fault::CannotWriteOutput),
+        },
+        Err(_) => Err(Fault::Open(OpenFault::NoMemory)),
+    }
+}
+
+// Writes what processes can ever change, or how they can change one object.
+fn tell_reach<W: Write>(
+    alloc: Global,
+    objects: &[Object],
+    processes: &[u64],
+    shows: Option<u64>,
+    writer: &mut W,
+) -> Result<(), Fault>
+    requires { AreSoundObjects objects.now }
+    ensures { TellsReach objects.now processes.now shows (W.contents writer.old) (W.contents writer.new) result }
+{
+    if let Some(number) = missing_process(objects, processes) {
+        return Err(Fault::NoProcess(number));
+    }
+    match shows {
+        Some(object) => tell_chain(alloc, objects, processes, object, writer),
+        None => tell_set(alloc, objects, processes, writer),
+    }
+}
+
+// Opens a device, writes what processes can ever change, and gives the device back.
+fn open_and_reach<D: Device, W: Write>(
+    alloc: Global,
+    device: D,
+    processes: &[u64],
+    shows: Option<u64>,
+    writer: &mut W,
+) -> (Result<(), Fault>, D)
+    ensures { ReachesImage D.disk processes.now shows device result.1 (W.contents writer.old) (W.contents writer.new) result.0 }
+{
+    let (read, device) = read_saved(alloc, device);
+    match read {
+        Ok(objects) => (
+            tell_reach(alloc, &objects, processes, shows, writer),
+            device,
+        ),
+        Err(fault) => (Err(Fault::Open(fault)), device),
+    }
+}
+
+/// Opens a device as a run does, and writes what some processes can ever change: the least closed set
+/// of numbers that contains them. With `shows` it writes a shortest chain of steps to that object in
+/// its place, or `out of reach`. Then the status is 0.
+///
+/// After a fault one line is written to `errors`, and the status is 1:
+/// - `bad image` with a number from 1 to 10, `device failed` or `no memory`;
+/// - `no process` with the first of the numbers that isn't the number of a process;
+/// - `cannot write output` if the writer fails.
+///
+/// The device is given back, and nothing was written to it at any moment.
+pub fn reach_image<D: Device, W: Write, V: Write>(
+    alloc: Global,
+    device: D,
+    processes: &[u64],
+    shows: Option<u64>,
+    writer: &mut W,
+    errors: &mut V,
+) -> Done<D>
+    ensures { (outcome : Result (Unit {0}) Fault) × (result.status ≡ status_of outcome)
+        × IsTold outcome (V.contents errors.old) (V.contents errors.new)
+        × ReachesImage D.disk processes.now shows device result.device (W.contents writer.old) (W.contents writer.new) outcome }
+{
+    let (outcome, device) = open_and_reach(alloc, device, processes, shows, writer);
+    Done {
+        status: status(outcome, errors),
+        device,
+    }
+}

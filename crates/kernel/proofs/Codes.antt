@@ -1,0 +1,67 @@
+-- Result codes beside answers.
+use Rattle.std.proofs.Common.{◌≡◌, None, Result, Ok, Err, refl, sym, ap, ◌∙◌}
+use Rattle.std.specs.Prelude.{IfOk}
+use Rattle.model.specs.declared.answer.Answer.{Answer}
+use Rattle.model.specs.declared.answer.Answer.TheVariants as answer
+use Rattle.model.specs.declared.answer.Refusal.{Refusal}
+use Rattle.model.specs.declared.command.Command.{Command}
+use Rattle.model.specs.declared.command.Command.TheVariants as command
+use Rattle.model.specs.declared.command.Invocation.{Invocation}
+use Rattle.model.specs.declared.geometry.Geometry.{Geometry}
+use Rattle.model.specs.Machine.{Down, Machine, Running, Up}
+use Rattle.device.specs.declared.device.Failed.{Failed}
+use Rattle.device.specs.Disk.{Disk}
+use Rattle.capability.specs.Parts.{Parts, objects_in}
+use Rattle.object_store.specs.Store.{View}
+use Rattle.processes.specs.declared.served.Served.{Served}
+use Rattle.processes.specs.Machine.{code_with}
+use Rattle.kernel.specs.declared.power.Live.{Live}
+use Rattle.kernel.specs.declared.power.Power.TheVariants as power
+use Rattle.kernel.specs.Standing.{HasCode, Stands, told_code}
+
+-- a command that isn't an invocation has none
+pub other_code : (g : Geometry) (m : Machine) (c : Command) (a : Answer) → ((i : Invocation) → c ≡ command.Invoke i → ⊥) → told_code g m c a ≡ None
+other_code g (Down saved) c a other = refl
+other_code g (Up r) (command.Invoke i) a other = absurd (other i refl)
+other_code g (Up r) (command.Load p address) a other = refl
+other_code g (Up r) (command.Store p address value) a other = refl
+other_code g (Up r) (command.Show n) a other = refl
+other_code g (Up r) (command.Evict n) a other = refl
+other_code g (Up r) command.Checkpoint a other = refl
+other_code g (Up r) (command.Stabilize n) a other = refl
+other_code g (Up r) command.Commit a other = refl
+other_code g (Up r) (command.Migrate n) a other = refl
+other_code g (Up r) (command.Journal n) a other = refl
+other_code g (Up r) command.Restart a other = refl
+other_code g (Up r) command.Cut a other = refl
+
+-- nor has a refusal
+pub refused_code : (g : Geometry) (m : Machine) (c : Command) (why : Refusal) → told_code g m c (answer.Refused why) ≡ None
+refused_code g (Down saved) c why = refl
+refused_code g (Up r) (command.Invoke i) why = refl
+refused_code g (Up r) (command.Load p address) why = refl
+refused_code g (Up r) (command.Store p address value) why = refl
+refused_code g (Up r) (command.Show n) why = refl
+refused_code g (Up r) (command.Evict n) why = refl
+refused_code g (Up r) command.Checkpoint why = refl
+refused_code g (Up r) (command.Stabilize n) why = refl
+refused_code g (Up r) command.Commit why = refl
+refused_code g (Up r) (command.Migrate n) why = refl
+refused_code g (Up r) (command.Journal n) why = refl
+refused_code g (Up r) command.Restart why = refl
+refused_code g (Up r) command.Cut why = refl
+
+-- an invocation by a store that is up has that of its objects
+module _ {D S : Type 0} (disk : D → Disk) (view : S → View D) (parts : S → Parts) where
+  invoked_code : (l : Live S) (i : Invocation) (served : Served) → served.code ≡ code_with (parts l.store).geometry (objects_in (parts l.store)) i served.answer
+      → (g : Geometry) (m : Machine) → Stands disk view parts g (power.Up l) m → served.code ≡ told_code g m (command.Invoke i) served.answer
+  invoked_code l i served is g (Up r) stands =
+      is
+      ∙ ap (λ (h : Geometry). code_with h (objects_in (parts l.store)) i served.answer) stands.0.sound.geometry
+      ∙ ap (λ (x : Running). code_with g x.now.objects i served.answer) (sym stands.1)
+  invoked_code l i served is g (Down saved) stands = absurd stands
+
+  pub up_code : (l : Live S) (i : Invocation) (r : Result Served Failed) → IfOk r (λ served. served.code ≡ code_with (parts l.store).geometry (objects_in (parts l.store)) i served.answer)
+      → IfOk r (λ served. HasCode disk view parts (power.Up l) (command.Invoke i) served)
+  up_code l i (Ok served) is = invoked_code l i served is
+  up_code l i (Err e) is = tt

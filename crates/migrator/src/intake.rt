@@ -1,0 +1,52 @@
+// What takes the frames of an image while they are read.
+ghost use Rattle.std.specs.Prelude.{◌≡◌, ◌+◌, ◌≤◌, ◌++◌, ◌∷◌, [], List, IfOk, OnOk};
+ghost use Rattle.model.specs.declared.frame.Frame.{Frame};
+ghost use Rattle.layout.specs.Frame.{frame_of};
+
+use layout::{Body, Room};
+use model::{Geometry, ObjectHeader};
+use std::alloc::{AllocError, Global};
+
+/// Takes the saved frames of an image while they are read, in the order of their numbers.
+pub trait Intake: Drop + Sized {
+    /// These frames were taken.
+    ghost Took: { Self → List Frame → Type 0 };
+
+    /// An intake that took no frame. Fails only where memory runs out.
+    fn new(alloc: Global, geometry: Geometry) -> Result<Self, AllocError>
+        requires few { geometry.nodes + geometry.pages ≤ 8192 }
+        ensures none { IfOk result (λ taken. Took taken []) };
+
+    /// Takes the next frame. The slots of a node or an annex and the words of a page are those in `room`. Fails only
+    /// where memory runs out.
+    fn take(
+        &mut self,
+        alloc: Global,
+        read: (ObjectHeader, Body),
+        room: &Room,
+    ) -> Result<(), AllocError>
+        ensures took { OnOk result ((fs : List Frame) → Took self.old fs
+            → Took self.new (fs ++ frame_of read room.now ∷ [])) };
+}
+
+// The headers of the frames.
+impl Intake for Vec<ObjectHeader> {
+    ghost use Rattle.std.specs.Prelude.{◌≡◌};
+    ghost use Rattle.model.specs.Frame.{headers};
+
+    ghost Took = { λ taken fs. taken.items ≡ headers fs };
+
+    fn new(alloc: Global, geometry: Geometry) -> Result<Self, AllocError> {
+        Vec::with_capacity(alloc, (geometry.nodes + geometry.pages) as usize)
+    }
+
+    fn take(
+        &mut self,
+        _alloc: Global,
+        read: (ObjectHeader, Body),
+        _room: &Room,
+    ) -> Result<(), AllocError> {
+        self.push(read.0)?;
+        Ok(())
+    }
+}

@@ -1,0 +1,206 @@
+-- Chains lead to what was found, and nowhere else; closed sets are those that no step leaves.
+use Rattle.std.proofs.Common.{◌≡◌, ℕ, ◌+◌, ◌<◌, ◌≤◌, Bool, true, false, is_some, Option, None, Some, List, [], ◌∷◌, ◌++◌, length, reverse, slice_index_or, option_and_then, inl, inr, ⊎_elim, refl, sym, ap, ◌∙◌, subst, arith}
+use Rattle.std.specs.Prelude.{IsTrue}
+use Rattle.std.specs.List.{All}
+use Rattle.std.proofs.lemmas.Bool.{cases_eq}
+use Rattle.std.proofs.lemmas.List.{length-reverse, length_push, reverse-append}
+use Rattle.std.proofs.lemmas.Option.{same_Some}
+use Rattle.model.specs.declared.capability.Capability.{Capability}
+use Rattle.model.specs.declared.capability.Capability.TheVariants.{Void, Number, Page, Node, Space, Process, Start, Resume, Bank, Discrim}
+use Rattle.model.specs.declared.object.Content.{Content}
+use Rattle.model.specs.declared.object.Content.TheVariants as content
+use Rattle.model.specs.declared.object.Object.{Object}
+use Rattle.model.specs.Closed.{IsClosed, StaysInside}
+use Rattle.model.specs.Object.{is_root, root_in, slots_in}
+use Rattle.model.specs.World.{annex_at, content_at, root_at}
+use Rattle.reach.specs.declared.levels.Found.{Found}
+use Rattle.reach.specs.declared.levels.Levels.{Levels}
+use Rattle.reach.specs.declared.step.Step.{Step}
+use Rattle.reach.specs.declared.step.Way.{Way}
+use Rattle.reach.specs.declared.step.Way.TheVariants as way
+use Rattle.reach.specs.Chain.{Conveys, IsChain, IsPath, IsShortest, IsStep, IsWay, held_by}
+use Rattle.reach.specs.Laws.{StepsAreAuthority}
+use Rattle.reach.specs.Levels.{IsAfter, IsFoundIn, IsFrom, IsSearched, found_at}
+use Rattle.reach.specs.Reached.{IsReach}
+use Rattle.reach.proofs.Finding.{some_of}
+use Rattle.reach.proofs.Growing.{named_inside}
+
+-- a capability stays inside a set where all that it conveys is in it
+stays_inside : (inside : ℕ → Bool) (c : Capability) → ((m : ℕ) → Conveys c m → IsTrue (inside m)) → StaysInside inside c
+stays_inside inside Void conveyed = inl tt
+stays_inside inside (Number n) conveyed = inl tt
+stays_inside inside (Page o a) conveyed = elim (cases_eq a.0 3) [ inl weak ↦ inl weak | inr strong ↦ inr (conveyed o (strong, refl)) ]
+stays_inside inside (Node o a) conveyed = elim (cases_eq a.0 3) [ inl weak ↦ inl weak | inr strong ↦ inr (conveyed o (strong, refl)) ]
+stays_inside inside (Space o h a) conveyed = elim (cases_eq a.0 3) [ inl weak ↦ inl weak | inr strong ↦ inr (conveyed o (strong, refl)) ]
+stays_inside inside (Process p) conveyed = inr (conveyed p (λ weak. weak, refl))
+stays_inside inside (Start p key) conveyed = inr (conveyed p (λ weak. weak, refl))
+stays_inside inside (Resume p) conveyed = inr (conveyed p (λ weak. weak, refl))
+stays_inside inside (Bank b) conveyed = inr (conveyed b (λ weak. weak, refl))
+stays_inside inside Discrim conveyed = inl tt
+
+-- the slots of an object
+slots_inside : (os : List Object) (inside : ℕ → Bool) (n i : ℕ) (x : Content Capability) → ((w : Way) (m : ℕ) → IsWay os n x w m → IsTrue (inside m)) → StaysInside inside (slice_index_or (slots_in x) i Void)
+slots_inside os inside n i content.Free leads = inl tt
+slots_inside os inside n i (content.Page words) leads = inl tt
+slots_inside os inside n i (content.Node slots) leads = stays_inside inside (slice_index_or slots i Void) (λ m conveys. leads (way.Slot i (slice_index_or slots i Void)) m (refl, conveys))
+slots_inside os inside n i (content.Root root) leads = inl tt
+slots_inside os inside n i (content.Annex slots) leads = stays_inside inside (slice_index_or slots i Void) (λ m conveys. leads (way.Slot i (slice_index_or slots i Void)) m (refl, conveys))
+slots_inside os inside n i (content.Bank limit) leads = inl tt
+
+-- a set that no step leaves is closed
+pub closed_by_steps : (os : List Object) (inside : ℕ → Bool) → ((s : Step) → IsStep os s → IsTrue (inside s.from) → IsTrue (inside s.to)) → IsClosed os inside
+closed_by_steps os inside leads = record {
+  annexes = λ p is root. leads (record { from = p; way = way.Annex; to = annex_at os p }) (root, refl) is;
+  owned = λ b n is bank free owned. leads (record { from = b; way = way.Owner; to = n }) (bank, free, owned) is;
+  slots = λ n i is. slots_inside os inside n i (content_at os n) (λ w m by. leads (record { from = n; way = w; to = m }) by is);
+  spaces = λ p is. stays_inside inside (root_at os p).space (λ m conveys. leads (record { from = p; way = way.Space (root_at os p).space; to = m }) (refl, conveys) is);
+}
+
+-- no step leaves a closed set
+module _ (os : List Object) (inside : ℕ → Bool) (closed : IsClosed os inside) where
+  held_inside : (n i : ℕ) (x : Content Capability) → content_at os n ≡ x → IsTrue (inside n) → StaysInside inside (slice_index_or (held_by os x) i Void)
+  held_inside n i content.Free is member = inl tt
+  held_inside n i (content.Page words) is member = inl tt
+  held_inside n i (content.Node slots) is member = subst (λ (x : Content Capability). StaysInside inside (slice_index_or (slots_in x) i Void)) is (closed.slots n i member)
+  held_inside n i (content.Root root) is member =
+      let annex : IsTrue (inside root.annex) =
+      subst (λ (a : ℕ). IsTrue (inside a)) (ap (λ (x : Content Capability). (root_in x).annex) is)
+      (closed.annexes n member (subst (λ (x : Content Capability). IsTrue (is_root x)) (sym is) refl)) in
+      closed.slots root.annex i annex
+  held_inside n i (content.Annex slots) is member = subst (λ (x : Content Capability). StaysInside inside (slice_index_or (slots_in x) i Void)) is (closed.slots n i member)
+  held_inside n i (content.Bank limit) is member = inl tt
+
+  way_inside : (n : ℕ) (w : Way) (m : ℕ) → IsWay os n (content_at os n) w m → IsTrue (inside n) → IsTrue (inside m)
+  way_inside n way.Annex m by member = subst (λ (a : ℕ). IsTrue (inside a)) by.1 (closed.annexes n member by.0)
+  way_inside n way.Owner m by member = closed.owned n m member by.0 by.1 by.2
+  way_inside n (way.Space c) m by member = named_inside inside c m by.1.0 by.1.1 (subst (StaysInside inside) by.0 (closed.spaces n member))
+  way_inside n (way.Slot i c) m by member = named_inside inside c m by.1.0 by.1.1 (subst (StaysInside inside) by.0 (held_inside n i (content_at os n) refl member))
+
+  pub step_inside : (s : Step) → IsStep os s → IsTrue (inside s.from) → IsTrue (inside s.to)
+  step_inside s by member = way_inside s.from s.way s.to by member
+
+  path_inside : (ss : List Step) (n m : ℕ) → IsPath os n ss m → IsTrue (inside n) → IsTrue (inside m)
+  path_inside [] n m path member = subst (λ (k : ℕ). IsTrue (inside k)) path member
+  path_inside (s ∷ ss) n m path member = path_inside ss s.to m path.2 (step_inside s path.1 (subst (λ (k : ℕ). IsTrue (inside k)) (sym path.0) member))
+
+  -- so a chain stays in each closed set that contains its beginnings
+  pub chain_inside : (starts : List ℕ) (steps : List Step) (o : ℕ) → All (λ p. IsTrue (inside p)) starts → IsChain os starts steps o → IsTrue (inside o)
+  chain_inside starts steps o begins chain =
+      let start : IsTrue (inside chain.0) = subst (λ (k : ℕ). IsTrue (inside k)) chain.1.2 (begins chain.1.0 chain.0 chain.1.1) in
+      path_inside steps chain.0 o chain.2 start
+
+pub steps_are_authority : StepsAreAuthority
+steps_are_authority os inside = (λ closed. step_inside os inside closed, λ leads. closed_by_steps os inside leads)
+
+-- the steps back from an object
+pub record IsBack (os : List Object) (l : Levels) (o at : ℕ) (steps : List Step) : Type 0 where
+  pub found : Found
+  pub is : found_at l at ≡ Some found
+  pub path : IsPath os at (reverse steps) o
+  pub count : (g : Found) → found_at l o ≡ Some g → found.level + length steps ≡ g.level
+
+-- All was searched.
+module _ (os : List Object) (starts : List ℕ) (level : ℕ) (l : Levels) (over : l.greatest < level) (searched : IsSearched os starts level l) where
+  leads_on : (n k : ℕ) → IsFoundIn l n k → (s : Step) → IsFrom os n s → IsFoundIn l s.to (k + 1)
+  leads_on n k found s from =
+      let deep : found.0.level ≤ l.greatest = searched.within n found.0 found.1 in
+      let next = searched.leads n found.0 found.1 (omega (arith, deep, over)) s from in
+      (next.0, next.1, omega (arith, next.2, found.2))
+
+  leads_along : (ss : List Step) (n k m : ℕ) → IsFoundIn l n k → IsPath os n ss m → IsFoundIn l m (k + length ss)
+  leads_along [] n k m found path = subst (λ (j : ℕ). IsFoundIn l j (k + 0)) path (found.0, found.1, omega (arith, found.2))
+  leads_along (s ∷ ss) n k m found path =
+      let end = leads_along ss s.to (k + 1) m (leads_on n k found s (path.0, path.1)) path.2 in
+      (end.0, end.1, omega (arith, end.2))
+
+  pub found_by_chain : (steps : List Step) (o : ℕ) → IsChain os starts steps o → IsFoundIn l o (length steps)
+  found_by_chain steps o chain =
+      let start = subst (λ (k : ℕ). IsFoundIn l k 0) chain.1.2 (searched.begins chain.1.0 chain.0 chain.1.1) in
+      let end = leads_along steps chain.0 0 o start chain.2 in
+      (end.0, end.1, omega (arith, end.2))
+
+  found_some : (n : ℕ) (f : Found) → found_at l n ≡ Some f → IsTrue (is_some (found_at l n))
+  found_some n f is = ap (λ (p : Option Found). is_some p) is
+
+  some_found : (n : ℕ) → IsTrue (is_some (found_at l n)) → (f : Found) × (found_at l n ≡ Some f)
+  some_found n is = some_of (found_at l n) is
+
+  -- what was found is a closed set with the first numbers
+  found_closed : IsClosed os (λ n. is_some (found_at l n))
+  found_closed = closed_by_steps os (λ n. is_some (found_at l n)) (λ s by member.
+      let found = some_found s.from member in
+      let next = leads_on s.from found.0.level (found.0, found.1, omega arith) s (refl, by) in
+      found_some s.to next.0 next.1)
+
+  pub reached_found : (inside : ℕ → Bool) (o : ℕ) → IsReach os starts inside → IsTrue (inside o) → IsTrue (is_some (found_at l o))
+  reached_found inside o reach member =
+      reach.least (λ n. is_some (found_at l n)) found_closed (λ k d lt. let found = searched.begins k d lt in found_some (slice_index_or starts k d) found.0 found.1) o member
+
+  module _ (o : ℕ) (none : is_some (found_at l o) ≡ false) where
+    pub no_chain : (steps : List Step) → IsChain os starts steps o → ⊥
+    no_chain steps chain =
+        let found = found_by_chain steps o chain in
+        let wrong : false ≡ true = sym none ∙ found_some o found.0 found.1 in cc
+
+    pub not_reached : (inside : ℕ → Bool) → IsReach os starts inside → inside o ≡ false
+    not_reached inside reach = of_bool (inside o) refl
+      where
+        of_bool : (b : Bool) → inside o ≡ b → inside o ≡ false
+        of_bool false is = is
+        of_bool true is = let wrong : false ≡ true = sym none ∙ reached_found inside o reach is in absurd (cc)
+
+  pub back_first : (o : ℕ) → is_some (found_at l o) ≡ true → IsBack os l o o []
+  back_first o some = let found = some_found o some in record {
+    found = found.0;
+    is = found.1;
+    path = refl;
+    count = λ g is. let same : found.0 ≡ g = same_Some found.0 g (sym found.1 ∙ is) in let level : found.0.level ≡ g.level = ap (λ (f : Found). f.level) same in omega (arith, level);
+  }
+
+  module _ (o at : ℕ) (steps : List Step) (back : IsBack os l o at steps) where
+    -- how it was found
+    step_is : (p : Option Step) → option_and_then (λ (f : Found). f.step) (found_at l at) ≡ p → back.found.step ≡ p
+    step_is p is = ap (λ (q : Option Found). option_and_then (λ (f : Found). f.step) q) (sym back.is) ∙ is
+
+    after_of : (step : Step) → option_and_then (λ (f : Found). f.step) (found_at l at) ≡ Some step → IsAfter os l at back.found
+    after_of step is = ⊎_elim (λ first. let wrong : Some step ≡ None = sym (step_is (Some step) is) ∙ first.0.none in absurd (cc)) (λ after. after) (searched.linked at back.found back.is)
+
+    pub back_next : (step : Step) (new : List Step) → option_and_then (λ (f : Found). f.step) (found_at l at) ≡ Some step → new ≡ steps ++ step ∷ [] → IsBack os l o step.from new
+    back_next step new is pushed =
+        let after = after_of step is in
+        let same : after.step ≡ step = same_Some after.step step (sym after.is ∙ step_is (Some step) is) in
+        let long : length new ≡ length (steps ++ step ∷ []) = ap (λ (ss : List Step). length ss) pushed in record {
+          found = after.before;
+          is = subst (λ (s : Step). found_at l s.from ≡ Some after.before) same after.from;
+          path = subst (λ (ss : List Step). IsPath os step.from ss o) (sym (ap (λ (ss : List Step). reverse ss) pushed ∙ reverse-append steps (step ∷ [])))
+              (refl, subst (IsStep os) same after.step_is, subst (λ (n : ℕ). IsPath os n (reverse steps) o) (sym (ap (λ (s : Step). s.to) (sym same) ∙ after.to)) back.path);
+          count = λ g now. omega (arith, back.count g now, after.level, long, one_more);
+        }
+      where
+        one_more : length (steps ++ step ∷ []) ≡ length steps + 1
+        one_more = length_push steps step
+
+    pub back_level : (step : Step) → option_and_then (λ (f : Found). f.step) (found_at l at) ≡ Some step → (level_of : Option Found → ℕ) → ((f : Found) → level_of (Some f) ≡ f.level)
+        → level_of (found_at l step.from) < level_of (found_at l at)
+    back_level step is level_of level_is =
+        let after = after_of step is in
+        let same : after.step ≡ step = same_Some after.step step (sym after.is ∙ step_is (Some step) is) in
+        let here : level_of (found_at l at) ≡ back.found.level = ap level_of back.is ∙ level_is back.found in
+        let there : level_of (found_at l step.from) ≡ after.before.level = ap level_of (subst (λ (s : Step). found_at l s.from ≡ Some after.before) same after.from) ∙ level_is after.before in
+        omega (arith, here, there, after.level)
+
+    -- at the beginning of a shortest chain
+    pub back_whole : option_and_then (λ (f : Found). f.step) (found_at l at) ≡ None → (g : Found) → found_at l o ≡ Some g → IsShortest os starts (reverse steps) o
+    back_whole none g is = ⊎_elim
+        (λ first. record {
+          chain = (at, first.1, back.path);
+          least = λ others chain.
+              let found = found_by_chain others o chain in
+              let same : found.0 ≡ g = same_Some found.0 g (sym found.1 ∙ is) in
+              let level : found.0.level ≡ g.level = ap (λ (f : Found). f.level) same in
+              omega (arith, level, found.2, back.count g is, first.0.level, length-reverse steps);
+        })
+        (λ after. let wrong : Some after.step ≡ None = sym after.is ∙ step_is None none in absurd (cc)) (searched.linked at back.found back.is)
+
+    pub back_shortest : option_and_then (λ (f : Found). f.step) (found_at l at) ≡ None → is_some (found_at l o) ≡ true → IsShortest os starts (reverse steps) o
+    back_shortest none some = let found = some_found o some in back_whole none found.0 found.1

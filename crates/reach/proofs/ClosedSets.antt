@@ -1,0 +1,129 @@
+-- A set that was followed whole is closed, and the least.
+use Rattle.std.proofs.Common.{◌≡◌, ℕ, ◌<◌, ◌≤◌, ◌+◌, zero, suc, nat_eq, Bool, true, false, List, length, replicate, refl, sym, ap, ◌∙◌, subst, arith}
+use Rattle.std.specs.Prelude.{IsTrue, slice_index_or}
+use Rattle.std.specs.List.{All}
+use Rattle.std.proofs.lemmas.Bool.Decides.{nat_tests}
+use Rattle.number_set.specs.Marks.{is_marked}
+use Rattle.model.specs.declared.object.Object.{Object}
+use Rattle.model.specs.Closed.{IsClosed}
+use Rattle.model.specs.World.{object_at, root_at, slot_at}
+use Rattle.confinement.specs.Confinement.{AreBy, IsKept, with_free}
+use Rattle.confinement.proofs.Runs.{run_confined}
+use Rattle.reach.specs.declared.frontier.Frontier.{Frontier}
+use Rattle.reach.specs.Frontier.{Grows, HasNoneLeft, IsDone, IsWithin, Takes}
+use Rattle.reach.specs.Reached.{BoundsRuns, IsClosedAt, IsReach}
+use Rattle.reach.proofs.Growing.{stays_more}
+
+-- a closed set is so at each member
+pub closed_at : (os : List Object) (other : ℕ → Bool) (n : ℕ) → IsClosed os other → IsTrue (other n) → IsClosedAt os other n
+closed_at os other n closed inside = record {
+  annexes = closed.annexes n inside;
+  owned = λ bank m free owned. closed.owned n m inside bank free owned;
+  slots = λ i. closed.slots n i inside;
+  space = closed.spaces n inside;
+}
+
+pub closed_of : (os : List Object) (inside : ℕ → Bool) → ((n : ℕ) → IsTrue (inside n) → IsClosedAt os inside n) → IsClosed os inside
+closed_of os inside at = record {
+  annexes = λ p is. (at p is).annexes;
+  owned = λ b n is bank free owned. (at b is).owned bank n free owned;
+  slots = λ n i is. (at n is).slots i;
+  spaces = λ p is. (at p is).space;
+}
+
+-- what is closed at a number is so in a greater set
+closed_more : (os : List Object) (old new : ℕ → Bool) (n : ℕ) → ((m : ℕ) → IsTrue (old m) → IsTrue (new m)) → IsClosedAt os old n → IsClosedAt os new n
+closed_more os old new n more at = record {
+  annexes = λ is. more _ (at.annexes is);
+  owned = λ bank m free owned. more m (at.owned bank m free owned);
+  slots = λ i. stays_more old new (slot_at os n i) more (at.slots i);
+  space = stays_more old new (root_at os n).space more at.space;
+}
+
+-- none is marked in a new set
+none_marked : (count n : ℕ) → is_marked (replicate count false) n ≡ false
+none_marked zero n = refl
+none_marked (suc c) zero = refl
+none_marked (suc c) (suc n) = none_marked c n
+
+-- the invariant while the first numbers are found
+pub record Begins (os : List Object) (starts : List ℕ) (at : ℕ) (f : Frontier) : Type 0 where
+  pub count : length f.found ≡ length os
+  pub begun : (k d : ℕ) → k < at → IsTrue (is_marked f.found (slice_index_or starts k d))
+  pub none_done : (n : ℕ) → IsDone f n → ⊥
+  pub least : (other : ℕ → Bool) → All (λ p. IsTrue (other p)) starts → IsWithin f other
+
+-- and while they are followed
+pub record Follows (os : List Object) (starts : List ℕ) (f : Frontier) : Type 0 where
+  pub count : length f.found ≡ length os
+  pub begins : All (λ p. IsTrue (is_marked f.found p)) starts
+  pub closed : (n : ℕ) → IsDone f n → IsClosedAt os (is_marked f.found) n
+  pub least : (other : ℕ → Bool) → IsClosed os other → All (λ p. IsTrue (other p)) starts → IsWithin f other
+
+marked_not : (marks : List Bool) (count n : ℕ) → marks ≡ replicate count false → IsTrue (is_marked marks n) → ⊥
+marked_not marks count n is inside = let none : is_marked marks n ≡ false = ap (λ (m : List Bool). is_marked m n) is ∙ none_marked count n in grind (arith, nat_tests)
+
+pub begun : (os : List Object) (starts : List ℕ) (f : Frontier) (count : ℕ) → count ≡ length os → f.found ≡ replicate count false → length (replicate count false) ≡ count → Begins os starts 0 f
+begun os starts f count same is long = record {
+  count = ap (λ (l : List Bool). length l) is ∙ (long ∙ same);
+  begun = λ k d lt. absurd (omega (arith, lt));
+  none_done = λ n done. marked_not f.found count n is (grind (arith, nat_tests));
+  least = λ other starts n inside. absurd (marked_not f.found count n is inside);
+}
+
+pub one_begun : (os : List Object) (starts : List ℕ) (at : ℕ) (d : ℕ) (old new : Frontier) → Begins os starts at old → Grows old new → at < length starts
+    → ((e : ℕ) → IsTrue (is_marked new.found (slice_index_or starts at e)))
+    → ((other : ℕ → Bool) → IsTrue (other (slice_index_or starts at d)) → IsWithin old other → IsWithin new other) → Begins os starts (at + 1) new
+one_begun os starts at d old new begins grows lt found least = record {
+  count = grows.count ∙ begins.count;
+  begun = λ k e below. if_at k e below (nat_eq k at) refl;
+  none_done = λ n done. begins.none_done n (grows.done n done);
+  least = λ other all. least other (all at d lt) (begins.least other all);
+}
+  where
+    if_at : (k e : ℕ) → k < at + 1 → (b : Bool) → nat_eq k at ≡ b → IsTrue (is_marked new.found (slice_index_or starts k e))
+    if_at k e below true is = let here : at ≡ k = grind (arith, nat_tests) in subst (λ (j : ℕ). IsTrue (is_marked new.found (slice_index_or starts j e))) here (found e)
+    if_at k e below false is = grows.found _ (begins.begun k e (grind (arith, nat_tests)))
+
+pub all_begun : (os : List Object) (starts : List ℕ) (at : ℕ) (f : Frontier) → Begins os starts at f → length starts ≤ at → Follows os starts f
+all_begun os starts at f begins whole = record {
+  count = begins.count;
+  begins = λ k d lt. begins.begun k d (omega (arith, whole, lt));
+  closed = λ n done. absurd (begins.none_done n done);
+  least = λ other closed all. begins.least other all;
+}
+
+pub one_followed : (os : List Object) (starts : List ℕ) (n : ℕ) (old mid new : Frontier) → Follows os starts old → Takes old mid n → Grows mid new
+    → IsClosedAt os (is_marked new.found) n → ((other : ℕ → Bool) → IsClosedAt os other n → IsWithin mid other → IsWithin new other) → Follows os starts new
+one_followed os starts n old mid new follows takes grows closed least = record {
+  count = grows.count ∙ (ap (λ (l : List Bool). length l) takes.found ∙ follows.count);
+  begins = λ k d lt. more _ (follows.begins k d lt);
+  closed = λ m done. if_here m (grows.done m done) (nat_eq m n) refl;
+  least = λ other is all. least other (closed_at os other n is (follows.least other is all n takes.inside))
+      (λ m inside. follows.least other is all m (subst (λ (l : List Bool). IsTrue (is_marked l m)) takes.found inside));
+}
+  where
+    more : (m : ℕ) → IsTrue (is_marked old.found m) → IsTrue (is_marked new.found m)
+    more m inside = grows.found m (subst (λ (l : List Bool). IsTrue (is_marked l m)) (sym takes.found) inside)
+
+    if_here : (m : ℕ) → IsDone mid m → (b : Bool) → nat_eq m n ≡ b → IsClosedAt os (is_marked new.found) m
+    if_here m done true is = let here : n ≡ m = grind (arith, nat_tests) in subst (IsClosedAt os (is_marked new.found)) here closed
+    if_here m done false is =
+        let other : (m ≡ n → ⊥) = λ same. grind (arith, nat_tests) in
+        closed_more os (is_marked old.found) (is_marked new.found) m more (follows.closed m (takes.done m done other))
+
+pub all_followed : (os : List Object) (starts : List ℕ) (old new : Frontier) → Follows os starts old → HasNoneLeft old new → IsReach os starts (is_marked new.found)
+all_followed os starts old new follows none = record {
+  closed = closed_of os (is_marked new.found) (λ n inside. now.closed n (none.done n inside));
+  begins = now.begins;
+  least = λ other closed all n inside. now.least other closed all n inside;
+}
+  where
+    now : Follows os starts new
+    now = subst (Follows os starts) (sym none.same) follows
+
+pub bounds_runs : (os : List Object) (inside : ℕ → Bool) → IsClosed os inside → BoundsRuns os inside
+bounds_runs os inside closed g s t turns is sound run by n out =
+    subst (λ (l : List Object). IsKept inside (object_at l n) (object_at t.now.objects n)) is
+    (run_confined g inside s t turns sound (subst (λ (l : List Object). IsClosed l inside) (sym is) closed) run
+    (subst (λ (l : List Object). AreBy (with_free l inside) turns) (sym is) by) n (subst (λ (l : List Object). with_free l inside n ≡ false) (sym is) out))

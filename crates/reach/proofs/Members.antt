@@ -1,0 +1,70 @@
+-- What a member of a closed set holds, in a sound world.
+use Rattle.std.proofs.Common.{◌≡◌, ℕ, ◌<◌, zero, suc, Bool, false, List, [], ◌∷◌, length, refl, sym, ap, ◌∙◌, subst, arith}
+use Rattle.std.specs.Prelude.{IsTrue, slice_index_or}
+use Rattle.std.specs.List.{All}
+use Rattle.std.proofs.lemmas.List.{get_or_default}
+use Rattle.model.specs.declared.capability.Capability.{Capability}
+use Rattle.model.specs.declared.capability.Capability.TheVariants.{Void, Number, Page, Node, Space, Process, Start, Resume, Bank, Discrim}
+use Rattle.model.specs.declared.object.Content.{Content}
+use Rattle.model.specs.declared.object.Content.TheVariants as content
+use Rattle.model.specs.declared.object.Object.{Object}
+use Rattle.model.specs.declared.object.Root.{Root}
+use Rattle.model.specs.Closed.{StaysInside}
+use Rattle.model.specs.Object.{free, is_bank, is_node, is_page, is_root, root_in, slots_in}
+use Rattle.model.specs.Sound.{NamesItsKind}
+use Rattle.model.specs.World.{content_at, slot_at}
+use Rattle.reach.specs.Frontier.{NamesWithin}
+use Rattle.reach.specs.Reached.{AreSoundObjects, IsClosedAt}
+
+-- what isn't free is there
+pub known : (os : List Object) (n : ℕ) (test : Content Capability → Bool) → test content.Free ≡ false → IsTrue (test (content_at os n)) → n < length os
+known [] n test none passes = let no : false ≡ test content.Free = sym none in absurd (cc)
+known (o ∷ os) zero test none passes = omega arith
+known (o ∷ os) (suc n) test none passes = let later : n < length os = known os n test none passes in omega (arith, later)
+
+-- processes are there
+pub processes_known : (os : List Object) (ns : List ℕ) → All (λ n. IsTrue (is_root (content_at os n))) ns → All (λ n. n < length os) ns
+processes_known os ns all k d lt = known os (slice_index_or ns k d) is_root refl (all k d lt)
+
+-- so what a capability names is there
+pub names_within : (os : List Object) (c : Capability) → NamesItsKind os c → NamesWithin (length os) c
+names_within os Void names = tt
+names_within os (Number n) names = tt
+names_within os (Page o a) names = known os o is_page refl names
+names_within os (Node o a) names = known os o is_node refl names
+names_within os (Space o h a) names = known os o is_node refl names
+names_within os (Process p) names = known os p is_root refl names
+names_within os (Start p key) names = known os p is_root refl names
+names_within os (Resume p) names = known os p is_root refl names.0
+names_within os (Bank b) names = known os b is_bank refl names
+names_within os Discrim names = tt
+
+-- an object of a slice, by its content
+pub content_is : (os : List Object) (n : ℕ) (o : Object) (x : Content Capability) → n < length os → (slice_index_or os n o).content ≡ x → content_at os n ≡ x
+content_is os n o x lt content = ap (λ (p : Object). p.content) (get_or_default os n free o lt) ∙ content
+
+-- what it holds
+pub slot_is : (os : List Object) (n : ℕ) (slots : List Capability) → slots_in (content_at os n) ≡ slots → (k : ℕ) (d : Capability) → k < length slots →
+    slot_at os n k ≡ slice_index_or slots k d
+slot_is os n slots is k d lt = ap (λ (l : List Capability). slice_index_or l k Void) is ∙ get_or_default slots k Void d lt
+
+pub slots_known : (os : List Object) (n count : ℕ) (slots : List Capability) → AreSoundObjects os → count ≡ length os → slots_in (content_at os n) ≡ slots → All (NamesWithin count) slots
+slots_known os n count slots sound same is k d lt =
+    subst (λ (m : ℕ). NamesWithin m (slice_index_or slots k d)) (sym same)
+    (subst (NamesWithin (length os)) (slot_is os n slots is k d lt) (names_within os (slot_at os n k) (sound.2.slots n k).1))
+
+pub slots_stay : (os : List Object) (n : ℕ) (slots : List Capability) (other : ℕ → Bool) → slots_in (content_at os n) ≡ slots → IsClosedAt os other n → All (StaysInside other) slots
+slots_stay os n slots other is closed k d lt = subst (StaysInside other) (slot_is os n slots is k d lt) (closed.slots k)
+
+-- of a root
+pub annex_inside : (os : List Object) (n : ℕ) (root : Root Capability) (other : ℕ → Bool) → content_at os n ≡ content.Root root → IsClosedAt os other n → IsTrue (other root.annex)
+annex_inside os n root other is closed =
+    subst (λ (a : ℕ). IsTrue (other a)) (ap (λ (x : Content Capability). (root_in x).annex) is)
+    (closed.annexes (subst (λ (x : Content Capability). IsTrue (is_root x)) (sym is) refl))
+
+pub space_inside : (os : List Object) (n : ℕ) (root : Root Capability) (other : ℕ → Bool) → content_at os n ≡ content.Root root → IsClosedAt os other n → StaysInside other root.space
+space_inside os n root other is closed = subst (StaysInside other) (ap (λ (x : Content Capability). (root_in x).space) is) closed.space
+
+-- and of a bank
+pub bank_is : (os : List Object) (n limit : ℕ) → content_at os n ≡ content.Bank limit → IsTrue (is_bank (content_at os n))
+bank_is os n limit is = subst (λ (x : Content Capability). IsTrue (is_bank x)) (sym is) refl

@@ -1,0 +1,154 @@
+-- The ways from an object, by what it holds.
+use Rattle.std.proofs.Common.{◌≡◌, ◌⊎◌, ℕ, ◌<◌, zero, suc, false, not, List, [], ◌∷◌, length, slice_index_or, inl, inr, refl, sym, ap, ◌∙◌, subst, arith}
+use Rattle.model.specs.declared.capability.Capability.{Capability}
+use Rattle.model.specs.declared.capability.Capability.TheVariants.{Void}
+use Rattle.model.specs.declared.object.Content.{Content}
+use Rattle.model.specs.declared.object.Content.TheVariants as content
+use Rattle.model.specs.declared.object.Object.{Object}
+use Rattle.model.specs.declared.object.Root.{Root}
+use Rattle.model.specs.Capability.{IsWeak}
+use Rattle.model.specs.Object.{is_free, slots_in}
+use Rattle.model.specs.World.{content_at, owner_at}
+use Rattle.reach.specs.declared.levels.Levels.{Levels}
+use Rattle.reach.specs.declared.step.Step.{Step}
+use Rattle.reach.specs.declared.step.Way.{Way}
+use Rattle.reach.specs.declared.step.Way.TheVariants as way
+use Rattle.reach.specs.Chain.{Conveys, IsWay}
+use Rattle.reach.specs.Levels.{FindsBy, IsBy, IsFrom, IsHeldIn, IsOwnedBelow, IsTheStep}
+use Rattle.reach.proofs.Finding.{finds_both, finds_none, finds_same}
+use Rattle.reach.proofs.Members.{known}
+
+-- the steps from a number with a content
+module _ (os : List Object) (n : ℕ) (x : Content Capability) (is : content_at os n ≡ x) (s : Step) where
+  pub way_from : IsFrom os n s → IsWay os n x s.way s.to
+  way_from from = subst (λ (y : Content Capability). IsWay os n y s.way s.to) is (subst (λ (k : ℕ). IsWay os k (content_at os k) s.way s.to) from.0 from.1)
+
+  pub from_way : s.from ≡ n → IsWay os n x s.way s.to → IsFrom os n s
+  from_way same by = (same, subst (λ (k : ℕ). IsWay os k (content_at os k) s.way s.to) (sym same) (subst (λ (y : Content Capability). IsWay os n y s.way s.to) (sym is) by))
+
+-- nothing past the end of a list conveys anything
+conveys_within : (slots : List Capability) (i m : ℕ) → Conveys (slice_index_or slots i Void) m → i < length slots
+conveys_within [] i m conveys = absurd (conveys.0 tt)
+conveys_within (c ∷ cs) zero m conveys = omega arith
+conveys_within (c ∷ cs) (suc i) m conveys = let later : i < length cs = conveys_within cs i m conveys in omega (arith, later)
+
+-- void conveys nothing
+void_conveys : (c : Capability) (m : ℕ) → Void ≡ c → Conveys c m → ⊥
+void_conveys c m is conveys = conveys.0 (subst IsWeak is tt)
+
+-- a capability of a list
+module _ (slots : List Capability) (i : ℕ) (c : Capability) (m : ℕ) (is : slice_index_or slots i Void ≡ c) (conveys : Conveys c m) where
+  held_conveys : Conveys (slice_index_or slots i Void) m
+  held_conveys = subst (λ (d : Capability). Conveys d m) (sym is) conveys
+
+  pub held_way : (from : ℕ) (s : Step) → s.from ≡ from → s.way ≡ way.Slot i c → s.to ≡ m → IsHeldIn slots (length slots) from s
+  held_way from s same by to =
+      (i, conveys_within slots i m held_conveys, (same, by ∙ ap (λ (d : Capability). way.Slot i d) (sym is), subst (λ (k : ℕ). Conveys (slice_index_or slots i Void) k) (sym to) held_conveys))
+
+-- of a list of slots
+slots_held : (os : List Object) (n : ℕ) (slots : List Capability) (w : Way) (m : ℕ) → IsWay os n (content.Node slots) w m → (s : Step) → s.from ≡ n → s.way ≡ w → s.to ≡ m → IsHeldIn slots (length slots) n s
+slots_held os n slots way.Annex m by s same is to = let wrong = by.0 in absurd (cc)
+slots_held os n slots way.Owner m by s same is to = let wrong = by.0 in absurd (cc)
+slots_held os n slots (way.Space c) m by s same is to = absurd (void_conveys c m by.0 by.1)
+slots_held os n slots (way.Slot i c) m by s same is to = held_way slots i c m by.0 by.1 n s same is to
+
+held_slots : (os : List Object) (n : ℕ) (slots : List Capability) (s : Step) → IsHeldIn slots (length slots) n s → IsWay os n (content.Node slots) s.way s.to
+held_slots os n slots s held = subst (λ (w : Way). IsWay os n (content.Node slots) w s.to) (sym held.2.1) (refl, held.2.2)
+
+registers_held : (os : List Object) (n : ℕ) (slots : List Capability) (w : Way) (m : ℕ) → IsWay os n (content.Annex slots) w m → (s : Step) → s.from ≡ n → s.way ≡ w → s.to ≡ m → IsHeldIn slots (length slots) n s
+registers_held os n slots way.Annex m by s same is to = let wrong = by.0 in absurd (cc)
+registers_held os n slots way.Owner m by s same is to = let wrong = by.0 in absurd (cc)
+registers_held os n slots (way.Space c) m by s same is to = absurd (void_conveys c m by.0 by.1)
+registers_held os n slots (way.Slot i c) m by s same is to = held_way slots i c m by.0 by.1 n s same is to
+
+held_registers : (os : List Object) (n : ℕ) (slots : List Capability) (s : Step) → IsHeldIn slots (length slots) n s → IsWay os n (content.Annex slots) s.way s.to
+held_registers os n slots s held = subst (λ (w : Way). IsWay os n (content.Annex slots) w s.to) (sym held.2.1) (refl, held.2.2)
+
+-- of nothing
+free_ways : (os : List Object) (n : ℕ) (w : Way) (m : ℕ) → IsWay os n content.Free w m → ⊥
+free_ways os n way.Annex m by = let wrong = by.0 in absurd (cc)
+free_ways os n way.Owner m by = let wrong = by.0 in absurd (cc)
+free_ways os n (way.Space c) m by = void_conveys c m by.0 by.1
+free_ways os n (way.Slot i c) m by = void_conveys c m by.0 by.1
+
+page_ways : (os : List Object) (n : ℕ) (words : List ℕ) (w : Way) (m : ℕ) → IsWay os n (content.Page words) w m → ⊥
+page_ways os n words way.Annex m by = let wrong = by.0 in absurd (cc)
+page_ways os n words way.Owner m by = let wrong = by.0 in absurd (cc)
+page_ways os n words (way.Space c) m by = void_conveys c m by.0 by.1
+page_ways os n words (way.Slot i c) m by = void_conveys c m by.0 by.1
+
+-- of a bank
+bank_owned : (os : List Object) (n limit : ℕ) (w : Way) (m : ℕ) → IsWay os n (content.Bank limit) w m → (s : Step) → s.from ≡ n → s.way ≡ w → s.to ≡ m → IsOwnedBelow os (length os) n s
+bank_owned os n limit way.Annex m by s same is to = let wrong = by.0 in absurd (cc)
+bank_owned os n limit way.Owner m by s same is to =
+    let free : is_free (content_at os s.to) ≡ false = ap (λ (k : ℕ). is_free (content_at os k)) to ∙ by.1 in
+    (same, is, known os s.to (λ x. not (is_free x)) refl (ap not free), free, ap (λ (k : ℕ). owner_at os k) to ∙ by.2)
+bank_owned os n limit (way.Space c) m by s same is to = absurd (void_conveys c m by.0 by.1)
+bank_owned os n limit (way.Slot i c) m by s same is to = absurd (void_conveys c m by.0 by.1)
+
+owned_bank : (os : List Object) (n limit : ℕ) (s : Step) → IsOwnedBelow os (length os) n s → IsWay os n (content.Bank limit) s.way s.to
+owned_bank os n limit s owned = subst (λ (w : Way). IsWay os n (content.Bank limit) w s.to) (sym owned.1) (refl, owned.3, owned.4)
+
+-- of a process: its annex, its space, and its registers
+abbrev pub annex_step : ℕ → Root Capability → Step
+annex_step n root = record { from = n; way = way.Annex; to = root.annex }
+
+abbrev IsLater : ℕ → Root Capability → List Capability → Step → Type 0
+IsLater n root registers s = IsBy n (way.Space root.space) root.space s ⊎ IsHeldIn registers (length registers) n s
+
+abbrev IsOfProcess : ℕ → Root Capability → List Capability → Step → Type 0
+IsOfProcess n root registers s = IsTheStep (annex_step n root) s ⊎ IsLater n root registers s
+
+process_ways : (os : List Object) (n : ℕ) (root : Root Capability) (w : Way) (m : ℕ) → IsWay os n (content.Root root) w m → (s : Step) → s.from ≡ n → s.way ≡ w → s.to ≡ m
+    → IsOfProcess n root (slots_in (content_at os root.annex)) s
+process_ways os n root way.Annex m by s same is to = inl (same, is, to ∙ sym by.1)
+process_ways os n root way.Owner m by s same is to = let wrong = by.0 in absurd (cc)
+process_ways os n root (way.Space c) m by s same is to =
+    inr (inl (same, is ∙ ap (λ (d : Capability). way.Space d) (sym by.0), subst (λ (k : ℕ). Conveys root.space k) (sym to) (subst (λ (d : Capability). Conveys d m) (sym by.0) by.1)))
+process_ways os n root (way.Slot i c) m by s same is to = inr (inr (held_way (slots_in (content_at os root.annex)) i c m by.0 by.1 n s same is to))
+
+-- All that an object has authority over was found.
+module _ (os : List Object) (n level : ℕ) (a b : Levels) where
+  pub finds_of_slots : (slots : List Capability) → content_at os n ≡ content.Node slots → FindsBy (IsHeldIn slots (length slots) n) level a b → FindsBy (IsFrom os n) level a b
+  finds_of_slots slots is = finds_same (IsHeldIn slots (length slots) n) (IsFrom os n) level a b
+      (λ s held. from_way os n (content.Node slots) is s held.2.0 (held_slots os n slots s held))
+      (λ s from. slots_held os n slots s.way s.to (way_from os n (content.Node slots) is s from) s from.0 refl refl)
+
+  pub finds_of_registers : (slots : List Capability) → content_at os n ≡ content.Annex slots → FindsBy (IsHeldIn slots (length slots) n) level a b → FindsBy (IsFrom os n) level a b
+  finds_of_registers slots is = finds_same (IsHeldIn slots (length slots) n) (IsFrom os n) level a b
+      (λ s held. from_way os n (content.Annex slots) is s held.2.0 (held_registers os n slots s held))
+      (λ s from. registers_held os n slots s.way s.to (way_from os n (content.Annex slots) is s from) s from.0 refl refl)
+
+  pub finds_of_bank : (limit : ℕ) → content_at os n ≡ content.Bank limit → FindsBy (IsOwnedBelow os (length os) n) level a b → FindsBy (IsFrom os n) level a b
+  finds_of_bank limit is = finds_same (IsOwnedBelow os (length os) n) (IsFrom os n) level a b
+      (λ s owned. from_way os n (content.Bank limit) is s owned.0 (owned_bank os n limit s owned))
+      (λ s from. bank_owned os n limit s.way s.to (way_from os n (content.Bank limit) is s from) s from.0 refl refl)
+
+  pub finds_of_free : content_at os n ≡ content.Free → FindsBy (IsFrom os n) level a a
+  finds_of_free is = finds_none (IsFrom os n) level a (λ s from. free_ways os n s.way s.to (way_from os n content.Free is s from))
+
+  pub finds_of_page : (words : List ℕ) → content_at os n ≡ content.Page words → FindsBy (IsFrom os n) level a a
+  finds_of_page words is = finds_none (IsFrom os n) level a (λ s from. page_ways os n words s.way s.to (way_from os n (content.Page words) is s from))
+
+  pub finds_of_process : (root : Root Capability) (registers : List Capability) (c d : Levels) → content_at os n ≡ content.Root root → slots_in (content_at os root.annex) ≡ registers
+      → FindsBy (IsTheStep (annex_step n root)) level a c → FindsBy (IsBy n (way.Space root.space) root.space) level c d → FindsBy (IsHeldIn registers (length registers) n) level d b
+      → FindsBy (IsFrom os n) level a b
+  finds_of_process root registers c d is same first second third =
+      finds_same (IsOfProcess n root registers) (IsFrom os n) level a b process_from from_process
+      (finds_both (IsTheStep (annex_step n root)) (IsLater n root registers) (IsOfProcess n root registers) level a c b (λ s by. inl by) (λ s by. inr by) (λ s by. by) first
+      (finds_both (IsBy n (way.Space root.space) root.space) (IsHeldIn registers (length registers) n) (IsLater n root registers) level c d b (λ s by. inl by) (λ s by. inr by) (λ s by. by) second third))
+    where
+      from_process : (s : Step) → IsFrom os n s → IsOfProcess n root registers s
+      from_process s from = subst (λ (l : List Capability). IsOfProcess n root l s) same
+          (process_ways os n root s.way s.to (way_from os n (content.Root root) is s from) s from.0 refl refl)
+
+      process_from : (s : Step) → IsOfProcess n root registers s → IsFrom os n s
+      process_from s by = elim by [
+        | inl annex ↦ from_way os n (content.Root root) is s annex.0
+            (subst (λ (w : Way). IsWay os n (content.Root root) w s.to) (sym annex.1) (refl, sym annex.2))
+        | inr (inl space) ↦ from_way os n (content.Root root) is s space.0
+            (subst (λ (w : Way). IsWay os n (content.Root root) w s.to) (sym space.1) (refl, space.2))
+        | inr (inr held) ↦ from_way os n (content.Root root) is s held.2.0
+            (subst (λ (w : Way). IsWay os n (content.Root root) w s.to) (sym held.2.1)
+            (ap (λ (l : List Capability). slice_index_or l held.0 Void) same, held.2.2))
+      ]

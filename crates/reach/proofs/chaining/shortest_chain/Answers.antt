@@ -1,0 +1,46 @@
+use Rattle.std.proofs.Common.{◌≡◌, List, reverse, refl, rules, subst, sym}
+use Rattle.reach.specs.declared.step.Step.{Step}
+use Rattle.reach.specs.Chain.{IsShortest}
+use Rattle.reach.proofs.Chains.{IsBack, back_first, back_level, back_next, back_shortest, chain_inside, no_chain, not_reached}
+use Rattle.reach.proofs.chaining.shortest_chain.Invariants.{level_of}
+use Rattle.reach.proofs.chaining.shortest_chain.Goals as goal
+
+pub returns-then-not-contains-clause-shortest : goal.returns-then-not-contains-clause-shortest
+returns-then-not-contains-clause-shortest c =
+    let searched = c.in_ok-levels.ensures in
+    no_chain c.args.objects.now c.args.starts.now searched.0 c.in_ok-levels.levels searched.1 searched.2 c.args.object (sym c.if-not-contains.ensures)
+
+pub returns-then-not-contains-clause-reach : goal.returns-then-not-contains-clause-reach
+returns-then-not-contains-clause-reach c =
+    let searched = c.in_ok-levels.ensures in
+    not_reached c.args.objects.now c.args.starts.now searched.0 c.in_ok-levels.levels searched.1 searched.2 c.args.object (sym c.if-not-contains.ensures)
+
+pub loop-step-init : goal.loop-step-init
+loop-step-init c =
+    let searched = c.in_ok-levels.ensures in
+    subst (λ (steps : List Step). IsBack c.args.objects.now c.in_ok-levels.levels c.args.object c.args.object steps) (sym c.new-steps.ensures.items)
+    (back_first c.args.objects.now c.args.starts.now searched.0 c.in_ok-levels.levels searched.1 searched.2 c.args.object (sym c.if-not-contains.ensures))
+
+pub loop-step-smaller : goal.loop-step-smaller
+loop-step-smaller c =
+    let searched = c.in_ok-levels.ensures in
+    back_level c.args.objects.now c.args.starts.now searched.0 c.in_ok-levels.levels searched.1 searched.2 c.args.object c.loop-step.at c.loop-step.steps.items c.loop-step.invariant c.in-Some.step (sym c.in-Some.ensures)
+    level_of (λ f. refl)
+
+pub loop-step-preserved : goal.loop-step-preserved
+loop-step-preserved c =
+    let searched = c.in_ok-levels.ensures in
+    back_next c.args.objects.now c.args.starts.now searched.0 c.in_ok-levels.levels searched.1 searched.2 c.args.object c.loop-step.at c.loop-step.steps.items c.loop-step.invariant c.in-Some.step c.push.new.self.items
+    (sym c.in-Some.ensures) (search rules)
+
+pub returns-clause-shortest : goal.returns-clause-shortest
+returns-clause-shortest c =
+    let searched = c.in_ok-levels.ensures in
+    let reversed : c.reverse.new.self.items ≡ reverse c.loop-step.steps.items = search rules in
+    subst (λ (steps : List Step). IsShortest c.args.objects.now c.args.starts.now steps c.args.object) (sym reversed)
+    (back_shortest c.args.objects.now c.args.starts.now searched.0 c.in_ok-levels.levels searched.1 searched.2 c.args.object c.loop-step.at c.loop-step.steps.items c.loop-step.invariant
+    (sym c.in_default.ensures) (sym c.if-not-contains.ensures))
+
+pub returns-clause-reach : goal.returns-clause-reach
+returns-clause-reach c inside reach =
+    chain_inside c.args.objects.now inside reach.closed c.args.starts.now c.reverse.new.self.items c.args.object reach.begins (returns-clause-shortest c).chain

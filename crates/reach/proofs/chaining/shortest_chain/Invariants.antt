@@ -1,0 +1,16 @@
+use Rattle.std.proofs.Common.{ℕ, Option, Some, None}
+use Rattle.reach.specs.declared.levels.Found.{Found}
+use Rattle.reach.specs.Levels.{found_at}
+use Rattle.reach.proofs.Chains.{IsBack}
+use Rattle.reach.proofs.chaining.shortest_chain.Given as goal
+
+-- the level of what was found
+abbrev pub level_of : Option Found → ℕ
+level_of None = 0
+level_of (Some f) = f.level
+
+abbrev pub invariant-loop-step : goal.invariant-loop-step
+invariant-loop-step l = IsBack l.objects l.levels l.object l.at l.steps.items
+
+abbrev pub decreases-loop-step : goal.decreases-loop-step
+decreases-loop-step l = level_of (found_at l.levels l.at)

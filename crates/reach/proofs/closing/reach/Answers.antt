@@ -1,0 +1,36 @@
+use Rattle.std.proofs.Common.{ℕ, Bool, List, ap, arith, length, refl, subst, sym, ◌∙◌}
+use Rattle.std.specs.Prelude.{IsTrue}
+use Rattle.std.proofs.lemmas.List.{get_or_default}
+use Rattle.number_set.specs.Marks.{is_marked}
+use Rattle.reach.specs.declared.frontier.Frontier.{Frontier}
+use Rattle.reach.specs.Reached.{IsReach}
+use Rattle.reach.proofs.ClosedSets.{all_begun, all_followed, bounds_runs, one_begun, one_followed}
+use Rattle.reach.proofs.closing.reach.Goals as goal
+
+pub loop-start-preserved : goal.loop-start-preserved
+loop-start-preserved c =
+    let starts = c.args.starts.now in
+    let at = c.loop-start.start-index in
+    one_begun c.args.objects.now starts at 0 c.loop-start.frontier c.add.new.self c.loop-start.invariant c.add.ensures.grows c.loop-start-test.true
+    (λ e. subst (λ (n : ℕ). IsTrue (is_marked c.add.new.self.found n)) (get_or_default starts at 0 e c.loop-start-test.true) c.add.ensures.found)
+    c.add.ensures.least
+
+pub loop-number-init : goal.loop-number-init
+loop-number-init c = all_begun c.args.objects.now c.args.starts.now c.loop-start.start-index c.loop-start.frontier c.loop-start.invariant (omega (arith, c.loop-start-test.false))
+
+pub loop-number-preserved : goal.loop-number-preserved
+loop-number-preserved c =
+    one_followed c.args.objects.now c.args.starts.now c.in-Some.number c.loop-number.frontier c.take.new.self c.follow_member.new.frontier c.loop-number.invariant
+    c.in-Some.ensures.some c.follow_member.ensures.grows c.follow_member.ensures.closed c.follow_member.ensures.least
+
+pub returns-clause-reach : goal.returns-clause-reach
+returns-clause-reach c =
+    subst (λ (marks : List Bool). IsReach c.args.objects.now c.args.starts.now (is_marked marks)) (sym c.into_found.ensures)
+    (all_followed c.args.objects.now c.args.starts.now c.loop-number.frontier c.take.new.self c.loop-number.invariant (c.in_default.ensures.none refl))
+
+pub returns-clause-count : goal.returns-clause-count
+returns-clause-count c =
+    ap (λ (marks : List Bool). length marks) c.into_found.ensures ∙ ap (λ (f : Frontier). length f.found) (c.in_default.ensures.none refl).same ∙ c.loop-number.invariant.count
+
+pub returns-clause-bounds : goal.returns-clause-bounds
+returns-clause-bounds c = bounds_runs c.args.objects.now (is_marked c.into_found.result) (returns-clause-reach c).closed

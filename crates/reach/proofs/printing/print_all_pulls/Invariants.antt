@@ -1,0 +1,8 @@
+use Rattle.std.proofs.Common.{take}
+use Rattle.std.specs.List.{flat_map, enumerate_from}
+use Rattle.std.specs.Io.KnownBytes.{Appends}
+use Rattle.reach.specs.Lines.{member_pulls}
+use Rattle.reach.proofs.printing.print_all_pulls.Given as goal
+
+abbrev pub invariant-loop-number : goal.invariant-loop-number
+invariant-loop-number g l = Appends (g.W.Write.contents l.fn.writer) (g.W.Write.contents l.writer) (flat_map (member_pulls l.objects l.inside) (enumerate_from 0 (take l.number l.objects)))

@@ -1,0 +1,8 @@
+use Rattle.std.proofs.Common.{take}
+use Rattle.std.specs.List.{flat_map, enumerate_from}
+use Rattle.std.specs.Io.KnownBytes.{Appends}
+use Rattle.reach.specs.Lines.{pull_line}
+use Rattle.reach.proofs.printing.print_pulls.Given as goal
+
+abbrev pub invariant-loop-index : goal.invariant-loop-index
+invariant-loop-index g l = Appends (g.W.Write.contents l.fn.writer) (g.W.Write.contents l.writer) (flat_map (pull_line l.name l.number l.place) (enumerate_from 0 (take l.index l.capabilities)))

@@ -1,0 +1,52 @@
+use Rattle.std.proofs.Common.{◌≡◌, ◌++◌, ◌∷◌, [], ℕ, Bool, List, Err, ap, append_assoc, codes, decimal, refl, subst, ◌∙◌}
+use Rattle.std.proofs.KnownBytes.{Appends-trans}
+use Rattle.std.proofs.lemmas.Result.{err_from_is_err_and}
+use Rattle.std.specs.Io.KnownBytes.{Appends}
+use Rattle.std.specs.List.{count_by, enumerate_from, flat_map}
+use Rattle.model.specs.declared.object.Object.{Object}
+use Rattle.model.specs.Text.{line_of, spaced}
+use Rattle.script.specs.Writing.{Writes}
+use Rattle.script.proofs.Fronts.{text_fails, writes_after, writes_fail}
+use Rattle.reach.specs.Lines.{member_line, member_pulls, reach_text}
+use Rattle.reach.proofs.printing.print_reach.Goals as goal
+
+abbrev members : List Object → List Bool → List ℕ
+members os marks = flat_map (member_line marks) (enumerate_from 0 os)
+
+abbrev closed : List Bool → List ℕ
+closed marks = spaced (codes "closed" ∷ decimal (count_by (λ b. b) marks) ∷ [])
+
+abbrev pulled : List Object → List Bool → List ℕ
+pulled os marks = flat_map (member_pulls os marks) (enumerate_from 0 os)
+
+counted : (marks : List Bool) (text : List ℕ) (count : ℕ) → text ≡ spaced (codes "closed" ∷ decimal count ∷ []) → count ≡ count_by (λ b. b) marks → text ≡ closed marks
+counted marks text count is same = is ∙ ap (λ (n : ℕ). spaced (codes "closed" ∷ decimal n ∷ [])) same
+
+pub returns-in_err-print_members : goal.returns-in_err-print_members
+unfolding reach_text
+returns-in_err-print_members g c =
+    let p = err_from_is_err_and c.from_residual.result c.from_residual.ensures.1 in
+    let os = c.args.objects.now in
+    let marks = c.args.inside.now in
+    rw (p.1, p.2) (text_fails _ _ _ (members os marks) (line_of (closed marks) ++ pulled os marks) _ (append_assoc (members os marks) (line_of (closed marks)) (pulled os marks)) c.in_err-print_members.ensures)
+
+pub returns-in_err-write_to : goal.returns-in_err-write_to
+unfolding reach_text
+returns-in_err-write_to g c =
+    let p = err_from_is_err_and c.from_residual-in_err-write_to.result c.from_residual-in_err-write_to.ensures.1 in
+    let os = c.args.objects.now in
+    let marks = c.args.inside.now in
+    let is = counted marks c.numbered.result c.count_members.result c.numbered.ensures.text c.count_members.ensures in
+    rw (p.1, p.2) (writes_fail _ _ _ _ (members os marks) (line_of (closed marks)) (pulled os marks) _ refl c.in_ok-print_members.ensures
+    (subst (λ (l : List ℕ). Writes (g.W.Write.contents c.print_members.new.writer) (g.W.Write.contents c.write_to.new.writer) (Err c.in_err-write_to.field-0.0) (line_of l)) is c.in_err-write_to.ensures))
+
+pub returns : goal.returns
+unfolding reach_text
+returns g c =
+    let os = c.args.objects.now in
+    let marks = c.args.inside.now in
+    let is = counted marks c.numbered.result c.count_members.result c.numbered.ensures.text c.count_members.ensures in
+    writes_after _ (g.W.Write.contents c.write_to.new.writer) _ _ (members os marks ++ line_of (closed marks)) (pulled os marks)
+    (Appends-trans _ (g.W.Write.contents c.print_members.new.writer) _ (members os marks) (line_of (closed marks)) c.in_ok-print_members.ensures
+    (subst (λ (l : List ℕ). Appends (g.W.Write.contents c.print_members.new.writer) (g.W.Write.contents c.write_to.new.writer) (line_of l)) is c.in_ok-write_to.ensures))
+    c.print_all_pulls.ensures

@@ -1,0 +1,42 @@
+use Rattle.std.proofs.Common.{◌≡◌, ℕ, ◌<◌, zero, suc, true, false, not, List, [], ◌∷◌, length, Some, None, slice_index_or, inl, inr, refl, sym, ap, subst, arith}
+use Rattle.std.specs.Prelude.{IsTrue}
+use Rattle.std.specs.List.{find}
+use Rattle.std.proofs.lemmas.Bool.{cases_lt}
+use Rattle.std.proofs.lemmas.List.{get_or_default}
+use Rattle.model.specs.declared.object.Object.{Object}
+use Rattle.model.specs.World.{is_process}
+use Rattle.reach.proofs.process.missing_process.Goals as goal
+
+module _ (os : List Object) where
+  find_first : (xs : List ℕ) (i : ℕ) → ((k d : ℕ) → k < i → IsTrue (is_process os (slice_index_or xs k d))) → i < length xs → is_process os (slice_index_or xs i 0) ≡ false
+      → find (λ n. not (is_process os n)) xs ≡ Some (slice_index_or xs i 0)
+  find_first [] i before lt other = absurd (omega (arith, lt))
+  find_first (x ∷ xs) zero before lt other = let test : not (is_process os x) ≡ true = ap not other in rw test refl
+  find_first (x ∷ xs) (suc i) before lt other =
+      let test : not (is_process os x) ≡ false = ap not (before 0 0 (omega arith)) in
+      rw test (find_first xs i (λ k d below. before (suc k) d (omega (arith, below))) (omega (arith, lt)) other)
+
+  find_none : (xs : List ℕ) → ((k d : ℕ) → k < length xs → IsTrue (is_process os (slice_index_or xs k d))) → find (λ n. not (is_process os n)) xs ≡ None
+  find_none [] all = refl
+  find_none (x ∷ xs) all =
+      let test : not (is_process os x) ≡ false = ap not (all 0 0 (omega arith)) in
+      rw test (find_none xs (λ k d below. all (suc k) d (omega (arith, below))))
+
+pub returns-then-not-is_process-clause-first : goal.returns-then-not-is_process-clause-first
+returns-then-not-is_process-clause-first c =
+    sym (find_first c.args.objects.now c.args.numbers.now c.loop-number.number-index c.loop-number.invariant c.loop-number-test.true (sym c.if-not-is_process.ensures))
+
+pub loop-number-preserved : goal.loop-number-preserved
+loop-number-preserved c k d lt = elim (cases_lt k c.loop-number.number-index) [
+  | inl before ↦ c.loop-number.invariant k d before
+  | inr past ↦
+      let here : c.loop-number.number-index ≡ k = omega (arith, past, lt) in
+      subst (λ (j : ℕ). IsTrue (is_process c.args.objects.now (slice_index_or c.args.numbers.now j d))) here
+      (subst (λ (n : ℕ). IsTrue (is_process c.args.objects.now n)) (get_or_default c.args.numbers.now c.loop-number.number-index 0 d c.loop-number-test.true) (sym c.if-not-is_process.ensures))
+]
+
+pub returns-clause-first : goal.returns-clause-first
+returns-clause-first c = sym (find_none c.args.objects.now c.args.numbers.now (λ k d lt. c.loop-number.invariant k d (omega (arith, lt, c.loop-number-test.false))))
+
+pub returns-clause-none : goal.returns-clause-none
+returns-clause-none c none k d lt = c.loop-number.invariant k d (omega (arith, lt, c.loop-number-test.false))

@@ -1,0 +1,7 @@
+use Rattle.std.proofs.Common.{ℕ, ◌<◌}
+use Rattle.std.specs.Prelude.{IsTrue, slice_index_or}
+use Rattle.model.specs.World.{is_process}
+use Rattle.reach.proofs.process.missing_process.Given as goal
+
+abbrev pub invariant-loop-number : goal.invariant-loop-number
+invariant-loop-number l = (k d : ℕ) → k < l.number-index → IsTrue (is_process l.objects (slice_index_or l.numbers k d))

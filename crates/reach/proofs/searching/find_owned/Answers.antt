@@ -1,0 +1,41 @@
+use Rattle.std.proofs.Common.{◌≡◌, ℕ, arith, ap, refl, subst, sym, ◌∙◌}
+use Rattle.std.proofs.lemmas.List.{get_or_default}
+use Rattle.model.specs.declared.object.Object.{Object}
+use Rattle.model.specs.Object.{free, is_free}
+use Rattle.model.specs.World.{object_at}
+use Rattle.reach.specs.declared.step.Way.TheVariants as way
+use Rattle.reach.specs.Levels.{FindsBy, IsOwnedBelow}
+use Rattle.reach.proofs.Finding.{finds_none, owned_next_step, owned_skip}
+use Rattle.reach.proofs.searching.find_owned.Goals as goal
+use Rattle.reach.proofs.searching.find_owned.Goals.{then-is_owned, else-is_owned}
+
+pub loop-number-init : goal.loop-number-init
+loop-number-init c = finds_none (IsOwnedBelow c.args.objects.now 0 c.args.bank) c.args.level c.args.levels.now (λ s owned. absurd (omega (arith, owned.2)))
+
+pub add-requires-clause-known : goal.add-requires-clause-known
+add-requires-clause-known c = omega (arith, c.loop-number-test.true, c.requires.count, c.loop-number.invariant.count)
+
+pub add-requires-clause-level : goal.add-requires-clause-level
+add-requires-clause-level c = omega (arith, c.requires.level, c.loop-number.invariant.later)
+
+pub loop-number-preserved : goal.loop-number-preserved
+loop-number-preserved c =
+    let at = c.loop-number.number in
+    let os = c.args.objects.now in
+    let o = c.index-objects-number.result in
+    let is : object_at os at ≡ o = get_or_default os at free o c.loop-number-test.true ∙ sym c.index-objects-number.is in
+    elim c.if-is_owned.branch [
+      | then-is_owned w ↦
+          let test = c.is_owned.ensures.0 w.if-is_owned.true in
+          rw (w.levels-is) (owned_next_step os at c.args.bank c.args.level (record { from = c.args.bank; way = way.Owner; to = at }) c.args.levels.now c.loop-number.levels w.add.new.self refl refl refl
+          (ap (λ (p : Object). is_free p.content) is ∙ test.0) (ap (λ (p : Object). p.owner) is ∙ test.1) c.loop-number.invariant w.add.ensures)
+      | else-is_owned w ↦
+          rw (w.levels-is) (owned_skip os at c.args.bank c.args.level c.args.levels.now c.loop-number.levels
+          (λ free owned.
+          let told = c.is_owned.ensures.1 (sym (ap (λ (p : Object). is_free p.content) is) ∙ free, sym (ap (λ (p : Object). p.owner) is) ∙ owned) in
+          let wrong = w.if-is_owned.false in cc) c.loop-number.invariant)
+    ]
+
+pub returns : goal.returns
+returns c =
+    subst (λ (n : ℕ). FindsBy (IsOwnedBelow c.args.objects.now n c.args.bank) c.args.level c.args.levels.now c.loop-number.levels) (omega (arith, c.loop-number.auto.number-end, c.loop-number-test.false)) c.loop-number.invariant

@@ -1,0 +1,10 @@
+use Rattle.std.proofs.Common.{◌≡◌, take}
+use Rattle.capability.specs.Parts.{objects_in}
+use Rattle.reach.proofs.Looking.{HasLooked}
+use Rattle.reach.proofs.world.read_objects.Given as goal
+
+abbrev pub invariant-loop-number : goal.invariant-loop-number
+invariant-loop-number g l = record {
+  read : l.objects.items ≡ take l.number (objects_in (g.F.PresentFrames.parts l.initial.store));
+  looked : HasLooked g.F.PresentFrames.parts g.F.PresentFrames.LeadsTo l.initial.store l.store;
+}

@@ -1,0 +1,44 @@
+-- The lines that tell a chain.
+use Rattle.std.specs.Prelude.{ℕ, Option, None, Some, List, [], ◌∷◌, ◌++◌, Vec, codes, decimal}
+use Rattle.std.specs.List.{flat_map}
+use Rattle.std.specs.declared.alloc.Global.{Global}
+use Rattle.model.specs.declared.capability.Capability.{Capability}
+use Rattle.model.specs.declared.object.Content.{Content}
+use Rattle.model.specs.declared.object.Content.TheVariants as content
+use Rattle.model.specs.declared.object.Object.{Object}
+use Rattle.model.specs.Text.{capability_text, line_of, spaced}
+use Rattle.model.specs.World.{content_at, object_at}
+use Rattle.reach.specs.declared.step.Step.{Step}
+use Rattle.reach.specs.declared.step.Way.{Way}
+use Rattle.reach.specs.declared.step.Way.TheVariants as way
+use Rattle.reach.specs.Lines.{held_text, words_of}
+
+abbrev pub kind_of : Content Capability → List ℕ
+kind_of content.Free = codes "free"
+kind_of (content.Page words) = codes "page"
+kind_of (content.Node slots) = codes "node"
+kind_of (content.Root root) = codes "process"
+kind_of (content.Annex registers) = codes "annex"
+kind_of (content.Bank limit) = codes "bank"
+
+abbrev pub place_of : Content Capability → List ℕ
+place_of (content.Node slots) = codes "slot"
+place_of other = codes "register"
+
+-- a step: `process 3 has annex 4`, `bank 6 owns node 7`, `process 3, space: page 9`, or `node 7, slot 0: page 9 ro`
+abbrev pub step_text : List Object → ℕ → Way → ℕ → List ℕ
+step_text os n way.Annex m = spaced (codes "process" ∷ decimal n ∷ codes "has annex" ∷ decimal m ∷ [])
+step_text os n way.Owner m = spaced (codes "bank" ∷ decimal n ∷ codes "owns" ∷ kind_of (content_at os m) ∷ decimal m ∷ [])
+step_text os n (way.Space c) m = spaced (codes "process" ∷ (decimal n ++ codes ",") ∷ codes "space:" ∷ capability_text c ∷ [])
+step_text os n (way.Slot i c) m = held_text (kind_of (content_at os n)) n (place_of (content_at os n)) i c
+
+abbrev pub step_line : List Object → Step → List ℕ
+step_line os s = line_of (step_text os s.from s.way s.to)
+
+-- a chain to an object, and the line of the object as `show` begins it
+abbrev pub steps_text : List Object → List Step → ℕ → List ℕ
+steps_text os steps o = flat_map (step_line os) steps ++ line_of (spaced (words_of o (object_at os o)))
+
+unfoldable pub chain_text : List Object → ℕ → Option (Vec Step Global) → List ℕ
+chain_text os o None = line_of (codes "out of reach")
+chain_text os o (Some steps) = steps_text os steps.items o

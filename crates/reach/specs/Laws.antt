@@ -1,0 +1,10 @@
+-- What the definitions of chains say.
+use Rattle.std.specs.Prelude.{ℕ, ◌↔◌, Bool, List, IsTrue}
+use Rattle.model.specs.declared.object.Object.{Object}
+use Rattle.model.specs.Closed.{IsClosed}
+use Rattle.reach.specs.declared.step.Step.{Step}
+use Rattle.reach.specs.Chain.{IsStep}
+
+-- A set is closed exactly if no step leaves it.
+abbrev pub StepsAreAuthority : Type 0
+StepsAreAuthority = (os : List Object) (inside : ℕ → Bool) → IsClosed os inside ↔ ((s : Step) → IsStep os s → IsTrue (inside s.from) → IsTrue (inside s.to))

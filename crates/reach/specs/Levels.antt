@@ -1,0 +1,103 @@
+-- Numbers that were found, level by level. No public clause cites this.
+use Rattle.std.specs.Prelude.{◌≡◌, ◌⊎◌, ℕ, ◌==◌, ◌+◌, ◌<◌, ◌≤◌, Bool, false, Option, None, Some, List, length, slice_index_or}
+use Rattle.std.specs.List.{All, Contains}
+use Rattle.model.specs.declared.capability.Capability.{Capability}
+use Rattle.model.specs.declared.capability.Capability.TheVariants.{Void}
+use Rattle.model.specs.declared.object.Object.{Object}
+use Rattle.model.specs.Object.{is_free}
+use Rattle.model.specs.World.{content_at, owner_at}
+use Rattle.reach.specs.declared.levels.Found.{Found}
+use Rattle.reach.specs.declared.levels.Levels.{Levels}
+use Rattle.reach.specs.declared.step.Step.{Step}
+use Rattle.reach.specs.declared.step.Way.{Way}
+use Rattle.reach.specs.declared.step.Way.TheVariants as way
+use Rattle.reach.specs.Chain.{Conveys, IsStep}
+use Rattle.reach.specs.Missing.{missing}
+
+abbrev pub found_at : Levels → ℕ → Option Found
+found_at l n = slice_index_or l.found.items n None
+
+abbrev pub IsFound : Levels → ℕ → Type 0
+IsFound l n = (f : Found) × (found_at l n ≡ Some f)
+
+-- found in at most so many steps, and at a level
+abbrev pub IsFoundIn : Levels → ℕ → ℕ → Type 0
+IsFoundIn l n k = (f : Found) × (found_at l n ≡ Some f) × (f.level ≤ k)
+
+abbrev pub IsAt : Levels → ℕ → ℕ → Type 0
+IsAt l n k = (f : Found) × (found_at l n ≡ Some f) × (f.level ≡ k)
+
+abbrev pub has_level : Option Found → ℕ → Bool
+has_level None k = false
+has_level (Some f) k = f.level == k
+
+-- a number with which the search began, and one that was found by a step of some
+pub record IsFirst (n : ℕ) (f : Found) : Type 0 where
+  pub level : f.level ≡ 0
+  pub none : f.step ≡ None
+
+pub record IsFoundBy (By : Step → Type 0) (level n : ℕ) (f : Found) : Type 0 where
+  pub at : f.level ≡ level
+  pub step : Step
+  pub is : f.step ≡ Some step
+  pub to : step.to ≡ n
+  pub by : By step
+
+-- a number is found in no step
+pub record Begins (number : ℕ) (old new : Levels) : Type 0 where
+  pub count : length new.found.items ≡ length old.found.items
+  pub kept : (n : ℕ) (f : Found) → found_at old n ≡ Some f → found_at new n ≡ Some f
+  pub each : (n : ℕ) (f : Found) → found_at new n ≡ Some f → (found_at old n ≡ Some f) ⊎ ((n ≡ number) × IsFirst n f)
+  pub inside : IsFound new number
+  pub greatest : new.greatest ≡ old.greatest
+  pub work : missing new.found.items ≤ missing old.found.items
+
+-- all to which some steps lead is found, at a level if it wasn't before
+pub record FindsBy (By : Step → Type 0) (level : ℕ) (old new : Levels) : Type 0 where
+  pub count : length new.found.items ≡ length old.found.items
+  pub kept : (n : ℕ) (f : Found) → found_at old n ≡ Some f → found_at new n ≡ Some f
+  pub each : (n : ℕ) (f : Found) → found_at new n ≡ Some f → (found_at old n ≡ Some f) ⊎ IsFoundBy By level n f
+  pub all : (s : Step) → By s → IsFound new s.to
+  pub later : old.greatest ≤ new.greatest
+  pub within : (n : ℕ) (f : Found) → found_at new n ≡ Some f → (found_at old n ≡ Some f) ⊎ (f.level ≤ new.greatest)
+  pub work : missing new.found.items + new.greatest ≤ missing old.found.items + old.greatest
+
+-- a step, those by a capability, by those of a list, and from a bank to what it owns
+abbrev pub IsTheStep : Step → Step → Type 0
+IsTheStep step s = (s.from ≡ step.from) × (s.way ≡ step.way) × (s.to ≡ step.to)
+
+abbrev pub IsBy : ℕ → Way → Capability → Step → Type 0
+IsBy from by c s = (s.from ≡ from) × (s.way ≡ by) × Conveys c s.to
+
+abbrev pub IsHeldIn : List Capability → ℕ → ℕ → Step → Type 0
+IsHeldIn slots count from s = (i : ℕ) × (i < count) × IsBy from (way.Slot i (slice_index_or slots i Void)) (slice_index_or slots i Void) s
+
+abbrev pub IsOwnedBelow : List Object → ℕ → ℕ → Step → Type 0
+IsOwnedBelow os count bank s = (s.from ≡ bank) × (s.way ≡ way.Owner) × (s.to < count) × (is_free (content_at os s.to) ≡ false) × (owner_at os s.to ≡ bank)
+
+-- the steps from a number, and from those of a level
+abbrev pub IsFrom : List Object → ℕ → Step → Type 0
+IsFrom os n s = (s.from ≡ n) × IsStep os s
+
+abbrev pub IsFromLevel : List Object → Levels → ℕ → ℕ → Step → Type 0
+IsFromLevel os l level count s = IsAt l s.from level × (s.from < count) × IsStep os s
+
+-- a number was found by a step from one that was found in one step fewer
+pub record IsAfter (os : List Object) (l : Levels) (n : ℕ) (f : Found) : Type 0 where
+  pub step : Step
+  pub is : f.step ≡ Some step
+  pub to : step.to ≡ n
+  pub step_is : IsStep os step
+  pub before : Found
+  pub from : found_at l step.from ≡ Some before
+  pub level : f.level ≡ before.level + 1
+
+-- the first numbers were found, and those below a level followed
+pub record IsSearched (os : List Object) (starts : List ℕ) (level : ℕ) (l : Levels) : Type 0 where
+  pub count : length l.found.items ≡ length os
+  pub begins : All (λ p. IsFoundIn l p 0) starts
+  pub linked : (n : ℕ) (f : Found) → found_at l n ≡ Some f → (IsFirst n f × Contains starts n) ⊎ IsAfter os l n f
+  pub leads : (n : ℕ) (f : Found) → found_at l n ≡ Some f → f.level < level → (s : Step) → IsFrom os n s → IsFoundIn l s.to (f.level + 1)
+  pub deepest : (n : ℕ) (f : Found) → found_at l n ≡ Some f → f.level ≤ level
+  pub within : (n : ℕ) (f : Found) → found_at l n ≡ Some f → f.level ≤ l.greatest
+  pub few : missing l.found.items + l.greatest ≤ length os

@@ -1,0 +1,8 @@
+pub mod Chain
+pub mod ChainLines
+pub mod Frontier
+pub mod Laws
+pub mod Levels
+pub mod Lines
+pub mod Missing
+pub mod Reached

@@ -1,0 +1,35 @@
+-- What is in reach of processes.
+use Rattle.std.specs.Prelude.{◌≡◌, ℕ, Bool, false, List, IsTrue}
+use Rattle.std.specs.List.{All}
+use Rattle.model.specs.declared.geometry.Geometry.{Geometry}
+use Rattle.model.specs.declared.object.Object.{Object}
+use Rattle.model.specs.Closed.{IsClosed, StaysInside}
+use Rattle.model.specs.Machine.{Running, Up}
+use Rattle.model.specs.Object.{is_bank, is_free}
+use Rattle.model.specs.Run.{IsRun, Turn}
+use Rattle.model.specs.Sound.{IsSound}
+use Rattle.model.specs.World.{annex_at, content_at, is_process, object_at, owner_at, root_at, slot_at}
+use Rattle.confinement.specs.Confinement.{AreBy, IsKept, with_free}
+
+-- objects of a sound world
+abbrev pub AreSoundObjects : List Object → Type 0
+AreSoundObjects os = (g : Geometry) × (age : ℕ) × IsSound g (record { objects = os; age = age })
+
+-- the least closed set that contains some numbers
+pub record IsReach (os : List Object) (starts : List ℕ) (inside : ℕ → Bool) : Type 0 where
+  pub closed : IsClosed os inside
+  pub begins : All (λ p. IsTrue (inside p)) starts
+  pub least : (other : ℕ → Bool) → IsClosed os other → All (λ p. IsTrue (other p)) starts → (n : ℕ) → IsTrue (inside n) → IsTrue (other n)
+
+-- the authority bound for a set: over any run of invocations and memory references by its processes, and by those that they
+-- make of what was free, each object outside that wasn't free is kept
+abbrev pub BoundsRuns : List Object → (ℕ → Bool) → Type 0
+BoundsRuns os inside = (g : Geometry) (s t : Running) (turns : List Turn) → s.now.objects ≡ os → IsSound g s.now → IsRun g (Up s) turns (Up t) →
+    AreBy (with_free os inside) turns → (n : ℕ) → with_free os inside n ≡ false → IsKept inside (object_at os n) (object_at t.now.objects n)
+
+-- what a closed set has to contain for one of its members. No public clause cites this.
+pub record IsClosedAt (os : List Object) (inside : ℕ → Bool) (n : ℕ) : Type 0 where
+  pub annexes : IsTrue (is_process os n) → IsTrue (inside (annex_at os n))
+  pub owned : IsTrue (is_bank (content_at os n)) → (m : ℕ) → is_free (content_at os m) ≡ false → owner_at os m ≡ n → IsTrue (inside m)
+  pub slots : (i : ℕ) → StaysInside inside (slot_at os n i)
+  pub space : StaysInside inside (root_at os n).space

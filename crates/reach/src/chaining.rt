@@ -1,0 +1,41 @@
+// A shortest chain of steps.
+ghost use Rattle.std.specs.Prelude.{◌≡◌, ℕ, ◌<◌, Bool, is_some, length, IfOk};
+ghost use Rattle.std.specs.List.{All};
+ghost use Rattle.reach.specs.Chain.{IsShortestIfAny};
+ghost use Rattle.reach.specs.Reached.{AreSoundObjects, IsReach};
+
+use crate::searching::search;
+use crate::step::Step;
+use model::Object;
+use std::alloc::{AllocError, Global};
+
+/// A shortest chain of steps from one of the numbers `starts` to an object, first step first, in a
+/// sound world. It has no steps if the object is one of `starts`. `None` if there is no chain, which
+/// is if the object isn't in the least closed set that contains `starts`.
+///
+/// It follows each number once. Fails only if memory runs out.
+pub fn shortest_chain(
+    alloc: Global,
+    objects: &[Object],
+    starts: &[u64],
+    object: u64,
+) -> Result<Option<Vec<Step>>, AllocError>
+    requires sound { AreSoundObjects objects.now }
+    requires known { All (λ n. n < length objects.now) starts.now }
+    ensures shortest { IfOk result (IsShortestIfAny objects.now starts.now object) }
+    ensures reach { IfOk result (λ chain. (inside : ℕ → Bool) → IsReach objects.now starts.now inside
+        → inside object ≡ is_some chain) }
+{
+    let levels = search(alloc, objects, starts)?;
+    if !levels.contains(object) {
+        return Ok(None);
+    }
+    let mut steps = Vec::new(alloc);
+    let mut at = object;
+    while let Some(step) = levels.step_to(at) {
+        steps.push(step)?;
+        at = step.from;
+    }
+    steps.reverse();
+    Ok(Some(steps))
+}

@@ -1,0 +1,139 @@
+// The lines that tell a chain of steps.
+ghost use Rattle.std.specs.Prelude.{◌≡◌, ◌≤◌, ◌<◌, length};
+ghost use Rattle.std.specs.List.{flat_map};
+ghost use Rattle.model.specs.Text.{line_of, spaced};
+ghost use Rattle.model.specs.World.{content_at, object_at};
+ghost use Rattle.script.specs.Writing.{Writes};
+ghost use Rattle.reach.specs.ChainLines.{chain_text, kind_of, place_of, step_line, step_text, steps_text};
+ghost use Rattle.reach.specs.Lines.{words_of};
+ghost use Rattle.reach.specs.declared.step.Way.TheVariants.{Owner};
+
+use crate::printing::{line_of_held, line_of_object};
+use crate::step::{Step, Way};
+use model::{Content, Object};
+use script::{LineText, RunFault};
+use std::io::Write;
+
+// What an object is called.
+fn kind_at(objects: &[Object], number: u64) -> &'static [u8]
+    ensures kind { result.now ≡ kind_of (content_at objects.now number) }
+    ensures short { length result.now ≤ 8 }
+{
+    match objects.get(number as usize) {
+        Some(object) => match object.content {
+            Content::Free => b"free",
+            Content::Page(_) => b"page",
+            Content::Node(_) => b"node",
+            Content::Root(_) => b"process",
+            Content::Annex(_) => b"annex",
+            Content::Bank { .. } => b"bank",
+        },
+        None => b"free",
+    }
+}
+
+// What an object holds capabilities in.
+fn place_at(objects: &[Object], number: u64) -> &'static [u8]
+    ensures place { result.now ≡ place_of (content_at objects.now number) }
+    ensures short { length result.now ≤ 8 }
+{
+    match objects.get(number as usize) {
+        Some(object) => match object.content {
+            Content::Node(_) => b"slot",
+            _ => b"register",
+        },
+        None => b"register",
+    }
+}
+
+// The line of a step from a bank to what it owns.
+fn line_of_owner(objects: &[Object], bank: u64, owned: u64) -> LineText
+    ensures text { result ≡ step_text objects.now bank Owner owned }
+    ensures short { length result < 320 }
+{
+    let mut line = LineText::numbered(b"bank", bank);
+    line.word(b"owns");
+    line.named(kind_at(objects, owned), owned);
+    line
+}
+
+// The line of a step.
+fn line_of_step(objects: &[Object], step: Step) -> LineText
+    ensures text { result ≡ step_text objects.now step.from step.way step.to }
+    ensures short { length result < 320 }
+{
+    match step.way {
+        Way::Annex => {
+            let mut line = LineText::numbered(b"process", step.from);
+            line.named(b"has annex", step.to);
+            line
+        }
+        Way::Owner => line_of_owner(objects, step.from, step.to),
+        Way::Space(capability) => {
+            let mut line = LineText::numbered(b"process", step.from);
+            line.push(b", space:");
+            line.capability(capability);
+            line
+        }
+        Way::Slot { index, capability } => {
+            let (kind, place) = (kind_at(objects, step.from), place_at(objects, step.from));
+            line_of_held(kind, step.from, place, index, capability)
+        }
+    }
+}
+
+// Writes the lines of steps.
+fn print_steps<W: Write>(objects: &[Object], steps: &[Step], writer: &mut W) -> Result<(), RunFault>
+    ensures { Writes (W.contents writer.old) (W.contents writer.new) result
+        (flat_map (step_line objects.now) steps.now) }
+{
+    for step in steps {
+        line_of_step(objects, *step).write_to(writer)?;
+    }
+    Ok(())
+}
+
+// Writes the line of an object.
+fn print_object<W: Write>(objects: &[Object], number: u64, writer: &mut W) -> Result<(), RunFault>
+    ensures { Writes (W.contents writer.old) (W.contents writer.new) result
+        (line_of (spaced (words_of number (object_at objects.now number)))) }
+{
+    match objects.get(number as usize) {
+        Some(object) => line_of_object(number, object).write_to(writer),
+        None => LineText::numbered(b"free", number).write_to(writer),
+    }
+}
+
+// Writes the lines of a chain to an object.
+fn print_to<W: Write>(
+    objects: &[Object],
+    object: u64,
+    steps: &[Step],
+    writer: &mut W,
+) -> Result<(), RunFault>
+    ensures { Writes (W.contents writer.old) (W.contents writer.new) result
+        (steps_text objects.now steps.now object) }
+{
+    print_steps(objects, steps, writer)?;
+    print_object(objects, object, writer)
+}
+
+/// Writes a chain to an object: a line for each step, first step first, and the line of the object as
+/// `show` begins it. Without a chain it writes the line `out of reach`.
+///
+/// `RunFault::Write` if the writer fails or takes nothing: then a beginning of that text was written.
+/// It takes no memory.
+pub fn print_chain<W: Write>(
+    objects: &[Object],
+    object: u64,
+    chain: &Option<Vec<Step>>,
+    writer: &mut W,
+) -> Result<(), RunFault>
+    ensures { Writes (W.contents writer.old) (W.contents writer.new) result
+        (chain_text objects.now object chain.now) }
+{
+    match chain {
+        Some(steps) => print_to(objects, object, steps, writer),
+        None => LineText::new(b"out of reach").write_to(writer),
+    }
+}

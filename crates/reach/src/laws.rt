@@ -1,0 +1,8 @@
+//! Laws of chains, each the contract of a function that does nothing.
+
+ghost use Rattle.reach.specs.Laws.{StepsAreAuthority};
+
+/// A set is closed exactly if no step leaves it.
+pub fn steps_are_authority()
+    ensures { StepsAreAuthority }
+{}

@@ -1,0 +1,99 @@
+// The numbers that were found, and in how many steps each.
+
+use crate::step::Step;
+use std::alloc::{AllocError, Global};
+
+/// How a number was found: in `level` steps, and by which one at last.
+#[derive(Clone, Copy)]
+pub(crate) struct Found {
+    level: u64,
+    // `None` for a number that the search began with.
+    step: Option<Step>,
+}
+
+/// The numbers that were found, and the greatest level.
+#[derive(Drop)]
+pub(crate) struct Levels {
+    found: Vec<Option<Found>>,
+    greatest: u64,
+}
+
+impl Levels {
+    ghost use Rattle.std.specs.Prelude.{◌≡◌, ℕ, ◌+◌, ◌<◌, ◌≤◌, None, length, replicate, is_some, option_and_then, IfOk};
+    ghost use Rattle.reach.specs.Levels.{Begins, FindsBy, IsTheStep, found_at, has_level};
+
+    /// None of so many numbers. Fails only if memory runs out.
+    pub(crate) fn new(alloc: Global, count: usize) -> Result<Levels, AllocError>
+        ensures found { IfOk result (λ l. l.found.items ≡ replicate count None) }
+        ensures greatest { IfOk result (λ l. l.greatest ≡ 0) }
+    {
+        let mut found = Vec::new(alloc);
+        found.resize(count, None)?;
+        Ok(Levels { found, greatest: 0 })
+    }
+
+    /// Finds a number in no step, unless it was found before.
+    pub(crate) fn begin(&mut self, number: u64)
+        requires { number < length self.old.found.items }
+        ensures { Begins number self.old self.new }
+    {
+        if self.found[number as usize].is_none() {
+            self.found[number as usize] = Some(Found {
+                level: 0,
+                step: None,
+            });
+        }
+    }
+
+    /// Finds the end of a step at a level, unless it was found before.
+    pub(crate) fn add(&mut self, step: Step, level: u64)
+        requires known { step.to < length self.old.found.items }
+        requires level { level ≤ self.old.greatest + 1 }
+        ensures { FindsBy (IsTheStep step) level self.old self.new }
+    {
+        let to = step.to as usize;
+        if self.found[to].is_none() {
+            self.found[to] = Some(Found {
+                level,
+                step: Some(step),
+            });
+            self.greatest = self.greatest.max(level);
+        }
+    }
+
+    /// The greatest level.
+    pub(crate) fn greatest(&self) -> u64
+        ensures { result ≡ self.now.greatest }
+    {
+        self.greatest
+    }
+
+    /// Whether a number was found.
+    pub(crate) fn contains(&self, number: u64) -> bool
+        ensures { result ≡ is_some (found_at self.now number) }
+    {
+        match self.found.get(number as usize) {
+            Some(found) => found.is_some(),
+            None => false,
+        }
+    }
+
+    /// Whether a number was found at a level.
+    pub(crate) fn is_at(&self, number: u64, level: u64) -> bool
+        requires { number < length self.now.found.items }
+        ensures { result ≡ has_level (found_at self.now number) level }
+    {
+        match self.found[number as usize] {
+            Some(found) => found.level == level,
+            None => false,
+        }
+    }
+
+    /// The step by which a number was found.
+    pub(crate) fn step_to(&self, number: u64) -> Option<Step>
+        ensures { result ≡ option_and_then (λ f. f.step) (found_at self.now number) }
+    {
+        let found = (*self.found.get(number as usize)?)?;
+        found.step
+    }
+}

@@ -1,0 +1,25 @@
+//! The least closed set of numbers that contains some processes: all that these, and those that they make, can change.
+//! Also a shortest chain of capabilities from them to an object.
+#![tactic(auto)]
+
+mod authority;
+mod chaining;
+mod closing;
+mod explaining;
+mod following;
+mod frontier;
+pub mod laws;
+mod levels;
+mod printing;
+mod process;
+mod searching;
+mod step;
+mod world;
+
+pub use chaining::shortest_chain;
+pub use closing::reach;
+pub use explaining::print_chain;
+pub use printing::print_reach;
+pub use process::missing_process;
+pub use step::{Step, Way};
+pub use world::read_objects;

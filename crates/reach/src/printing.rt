@@ -1,0 +1,252 @@
+// The lines that tell a closed set.
+ghost use Rattle.std.specs.Prelude.{◌≡◌, ◌≤◌, ◌<◌, [], ◌∷◌, length, codes, decimal};
+ghost use Rattle.std.specs.List.{count_by, enumerate_from, flat_map};
+ghost use Rattle.model.specs.Object.{slots_in};
+ghost use Rattle.model.specs.Text.{spaced};
+ghost use Rattle.model.specs.World.{content_at};
+ghost use Rattle.script.specs.Writing.{Writes};
+ghost use Rattle.reach.specs.Lines.{held_text, member_line, member_pulls, object_pulls, pull_line, pull_lines, pulls, reach_text, words_of};
+
+use model::{Capability, Content, Object};
+use number_set::NumberSet;
+use script::{LineText, RunFault};
+use std::io::Write;
+
+// Begins the line of an object.
+fn begin(name: &[u8], number: u64, owner: u64) -> LineText
+    requires { length name.now ≤ 8 }
+    ensures text { result ≡ spaced (name.now ∷ decimal number ∷ codes "owner" ∷ decimal owner ∷ []) }
+    ensures short { length result ≤ 60 }
+{
+    let mut line = LineText::numbered(name, number);
+    line.named(b"owner", owner);
+    line
+}
+
+/// The line of an object, as `show` begins it.
+pub(crate) fn line_of_object(number: u64, object: &Object) -> LineText
+    ensures text { result ≡ spaced (words_of number object.now) }
+    ensures short { length result ≤ 120 }
+{
+    let owner = object.owner;
+    match &object.content {
+        Content::Free => LineText::numbered(b"free", number),
+        Content::Page(_) => begin(b"page", number, owner),
+        Content::Node(_) => begin(b"node", number, owner),
+        Content::Annex(_) => begin(b"annex", number, owner),
+        Content::Root(root) => {
+            let mut line = begin(b"process", number, owner);
+            line.named(b"annex", root.annex);
+            line
+        }
+        Content::Bank { limit } => {
+            let mut line = begin(b"bank", number, owner);
+            line.named(b"limit", *limit);
+            line
+        }
+    }
+}
+
+// Writes the line of a member.
+fn print_member<W: Write>(
+    inside: &NumberSet,
+    number: usize,
+    object: &Object,
+    writer: &mut W,
+) -> Result<(), RunFault>
+    requires { number < length inside.now }
+    ensures { Writes (W.contents writer.old) (W.contents writer.new) result (member_line inside.now (number, object.now)) }
+{
+    if !inside.contains(number) {
+        return Ok(());
+    }
+    line_of_object(number as u64, object).write_to(writer)
+}
+
+// Whether a capability of an object names another process or another bank, with authority.
+fn pulls(number: u64, capability: Capability) -> bool
+    ensures { result ≡ pulls number capability }
+{
+    match capability {
+        Capability::Process(named)
+        | Capability::Start { process: named, .. }
+        | Capability::Resume(named)
+        | Capability::Bank(named) => named != number,
+        _ => false,
+    }
+}
+
+/// The line of a capability that an object holds.
+pub(crate) fn line_of_held(
+    name: &[u8],
+    number: u64,
+    place: &[u8],
+    index: u64,
+    capability: Capability,
+) -> LineText
+    requires name { length name.now ≤ 8 }
+    requires place { length place.now ≤ 8 }
+    ensures text { result ≡ held_text name.now number place.now index capability }
+    ensures short { length result < 320 }
+{
+    let mut line = LineText::numbered(name, number);
+    line.push(b",");
+    line.named(place, index);
+    line.push(b":");
+    line.capability(capability);
+    line
+}
+
+// Writes the line of a capability that pulls in another process or another bank.
+fn print_pull<W: Write>(
+    name: &[u8],
+    number: u64,
+    place: &[u8],
+    index: usize,
+    capability: Capability,
+    writer: &mut W,
+) -> Result<(), RunFault>
+    requires name { length name.now ≤ 8 }
+    requires place { length place.now ≤ 8 }
+    ensures { Writes (W.contents writer.old) (W.contents writer.new) result (pull_line name.now number place.now (index, capability)) }
+{
+    if !pulls(number, capability) {
+        return Ok(());
+    }
+    line_of_held(name, number, place, index as u64, capability).write_to(writer)
+}
+
+// Writes the lines of the members.
+fn print_members<W: Write>(
+    objects: &[Object],
+    inside: &NumberSet,
+    writer: &mut W,
+) -> Result<(), RunFault>
+    requires { length inside.now ≡ length objects.now }
+    ensures { Writes (W.contents writer.old) (W.contents writer.new) result
+        (flat_map (member_line inside.now) (enumerate_from 0 objects.now)) }
+{
+    for (number, object) in objects.iter().enumerate() {
+        print_member(inside, number, object, writer)?;
+    }
+    Ok(())
+}
+
+// Writes the lines of the capabilities of an object that pull in processes and banks.
+fn print_pulls<W: Write>(
+    name: &[u8],
+    number: u64,
+    place: &[u8],
+    capabilities: &[Capability],
+    writer: &mut W,
+) -> Result<(), RunFault>
+    requires name { length name.now ≤ 8 }
+    requires place { length place.now ≤ 8 }
+    ensures { Writes (W.contents writer.old) (W.contents writer.new) result
+        (pull_lines name.now number place.now capabilities.now) }
+{
+    for (index, capability) in capabilities.iter().enumerate() {
+        print_pull(name, number, place, index, *capability, writer)?;
+    }
+    Ok(())
+}
+
+/// The capabilities that an object holds in slots or registers.
+pub(crate) fn slots_of(objects: &[Object], number: u64) -> &[Capability]
+    ensures { result.now ≡ slots_in (content_at objects.now number) }
+{
+    match objects.get(number as usize) {
+        Some(object) => match &object.content {
+            Content::Node(slots) | Content::Annex(slots) => slots.as_slice(),
+            _ => &[],
+        },
+        None => &[],
+    }
+}
+
+// Writes what an object pulls in: a process by the registers of its annex.
+fn print_object_pulls<W: Write>(
+    objects: &[Object],
+    number: u64,
+    object: &Object,
+    writer: &mut W,
+) -> Result<(), RunFault>
+    ensures { Writes (W.contents writer.old) (W.contents writer.new) result
+        (object_pulls objects.now number object.now) }
+{
+    match &object.content {
+        Content::Node(slots) => print_pulls(b"node", number, b"slot", slots.as_slice(), writer),
+        Content::Root(root) => {
+            let registers = slots_of(objects, root.annex);
+            print_pulls(b"process", number, b"register", registers, writer)
+        }
+        _ => Ok(()),
+    }
+}
+
+// Writes what a member pulls in.
+fn print_member_pulls<W: Write>(
+    objects: &[Object],
+    inside: &NumberSet,
+    number: usize,
+    object: &Object,
+    writer: &mut W,
+) -> Result<(), RunFault>
+    requires { number < length inside.now }
+    ensures { Writes (W.contents writer.old) (W.contents writer.new) result
+        (member_pulls objects.now inside.now (number, object.now)) }
+{
+    if !inside.contains(number) {
+        return Ok(());
+    }
+    print_object_pulls(objects, number as u64, object, writer)
+}
+
+// Writes what the members pull in.
+fn print_all_pulls<W: Write>(
+    objects: &[Object],
+    inside: &NumberSet,
+    writer: &mut W,
+) -> Result<(), RunFault>
+    requires { length inside.now ≡ length objects.now }
+    ensures { Writes (W.contents writer.old) (W.contents writer.new) result
+        (flat_map (member_pulls objects.now inside.now) (enumerate_from 0 objects.now)) }
+{
+    for (number, object) in objects.iter().enumerate() {
+        print_member_pulls(objects, inside, number, object, writer)?;
+    }
+    Ok(())
+}
+
+// How many of the first numbers are members.
+fn count_members(inside: &NumberSet, total: usize) -> u64
+    requires { total ≡ length inside.now }
+    ensures { result ≡ count_by (λ b. b) inside.now }
+{
+    let mut count = 0;
+    for number in 0..total {
+        if inside.contains(number) {
+            count += 1;
+        }
+    }
+    count
+}
+
+/// Writes a set of numbers: the line of each member as `show` begins it, by rising numbers; `closed`
+/// with their count; and each capability of a member that names another process or another bank.
+///
+/// `RunFault::Write` if the writer fails or takes nothing: then a beginning of that text was written.
+/// It takes no memory.
+pub fn print_reach<W: Write>(
+    objects: &[Object],
+    inside: &NumberSet,
+    writer: &mut W,
+) -> Result<(), RunFault>
+    requires { length inside.now ≡ length objects.now }
+    ensures { Writes (W.contents writer.old) (W.contents writer.new) result
+        (reach_text objects.now inside.now) }
+{
+    print_members(objects, inside, writer)?;
+    LineText::numbered(b"closed", count_members(inside, objects.len())).write_to(writer)?;
+    print_all_pulls(objects, inside, writer)
+}

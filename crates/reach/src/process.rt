@@ -1,0 +1,29 @@
+// Which numbers are processes.
+ghost use Rattle.std.specs.Prelude.{◌≡◌, IsNone, IsTrue, not};
+ghost use Rattle.std.specs.List.{All, find};
+ghost use Rattle.model.specs.World.{is_process};
+
+use model::{Content, Object};
+
+// Whether a number is that of a process.
+fn is_process(objects: &[Object], number: u64) -> bool
+    ensures { result ≡ is_process objects.now number }
+{
+    match objects.get(number as usize) {
+        Some(object) => matches!(object.content, Content::Root(_)),
+        None => false,
+    }
+}
+
+/// The first of some numbers that isn't the number of a process. `None` if all are.
+pub fn missing_process(objects: &[Object], numbers: &[u64]) -> Option<u64>
+    ensures first { result ≡ find (λ n. not (is_process objects.now n)) numbers.now }
+    ensures none { IsNone result → All (λ n. IsTrue (is_process objects.now n)) numbers.now }
+{
+    for number in numbers {
+        if !is_process(objects, *number) {
+            return Some(*number);
+        }
+    }
+    None
+}

@@ -1,0 +1,145 @@
+// The search, level by level.
+ghost use Rattle.std.specs.Prelude.{◌≡◌, ℕ, ◌+◌, ◌<◌, ◌≤◌, length, IfOk};
+ghost use Rattle.std.specs.List.{All};
+ghost use Rattle.model.specs.declared.object.Content.TheVariants as content;
+ghost use Rattle.model.specs.World.{content_at};
+ghost use Rattle.reach.specs.Frontier.{NamesWithin};
+ghost use Rattle.reach.specs.Levels.{FindsBy, IsBy, IsFrom, IsFromLevel, IsHeldIn, IsOwnedBelow, IsSearched};
+ghost use Rattle.reach.specs.Reached.{AreSoundObjects};
+
+use crate::authority::authority;
+use crate::following::is_owned;
+use crate::levels::Levels;
+use crate::printing::slots_of;
+use crate::step::{Step, Way};
+use model::{Capability, Content, Object, Root};
+use std::alloc::{AllocError, Global};
+
+// Finds what a capability has authority over.
+fn find(levels: &mut Levels, from: u64, way: Way, capability: Capability, level: u64)
+    requires known { NamesWithin (length levels.old.found.items) capability }
+    requires level { level ≤ levels.old.greatest + 1 }
+    ensures { FindsBy (IsBy from way capability) level levels.old levels.new }
+{
+    if let Some(to) = authority(capability) {
+        levels.add(Step { from, way, to }, level);
+    }
+}
+
+// Finds what the capabilities in slots have authority over.
+fn find_held(levels: &mut Levels, from: u64, slots: &[Capability], level: u64)
+    requires known { All (NamesWithin (length levels.old.found.items)) slots.now }
+    requires level { level ≤ levels.old.greatest + 1 }
+    ensures { FindsBy (IsHeldIn slots.now (length slots.now) from) level levels.old levels.new }
+{
+    for (index, capability) in slots.iter().enumerate() {
+        let way = Way::Slot {
+            index: index as u64,
+            capability: *capability,
+        };
+        find(levels, from, way, *capability, level);
+    }
+}
+
+// Finds what a bank owns.
+fn find_owned(levels: &mut Levels, objects: &[Object], bank: u64, level: u64)
+    requires count { length levels.old.found.items ≡ length objects.now }
+    requires level { level ≤ levels.old.greatest + 1 }
+    ensures { FindsBy (IsOwnedBelow objects.now (length objects.now) bank) level levels.old levels.new }
+{
+    for (number, object) in objects.iter().enumerate() {
+        if is_owned(object, bank) {
+            let (from, to) = (bank, number as u64);
+            levels.add(
+                Step {
+                    from,
+                    way: Way::Owner,
+                    to,
+                },
+                level,
+            );
+        }
+    }
+}
+
+// Finds what a process has authority over: its annex, its address space, and what its registers hold.
+fn find_of_process(
+    levels: &mut Levels,
+    objects: &[Object],
+    process: u64,
+    root: &Root<Capability>,
+    level: u64,
+)
+    requires sound { AreSoundObjects objects.now }
+    requires count { length levels.old.found.items ≡ length objects.now }
+    requires root { content_at objects.now process ≡ content.Root root.now }
+    requires level { level ≤ levels.old.greatest + 1 }
+    ensures { FindsBy (IsFrom objects.now process) level levels.old levels.new }
+{
+    let (from, to) = (process, root.annex);
+    levels.add(
+        Step {
+            from,
+            way: Way::Annex,
+            to,
+        },
+        level,
+    );
+    find(levels, process, Way::Space(root.space), root.space, level);
+    find_held(levels, process, slots_of(objects, root.annex), level);
+}
+
+// Finds all that an object has authority over in one step.
+fn find_of_object(levels: &mut Levels, objects: &[Object], number: u64, level: u64)
+    requires sound { AreSoundObjects objects.now }
+    requires count { length levels.old.found.items ≡ length objects.now }
+    requires known { number < length objects.now }
+    requires level { level ≤ levels.old.greatest + 1 }
+    ensures { FindsBy (IsFrom objects.now number) level levels.old levels.new }
+{
+    match &objects[number as usize].content {
+        Content::Free | Content::Page(_) => {}
+        Content::Node(slots) => find_held(levels, number, slots.as_slice(), level),
+        Content::Annex(registers) => find_held(levels, number, registers.as_slice(), level),
+        Content::Root(root) => find_of_process(levels, objects, number, root, level),
+        Content::Bank { .. } => find_owned(levels, objects, number, level),
+    }
+}
+
+// Follows all that was found at a level.
+fn follow_level(levels: &mut Levels, objects: &[Object], level: u64)
+    requires sound { AreSoundObjects objects.now }
+    requires count { length levels.old.found.items ≡ length objects.now }
+    requires level { level ≤ levels.old.greatest }
+    requires few { levels.old.greatest ≤ length objects.now }
+    ensures { FindsBy (IsFromLevel objects.now levels.old level (length objects.now)) (level + 1) levels.old levels.new }
+{
+    for number in 0..objects.len() {
+        if levels.is_at(number as u64, level) {
+            find_of_object(levels, objects, number as u64, level + 1);
+        }
+    }
+}
+
+/// Finds all to which chains of steps from some numbers lead, each in as few steps as can be.
+/// Fails only if memory runs out.
+pub(crate) fn search(
+    alloc: Global,
+    objects: &[Object],
+    starts: &[u64],
+) -> Result<Levels, AllocError>
+    requires sound { AreSoundObjects objects.now }
+    requires known { All (λ n. n < length objects.now) starts.now }
+    ensures { IfOk result (λ l. (level : ℕ) × (l.greatest < level) × IsSearched objects.now starts.now level l) }
+{
+    let mut levels = Levels::new(alloc, objects.len())?;
+    for start in starts {
+        levels.begin(*start);
+    }
+    let mut level = 0;
+    while level <= levels.greatest() {
+        follow_level(&mut levels, objects, level);
+        level += 1;
+    }
+    Ok(levels)
+}

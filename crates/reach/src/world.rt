@@ -1,0 +1,47 @@
+// The objects of a store, in a list.
+ghost use Rattle.std.specs.Prelude.{◌≡◌, ◌<◌, length, IfOk};
+ghost use Rattle.model.specs.World.{object_at};
+ghost use Rattle.capability.specs.Parts.{AreSound, Looks, objects_in};
+
+use capability::{PrepareFault, PresentFrames, objects, view};
+use model::Object;
+use std::alloc::Global;
+
+// An object, fetched, its stale capabilities void.
+fn object<F: PresentFrames>(
+    alloc: Global,
+    store: &mut F,
+    number: u64,
+) -> Result<Object, PrepareFault>
+    requires sound { AreSound (F.parts store.old) }
+    requires known { number < length (F.parts store.old).headers }
+    ensures object { IfOk result (λ object. object ≡ object_at (objects_in (F.parts store.old)) number) }
+    ensures looks { Looks F.parts F.LeadsTo store.old store.new result }
+{
+    objects::fetch(store, alloc, &[number])?;
+    match view::object(alloc, store, number) {
+        Ok(object) => Ok(object),
+        Err(_) => Err(PrepareFault::NoMemory),
+    }
+}
+
+/// All objects of a store, by number. Each is fetched, and none is changed.
+///
+/// `NoMemory` if memory runs out, and `Failed` exactly if the device fails; no other fault.
+pub fn read_objects<F: PresentFrames>(
+    alloc: Global,
+    store: &mut F,
+) -> Result<Vec<Object>, PrepareFault>
+    requires { AreSound (F.parts store.old) }
+    ensures objects { IfOk result (λ objects. objects.items ≡ objects_in (F.parts store.old)) }
+    ensures looks { Looks F.parts F.LeadsTo store.old store.new result }
+{
+    let mut objects = Vec::new(alloc);
+    for number in 0..store.table().count() {
+        let object = object(alloc, store, number)?;
+        if objects.push(object).is_err() {
+            return Err(PrepareFault::NoMemory);
+        }
+    }
+    Ok(objects)
+}
