@@ -1,4 +1,4 @@
--- What loads and stores come to over a store of present frames.
+-- Loads and stores over a store of present frames.
 use Rattle.std.specs.Prelude.{◌≡◌, ◌↔◌, ℕ, ◌%◌, ◌<◌, ◌≤◌, Bool, List, [], ◌∷◌, Result, Ok, Err, OnErr, IsErrOf}
 use Rattle.model.specs.declared.access.Access.{Access}
 use Rattle.model.specs.declared.answer.MemoryFault.{MemoryFault}

@@ -1,4 +1,4 @@
--- What orders change, and what they come to.
+-- The changes and the outcomes of orders.
 use Rattle.std.specs.Prelude.{ℕ, Option, None, Some, List, [], ◌∷◌}
 use Rattle.std.specs.Option.{option_to_list}
 use Rattle.model.specs.declared.capability.Capability.TheVariants.{Void}
@@ -58,7 +58,7 @@ target_of (change.Bank made) = None
 abbrev pub written_of : Change → List ℕ
 written_of c = option_to_list (target_of c)
 
--- what comes of an order that goes as planned and writes the numbers of the list
+-- the outcome of an order, as planned, that writes the listed numbers
 abbrev pub outcome_by : List Object → List ℕ → OrderPlan → OrderOutcome
 outcome_by os list plan = record {
   code = plan.reply.code;

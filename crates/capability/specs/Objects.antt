@@ -1,4 +1,4 @@
--- A message as it is delivered.
+-- The delivery of a message.
 use Rattle.std.specs.Prelude.{ℕ, List}
 use Rattle.model.specs.declared.object.Content.{Content}
 use Rattle.model.specs.declared.object.Content.TheVariants as content

@@ -1,11 +1,11 @@
 // Present frames, read and changed as the objects that they stand for.
-ghost use Rattle.std.specs.Prelude.{◌≡◌, ◌↔◌, ℕ, ◌+◌, ◌<◌, ◌≤◌, ◌^◌, false, length, slice_set, IsTrue, IsSome, IfSome, OnOk, IsErrOf};
+ghost use Rattle.std.specs.Prelude.{◌≡◌, ◌↔◌, ℕ, ◌+◌, ◌<◌, ◌≤◌, ◌^◌, false, length, slice_set, IsTrue, OnOk, IsErrOf};
 ghost use Rattle.std.specs.List.{All, Contains};
 ghost use Rattle.model.specs.Frame.{current_count, header_at, held_at};
 ghost use Rattle.model.specs.Keepable.{AreCurrent, AreKeepable, AreKeptWords, IsKeptCap};
 ghost use Rattle.model.specs.Object.{is_annex, with_slot_in, with_word_in};
 ghost use Rattle.model.specs.Revoke.{consume as consumed, is_member, rescind as rescinded};
-ghost use Rattle.model.specs.World.{word_at, slot_at, root_at, annex_at, content_at, is_process, with_word, with_slot};
+ghost use Rattle.model.specs.World.{word_at, slot_at, annex_at, content_at, is_process, with_word, with_slot};
 ghost use Rattle.capability.specs.Objects.{with_message, with_message_in};
 ghost use Rattle.capability.specs.Parts.{AreGivenUp, FreshFits, IsFreshAt, IsOnce, KeepsAside, LooksUp, frames_of, fresh_content, objects_in};
 
@@ -22,20 +22,6 @@ pub fn word<F: PresentFrames>(store: &F, number: u64, index: usize) -> u64
     match store.frame(number) {
         Content::Page(words) => words.get(index),
         _ => 0,
-    }
-}
-
-/// The state of a process whose root is fetched, or nothing where it is no root.
-pub fn state<F: PresentFrames>(store: &F, process: u64) -> Option<State>
-    requires fetched { F.IsFetched store.now process }
-    ensures process { IsSome result
-        ↔ IsTrue (is_process (objects_in (F.parts store.now)) process) }
-    ensures state { IfSome result
-        (λ s. s ≡ (root_at (objects_in (F.parts store.now)) process).state) }
-{
-    match store.frame(process) {
-        Content::Root(root) => Some(root.state),
-        _ => None,
     }
 }
 

@@ -1,4 +1,4 @@
-//! What an order comes to before anything changes: a reply and a change.
+//! The plan of an order, before anything changes: a reply and a change.
 ghost use Rattle.std.specs.Prelude.{◌≡◌, [], ◌∷◌};
 ghost use Rattle.capability.specs.Changes.{reply_of_code, target_of};
 
@@ -14,7 +14,7 @@ pub struct Reply {
     pub capability: Capability,
 }
 
-/// What a bank does with numbers.
+/// What a bank changes.
 #[derive(Clone, Copy, Debug)]
 pub enum BankChange {
     /// Makes a free number a page, a node or a bank.
@@ -29,11 +29,11 @@ pub enum BankChange {
         annex: u64,
         bank: u64,
     },
-    /// Gives up the numbers that are listed, which the chain of the bank `above` accounts for.
+    /// Frees the listed numbers and subtracts them from the usage of `above` and its ancestors.
     GiveUp {
         above: u64,
     },
-    /// Gives a bank up, and hands what it owns on to its own bank.
+    /// Frees a bank and gives what it owns to its own bank.
     HandOn {
         bank: u64,
     },
@@ -55,20 +55,20 @@ pub enum Change {
         slot: usize,
         capability: Capability,
     },
-    /// A register of a process, which its annex holds.
+    /// A register of a process, in its annex.
     Register {
         process: u64,
         annex: u64,
         register: usize,
         capability: Capability,
     },
-    /// One of the words that a process was last delivered.
+    /// A word of the message that a process received last.
     RootWord {
         process: u64,
         index: usize,
         word: u64,
     },
-    /// The state of a process, and no capability resumes it any more.
+    /// The state of a process. Every resume capability to it becomes void.
     SetState {
         process: u64,
         state: State,
@@ -82,7 +82,7 @@ pub enum Change {
     Bank(BankChange),
 }
 
-/// What an order comes to: the reply, and the change that it makes.
+/// The reply of an order, and the change that it makes.
 #[derive(Clone, Copy, Debug)]
 pub struct OrderPlan {
     pub reply: Reply,
@@ -100,7 +100,7 @@ pub struct Caller {
 }
 
 impl Change {
-    /// The number that it writes, where it changes one object.
+    /// The number of the object that it changes, if it changes one object.
     pub fn target(&self) -> Option<u64>
         ensures { result ≡ target_of self.now }
     {
@@ -118,7 +118,7 @@ impl Change {
 }
 
 impl OrderPlan {
-    /// Nothing is done, for that reason.
+    /// A plan that changes nothing and replies with a code.
     pub fn refused(code: ResultCode) -> OrderPlan
         ensures { result ≡ record { reply = reply_of_code code; change = Change.Nothing } }
     {
@@ -132,7 +132,7 @@ impl OrderPlan {
         }
     }
 
-    /// The plan tells three words.
+    /// A plan that replies with three words.
     pub fn told_three(words: [u64; 3]) -> OrderPlan
         ensures { result ≡ record {
           reply = record { code = ResultCode.Done; words = words; capability = Capability.Void };
@@ -149,7 +149,7 @@ impl OrderPlan {
         }
     }
 
-    /// The plan tells two words.
+    /// A plan that replies with two words and 0.
     pub fn told(first: u64, second: u64) -> OrderPlan
         ensures { result ≡ record {
           reply = record {
@@ -170,7 +170,7 @@ impl OrderPlan {
         }
     }
 
-    /// The plan makes a change and gives a capability.
+    /// A plan that makes a change and replies with a capability.
     pub fn made(capability: Capability, change: Change) -> OrderPlan
         ensures { result ≡ record {
           reply = record { code = ResultCode.Done; words = 0 ∷ 0 ∷ 0 ∷ []; capability = capability };
@@ -187,7 +187,7 @@ impl OrderPlan {
         }
     }
 
-    /// The plan gives a capability.
+    /// A plan that replies with a capability.
     pub fn given(capability: Capability) -> OrderPlan
         ensures { result ≡ record {
           reply = record { code = ResultCode.Done; words = 0 ∷ 0 ∷ 0 ∷ []; capability = capability };
@@ -197,7 +197,7 @@ impl OrderPlan {
         OrderPlan::made(capability, Change::Nothing)
     }
 
-    /// The plan makes a change.
+    /// A plan that makes a change.
     pub fn changed(change: Change) -> OrderPlan
         ensures { result ≡ record { reply = reply_of_code ResultCode.Done; change = change } }
     {

@@ -9,7 +9,7 @@ ghost use Rattle.capability.specs.Parts.{frames_of};
 ghost use Rattle.capability.specs.Plain.{Announces, GoesOn, HasRoom, IsThere, parts_of, with_content_at};
 
 use crate::plain::rooms::{filled, push_free, put_aside};
-use crate::plain::touched::{are_ready, fresh_count, mark};
+use crate::plain::touched::{are_ready, fresh_within, mark};
 use crate::present::{Fresh, MAX_FETCHED, PrepareFault, PresentFrames};
 use crate::table::ObjectTable;
 use model::{Cap, Content, Geometry, ObjectHeader, Role};
@@ -130,10 +130,7 @@ impl Plain {
         requires { All (λ n. n < length self.old.headers) written.now }
         ensures { Announces self.old self.new written.now result }
     {
-        let fresh = fresh_count(&self.touched, written);
-        if fresh > self.geometry.log - self.count {
-            return Err(PrepareFault::LogFull);
-        }
+        let fresh = fresh_within(&self.touched, self.count, self.geometry.log, written)?;
         match put_aside(alloc, self.geometry, &self.table, &mut self.rooms, written) {
             Ok(()) => {}
             Err(_) => return Err(PrepareFault::NoMemory),

@@ -2,8 +2,7 @@
 use Rattle.std.proofs.Common.{◌≡◌, ℕ, ◌+◌, ◌++◌, ◌<◌, ◌≤◌, ◌&&◌, Bool, true, false, List, Result, Ok, Err, drop, length, refl, sym, ap, subst, ◌∙◌, arith, if◌then◌else◌}
 use Rattle.std.specs.Prelude.{IsTrue, OnOk, OnErr, slice_index}
 use Rattle.std.specs.List.{All}
-use Rattle.model.specs.declared.capability.Capability.{Capability}
-use Rattle.model.specs.declared.capability.Capability.TheVariants.{Void, Number, Page, Node, Space, Process, Start, Resume, Bank, Discrim}
+use Rattle.model.specs.declared.capability.Capability.TheVariants.{Process, Bank}
 use Rattle.model.specs.declared.command.Command.TheVariants as command
 use Rattle.model.specs.declared.command.Invocation.{Invocation}
 use Rattle.model.specs.declared.frame.Frame.{Frame}
@@ -159,19 +158,6 @@ module _ (old mid new : Parts) (i : Invocation) (s : BanksState) (sound : AreSou
       OnErr r (IsUnchanged mid new) → AreCounted new.geometry (objects_in new) s
   counted_after (Ok x) done unchanged = counted_done done
   counted_after (Err e) done unchanged = counted_same unchanged
-
--- what isn't a bank is asked no bank's order
-pub no_bank_order : (c : Capability) (w : ℕ) → ((b : ℕ) → c ≡ Bank b → ⊥) → IsNoBankOrder c w
-no_bank_order (Bank b) w other = absurd (other b refl)
-no_bank_order Void w other = tt
-no_bank_order (Number n) w other = tt
-no_bank_order (Page o a) w other = tt
-no_bank_order (Node o a) w other = tt
-no_bank_order (Space o h a) w other = tt
-no_bank_order (Process p) w other = tt
-no_bank_order (Start p key) w other = tt
-no_bank_order (Resume p) w other = tt
-no_bank_order Discrim w other = tt
 
 -- what is counted stays whatever is listed
 pub counted_listed : (g : Geometry) (os : List Object) (s t : BanksState) → t ≡ record s { listed = t.listed } → AreCounted g os s → AreCounted g os t

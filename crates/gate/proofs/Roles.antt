@@ -59,10 +59,6 @@ module _ (os : List Object) (p : ℕ) (s : State) (is : IsTrue (is_process os p)
   unfolding with_state with_root
   state_process q = field_kept is_root os p _ (sym is) q
 
-  pub state_node : (n : ℕ) → is_node (content_at (with_state os p s) n) ≡ is_node (content_at os n)
-  unfolding with_state with_root
-  state_node n = field_kept is_node os p _ (root_kind (content_at os p) (record (root_at os p) { state = s }) is) n
-
 pub state_annex : (os : List Object) (p : ℕ) (s : State) (q : ℕ) → annex_at (with_state os p s) q ≡ annex_at os q
 unfolding with_state with_root
 state_annex os p s q = field_kept annex_in os p (content.Root (record (root_at os p) { state = s })) refl q

@@ -1,8 +1,8 @@
 // Orders of banks.
-ghost use Rattle.std.specs.Prelude.{◌≡◌, ℕ, ◌<◌, ◌≤◌, ◌^◌, length, slice_index, Some, IfOk, OnOk};
+ghost use Rattle.std.specs.Prelude.{◌≡◌, ℕ, ◌<◌, ◌≤◌, ◌^◌, length, slice_index, None, Some, IfOk, IfSome, OnOk};
 ghost use Rattle.model.specs.declared.command.Command.TheVariants as command;
 ghost use Rattle.model.specs.Keepable.{AreKeepable};
-ghost use Rattle.model.specs.Order.{bank_order};
+ghost use Rattle.model.specs.Order.{IsNoBankOrder, bank_order};
 ghost use Rattle.model.specs.Text.{Fits};
 ghost use Rattle.model.specs.World.{annex_at};
 ghost use Rattle.capability.specs.Parts.{AreSound, Looks, frames_of, objects_in};
@@ -17,8 +17,8 @@ use model::{Arguments, BankOrder, Capability, Invocation};
 use space_bank::Banks;
 use std::alloc::Global;
 
-/// The order that a word asks of a bank.
-pub fn bank_order(word: u64) -> Option<BankOrder>
+// The order that a word asks of a bank.
+fn bank_order(word: u64) -> Option<BankOrder>
     ensures { result ≡ bank_order word }
 {
     match word {
@@ -30,6 +30,22 @@ pub fn bank_order(word: u64) -> Option<BankOrder>
         6 => Some(BankOrder::Destroy),
         7 => Some(BankOrder::ReturnToParent),
         8 => Some(BankOrder::Remaining),
+        _ => None,
+    }
+}
+
+/// The bank that is invoked and the order that a word asks of it. `None` if no bank is invoked, or
+/// if no bank knows the word.
+pub fn asked_bank(invoked: Capability, word: u64) -> Option<(u64, BankOrder)>
+    ensures bank { IfSome result (λ asked. invoked ≡ Capability.Bank asked.0) }
+    ensures order { IfSome result (λ asked. bank_order word ≡ Some asked.1) }
+    ensures none { result ≡ None → IsNoBankOrder invoked word }
+{
+    match invoked {
+        Capability::Bank(bank) => match bank_order(word) {
+            Some(order) => Some((bank, order)),
+            None => None,
+        },
         _ => None,
     }
 }

@@ -13,11 +13,11 @@ ghost use Rattle.gate.specs.Plan.{FitsCap, MayChange, fetched_of};
 
 use crate::change::make;
 use crate::delivery::deliver;
-use capability::{Caller, Change, OrderPlan, PresentFrames, Reply, objects, roots};
+use capability::{Caller, Change, OrderPlan, PresentFrames, Reply, roots};
 use model::{Capability, Invocation, Message, Operation, State};
 use space_bank::Banks;
 
-// How many numbers an invocation of a kernel object writes itself.
+// The count of numbers that an invocation of a kernel object writes itself.
 fn writer_count(operation: Operation) -> usize
     ensures { result ≡ writer_count operation }
 {
@@ -28,7 +28,7 @@ fn writer_count(operation: Operation) -> usize
     }
 }
 
-// Before the order a process that returns becomes available.
+// Before the order: a process that returns becomes available.
 fn leave<F: PresentFrames>(store: &mut F, caller: Caller)
     requires process { IsTrue (is_process (objects_in (F.parts store.old)) caller.process) }
     requires fetched { F.IsFetched store.old caller.process }
@@ -50,7 +50,7 @@ fn leave<F: PresentFrames>(store: &mut F, caller: Caller)
     }
 }
 
-// Makes the change of an order, whose numbers are listed from `skip` on.
+// Makes the change of an order, which writes `listed[skip..]`.
 fn change<F: PresentFrames>(store: &mut F, banks: &mut Banks, skip: usize, change: Change)
     requires sound { AreSound (F.parts store.old) }
     requires counted { AreCounted (F.parts store.old).geometry
@@ -76,9 +76,10 @@ fn change<F: PresentFrames>(store: &mut F, banks: &mut Banks, skip: usize, chang
     }
 }
 
-// Delivers the reply to a process, where it runs.
+// Delivers the reply to a process, if it runs.
 #[inline(always)]
 fn deliver_reply<F: PresentFrames>(store: &mut F, process: u64, reply: Reply)
+    requires process { IsTrue (is_process (objects_in (F.parts store.old)) process) }
     requires root_fetched { F.IsFetched store.old process }
     requires root_announced { F.IsAnnounced store.old process }
     requires annex_fetched { F.IsFetched store.old
@@ -94,9 +95,9 @@ fn deliver_reply<F: PresentFrames>(store: &mut F, process: u64, reply: Reply)
         → AreKeepable (F.parts store.old).geometry age (frames_of (F.parts store.new)) }
     ensures aside { KeepsAside F.parts F.IsFetched F.IsAnnounced F.LeadsTo store.old store.new }
 {
-    let Some(State::Running) = objects::state(store, process) else {
+    if roots::state(store, process) != State::Running {
         return;
-    };
+    }
     let [first, second, third] = reply.words;
     let message = Message {
         words: [reply.code.number(), first, second, third],
@@ -111,7 +112,7 @@ fn deliver_reply<F: PresentFrames>(store: &mut F, process: u64, reply: Reply)
     deliver(store, process, message);
 }
 
-// Gives a process that called the reply, where it is still a process and runs.
+// Gives a caller the reply, if it is still a process and runs.
 fn reply<F: PresentFrames>(store: &mut F, process: u64, reply: Reply)
     requires roles { HaveTheirRoles (frames_of (F.parts store.old)) }
     requires root { IsTrue (is_process (objects_in (F.parts store.old)) process)
@@ -133,7 +134,7 @@ fn reply<F: PresentFrames>(store: &mut F, process: u64, reply: Reply)
     }
 }
 
-// After the order a process that called gets the reply.
+// After the order: a process that called gets the reply.
 fn answer<F: PresentFrames>(store: &mut F, caller: Caller, told: Reply)
     requires roles { HaveTheirRoles (frames_of (F.parts store.old)) }
     requires root { caller.operation ≡ Operation.Call
@@ -159,8 +160,8 @@ fn answer<F: PresentFrames>(store: &mut F, caller: Caller, told: Reply)
     }
 }
 
-/// Carries out an order that is planned and announced. Before it a process that returns becomes
-/// available; after it one that called gets the reply, where it is still a process and runs.
+/// Carries out an order that is planned and announced. First a process that returns becomes
+/// available. At the end a process that called gets the reply, if it is still a process and runs.
 pub fn carry_out<F: PresentFrames>(
     store: &mut F,
     banks: &mut Banks,

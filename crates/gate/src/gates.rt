@@ -19,7 +19,7 @@ use capability::{Caller, PrepareFault, PresentFrames, objects, roots};
 use model::{Capability, Invocation, Message, Operation, ResultCode, State};
 use std::alloc::Global;
 
-/// The gate that is invoked: of which process, with which key, and whether it works only once.
+/// An invoked gate: its process, its key, and whether it works only once.
 #[derive(Clone, Copy, Debug)]
 pub struct Gate {
     pub process: u64,
@@ -118,8 +118,8 @@ fn leave<F: PresentFrames>(store: &mut F, invocation: &Invocation)
     }
 }
 
-// The message goes through the gate. One that works only once is given up at the end, so that a
-// copy of it that was sent arrives void.
+// Sends the message through the gate. A gate that works only once is consumed at the end, so a copy
+// of it that was sent arrives void.
 fn enter<F: PresentFrames>(
     store: &mut F,
     invocation: &Invocation,
@@ -156,8 +156,8 @@ fn enter<F: PresentFrames>(
     }
 }
 
-// Whether a gate can be entered: it resumes a process, or that is available, or it returns to
-// itself.
+// Whether a gate can be entered: it resumes a process, or its process is available, or a process
+// returns to itself.
 fn can_enter<F: PresentFrames>(store: &F, invocation: &Invocation, gate: Gate) -> bool
     requires fetched { F.IsFetched store.now gate.process }
     requires process { IsTrue (is_process

@@ -1,4 +1,4 @@
-// Invocations of kernel objects: an order is planned, announced, and carried out.
+// Invocations of kernel objects: plan the order, announce what it writes, carry it out.
 ghost use Rattle.std.specs.Prelude.{◌≡◌, ℕ, ◌<◌, ◌≤◌, ◌^◌, ◌++◌, length, slice_index, IfOk, OnOk, IsErrOf, IsTrue};
 ghost use Rattle.std.specs.List.{All, Contains};
 ghost use Rattle.model.specs.declared.command.Command.TheVariants as command;
@@ -15,17 +15,17 @@ ghost use Rattle.gate.specs.Invoke.{IsAsked, IsKernelObject, Invoked};
 ghost use Rattle.gate.specs.Ordering.{IsPlanned, arguments_of};
 ghost use Rattle.gate.specs.Plan.{fetched_of};
 
-use crate::banking::{bank_order, plan_bank_order};
+use crate::banking::{asked_bank, plan_bank_order};
 use crate::carrying::carry_out;
 use crate::fault::InvokeFault;
 use crate::looking::{look_at_named, order_arguments};
 use crate::orders::plan;
 use capability::{BankChange, Caller, Change, OrderPlan, PrepareFault, PresentFrames};
-use model::{Arguments, Capability, Invocation, ResultCode};
+use model::{Arguments, Invocation, ResultCode};
 use space_bank::Banks;
 use std::alloc::Global;
 
-// Lists the object that an order changes, if it changes one.
+// Lists the object that the change of an order writes, if it writes one.
 fn list_target(banks: &mut Banks, change: Change)
     requires { length banks.old.listed < banks.old.room }
     ensures { banks.new ≡ record banks.old { listed = banks.old.listed ++ written_of change } }
@@ -36,7 +36,7 @@ fn list_target(banks: &mut Banks, change: Change)
     }
 }
 
-// Plans an order that asks no bank, and lists what it writes. What it reads is fetched first.
+// Plans an order that asks no bank and lists what it writes. First fetches what it reads.
 fn plan_object_order<F: PresentFrames>(
     alloc: Global,
     store: &mut F,
@@ -63,7 +63,7 @@ fn plan_object_order<F: PresentFrames>(
     Ok(plan)
 }
 
-// Plans the order of an invocation, and lists all that the invocation writes.
+// Plans the order of an invocation and lists every number that the invocation writes.
 fn plan_order<F: PresentFrames>(
     alloc: Global,
     store: &mut F,
@@ -86,16 +86,11 @@ fn plan_order<F: PresentFrames>(
 {
     let arguments = order_arguments(store, invocation, caller.annex);
     banks.list_writers(caller);
-    match caller.invoked {
-        Capability::Bank(bank) => match bank_order(invocation.words[0]) {
-            Some(order) => {
-                plan_bank_order(
-                    alloc, store, banks, invocation, caller, bank, order, arguments,
-                )
-            }
-            None => plan_object_order(alloc, store, banks, invocation, caller, arguments),
-        },
-        _ => plan_object_order(alloc, store, banks, invocation, caller, arguments),
+    match asked_bank(caller.invoked, invocation.words[0]) {
+        Some((bank, order)) => plan_bank_order(
+            alloc, store, banks, invocation, caller, bank, order, arguments,
+        ),
+        None => plan_object_order(alloc, store, banks, invocation, caller, arguments),
     }
 }
 
@@ -138,7 +133,7 @@ fn fetched_by(caller: Caller, change: Change) -> [u64; 4]
     }
 }
 
-// Announces what is listed, and fetches the process, its annex, and what the change needs.
+// Announces the listed numbers. Fetches the process, its annex, and what the change needs.
 fn announce<F: PresentFrames>(
     alloc: Global,
     store: &mut F,

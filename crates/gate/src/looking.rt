@@ -26,7 +26,7 @@ pub fn look<F: PresentFrames>(alloc: Global, store: &mut F, number: u64) -> Resu
     objects::fetch(store, alloc, &[number])
 }
 
-/// Fetches a process and its annex, and gives the number of the annex.
+/// Fetches a process and its annex. Returns the annex.
 pub fn look_at_process<F: PresentFrames>(
     alloc: Global,
     store: &mut F,
@@ -48,8 +48,8 @@ pub fn look_at_process<F: PresentFrames>(
     Ok(annex)
 }
 
-/// Fetches what an order on a capability reads: the object that it names, and of a process its
-/// annex too.
+/// Fetches what an order on a capability reads: the object that it names, and the annex of a
+/// process.
 pub fn look_at_named<F: PresentFrames>(
     alloc: Global,
     store: &mut F,
@@ -75,7 +75,7 @@ pub fn look_at_named<F: PresentFrames>(
     }
 }
 
-/// Reads what a process invokes. Its annex is fetched then.
+/// Reads what a process invokes, and fetches its annex.
 pub fn ask<F: PresentFrames>(
     alloc: Global,
     store: &mut F,
@@ -101,7 +101,7 @@ pub fn ask<F: PresentFrames>(
     })
 }
 
-/// What an order is given: two words, and the first capability that is sent. The annex of the
+/// The arguments of an order: two words, and the first capability that is sent. The annex of the
 /// process is fetched.
 pub fn order_arguments<F: PresentFrames>(
     store: &F,

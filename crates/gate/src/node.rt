@@ -11,7 +11,7 @@ use bitflags::Flags;
 use capability::{Change, OrderPlan, PresentFrames, objects};
 use model::{Access, Arguments, Capability, MAX_HEIGHT, NodeOrder, ResultCode, SLOTS};
 
-/// The order that a word asks of a node.
+/// The node order with a number.
 pub fn node_order(word: u64) -> Option<NodeOrder>
     ensures { result ≡ node_order word }
 {
@@ -25,8 +25,8 @@ pub fn node_order(word: u64) -> Option<NodeOrder>
     }
 }
 
-// What is fetched through a capability with that access: weakly, what is left once it is
-// diminished.
+// The capability that a fetch gives through a node capability with an access: diminished if the
+// access is weak.
 fn fetched(access: Access, capability: Capability) -> Capability
     ensures { result ≡ fetched access capability }
 {
@@ -37,7 +37,7 @@ fn fetched(access: Access, capability: Capability) -> Capability
     }
 }
 
-// What a store into a slot of a node comes to, of the capability that was sent or of a number.
+// Plans a store into a slot of a node: the sent capability, or a number.
 fn stored(object: u64, access: Access, arguments: Arguments, capability: Capability) -> OrderPlan
     requires { (capability ≡ arguments.capability)
         ⊎ (capability ≡ Capability.Number arguments.second) }
@@ -61,7 +61,7 @@ fn stored(object: u64, access: Access, arguments: Arguments, capability: Capabil
     })
 }
 
-/// What an order on a node, which is fetched, comes to.
+/// Plans an order on a node, which is fetched.
 #[tactic(auto, unfolding(model::specs::Order::on_node))]
 pub fn on_node<F: PresentFrames>(
     store: &F,

@@ -25,7 +25,7 @@ const REDUCE_SPACE: u64 = 3;
 // The order that tells the kind of a capability.
 const CLASSIFY: u64 = 1;
 
-// What an order on an address space comes to.
+// Plans an order on an address space.
 #[tactic(auto, unfolding(model::specs::Order::order))]
 fn on_space(object: u64, height: u8, access: Access, word: u64, arguments: Arguments) -> OrderPlan
     ensures only { (os : List Object)
@@ -48,7 +48,7 @@ fn on_space(object: u64, height: u8, access: Access, word: u64, arguments: Argum
     }
 }
 
-// The tag of a capability, as the order that classifies tells it.
+// The tag of a capability, for the order that classifies.
 fn tag_of(capability: Capability) -> u64
     ensures { result ≡ tag_of capability }
 {
@@ -78,7 +78,7 @@ fn access_bits(capability: Capability) -> u64
     }
 }
 
-// What an order on a capability comes to that needs no object for it.
+// Plans an order that needs no object.
 #[tactic(auto, unfolding(model::specs::Order::order))]
 fn on_plain(word: u64, capability: Capability, arguments: Arguments) -> OrderPlan
     requires { IsPlain capability word }
@@ -99,8 +99,8 @@ fn on_plain(word: u64, capability: Capability, arguments: Arguments) -> OrderPla
     }
 }
 
-/// What an order on a kernel object comes to that asks no bank. The word says which order. The
-/// object is fetched, and of a process its annex too.
+/// Plans an order on a kernel object, with the number `word`. It asks no bank. The object is fetched,
+/// and so is the annex of a process.
 #[tactic(auto, unfolding(model::specs::Order::order))]
 pub fn plan<F: PresentFrames>(
     store: &F,

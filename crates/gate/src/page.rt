@@ -10,7 +10,7 @@ use bitflags::Flags;
 use capability::{Change, OrderPlan, PresentFrames, objects};
 use model::{Access, Arguments, Capability, PageOrder, ResultCode, WORDS};
 
-/// The order that a word asks of a page.
+/// The page order with a number.
 pub fn page_order(word: u64) -> Option<PageOrder>
     ensures { result ≡ page_order word }
 {
@@ -22,7 +22,7 @@ pub fn page_order(word: u64) -> Option<PageOrder>
     }
 }
 
-/// The access that a word asks to reduce a capability by: read-only, or read-only and weak.
+/// The access by which a word reduces a capability: read-only, or read-only and weak.
 pub fn reduction(word: u64) -> Option<Access>
     ensures { result ≡ (if reduces word then Some (record { 0 = word }) else None) }
 {
@@ -33,7 +33,7 @@ pub fn reduction(word: u64) -> Option<Access>
     }
 }
 
-/// What an order on a page, which is fetched, comes to.
+/// Plans an order on a page, which is fetched.
 #[tactic(auto, unfolding(model::specs::Order::on_page))]
 pub fn on_page<F: PresentFrames>(
     store: &F,

@@ -30,7 +30,7 @@ pub fn process_order(word: u64) -> Option<ProcessOrder>
     }
 }
 
-// What setting the state of a process comes to: 0 makes it available, 1 running.
+// Plans an order that sets the state of a process: 0 makes it available, 1 running.
 #[tactic(auto, unfolding(model::specs::Order::on_process))]
 fn set_state(process: u64, arguments: Arguments) -> OrderPlan
     ensures only { (os : List Object)
@@ -48,7 +48,7 @@ fn set_state(process: u64, arguments: Arguments) -> OrderPlan
     OrderPlan::changed(Change::SetState { process, state })
 }
 
-// What setting the address space of a process comes to.
+// Plans an order that sets the address space of a process.
 #[tactic(auto, unfolding(model::specs::Order::on_process))]
 fn set_space(process: u64, arguments: Arguments) -> OrderPlan
     ensures only { (os : List Object)
@@ -68,7 +68,7 @@ fn set_space(process: u64, arguments: Arguments) -> OrderPlan
     })
 }
 
-/// What an order on a process comes to whose root and annex are fetched.
+/// Plans an order on a process, whose root and annex are fetched.
 #[tactic(auto, unfolding(model::specs::Order::on_process))]
 pub fn on_process<F: PresentFrames>(
     store: &F,

@@ -24,7 +24,7 @@ use Rattle.kernel.specs.declared.power.Power.{Power}
 use Rattle.kernel.specs.declared.power.Power.TheVariants as power
 use Rattle.kernel.specs.Denotes.{saved_of, DenotesOne, Leaves, LeavesOne}
 use Rattle.kernel.specs.Opening.{IsNoReason, IsSomeDown, Opens, RefusesToOpen, ReopensAs, Reopened, Wakes, refused_by}
-use Rattle.kernel.specs.Standing.{Asks, GoesDown, HasDevice, IsCaused, IsDeviceOf, IsSomeMachine, IsSomeUp, IsUp, SameDevice, Serves, ServesFrom, Stands, disk_of, running}
+use Rattle.kernel.specs.Standing.{Asks, GoesDown, IsCaused, IsDeviceOf, IsSomeMachine, IsSomeUp, IsUp, SameDevice, Serves, ServesFrom, Stands, disk_of, running}
 use Rattle.kernel.proofs.Crashes.{leaves_end, leaves_here, among}
 use Rattle.kernel.proofs.Denoted.{one_denoted, one_not_bad}
 
@@ -136,14 +136,6 @@ module _ {D S : Type 0} (disk : D → Disk) (view : S → View D) (parts : S →
       go : IsSomeMachine disk view parts (power.Up l) → IsSomeUp disk view parts l
       go (g, Up r, stands) = (g, stands.0)
       go (g, Down saved, stands) = absurd stands
-
-  -- there is a device beneath, whatever the store is
-  pub asked_device : (p q : Power D S) (c : Command) (a : Answer) → Asks disk view parts p c a q → HasDevice disk view parts q
-  asked_device p (power.Up k) c a asks = tt
-  asked_device p (power.Down e) c a asks = tt
-  asked_device (power.Up l) power.Between c a asks = absurd asks
-  asked_device (power.Down d) power.Between c a asks = absurd asks
-  asked_device power.Between power.Between c a asks = absurd asks
 
   -- the store answered, or the machine is down
   pub stays : (p q : Power D S) (c : Command) (a : Answer) → opens c ≡ false → (a ≡ answer.Refused refusal.Fault → ⊥) → Asks disk view parts p c a q → Serves disk view parts p c a q

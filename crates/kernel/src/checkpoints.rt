@@ -7,7 +7,7 @@ ghost use Rattle.kernel.specs.Standing.{IsCaused, IsSomeUp, ServesUp, disk_at, r
 use crate::power::Live;
 use checkpoint::CheckpointFault;
 use device::{Device, Failed};
-use model::{Answer, MAX_AGE, Refusal};
+use model::{Answer, Refusal};
 use object_store::ObjectStore;
 
 // What is answered where the store refuses.
@@ -39,7 +39,7 @@ pub fn checkpoint<D: Device, S: ObjectStore<D>>(live: &mut Live<S>) -> Result<An
     ensures looks { IsUnlooked (answer_of result) → ⊥ }
     ensures told_once { IsToldOnce result }
 {
-    if live.age >= MAX_AGE {
+    if processes::is_worn(live.age) {
         return Ok(Answer::Refused(Refusal::Worn));
     }
     match live.store.freeze() {
@@ -52,8 +52,8 @@ pub fn checkpoint<D: Device, S: ObjectStore<D>>(live: &mut Live<S>) -> Result<An
     }
 }
 
-/// Writes so many frozen objects to the log. It is refused by `NoCheckpoint` where none is on its
-/// way, and fails where the device does.
+/// Writes up to `count` frozen objects to the log. Refused with `NoCheckpoint` if there is no frozen
+/// state. Fails if the device does.
 #[inline(never)]
 pub fn stabilize<D: Device, S: ObjectStore<D>>(
     live: &mut Live<S>,

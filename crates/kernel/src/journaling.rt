@@ -7,7 +7,7 @@ ghost use Rattle.kernel.specs.Journal.{unjournaled_by};
 
 use crate::power::Live;
 use device::{Device, Failed};
-use model::{Answer, MAX_AGE, Refusal, Unjournaled};
+use model::{Answer, Refusal, Unjournaled};
 use object_store::{JournalFault, ObjectStore};
 
 // What is answered where the store refuses, by whether an object has the number.
@@ -52,7 +52,7 @@ pub fn journal<D: Device, S: ObjectStore<D>>(
         → (S.view live.new.store).beneath ≡ (S.view live.old.store).beneath }
     ensures told_once { IsToldOnce result }
 {
-    if live.age >= MAX_AGE {
+    if processes::is_worn(live.age) {
         return Ok(Answer::Refused(Refusal::Worn));
     }
     let is_known = number < live.store.table().count();

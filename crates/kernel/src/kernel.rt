@@ -52,15 +52,14 @@ impl<D: Device, S: ObjectStore<D>> Kernel<D, S> {
 
     /// Serves one command, as the machine does.
     ///
-    /// Of the refusals that apply the first is answered (see `Refusal`), and changes nothing.
-    /// `NoMemory` may stand in place of the answer to a command that takes memory, and `Fault` is
-    /// answered exactly where the device failed: then the machine is down, and takes only
-    /// `Restart` and `Cut`. `Restart` and `Cut` that are refused leave it down. `BadNumber`,
-    /// `NoProcess` and `Down` are told without a call of the device, and `Migrate` makes none where
-    /// all that is saved is home.
+    /// A refusal changes nothing. If several apply, the answer is the first (see `Refusal`). A command
+    /// that takes memory may be answered `NoMemory` instead. `Fault` is answered exactly if the device
+    /// failed: then the machine is down, and takes only `Restart` and `Cut`, which leave it down if
+    /// they are refused. `BadNumber`, `NoProcess` and `Down` make no call of the device, and neither
+    /// does `Migrate` if everything saved is home.
     ///
-    /// A crash at any moment leaves what was saved, or, in a `Commit` or in the `Migrate` that
-    /// brings the last object home, what that is to save.
+    /// A crash at any moment leaves the saved part. In a `Commit`, a `Journal`, or the `Migrate` that
+    /// brings the last object home, it may leave the part that this command saves.
     pub fn step(&mut self, alloc: Global, command: Command) -> Answer
         ensures serves { Serves D.disk S.view S.parts self.old command result self.new }
         ensures untouched { IsUnlooked result

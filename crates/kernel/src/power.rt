@@ -29,7 +29,7 @@ pub enum Power<D, S> {
 }
 
 impl<D: Device, S: ObjectStore<D>> Power<D, S> {
-    /// What is told of the committed checkpoint, where the machine is up.
+    /// The committed checkpoint, if the machine is up.
     pub fn saved(&self) -> Option<Checkpoint>
         ensures { IsTold D.disk S.view S.parts self.now result }
     {

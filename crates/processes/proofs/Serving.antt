@@ -31,7 +31,7 @@ use Rattle.gate.specs.declared.fault.InvokeFault.TheVariants as fault
 use Rattle.gate.specs.Invoke.{Invokes, KeepsSoundFrames, Overfills, result_code}
 use Rattle.device.specs.declared.device.Failed.{Failed}
 use Rattle.space_bank.proofs.Renewing.{renews_after, renews_none}
-use Rattle.processes.specs.Machine.{Performs, answer_of, machine_at, renewed_by}
+use Rattle.processes.specs.Machine.{Performs, machine_at, renewed_by}
 use Rattle.processes.specs.Prepared.{refused_by}
 use Rattle.processes.proofs.Steps.{bad_number_step, full_step, invoke_step, no_memory_step, show_no_memory, show_step, stalled_step}
 
@@ -183,11 +183,6 @@ module _ (age : ℕ) (old mid new : Parts) (i : Invocation) (same : AreSame old 
       refused_after refusal.NoMemory unchanged later (told_cause refusal.NoMemory (λ e. cc) stayed)
       (λ renewed frozen saved to_move other. no_memory_step mid.geometry _ i process_then)
 
-  pub failed_after : AreSame mid new → mid.failures < new.failures → Performs age old (command.Invoke i) (answer.Refused refusal.Fault) age new
-  failed_after unchanged rose =
-      refused_after refusal.Fault unchanged (omega (arith, rose)) (λ e. rose, λ r. refl)
-      (λ renewed frozen saved to_move other. absurd (other refl))
-
 -- the result code is the same after a look
 pub code_looked : (old mid : Parts) (i : Invocation) → AreSame old mid → (code : Option ResultCode) → code ≡ result_code mid.geometry (objects_in mid) i → code ≡ result_code old.geometry (objects_in old) i
 code_looked old mid i same code is =
@@ -243,13 +238,6 @@ look_unfailed f is e = let d : f ≡ prepare.Failed = cc in cc
 -- where a call succeeds no count rises
 pub ok_stayed : {X : Type 0} (early : Option Refusal) → (let r : Result (Option Refusal) Failed = Ok early in IsErr r ↔ X) → X → ⊥
 ok_stayed early cause x = let never : false ≡ true = cause.1 x in cc
-
--- a failure that is all there is
-pub failed_serves : (age : ℕ) (old new : Parts) (c : Command) (r : Result Answer Failed) → IsErr r → AreSame old new → IsSoundFrames old.geometry age (frames_of old) → old.failures < new.failures →
-    Performs age old c (answer_of r) age new
-failed_serves age old new c (Ok a) failed same sound rose = let never : false ≡ true = failed in cc
-failed_serves age old new c (Err e) failed same sound rose =
-    refused_serves age old new c refusal.Fault same sound (omega (arith, rose)) (λ told. rose, λ r. refl) (λ renewed frozen saved to_move other. absurd (other refl))
 
 -- what was shown isn't a failure
 pub shown_fine : (os : List Object) (n : ℕ) (a : Answer) → a ≡ shown os n → a ≡ answer.Refused refusal.Fault → ⊥

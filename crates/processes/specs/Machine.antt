@@ -32,7 +32,7 @@ abbrev pub answer_of : Result Answer Failed → Answer
 answer_of (Ok a) = a
 answer_of (Err failed) = answer.Refused refusal.Fault
 
--- a failure is told by an error alone
+-- `Fault` comes only as an error
 abbrev pub IsToldOnce : Result Answer Failed → Type 0
 IsToldOnce (Ok a) = a ≢ answer.Refused refusal.Fault
 IsToldOnce (Err failed) = Unit {0}
@@ -51,7 +51,7 @@ abbrev pub code_with : Geometry → List Object → Invocation → Answer → Op
 code_with g os i answer.Done = result_code g os i
 code_with g os i _ = None
 
--- a refusal that is told without a look at an object: there is no such number, process or machine
+-- a refusal that needs no object: no such number, no such process, or the machine is down
 abbrev pub NeedsNoLook : Refusal → Type 0
 NeedsNoLook refusal.BadNumber = Unit {0}
 NeedsNoLook refusal.NoProcess = Unit {0}

@@ -1,4 +1,4 @@
--- What is told where objects weren't prepared.
+-- The refusals of a failed `prepare`.
 use Rattle.model.specs.declared.answer.Refusal.{Refusal}
 use Rattle.model.specs.declared.answer.Refusal.TheVariants as refusal
 use Rattle.capability.specs.declared.present.PrepareFault.{PrepareFault}

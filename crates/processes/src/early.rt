@@ -9,8 +9,8 @@ use device::Failed;
 use model::{Refusal, State};
 use std::alloc::Global;
 
-/// The refusal of a command by a process that isn't running, if there is one. Whether there is such
-/// a process is told before memory is wanted. Fails exactly where the device does.
+/// The refusal of a command because its process doesn't run, or `None`. `NoProcess` needs no memory
+/// and leaves the store untouched. Fails exactly where the device does.
 pub fn early<F: PresentFrames>(
     alloc: Global,
     store: &mut F,

@@ -6,12 +6,13 @@ ghost use Rattle.capability.specs.Parts.{frames_of, objects_in};
 ghost use Rattle.space_bank.specs.Banks.{AreCounted};
 ghost use Rattle.processes.specs.Machine.{IsServedOnce, IsUnlooked, Performs, answer_with, code_with};
 
+use crate::age::is_worn;
 use crate::early::early;
 use crate::served::Served;
 use capability::PresentFrames;
 use device::Failed;
 use gate::InvokeFault;
-use model::{Answer, Invocation, MAX_AGE, Refusal};
+use model::{Answer, Invocation, Refusal};
 use space_bank::Banks;
 use std::alloc::Global;
 
@@ -48,7 +49,7 @@ pub fn invoke<F: PresentFrames>(
     if let Some(refusal) = early(alloc, store, *age, invocation.process)? {
         return Ok(Served::refused(refusal));
     }
-    if *age >= MAX_AGE {
+    if is_worn(*age) {
         return Ok(Served::refused(Refusal::Worn));
     }
     match gate::invoke(alloc, store, banks, invocation) {

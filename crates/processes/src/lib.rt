@@ -1,12 +1,14 @@
 //! The steps of the machine.
 #![tactic(auto)]
 
+mod age;
 mod early;
 mod invocation;
 mod memory;
 mod served;
 mod showing;
 
+pub use age::is_worn;
 pub use invocation::invoke;
 pub use memory::{load, store};
 pub use served::Served;

@@ -16,7 +16,7 @@ use model::{Answer, Capability, Content, Description, Refusal, Shown, Slots};
 use space_bank::Banks;
 use std::alloc::Global;
 
-// The usage of an object with that content, as it is counted, which is 0 where it is no bank.
+// The usage of a bank, and 0 for any other object.
 fn used_by(banks: &Banks, content: &Content<Capability>, number: u64) -> u64
     ensures { result ≡ (if is_bank content.now then slice_index banks.now.usages number else 0) }
 {
@@ -84,7 +84,7 @@ fn shown<F: PresentFrames>(
     }
 }
 
-/// Tells of an object, by its number.
+/// Shows the object with a number.
 ///
 /// It is refused by `BadNumber` where no object has the number, and the store isn't touched then; and by `NoMemory` where memory ran
 /// out. It fails exactly where the device does.

@@ -27,9 +27,6 @@ handed_same list b os us are n = ap (λ (o : Object). o.content) (are.each n) �
 pub handed_used : (list : List ℕ) (b : ℕ) (os us : List Object) → AreHandedOn list b os us → (n : ℕ) → is_free (content_at os n) ≡ false → is_free (content_at us n) ≡ false
 handed_used list b os us are n used = ap (λ (c : Content Capability). is_free c) (handed_same list b os us are n) ∙ used
 
-pub handed_none : (b : ℕ) (os : List Object) → AreHandedOn [] b os os
-handed_none b os = record { size = refl; each = λ n. refl }
-
 -- one more of a list
 pub handed_more : (list : List ℕ) (i b : ℕ) (os us vs : List Object) → i < length list → slice_index list i < length us → AreHandedOn (take i list) b os us
     → vs ≡ slice_set us (slice_index list i) (record { owner = b; content = content_at us (slice_index list i) }) → AreHandedOn (take (i + 1) list) b os vs

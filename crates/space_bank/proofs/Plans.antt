@@ -225,9 +225,6 @@ module _ (p : Parts) (s : BanksState) (b : ℕ) (h : IsBankOf p s b) where
   pub bank_room : (n : ℕ) → n ≤ 2 → n + length p.headers ≤ s.room
   bank_room n few = omega (arith, keepable_count p.geometry h.sound.0 p h.sound.1.keepable, h.counted.room)
 
-  pub prime_owner : owner_at (objects_in p) 0 ≡ 0
-  prime_owner = h.sound.1.sound.prime.1
-
 root_not_bank : (c : Content Capability) → IsTrue (is_root c) → IsTrue (is_bank c) → ⊥
 root_not_bank (content.Root r) root is = cc
 root_not_bank content.Free root is = cc

@@ -31,9 +31,6 @@ use Rattle.space_bank.specs.Carrying.{MayServe}
 pub sound_now : (g : Geometry) (age : ℕ) (fs : List Frame) → IsSoundFrames g age fs → IsNow g (objects_of fs)
 sound_now g age fs h = nearly_from g (world_at age fs) h.sound
 
-pub sound_framed : (g : Geometry) (age : ℕ) (fs : List Frame) → IsSoundFrames g age fs → IsFramed g (objects_of fs)
-sound_framed g age fs h = (sound_now g age fs h).frame
-
 -- what stands where nothing is has the role of what is free
 role_free : (f : Cap → Capability) (c : Content Cap) → is_free (map_content f c) ≡ true → role_of c ≡ role.Free
 role_free f content.Free is = refl
@@ -103,11 +100,6 @@ module _ (p : Parts) (s : BanksState) (b : ℕ) (asks : MayServe p s b) where
 
   pub serve_count : length p.headers ≡ object_count p.geometry
   serve_count = keepable_count p.geometry asks.sound.0 p asks.sound.1.keepable
-
-  -- each bank is counted
-  pub bank_inside : (x : ℕ) → IsTrue (is_bank (content_at (objects_in p) x)) → x < length s.usages
-  bank_inside x is =
-      omega (arith, bank_kind p.geometry x (content_at (objects_in p) x) (serve_framed.kinds x) is, asks.counted.usage_each)
 
   -- what a chain accounts for stays a number of 64 bits
   pub room_fits : (count : ℕ) → IsTrue (has_room (objects_in p) b count) → (x : ℕ) → is_member (chain (objects_in p) b) x ≡ true →

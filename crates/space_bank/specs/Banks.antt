@@ -1,4 +1,4 @@
--- What is counted of banks, beside the objects, and what their orders come to.
+-- The counts of banks, kept beside the objects, and the orders of banks.
 use Rattle.std.specs.Prelude.{◌≡◌, ℕ, ◌+◌, ◌<◌, ◌≤◌, Bool, false, List, length, slice_index, IsTrue}
 use Rattle.model.specs.declared.geometry.Geometry.{Geometry}
 use Rattle.model.specs.declared.object.Object.{Object}

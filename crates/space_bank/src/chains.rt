@@ -11,7 +11,7 @@ ghost use Rattle.space_bank.specs.Chains.{IsRaised};
 use crate::walking::MAX_CHAIN;
 use capability::PresentFrames;
 
-/// Adds so many to what each bank in the chain of a bank accounts for.
+/// Adds a count to the usage of each bank in a chain.
 ///
 /// Goes over at most 16 banks, in the table alone.
 pub(crate) fn raise<F: PresentFrames>(usages: &mut [u64], store: &F, bank: u64, count: u64)
@@ -36,7 +36,7 @@ pub(crate) fn raise<F: PresentFrames>(usages: &mut [u64], store: &F, bank: u64, 
     }
 }
 
-/// Takes so many from what each bank in the chain of a bank accounts for.
+/// Subtracts a count from the usage of each bank in a chain.
 ///
 /// Goes over at most 16 banks, in the table alone.
 pub(crate) fn lower<F: PresentFrames>(usages: &mut [u64], store: &F, bank: u64, count: u64)

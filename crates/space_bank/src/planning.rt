@@ -1,4 +1,4 @@
-// What each order of a bank comes to. Nothing but the list is changed.
+// Plans of the orders of banks. They change nothing but the list.
 ghost use Rattle.std.specs.Prelude.{◌≡◌, ℕ, ◌<◌, ◌≤◌, ◌++◌, List, [], ◌∷◌, length, MatchOption};
 ghost use Rattle.model.specs.declared.object.Object.{Object};
 ghost use Rattle.model.specs.declared.order.Arguments.{Arguments};
@@ -37,11 +37,10 @@ fn freed_object(capability: Capability) -> Option<u64>
 }
 
 impl Banks {
-    /// What an order comes to. Lists the numbers that it writes behind those that are listed, two at
-    /// most.
+    /// Plans an order. Appends the numbers that it writes to the list, which has two at most.
     ///
     /// Changes nothing else and takes no memory. A new object is planned at the least number that
-    /// is free. Where more than one code applies, the least is told.
+    /// is free. If more than one code applies, the plan has the least.
     pub fn plan<F: PresentFrames>(
         &mut self,
         store: &F,

@@ -1,4 +1,4 @@
-// What an order that allocates comes to. Nothing but the list is changed.
+// Plans of the orders that allocate. They change nothing but the list.
 ghost use Rattle.std.specs.Prelude.{◌≡◌, ◌+◌, ◌<◌, ◌≤◌, ◌^◌, ◌++◌, IfSome, List, Some, length};
 ghost use Rattle.std.specs.List.{range_with_len};
 ghost use Rattle.model.specs.declared.object.Object.{Object};

@@ -1,9 +1,10 @@
-// Which numbers were written since the last checkpoint.
-ghost use Rattle.std.specs.Prelude.{◌≡◌, ◌≢◌, ◌+◌, ◌<◌, IsTrue, length, slice_index_or, slice_set, false, true};
+// The numbers written since the last checkpoint.
+ghost use Rattle.std.specs.Prelude.{◌≡◌, ◌≢◌, ◌↔◌, ◌+◌, ◌<◌, ◌≤◌, IfOk, IsErrOf, IsTrue, OnOk, length, slice_index_or, slice_set, false, true};
 ghost use Rattle.std.specs.List.{All};
 ghost use Rattle.model.specs.Frame.{header_at};
 ghost use Rattle.model.specs.Machine.{touching, touched_count};
 
+use crate::present::PrepareFault;
 use crate::table::ObjectTable;
 use model::Role;
 use number_set::NumberSet;
@@ -36,9 +37,8 @@ pub fn are_ready(table: &ObjectTable, touched: &NumberSet, written: &[u64]) -> b
     true
 }
 
-/// How many numbers of a list aren't marked yet. A number that stands there twice counts once.
-///
-/// Takes as many comparisons as the list has pairs, and no memory.
+/// The count of numbers in a list that aren't marked yet. A number that stands there twice counts
+/// once. Takes as many comparisons as the list has pairs, and no memory.
 pub fn fresh_count(touched: &NumberSet, written: &[u64]) -> u64
     requires { All (λ n. n < length touched.now) written.now }
     ensures { touched_count touched.now + result
@@ -51,6 +51,32 @@ pub fn fresh_count(touched: &NumberSet, written: &[u64]) -> u64
         }
     }
     fresh
+}
+
+/// The count of numbers in a list that aren't marked yet. `LogFull` if marking them all would make
+/// more than `most`. `count` is the count of marked numbers.
+pub fn fresh_within(
+    touched: &NumberSet,
+    count: u64,
+    most: u64,
+    written: &[u64],
+) -> Result<u64, PrepareFault>
+    requires known { All (λ n. n < length touched.now) written.now }
+    requires count { count ≡ touched_count touched.now }
+    requires within { count ≤ most }
+    ensures fresh { IfOk result (λ fresh. count + fresh
+        ≡ touched_count (touching touched.now written.now)) }
+    ensures fits { OnOk result (touched_count (touching touched.now written.now) ≤ most) }
+    ensures full { IsErrOf result PrepareFault.LogFull
+        ↔ (most < touched_count (touching touched.now written.now)) }
+    ensures cause { IsErrOf result PrepareFault.Failed → ⊥ }
+    ensures memory { IsErrOf result PrepareFault.NoMemory → ⊥ }
+{
+    let fresh = fresh_count(touched, written);
+    if fresh > most - count {
+        return Err(PrepareFault::LogFull);
+    }
+    Ok(fresh)
 }
 
 /// Marks the numbers of a list.

@@ -9,14 +9,14 @@ use Rattle.kernel.proofs.Stages.{frames_again, keepable_most, none_there}
 use Rattle.kernel.proofs.Steps.{worn}
 use Rattle.kernel.proofs.checkpoints.checkpoint.Goals as goal
 
-pub returns-then-live-ge-MAX_AGE-clause-serves : goal.returns-then-live-ge-MAX_AGE-clause-serves
-returns-then-live-ge-MAX_AGE-clause-serves g c =
+pub returns-then-is_worn-clause-serves : goal.returns-then-is_worn-clause-serves
+returns-then-is_worn-clause-serves g c =
     let disk = g.D.Device.disk in
     let view = g.S.ObjectStore.view in
     let parts = g.S.PresentFrames.parts in
     let only = g.met.D.Device.only_now in
     let holds = g.met.S.ObjectStore.sound_holds in
-    refused disk view parts only holds c.args.live.now command.Checkpoint refusal.Worn (λ g up. worn g (running disk view parts c.args.live.now) c.if-live-ge-MAX_AGE.true)
+    refused disk view parts only holds c.args.live.now command.Checkpoint refusal.Worn (λ g up. worn g (running disk view parts c.args.live.now) (c.is_worn.ensures.worn c.if-is_worn.true))
 
 pub freeze-requires : goal.freeze-requires
 freeze-requires g c =
@@ -32,7 +32,7 @@ returns-in-Ok-clause-serves g c =
     let holds = g.met.S.ObjectStore.sound_holds in
     let said = c.in-Ok.ensures in
     let frames = frames_again (parts c.args.live.now.store) (parts c.freeze.new.self) said.headers said.contents in
-    begun disk view parts only holds c.args.live.now c.freeze.new.self c.in-Ok.size c.if-live-ge-MAX_AGE.false (none_there (view c.args.live.now.store).aside.frozen said.answer.0) said.answer.1
+    begun disk view parts only holds c.args.live.now c.freeze.new.self c.in-Ok.size (c.is_worn.ensures.young c.if-is_worn.false) (none_there (view c.args.live.now.store).aside.frozen said.answer.0) said.answer.1
     frames said.touched said.geometry said.size said.aside said.beneath said.sound
 
 pub returns-in-Err-clause-serves : goal.returns-in-Err-clause-serves
@@ -44,7 +44,7 @@ returns-in-Err-clause-serves g c =
     let holds = g.met.S.ObjectStore.sound_holds in
     let said = c.in-Err.ensures in
     subst (λ (a : Answer). ServesUp disk view parts c.args.live.now command.Checkpoint a (with_store c.args.live.now c.freeze.new.self)) (sym c.refused.ensures.answer)
-    (freeze_refused disk view parts only holds c.args.live.now c.freeze.new.self c.in-Err.fault said.unchanged c.if-live-ge-MAX_AGE.false said.answer)
+    (freeze_refused disk view parts only holds c.args.live.now c.freeze.new.self c.in-Err.fault said.unchanged (c.is_worn.ensures.young c.if-is_worn.false) said.answer)
 
 pub returns-in-Err-clause-cause : goal.returns-in-Err-clause-cause
 returns-in-Err-clause-cause g c =

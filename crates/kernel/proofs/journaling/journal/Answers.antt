@@ -13,9 +13,9 @@ use Rattle.kernel.proofs.Journals.{journal_cause, journal_refused, journal_went,
 use Rattle.kernel.proofs.Stages.{keepable_most, none_there}
 use Rattle.kernel.proofs.journaling.journal.Goals as goal
 
-pub returns-then-live-ge-MAX_AGE-clause-serves : goal.returns-then-live-ge-MAX_AGE-clause-serves
-returns-then-live-ge-MAX_AGE-clause-serves g c =
-    too_old g.D.Device.disk g.S.ObjectStore.view g.S.PresentFrames.parts g.met.D.Device.only_now g.met.S.ObjectStore.sound_holds c.args.live.now c.args.number c.if-live-ge-MAX_AGE.true
+pub returns-then-is_worn-clause-serves : goal.returns-then-is_worn-clause-serves
+returns-then-is_worn-clause-serves g c =
+    too_old g.D.Device.disk g.S.ObjectStore.view g.S.PresentFrames.parts g.met.D.Device.only_now g.met.S.ObjectStore.sound_holds c.args.live.now c.args.number (c.is_worn.ensures.worn c.if-is_worn.true)
 
 pub journal-requires-clause-keepable : goal.journal-requires-clause-keepable
 journal-requires-clause-keepable g c =
@@ -36,7 +36,7 @@ returns-in-Ok-clause-serves g c =
     let told = said.answer in
     let age = c.saved-age.ensures.age in
     let same : AreSame (parts c.args.live.now.store) (parts c.journal.new.self) = record { headers = said.headers; contents = said.contents; touched = said.touched; geometry = said.geometry } in
-    journal_went disk view parts only holds c.args.live.now c.journal.new.self n c.if-live-ge-MAX_AGE.false same said.size
+    journal_went disk view parts only holds c.args.live.now c.journal.new.self n (c.is_worn.ensures.young c.if-is_worn.false) same said.size
     (subst (λ (k : ℕ). LeavesOneOf (disk (view c.args.live.now.store).beneath) (disk (view c.journal.new.self).beneath) aside.saved
     (next_journaled (k + 1) n (words_now p n) aside.frozen aside.saved (is_page_now p n) (is_still_saved p aside.saved n))) age said.any_moment)
     (none_there aside.frozen told.1) told.2 told.3 told.4 c.in-Ok.generation told.5
@@ -57,7 +57,7 @@ returns-in-Err-clause-serves g c =
     let count : c.count.result ≡ length p.headers = c.count.ensures ∙ ap length c.table.ensures in
     let same : AreSame (parts c.args.live.now.store) (parts c.journal.new.self) = record { headers = said.headers; contents = said.contents; touched = said.touched; geometry = said.geometry } in
     subst (λ (a : Answer). ServesUp disk view parts c.args.live.now (command.Journal n) a (with_store c.args.live.now c.journal.new.self)) (sym c.refused.ensures.answer)
-    (journal_refused disk view parts only holds c.args.live.now c.journal.new.self n c.if-live-ge-MAX_AGE.false c.in-Err.fault (nat_lt n c.count.result) same said.size said.answer said.turned_away
+    (journal_refused disk view parts only holds c.args.live.now c.journal.new.self n (c.is_worn.ensures.young c.if-is_worn.false) c.in-Err.fault (nat_lt n c.count.result) same said.size said.answer said.turned_away
     (lies_within n c.count.result (length p.headers) count) (lies_past n c.count.result (length p.headers) count) said.unchanged said.sound
     (subst (λ (k : ℕ). LeavesOneOf (disk (view c.args.live.now.store).beneath) (disk (view c.journal.new.self).beneath) aside.saved
     (next_journaled (k + 1) n (words_now p n) aside.frozen aside.saved (is_page_now p n) (is_still_saved p aside.saved n))) c.saved-age.ensures.age said.any_moment))

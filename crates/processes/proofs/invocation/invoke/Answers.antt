@@ -22,17 +22,17 @@ returns-in-Some-clause-serves g c =
     (told_cause c.in-Some.refusal (early_fine (objects_in old) c.args.invocation.process c.in-Some.refusal early) (ok_stayed c.in_ok-refusal.field-0 c.in_ok-refusal.ensures.cause))
     (λ renewed frozen saved to_move other. early_step old.geometry _ c.args.invocation c.in-Some.refusal early))
 
-pub returns-then-age-ge-MAX_AGE-clause-serves : goal.returns-then-age-ge-MAX_AGE-clause-serves
-returns-then-age-ge-MAX_AGE-clause-serves g c =
+pub returns-then-is_worn-clause-serves : goal.returns-then-is_worn-clause-serves
+returns-then-is_worn-clause-serves g c =
     let old = g.F.PresentFrames.parts c.args.store.now in
     let mid = g.F.PresentFrames.parts c.early.new.store in
     let aside = c.early.ensures.aside in
     let same : AreSame old mid = record { headers = aside.headers; contents = aside.contents; touched = aside.touched; geometry = aside.geometry } in
     let runs = early_none (objects_in old) c.args.invocation.process c.in_ok-refusal.field-0 c.in_default.not-Some c.in_ok-refusal.ensures.why in
-    rw c.refused-then-age-ge-MAX_AGE.ensures
+    rw c.refused-then-is_worn.ensures
     (refused_serves c.args.age.now old mid (command.Invoke c.args.invocation) refusal.Worn same c.requires.sound c.early.ensures.later
     (told_cause refusal.Worn (λ e. cc) (ok_stayed c.in_ok-refusal.field-0 c.in_ok-refusal.ensures.cause))
-    (λ renewed frozen saved to_move other. worn_step old.geometry _ c.args.invocation runs.0 runs.1 c.if-age-ge-MAX_AGE.true))
+    (λ renewed frozen saved to_move other. worn_step old.geometry _ c.args.invocation runs.0 runs.1 (c.is_worn.ensures.worn c.if-is_worn.true)))
 
 pub returns-in-Ok-clause-serves : goal.returns-in-Ok-clause-serves
 returns-in-Ok-clause-serves g c =
@@ -44,7 +44,7 @@ returns-in-Ok-clause-serves g c =
     let failures = unfailed old.failures mid.failures c.early.ensures.later (ok_stayed c.in_ok-refusal.field-0 c.in_ok-refusal.ensures.cause) in
     let runs = early_none (objects_in old) c.args.invocation.process c.in_ok-refusal.field-0 c.in_default.not-Some c.in_ok-refusal.ensures.why in
     let said = c.in-Ok.ensures.invoked in
-    done_after c.args.age.now old mid new c.args.invocation same failures runs.0 runs.1 c.requires.sound c.if-age-ge-MAX_AGE.false
+    done_after c.args.age.now old mid new c.args.invocation same failures runs.0 runs.1 c.requires.sound (c.is_worn.ensures.young c.if-is_worn.false)
     said.done said.sound said.renews said.geometry said.later (λ rose. done_unfailed c.in-Ok.code (said.cause.1 rose))
 
 pub returns-in-Err-Stalled-clause-serves : goal.returns-in-Err-Stalled-clause-serves
@@ -59,7 +59,7 @@ returns-in-Err-Stalled-clause-serves g c =
     let said = c.in-Err-Stalled.ensures.invoked in
     let unchanged : AreSame mid new = record { headers = said.unchanged.headers; contents = said.unchanged.contents; touched = said.unchanged.touched; geometry = said.geometry } in
     rw c.refused-in-Err-Stalled.ensures
-    (stalled_after c.args.age.now old mid new c.args.invocation same failures runs.0 runs.1 c.requires.sound c.if-age-ge-MAX_AGE.false
+    (stalled_after c.args.age.now old mid new c.args.invocation same failures runs.0 runs.1 c.requires.sound (c.is_worn.ensures.young c.if-is_worn.false)
     (said.stalled (fault_is c.in-Err-Stalled.field-0 fault.Stalled c.in-Err-Stalled.field-0-is)) unchanged said.later (λ rose. fault_unfailed c.in-Err-Stalled.field-0 fault.Stalled c.in-Err-Stalled.field-0-is (λ e. cc) (said.cause.1 rose)))
 
 pub returns-in-Err-LogFull-clause-serves : goal.returns-in-Err-LogFull-clause-serves
@@ -74,7 +74,7 @@ returns-in-Err-LogFull-clause-serves g c =
     let said = c.in-Err-LogFull.ensures.invoked in
     let unchanged : AreSame mid new = record { headers = said.unchanged.headers; contents = said.unchanged.contents; touched = said.unchanged.touched; geometry = said.geometry } in
     rw c.refused-in-Err-LogFull.ensures
-    (full_after c.args.age.now old mid new c.args.invocation same failures runs.0 runs.1 c.requires.sound c.if-age-ge-MAX_AGE.false
+    (full_after c.args.age.now old mid new c.args.invocation same failures runs.0 runs.1 c.requires.sound (c.is_worn.ensures.young c.if-is_worn.false)
     (said.full (fault_is c.in-Err-LogFull.field-0 fault.LogFull c.in-Err-LogFull.field-0-is)) unchanged said.later (λ rose. fault_unfailed c.in-Err-LogFull.field-0 fault.LogFull c.in-Err-LogFull.field-0-is (λ e. cc) (said.cause.1 rose)))
 
 pub returns-in-Err-NoMemory-clause-serves : goal.returns-in-Err-NoMemory-clause-serves
@@ -89,7 +89,7 @@ returns-in-Err-NoMemory-clause-serves g c =
     let said = c.in-Err-NoMemory.ensures.invoked in
     let unchanged : AreSame mid new = record { headers = said.unchanged.headers; contents = said.unchanged.contents; touched = said.unchanged.touched; geometry = said.geometry } in
     rw c.refused-in-Err-NoMemory.ensures
-    (no_memory_after c.args.age.now old mid new c.args.invocation same failures runs.0 runs.1 c.requires.sound c.if-age-ge-MAX_AGE.false
+    (no_memory_after c.args.age.now old mid new c.args.invocation same failures runs.0 runs.1 c.requires.sound (c.is_worn.ensures.young c.if-is_worn.false)
     unchanged said.later (λ rose. fault_unfailed c.in-Err-NoMemory.field-0 fault.NoMemory c.in-Err-NoMemory.field-0-is (λ e. cc) (said.cause.1 rose)))
 
 pub returns-in-Some-clause-counted : goal.returns-in-Some-clause-counted
@@ -100,8 +100,8 @@ returns-in-Some-clause-counted g c =
     let looks : LooksAs old mid = looked_as aside in
     counted_looked old mid c.args.banks.now looks c.requires.counted
 
-pub returns-then-age-ge-MAX_AGE-clause-counted : goal.returns-then-age-ge-MAX_AGE-clause-counted
-returns-then-age-ge-MAX_AGE-clause-counted g c =
+pub returns-then-is_worn-clause-counted : goal.returns-then-is_worn-clause-counted
+returns-then-is_worn-clause-counted g c =
     let old = g.F.PresentFrames.parts c.args.store.now in
     let mid = g.F.PresentFrames.parts c.early.new.store in
     let aside = c.early.ensures.aside in

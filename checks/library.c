@@ -1,0 +1,82 @@
+/* Opens, steps and closes machines of the library many times, for checks/library, which compiles this under sanitizers: each
+ * status, buffers of exactly the size that fits, a handle that is closed twice.
+ * usage: PROGRAM IMAGE TIMES, with an image of examples/embed/counter.toml */
+#include "vezhnake.h"
+
+#include <stdio.h>
+#include <stdlib.h>
+#include <string.h>
+
+#define NEED(holds)                                                  \
+    do {                                                             \
+        if (!(holds)) {                                              \
+            fprintf(stderr, "library.c:%d: %s\n", __LINE__, #holds); \
+            exit(1);                                                 \
+        }                                                            \
+    } while (0)
+
+static const char *text = "send 1 6 2 0 5 0 0 0 0 0\ncheckpoint\nstabilize 9\ncommit\nnonsense\n";
+static uint8_t image[1 << 20], buffer[1 << 20], calls[1 << 20];
+static size_t image_size;
+
+static uint32_t step(vezhnake *machine, uint8_t *into, size_t into_size, size_t *size) {
+    return vezhnake_step(machine, (const uint8_t *)text, strlen(text), into, into_size, size);
+}
+
+/* The answers and calls of one step, each first without enough room and then into exactly as many bytes as there are. */
+static void try_step(vezhnake *machine) {
+    static const char *first = "done\nfrozen ", *last = "left 0\ncommitted 1\nbad line\n";
+    size_t wanted, size;
+    NEED(step(machine, buffer, 3, &wanted) == VEZHNAKE_SMALL_BUFFER && wanted > 3);
+    uint8_t *exact = malloc(wanted);
+    NEED(vezhnake_answer(machine, exact, wanted, &size) == VEZHNAKE_OK && size == wanted);
+    NEED(wanted > strlen(first) + strlen(last) && !memcmp(exact, first, strlen(first)));
+    NEED(!memcmp(exact + wanted - strlen(last), last, strlen(last)));
+    free(exact);
+    NEED(vezhnake_calls(machine, calls, 16, &wanted) == VEZHNAKE_SMALL_BUFFER && wanted > 16);
+    exact = malloc(wanted);
+    NEED(vezhnake_calls(machine, exact, wanted, &size) == VEZHNAKE_OK && size == wanted);
+    free(exact);
+    NEED(vezhnake_calls(machine, calls, sizeof calls, &size) == VEZHNAKE_OK && size == 0);
+}
+
+static void try_closed(vezhnake *machine) {
+    size_t size;
+    NEED(vezhnake_close(machine) == VEZHNAKE_NOT_OPEN);
+    NEED(step(machine, buffer, sizeof buffer, &size) == VEZHNAKE_NOT_OPEN);
+    NEED(vezhnake_answer(machine, buffer, sizeof buffer, &size) == VEZHNAKE_NOT_OPEN);
+    NEED(vezhnake_calls(machine, calls, sizeof calls, &size) == VEZHNAKE_NOT_OPEN);
+}
+
+static void try_refusals(vezhnake *machine) {
+    NEED(vezhnake_open(image, image_size - 1, 0, machine) == VEZHNAKE_BAD_SIZE && !machine->is_open);
+    NEED(vezhnake_open(image, image_size, 7, machine) == VEZHNAKE_BAD_CACHE);
+    NEED(vezhnake_open(image, image_size, 8193, machine) == VEZHNAKE_BAD_CACHE);
+    NEED(vezhnake_open(image, image_size - 512, 0, machine) == VEZHNAKE_SMALL);
+    NEED(vezhnake_open(image + 512, image_size - 512, 0, machine) == VEZHNAKE_NOT_A_SUPERBLOCK && !machine->is_open);
+}
+
+static uint32_t run(size_t answers, size_t room, vezhnake_batch *batch) {
+    return vezhnake_run(image, image_size, 0, (const uint8_t *)text, strlen(text), buffer, answers, calls, room, batch);
+}
+
+int main(int words, char **word) {
+    NEED(words == 3);
+    FILE *file = fopen(word[1], "rb");
+    NEED(file);
+    image_size = fread(image, 1, sizeof image, file);
+    fclose(file);
+    for (int i = 0; i < atoi(word[2]); i++) {
+        vezhnake machine = VEZHNAKE_CLOSED;
+        vezhnake_batch batch;
+        NEED(vezhnake_open(image, image_size, i % 2 ? 8 : 0, &machine) == VEZHNAKE_OK && machine.is_open);
+        NEED(vezhnake_open(image, image_size, 0, &machine) == VEZHNAKE_ALREADY_OPEN);
+        try_step(&machine);
+        NEED(vezhnake_close(&machine) == VEZHNAKE_OK && !machine.is_open);
+        try_closed(&machine);
+        try_refusals(&machine);
+        NEED(run(sizeof buffer, sizeof calls, &batch) == VEZHNAKE_OK);
+        NEED(run(1, 1, &batch) == VEZHNAKE_SMALL_BUFFER && batch.answers > 1 && batch.calls > 1);
+    }
+    return 0;
+}

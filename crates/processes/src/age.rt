@@ -1,0 +1,12 @@
+// The age of the machine.
+ghost use Rattle.std.specs.Prelude.{◌≡◌, ◌<◌, ◌≤◌, ◌^◌, false, true};
+
+use model::MAX_AGE;
+
+/// Whether an age is the greatest. Then a command that would raise it is refused with `Worn`.
+pub fn is_worn(age: u64) -> bool
+    ensures worn { result ≡ true → 2 ^ 62 ≤ age }
+    ensures young { result ≡ false → age < 2 ^ 62 }
+{
+    age >= MAX_AGE
+}

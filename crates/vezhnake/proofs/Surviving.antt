@@ -1,0 +1,86 @@
+-- What a crash leaves of storage that carried out some of the calls of a run.
+use Rattle.std.proofs.Common.{◌≡◌, ℕ, ◌+◌, ◌≤◌, List, ◌++◌, length, take, drop, sym, ap, ◌∙◌, subst, append_assoc, arith, length-append}
+use Rattle.std.proofs.Math.Seq.{take-append_seam}
+use Rattle.std.proofs.lemmas.List.{take-append-drop}
+use Rattle.std.proofs.lemmas.List.Concat.{flat_map-append}
+use Rattle.device.specs.Disk.{Image}
+use Rattle.device.specs.Calls.{image_of}
+use Rattle.memory_device.specs.Past.{Event, MayLeave, at_first, replay}
+use Rattle.capability.specs.Parts.{Parts}
+use Rattle.object_store.specs.Store.{View}
+use Rattle.kernel.specs.declared.power.Power.{Power}
+use Rattle.kernel.specs.declared.power.Power.TheVariants as power
+use Rattle.kernel.specs.Standing.{IsDeviceOf, Stands, disk_of}
+use Rattle.model.specs.declared.geometry.Geometry.{Geometry}
+use Rattle.model.specs.Machine.{Machine}
+use Rattle.model.specs.Run.{Turn}
+use Rattle.runs.specs.KernelRuns.{IsConfined, IsRunOf, RunsOver}
+use Rattle.runs_laws.specs.Laws.{CrashesAreSurvived}
+use Rattle.script.specs.declared.fault.RunFault.{RunFault}
+use Rattle.std.specs.Prelude.{Option, Some, Result}
+use Rattle.vezhnake.specs.HostCalls.{HostCall, StorageLeaves, events_by, events_of}
+use Rattle.vezhnake.specs.Hosting.{HostDevice, RunsText, Survives, calls_beneath, host_disk, start_beneath}
+
+-- the events of the first k calls are the first events
+front_of : (k : ℕ) (calls : List HostCall) (lost : List Event) → events_of calls ++ lost ≡ events_of (take k calls) ++ (events_of (drop k calls) ++ lost)
+front_of k calls lost =
+    ap (λ (es : List Event). es ++ lost) (ap events_of (sym (take-append-drop k calls)) ∙ flat_map-append events_by (take k calls) (drop k calls))
+    ∙ append_assoc (events_of (take k calls)) (events_of (drop k calls)) lost
+
+first_events : (k : ℕ) (calls : List HostCall) (lost : List Event)
+    → take (length (events_of (take k calls))) (events_of calls ++ lost) ≡ events_of (take k calls)
+first_events k calls lost =
+    ap (take (length (events_of (take k calls)))) (front_of k calls lost) ∙ take-append_seam (events_of (take k calls)) (events_of (drop k calls) ++ lost)
+
+-- what storage may leave after the first k calls, the device might have left since an earlier moment
+at_calls : (d : HostDevice) (t k : ℕ) (c : Image) → t ≤ length (events_of (take k d.file.history.calls))
+    → StorageLeaves d.sectors d.file.history.first (take k d.file.history.calls) c → (host_disk d).left_since t c
+at_calls d t k c later leaves =
+    let calls = d.file.history.calls in
+    let front = events_of (take k calls) in
+    let past : List Event = events_of calls ++ d.file.history.lost in
+    let within : length front ≤ length past = subst (λ (es : List Event). length front ≤ length es) (sym (front_of k calls d.file.history.lost))
+    (omega (arith, length-append front (events_of (drop k calls) ++ d.file.history.lost))) in (
+      length front,
+      later,
+      within,
+      subst (λ (es : List Event). MayLeave d.sectors (replay (at_first (image_of d.file.history.first)) es) c)
+          (sym (first_events k calls d.file.history.lost)) leaves,
+    )
+
+module _ {S : Type 0} (view : S → View HostDevice) (parts : S → Parts) where
+  beneath : (p : Power HostDevice S) (d : HostDevice) (t : ℕ) (c : Image) → IsDeviceOf host_disk view parts p d → (host_disk d).left_since t c
+      → (disk_of host_disk view parts p).left_since t c
+  beneath (power.Up l) d t c is left = subst (λ (e : HostDevice). (host_disk e).left_since t c) is left
+  beneath (power.Down e) d t c is left = subst (λ (f : HostDevice). (host_disk f).left_since t c) is left
+  beneath power.Between d t c is left = absurd is
+
+  survives : CrashesAreSurvived host_disk view parts → (g : Geometry) (m : Machine) (old new : Power HostDevice S) (turns : List Turn)
+      → Stands host_disk view parts g old m → IsRunOf host_disk view parts g m old new turns → Survives view parts g m old new turns
+  survives all g m old new turns stands run d k c is later leaves =
+      let found = (all g m old new turns stands run).each c (beneath new d (disk_of host_disk view parts old).moment c is
+      (at_calls d (disk_of host_disk view parts old).moment k c later leaves)) in
+      (found.0, found.1, found.2)
+
+  pub runs_text : CrashesAreSurvived host_disk view parts → (old new : Power HostDevice S) (text before after : List ℕ) (input unread : Option (List ℕ))
+      → input ≡ Some text → (result : Result (Unit {0}) RunFault) → RunsOver host_disk view parts old new input unread (Some before) (Some after) result
+      → IsConfined host_disk view parts old new input unread
+      → RunsText view parts old new text before after result
+  runs_text all old new text before after input unread is result over confined = record {
+    unread = unread;
+    run = subst (λ (i : Option (List ℕ)). RunsOver host_disk view parts old new i unread (Some before) (Some after) result) is over;
+    confined = subst (λ (i : Option (List ℕ)). IsConfined host_disk view parts old new i unread) is confined;
+    survives = λ g m turns stands run. survives all g m old new turns stands run;
+  }
+
+pub calls_are : {S : Type 0} (view : S → View HostDevice) (parts : S → Parts) (p : Power HostDevice S) (d : HostDevice)
+    → IsDeviceOf host_disk view parts p d → d.file.history.calls ≡ calls_beneath view p
+calls_are view parts (power.Up l) d is = ap (λ (e : HostDevice). e.file.history.calls) is
+calls_are view parts (power.Down e) d is = ap (λ (f : HostDevice). f.file.history.calls) is
+calls_are view parts power.Between d is = absurd is
+
+pub start_is : {S : Type 0} (view : S → View HostDevice) (parts : S → Parts) (p : Power HostDevice S) (d : HostDevice) → IsDeviceOf host_disk view parts p d
+    → d.file.pending.start ≡ start_beneath view p
+start_is view parts (power.Up l) d is = ap (λ (e : HostDevice). e.file.pending.start) is
+start_is view parts (power.Down e) d is = ap (λ (f : HostDevice). f.file.pending.start) is
+start_is view parts power.Between d is = absurd is

@@ -1,0 +1,10 @@
+use Rattle.std.proofs.Common.{Err, sym, subst, false}
+use Rattle.vezhnake.specs.declared.status.Status.{Status}
+use Rattle.vezhnake.specs.Sessions.{OpensFrom}
+use Rattle.vezhnake.proofs.Opening.{refused_from}
+use Rattle.vezhnake.proofs.host_kernel.open_bounded.Goals as goal
+
+pub returns-in-Err : goal.returns-in-Err
+returns-in-Err c =
+    subst (λ (s : Status). OpensFrom c.args.device false (Err s)) (sym c.status_of.ensures)
+    (refused_from c.args.device c.in-Err.refused.device false c.in-Err.refused.fault c.in-Err.ensures.refused)

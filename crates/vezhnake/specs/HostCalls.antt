@@ -1,0 +1,46 @@
+-- The calls that a host carries out on its storage, their bytes, and what a crash of the storage may leave.
+use Rattle.std.specs.Prelude.{ℕ, ◌*◌, ◌-◌, ◌^◌, List, [], ◌∷◌, ◌++◌, length}
+use Rattle.std.specs.List.{flat_map}
+use Rattle.std.specs.Int.{w64, to_le_bytes}
+use Rattle.memory_device.specs.declared.record.Outcome.TheVariants.{Keep}
+use Rattle.memory_device.specs.Past.{Event, MayLeave, at_first, cut, replay, synced, writes_of}
+use Rattle.device.specs.Disk.{Image}
+use Rattle.device.specs.Calls.{image_of, sectors_of}
+
+-- write these bytes from a sector on; make all earlier writes durable; or a power cut that keeps every byte, for which
+-- the host makes all earlier writes durable
+pub data HostCall : Type 0 where
+  write : ℕ → List ℕ → HostCall
+  sync : HostCall
+  power_cut : HostCall
+
+-- a number in eight bytes, the lowest first
+unfoldable pub number_bytes : ℕ → List ℕ
+number_bytes n = to_le_bytes w64 n
+
+-- where a write begins, as a byte, and its length
+abbrev pub header_of : ℕ → ℕ → List ℕ
+header_of byte count = number_bytes byte ++ number_bytes count
+
+-- the bytes of a call: a header, and what it writes; a sync has the byte 2^64 - 1 and writes nothing
+abbrev pub encoding : HostCall → List ℕ
+encoding (write at bytes) = header_of (512 * at) (length bytes) ++ bytes
+encoding sync = header_of (2 ^ 64 - 1) 0
+encoding power_cut = header_of (2 ^ 64 - 1) 0
+
+-- the bytes of calls, one after another
+abbrev pub encoded : List HostCall → List ℕ
+encoded calls = flat_map encoding calls
+
+-- the events of a call in the model of a device
+abbrev pub events_by : HostCall → List Event
+events_by (write at bytes) = writes_of at (sectors_of bytes) bytes
+events_by sync = synced ∷ []
+events_by power_cut = cut Keep ∷ []
+
+abbrev pub events_of : List HostCall → List Event
+events_of calls = flat_map events_by calls
+
+-- a crash may leave this image of storage that has this number of sectors, held these bytes and carried out these calls
+abbrev pub StorageLeaves : ℕ → List ℕ → List HostCall → Image → Type 0
+StorageLeaves sectors first calls c = MayLeave sectors (replay (at_first (image_of first)) (events_of calls)) c

@@ -1,0 +1,69 @@
+-- A kernel over the host's storage: how it begins, what a text does, and what a crash of the storage leaves.
+use Rattle.std.specs.Prelude.{◌≡◌, ℕ, ◌*◌, ◌≤◌, List, [], length, take, Option, Some, Result}
+use Rattle.device.specs.Disk.{Disk, Image}
+use Rattle.device.specs.Calls.{Agrees, image_of}
+use Rattle.capability.specs.Parts.{Parts}
+use Rattle.object_store.specs.Store.{View}
+use Rattle.file_device.specs.declared.file_device.CopiedFile.{CopiedFile}
+use Rattle.file_device.specs.FileDevice.{file_disk}
+use Rattle.kernel.specs.declared.power.Power.{Power}
+use Rattle.kernel.specs.declared.power.Power.TheVariants as power
+use Rattle.kernel.specs.Denotes.{Denotes}
+use Rattle.kernel.specs.Standing.{IsDeviceOf, Stands, disk_of}
+use Rattle.model.specs.declared.geometry.Geometry.{Geometry}
+use Rattle.model.specs.Machine.{Machine, Saved}
+use Rattle.model.specs.Run.{Turn}
+use Rattle.script.specs.declared.fault.RunFault.{RunFault}
+use Rattle.runs.specs.KernelRuns.{IsConfined, IsRunOf, RunsOver}
+use Rattle.runs_laws.specs.Laws.{MaySave}
+use Rattle.vezhnake.specs.declared.recorder.Recorder.{Recorder}
+use Rattle.vezhnake.specs.contracts.recorder.RecorderSectorFile.TheImpl.{ghosts}
+use Rattle.vezhnake.specs.HostCalls.{HostCall, StorageLeaves, events_of}
+use Rattle.vezhnake.specs.Steps.{fresh}
+
+-- the host's storage as a device, and as a disk
+abbrev pub HostDevice : Type 0
+HostDevice = CopiedFile Recorder ghosts
+
+abbrev pub host_disk : HostDevice → Disk
+host_disk d = file_disk d
+
+-- a device over storage that holds these bytes, on which no call was made
+pub record IsFresh (bytes : List ℕ) (d : HostDevice) : Type 0 where
+  pub history : d.file.history ≡ fresh bytes
+  pub size : 512 * (host_disk d).sectors ≡ length bytes
+  pub seen : Agrees (host_disk d).seen (image_of bytes)
+
+-- the calls of the device beneath a kernel
+abbrev pub calls_beneath : {S : Type 0} → (S → View HostDevice) → Power HostDevice S → List HostCall
+calls_beneath view (power.Up l) = (view l.store).beneath.file.history.calls
+calls_beneath view (power.Down d) = d.file.history.calls
+calls_beneath view power.Between = []
+
+-- the number of calls before the ones that are kept
+abbrev pub start_beneath : {S : Type 0} → (S → View HostDevice) → Power HostDevice S → ℕ
+start_beneath view (power.Up l) = (view l.store).beneath.file.pending.start
+start_beneath view (power.Down d) = d.file.pending.start
+start_beneath view power.Between = 0
+
+module _ {S : Type 0} (view : S → View HostDevice) (parts : S → Parts) where
+  abbrev pub disk_beneath : Power HostDevice S → Disk
+  disk_beneath p = disk_of host_disk view parts p
+
+  -- Between two kernels there were these turns. The host's storage has carried out the first k calls of the device, at
+  -- least those before the first turn. Then a crash of the storage leaves a saved part of the run.
+  abbrev pub Survives : Geometry → Machine → Power HostDevice S → Power HostDevice S → List Turn → Type 0
+  Survives g m old new turns =
+      (d : HostDevice) (k : ℕ) (c : Image) → IsDeviceOf host_disk view parts new d →
+      (disk_beneath old).moment ≤ length (events_of (take k d.file.history.calls)) →
+      StorageLeaves d.sectors d.file.history.first (take k d.file.history.calls) c →
+      (s : Saved) × MaySave m turns s × Denotes g (disk_beneath old).sectors c s
+
+  -- A text was run as a script: the answers are those of a run, the authority bound holds, and the storage survives.
+  pub record RunsText (old new : Power HostDevice S) (text before after : List ℕ)
+      (result : Result (Unit {0}) RunFault) : Type 0 where
+    pub unread : Option (List ℕ)
+    pub run : RunsOver host_disk view parts old new (Some text) unread (Some before) (Some after) result
+    pub confined : IsConfined host_disk view parts old new (Some text) unread
+    pub survives : (g : Geometry) (m : Machine) (turns : List Turn) → Stands host_disk view parts g old m →
+        IsRunOf host_disk view parts g m old new turns → Survives g m old new turns

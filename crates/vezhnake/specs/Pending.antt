@@ -1,0 +1,10 @@
+-- The calls that are kept for the host.
+use Rattle.std.specs.Prelude.{◌≡◌, ◌≤◌, List, length, drop}
+use Rattle.vezhnake.specs.HostCalls.{HostCall, encoded}
+use Rattle.vezhnake.specs.declared.pending.Pending.{Pending}
+
+-- of these calls, those from `start` on are kept, encoded
+pub record Keeps (p : Pending) (calls : List HostCall) : Type 0 where
+  pub bytes : p.bytes.items ≡ encoded (drop p.start calls)
+  pub count : p.count ≡ length calls
+  pub within : p.start ≤ length calls

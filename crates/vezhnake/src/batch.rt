@@ -1,0 +1,75 @@
+// A whole script in one call.
+ghost use Rattle.vezhnake.specs.Sessions.{IsFirstFault, RunsBatch, RunsScript};
+
+use crate::session::Session;
+use crate::status::Status;
+use std::alloc::Global;
+
+/// How many bytes the answers and the calls of a batch have.
+#[repr(C)]
+#[derive(Drop)]
+pub struct Batch {
+    pub answers: usize,
+    pub calls: usize,
+}
+
+// The first of two statuses that isn't `Done`, or `Done`.
+fn first_fault(first: Status, second: Status) -> Status
+    ensures { IsFirstFault first second result }
+{
+    match first {
+        Status::Done => second,
+        Status::Bad(_)
+        | Status::NoMemory
+        | Status::BadSize
+        | Status::BadCache
+        | Status::AlreadyOpen
+        | Status::NotOpen
+        | Status::SmallBuffer
+        | Status::CallsLost
+        | Status::Failed => first,
+    }
+}
+
+// Runs a script, and copies the answers and the calls.
+fn run_script(
+    alloc: Global,
+    session: &mut Session,
+    script: &[u8],
+    answers: &mut [u8],
+    calls: &mut [u8],
+    batch: &mut Batch,
+) -> Status
+    ensures { RunsScript session.old session.new script.now answers.old answers.new calls.old calls.new
+        batch.new.answers batch.new.calls result }
+{
+    let answered = session.step(alloc, script, answers, &mut batch.answers);
+    let taken = session.take_calls(calls, &mut batch.calls);
+    first_fault(answered, taken)
+}
+
+/// Opens a session on storage that holds these bytes, as `HostKernel::open` does, runs a script in
+/// it, and copies the answers and the calls.
+///
+/// An error of the session, or the first one of `Session::step` and `Session::take_calls`.
+pub fn run_batch(
+    alloc: Global,
+    image: &[u8],
+    cache: u64,
+    script: &[u8],
+    answers: &mut [u8],
+    calls: &mut [u8],
+    batch: &mut Batch,
+) -> Status
+    ensures { RunsBatch image.now cache script.now answers.old answers.new calls.old calls.new
+        batch.new.answers batch.new.calls result }
+{
+    match Session::open(alloc, image, cache) {
+        Ok(mut session) => {
+            let status = run_script(alloc, &mut session, script, answers, calls, batch);
+            session.end();
+            status
+        }
+        Err(status) => status,
+    }
+}

@@ -1,0 +1,149 @@
+// What C holds.
+ghost use Rattle.std.specs.Prelude.{◌≡◌, ◌↔◌, true, Some, None, IsSome, option_map};
+ghost use Rattle.vezhnake.specs.Sessions.{ClosesHandle, CopiesAnswer, OnSession, OpensHandle, StepsSession, TakesCalls};
+
+use crate::pointer::SessionPointer;
+use crate::session::Session;
+use crate::status::Status;
+use std::alloc::Global;
+use std::mem;
+
+/// A session that C holds, or none. C begins with all bytes 0, which holds none.
+#[repr(C)]
+pub struct Handle {
+    pointer: SessionPointer,
+    is_open: bool,
+    ghost flagged: { (is_open ≡ true) ↔ IsSome pointer.session },
+}
+
+impl Drop for Handle {
+    fn drop(self) {
+        drop(self.into_session());
+    }
+}
+
+impl Handle {
+    // Holds no session.
+    fn closed(alloc: Global) -> Handle
+        ensures { result.pointer.session ≡ None }
+    {
+        Handle {
+            pointer: SessionPointer::null(alloc),
+            is_open: false,
+        }
+    }
+
+    // Holds this session.
+    fn opened(session: Box<Session>) -> Handle
+        ensures { result.pointer.session ≡ Some session.value }
+    {
+        Handle {
+            pointer: SessionPointer::new(session),
+            is_open: true,
+        }
+    }
+
+    // The session, if there is one.
+    fn into_session(self) -> Option<Box<Session>>
+        ensures { self.pointer.session ≡ option_map (λ session. session.value) result }
+    {
+        let Handle { pointer, is_open } = self;
+        if is_open {
+            Some(pointer.into_box())
+        } else {
+            None
+        }
+    }
+
+    // Takes the session out, and closes the handle.
+    fn take(&mut self, alloc: Global) -> Option<Box<Session>>
+        ensures taken { self.old.pointer.session ≡ option_map (λ session. session.value) result }
+        ensures left { self.new.pointer.session ≡ None }
+    {
+        mem::replace(self, Handle::closed(alloc)).into_session()
+    }
+
+    /// Opens a session on storage that holds these bytes, as `HostKernel::open` does.
+    /// `AlreadyOpen` if the handle is open. An error changes nothing.
+    #[tactic(auto, using(crate::proofs::Handles::without, crate::proofs::Handles::opens_again, crate::proofs::Handles::opens_new, crate::proofs::Handles::opens_none))]
+    pub fn open(&mut self, alloc: Global, image: &[u8], cache: u64) -> Status
+        ensures { OpensHandle self.old.pointer.session self.new.pointer.session image.now cache result }
+    {
+        if self.is_open {
+            return Status::AlreadyOpen;
+        }
+        let session = match Session::open(alloc, image, cache) {
+            Ok(session) => session,
+            Err(status) => return status,
+        };
+        match session.boxed(alloc) {
+            Some(session) => {
+                *self = Handle::opened(session);
+                Status::Done
+            }
+            None => Status::NoMemory,
+        }
+    }
+
+    /// Runs a text as a script, as `Session::step` does. `NotOpen` if the handle is not open.
+    #[tactic(auto, using(crate::proofs::Handles::on_none, crate::proofs::Handles::on_some))]
+    pub fn step(
+        &mut self,
+        alloc: Global,
+        text: &[u8],
+        buffer: &mut [u8],
+        size: &mut usize,
+    ) -> Status
+        ensures { OnSession self.old.pointer.session self.new.pointer.session result
+            (λ old new. StepsSession old new text.now buffer.old buffer.new size.new result) }
+    {
+        let Some(mut session) = self.take(alloc) else {
+            return Status::NotOpen;
+        };
+        let status = session.step(alloc, text, buffer, size);
+        *self = Handle::opened(session);
+        status
+    }
+
+    /// Copies the last answers, as `Session::copy_answer` does. `NotOpen` if the handle is not open.
+    #[tactic(auto, using(crate::proofs::Handles::on_none, crate::proofs::Handles::on_some))]
+    pub fn copy_answer(&mut self, alloc: Global, buffer: &mut [u8], size: &mut usize) -> Status
+        ensures { OnSession self.old.pointer.session self.new.pointer.session result
+            (λ old new. CopiesAnswer old new buffer.old buffer.new size.new result) }
+    {
+        let Some(session) = self.take(alloc) else {
+            return Status::NotOpen;
+        };
+        let status = session.copy_answer(buffer, size);
+        *self = Handle::opened(session);
+        status
+    }
+
+    /// Copies the next calls, as `Session::take_calls` does. `NotOpen` if the handle is not open.
+    #[tactic(auto, using(crate::proofs::Handles::on_none, crate::proofs::Handles::on_some))]
+    pub fn take_calls(&mut self, alloc: Global, buffer: &mut [u8], size: &mut usize) -> Status
+        ensures { OnSession self.old.pointer.session self.new.pointer.session result
+            (λ old new. TakesCalls old new buffer.old buffer.new size.new result) }
+    {
+        let Some(mut session) = self.take(alloc) else {
+            return Status::NotOpen;
+        };
+        let status = session.take_calls(buffer, size);
+        *self = Handle::opened(session);
+        status
+    }
+
+    /// Drops the session. `NotOpen` if the handle is not open.
+    #[tactic(auto, using(crate::proofs::Handles::closes_none, crate::proofs::Handles::closes_some))]
+    pub fn close(&mut self, alloc: Global) -> Status
+        ensures { ClosesHandle self.old.pointer.session self.new.pointer.session result }
+    {
+        match self.take(alloc) {
+            Some(session) => {
+                drop(session);
+                Status::Done
+            }
+            None => Status::NotOpen,
+        }
+    }
+}

@@ -1,0 +1,187 @@
+// A kernel over the host's storage.
+ghost use Rattle.std.specs.Prelude.{◌≡◌, ◌≢◌, ◌⊎◌, ◌<◌, ◌≤◌, ◌%◌, true, false, drop, length, IfOk, IfNone, IfSome, IsErr, Err};
+ghost use Rattle.runs.specs.Reader.{read_from};
+ghost use Rattle.vezhnake.specs.Hosting.{IsFresh, RunsText};
+ghost use Rattle.vezhnake.specs.Sessions.{IsCapacity, OpensFrom, OpensKernel, RunsKernel, calls_in, kept_from};
+ghost use Rattle.vezhnake.specs.HostCalls.{encoded};
+ghost use Rattle.vezhnake.specs.Statuses.{status_by};
+
+use crate::recorder::Recorder;
+use crate::status::Status;
+use bounded_cache::{BoundedCache, Capacity};
+use checkpoint::OpenFault;
+use device::{MAX_SECTORS, SECTOR_SIZE};
+use file_device::CopiedFile;
+use kernel::Kernel;
+use object_cache::PlainStore;
+use object_store::ObjectStore;
+use runs::{ScriptReader, run};
+use runs_laws::laws::crashes_are_survived;
+use script::RunFault;
+use std::alloc::{AllocError, Global};
+
+/// The host's storage, as a device.
+pub type HostDevice = CopiedFile<Recorder>;
+
+/// A kernel over the host's storage, with one of the two object stores.
+#[derive(Drop)]
+pub enum HostKernel {
+    /// All objects are in memory.
+    Plain(Kernel<HostDevice, PlainStore<HostDevice>>),
+    /// A cache holds some objects.
+    Bounded(Kernel<HostDevice, BoundedCache<HostDevice>>),
+}
+
+// A device over storage that holds these bytes.
+#[tactic(auto, using(crate::proofs::Opening::fresh_of))]
+fn device_over(alloc: Global, image: &[u8]) -> Result<HostDevice, AllocError>
+    requires whole { length image.now % 512 ≡ 0 }
+    requires few { length image.now ≤ 67108864 }
+    ensures { IfOk result (λ device. IsFresh image.now device) }
+{
+    let copy = image.to_vec(alloc)?;
+    let recorder = Recorder::new(alloc, &copy);
+    Ok(CopiedFile::new(copy, recorder))
+}
+
+// The status for the reason that no kernel was opened.
+fn status_of(fault: OpenFault) -> Status
+    ensures { result ≡ status_by fault }
+{
+    match fault {
+        OpenFault::Failed => Status::Failed,
+        OpenFault::NoMemory => Status::NoMemory,
+        OpenFault::Bad(reason) => Status::Bad(reason),
+    }
+}
+
+// Opens a kernel with all objects in memory.
+fn open_plain(alloc: Global, device: HostDevice) -> Result<HostKernel, Status>
+    ensures { OpensFrom device true result }
+{
+    match Kernel::<HostDevice, PlainStore<HostDevice>>::open(alloc, device, ()) {
+        Ok(kernel) => Ok(HostKernel::Plain(kernel)),
+        Err(refused) => Err(status_of(refused.fault)),
+    }
+}
+
+// Opens a kernel with a cache of this capacity.
+fn open_bounded(alloc: Global, device: HostDevice, capacity: Capacity) -> Result<HostKernel, Status>
+    ensures { OpensFrom device false result }
+{
+    match Kernel::<HostDevice, BoundedCache<HostDevice>>::open(alloc, device, capacity) {
+        Ok(kernel) => Ok(HostKernel::Bounded(kernel)),
+        Err(refused) => Err(status_of(refused.fault)),
+    }
+}
+
+// The capacity of a cache, or `None` if it is 0. `BadCache` if a cache can't have this capacity.
+fn capacity_of(cache: u64) -> Result<Option<Capacity>, Status>
+    ensures ok { IfOk result (λ capacity. IsCapacity cache capacity) }
+    ensures err { IsErr result → (result ≡ Err Status.BadCache) × (cache ≢ 0) × ((cache < 8) ⊎ (8192 < cache)) }
+{
+    if cache == 0 {
+        return Ok(None);
+    }
+    match Capacity::new(cache) {
+        Some(capacity) => Ok(Some(capacity)),
+        None => Err(Status::BadCache),
+    }
+}
+
+// A reader of this text.
+fn reader_of(text: &[u8]) -> ScriptReader<&[u8]>
+    ensures { (read_from result).now ≡ text.now }
+{
+    ScriptReader::new(text)
+}
+
+// Runs a text as a script.
+fn run_lines<S: ObjectStore<HostDevice>>(
+    alloc: Global,
+    kernel: &mut Kernel<HostDevice, S>,
+    text: &[u8],
+    answers: &mut Vec<u8>,
+) -> Result<(), RunFault>
+    ensures { RunsText S.view S.parts kernel.old kernel.new text.now answers.old.items answers.new.items result }
+{
+    crashes_are_survived::<HostDevice, S>();
+    let mut reader = reader_of(text);
+    run(alloc, kernel, &mut reader, answers)
+}
+
+impl HostKernel {
+    /// Opens a kernel on storage that holds these bytes. If `cache` is 0, all objects are in
+    /// memory. Otherwise it is the capacity of a cache.
+    ///
+    /// `BadSize` or `BadCache` if an argument is out of range; `Bad` with the least reason to
+    /// refuse the image; `NoMemory` if memory runs out.
+    #[tactic(auto, using(crate::proofs::Opening::opened_plain, crate::proofs::Opening::opened_bounded))]
+    pub fn open(alloc: Global, image: &[u8], cache: u64) -> Result<HostKernel, Status>
+        ensures { OpensKernel image.now cache result }
+    {
+        if image.len() % SECTOR_SIZE != 0 || image.len() > MAX_SECTORS as usize * SECTOR_SIZE {
+            return Err(Status::BadSize);
+        }
+        let capacity = match capacity_of(cache) {
+            Ok(capacity) => capacity,
+            Err(status) => return Err(status),
+        };
+        let Ok(device) = device_over(alloc, image) else {
+            return Err(Status::NoMemory);
+        };
+        match capacity {
+            Some(capacity) => open_bounded(alloc, device, capacity),
+            None => open_plain(alloc, device),
+        }
+    }
+
+    /// Runs a text as a script, as `runs::run` does, and appends the answers.
+    ///
+    /// `RunFault::Write` if memory for the answers runs out. `RunFault::Read` after 2^64 - 1 reads.
+    pub fn run_text(
+        &mut self,
+        alloc: Global,
+        text: &[u8],
+        answers: &mut Vec<u8>,
+    ) -> Result<(), RunFault>
+        ensures { RunsKernel self.old self.new text.now answers.old.items answers.new.items result }
+    {
+        match self {
+            HostKernel::Plain(kernel) => run_lines(alloc, kernel, text, answers),
+            HostKernel::Bounded(kernel) => run_lines(alloc, kernel, text, answers),
+        }
+    }
+
+    // The recorder beneath.
+    #[tactic(auto, using(crate::proofs::Surviving::calls_are, crate::proofs::Surviving::start_is))]
+    fn recorder(&self) -> &Recorder
+        ensures calls { result.now.history.calls ≡ calls_in self.now }
+        ensures start { result.now.pending.start ≡ kept_from self.now }
+    {
+        match self {
+            HostKernel::Plain(kernel) => kernel.device().file(),
+            HostKernel::Bounded(kernel) => kernel.device().file(),
+        }
+    }
+
+    /// The number of calls of the device.
+    pub fn count(&self) -> u64
+        ensures { result ≡ length (calls_in self.now) }
+    {
+        self.recorder().count()
+    }
+
+    /// The encoded calls after the first `taken`, or `None` if the bytes kept don't begin there.
+    pub fn since(&self, taken: u64) -> Option<&[u8]>
+        ensures some { IfSome result (λ bytes. bytes.now ≡ encoded (drop taken (calls_in self.now))) }
+        ensures none { IfNone result (taken ≢ kept_from self.now) }
+    {
+        self.recorder().since(taken)
+    }
+
+    /// Notes that the host has taken all calls.
+    pub fn note_taken(&self) {
+        self.recorder().note_taken();
+    }
+}

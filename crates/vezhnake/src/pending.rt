@@ -1,0 +1,119 @@
+// The calls that are kept until the host takes them.
+ghost use Rattle.std.specs.Prelude.{◌≡◌, ◌≢◌, ◌∷◌, ◌++◌, [], List, IfSome, IfNone, take, drop, length, OnOk, OnErr};
+ghost use Rattle.vezhnake.specs.HostCalls.{HostCall, header_of, number_bytes, encoded, encoding};
+ghost use Rattle.vezhnake.specs.Pending.{Keeps};
+
+use device::Failed;
+use std::alloc::{AllocError, Global};
+use std::cell::Cell;
+
+/// The encoded calls that the host may not have taken yet.
+#[derive(Drop)]
+pub struct Pending {
+    pub bytes: Vec<u8>,
+    /// The number of calls before these.
+    pub start: u64,
+    /// The number of all calls.
+    pub count: u64,
+    // The number of calls that the host has taken. If it has taken all, the next call replaces them.
+    taken: Cell<u64>,
+}
+
+// Appends the eight bytes of a number. `Err` leaves the bytes unchanged.
+#[tactic(auto, unfolding(crate::specs::HostCalls::number_bytes))]
+fn append_number(bytes: &mut Vec<u8>, number: u64) -> Result<(), AllocError>
+    ensures ok { OnOk result (bytes.new.items ≡ bytes.old.items ++ number_bytes number) }
+    ensures err { OnErr result (bytes.new.items ≡ bytes.old.items) }
+{
+    bytes.extend_from_slice(&number.to_le_bytes())
+}
+
+// Appends a header and these bytes. `Err` may leave a part behind the old bytes.
+fn append_parts(bytes: &mut Vec<u8>, byte: u64, from: &[u8]) -> Result<(), AllocError>
+    ensures ok { OnOk result (bytes.new.items ≡ bytes.old.items ++ (header_of byte (length from.now) ++ from.now)) }
+    ensures kept { take (length bytes.old.items) bytes.new.items ≡ bytes.old.items }
+{
+    append_number(bytes, byte)?;
+    append_number(bytes, from.len() as u64)?;
+    bytes.extend_from_slice(from)
+}
+
+// Appends a header and these bytes. `Err` leaves the bytes unchanged.
+fn append_call(bytes: &mut Vec<u8>, byte: u64, from: &[u8]) -> Result<(), AllocError>
+    ensures ok { OnOk result (bytes.new.items ≡ bytes.old.items ++ (header_of byte (length from.now) ++ from.now)) }
+    ensures err { OnErr result (bytes.new.items ≡ bytes.old.items) }
+{
+    let length = bytes.len();
+    match append_parts(bytes, byte, from) {
+        Ok(()) => Ok(()),
+        Err(error) => {
+            bytes.truncate(length);
+            Err(error)
+        }
+    }
+}
+
+impl Pending {
+    /// No calls.
+    pub fn new(alloc: Global) -> Pending
+        ensures { Keeps result [] }
+    {
+        Pending {
+            bytes: Vec::new(alloc),
+            start: 0,
+            count: 0,
+            taken: Cell::new(0),
+        }
+    }
+
+    // Drops the bytes if the host has taken all calls.
+    fn drop_taken(&mut self)
+        ensures { (calls : List HostCall) → Keeps self.old calls → Keeps self.new calls }
+    {
+        if self.taken.get() == self.count {
+            self.bytes.clear();
+            self.start = self.count;
+        }
+    }
+
+    /// Adds a call behind the others: a header with this byte, and `from`. `Failed` if memory runs
+    /// out: then no call is added.
+    pub fn add(&mut self, byte: u64, from: &[u8]) -> Result<(), Failed>
+        ensures ok { OnOk result ((calls : List HostCall) (call : HostCall)
+            → encoding call ≡ header_of byte (length from.now) ++ from.now
+            → Keeps self.old calls → Keeps self.new (calls ++ call ∷ [])) }
+        ensures err { OnErr result ((calls : List HostCall) → Keeps self.old calls → Keeps self.new calls) }
+    {
+        self.drop_taken();
+        let Some(count) = self.count.checked_add(1) else {
+            return Err(Failed);
+        };
+        match append_call(&mut self.bytes, byte, from) {
+            Ok(()) => {
+                self.count = count;
+                Ok(())
+            }
+            Err(_) => Err(Failed),
+        }
+    }
+
+    /// The encoded calls after the first `taken`, or `None` if the bytes don't begin there.
+    pub fn since(&self, taken: u64) -> Option<&[u8]>
+        ensures some { IfSome result (λ bytes. (calls : List HostCall) → Keeps self.now calls
+            → bytes.now ≡ encoded (drop taken calls)) }
+        ensures none { IfNone result (taken ≢ self.now.start) }
+    {
+        if taken == self.start {
+            Some(&self.bytes)
+        } else if taken == self.count {
+            Some(&[])
+        } else {
+            None
+        }
+    }
+
+    /// Notes that the host has taken all calls.
+    pub fn note_taken(&self) {
+        self.taken.set(self.count);
+    }
+}

@@ -1,0 +1,106 @@
+// The host's storage, as a file of sectors.
+ghost use Rattle.std.specs.Prelude.{◌≡◌, ◌≢◌, ◌++◌, [], true, false, nat_lt, length, drop, IfSome, IfNone};
+ghost use Rattle.vezhnake.specs.HostCalls.{events_of, encoded};
+ghost use Rattle.vezhnake.specs.Pending.{Keeps};
+ghost use Rattle.vezhnake.specs.Steps.{fresh};
+
+use crate::history::{History, Step};
+use crate::pending::Pending;
+use device::{Failed, SECTOR_SIZE};
+use file_device::SectorFile;
+use std::alloc::Global;
+
+/// The host's storage, as a file of sectors. It records each call, and the host carries the calls
+/// out in their order.
+///
+/// A call fails if there is no memory to record it. Each later write and sync then fails too.
+#[derive(Drop)]
+pub struct Recorder {
+    pending: Pending,
+    // A call was not recorded.
+    is_broken: bool,
+    history: History,
+    ghost kept: { Keeps pending history.calls },
+    ghost broken: { nat_lt 0 history.failures ≡ true → is_broken ≡ true },
+    ghost all: { is_broken ≡ false → history.lost ≡ [] },
+}
+
+impl Recorder {
+    /// Storage that holds these bytes, and to which nothing has happened.
+    pub fn new(alloc: Global, bytes: &[u8]) -> Recorder
+        ensures { result.history ≡ fresh bytes.now }
+    {
+        Recorder {
+            pending: Pending::new(alloc),
+            is_broken: false,
+            history: History::new(bytes),
+        }
+    }
+
+    /// The number of calls recorded.
+    pub fn count(&self) -> u64
+        ensures { result ≡ length self.now.history.calls }
+    {
+        self.pending.count
+    }
+
+    /// The encoded calls after the first `taken`, or `None` if the bytes kept don't begin there.
+    pub fn since(&self, taken: u64) -> Option<&[u8]>
+        ensures some { IfSome result (λ bytes. bytes.now ≡ encoded (drop taken self.now.history.calls)) }
+        ensures none { IfNone result (taken ≢ self.now.pending.start) }
+    {
+        self.pending.since(taken)
+    }
+
+    /// Notes that the host has taken all calls.
+    pub fn note_taken(&self) {
+        self.pending.note_taken();
+    }
+}
+
+impl SectorFile for Recorder {
+    ghost use Rattle.std.specs.Prelude.{◌++◌};
+    ghost use Rattle.vezhnake.specs.HostCalls.{events_of};
+
+    ghost first = { λ r. r.history.first };
+
+    ghost events = { λ r. events_of r.history.calls ++ r.history.lost };
+
+    ghost failures = { λ r. r.history.failures };
+
+    fn write(&mut self, at: u64, from: &[u8]) -> Result<(), Failed> {
+        let recorded = self.history.then(&Step::Write { at, bytes: from });
+        let lost = self.history.then(&Step::LostWrite { at, bytes: from });
+        if !self.is_broken && self.pending.add(at * SECTOR_SIZE as u64, from).is_ok() {
+            self.history = recorded;
+            return Ok(());
+        }
+        self.is_broken = true;
+        self.history = lost;
+        Err(Failed)
+    }
+
+    fn sync(&mut self) -> Result<(), Failed> {
+        let recorded = self.history.then(&Step::Sync);
+        let lost = self.history.then(&Step::LostSync);
+        if !self.is_broken && self.pending.add(u64::MAX, &[]).is_ok() {
+            self.history = recorded;
+            return Ok(());
+        }
+        self.is_broken = true;
+        self.history = lost;
+        Err(Failed)
+    }
+
+    /// The host gets a sync, which makes every byte durable.
+    fn power_cut(&mut self) {
+        let recorded = self.history.then(&Step::Cut);
+        let lost = self.history.then(&Step::LostCut);
+        if !self.is_broken && self.pending.add(u64::MAX, &[]).is_ok() {
+            self.history = recorded;
+            return;
+        }
+        self.is_broken = true;
+        self.history = lost;
+    }
+}

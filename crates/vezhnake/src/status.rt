@@ -1,0 +1,59 @@
+// The status that each call of the library returns.
+ghost use Rattle.std.specs.Prelude.{◌≡◌};
+ghost use Rattle.vezhnake.specs.Statuses.{reason_number};
+
+use layout::BadImage;
+
+/// What a call of the library returns. C gets its number.
+#[derive(Clone, Copy, PartialEq, Eq, Debug)]
+pub enum Status {
+    /// The call did its work.
+    Done,
+    /// The bytes are not an image, for this reason.
+    Bad(BadImage),
+    /// Memory ran out.
+    NoMemory,
+    /// The image is not a whole number of sectors, or is longer than 64 MiB.
+    BadSize,
+    /// A cache has 8 to 8192 entries.
+    BadCache,
+    /// The handle is already open.
+    AlreadyOpen,
+    /// The handle is not open.
+    NotOpen,
+    /// The buffer is too small.
+    SmallBuffer,
+    /// The calls that the host needs next are no longer kept.
+    CallsLost,
+    /// The device failed while the image was opened, or the text could not be read.
+    Failed,
+}
+
+// The number of a reason to refuse an image: 1 to 10.
+fn number_of_reason(reason: BadImage) -> u32
+    ensures { result ≡ reason_number reason }
+{
+    reason as u32
+}
+
+impl Status {
+    ghost use Rattle.vezhnake.specs.Statuses.{number_of};
+
+    /// The number that C gets.
+    pub fn number(self) -> u32
+        ensures { result ≡ number_of self }
+    {
+        match self {
+            Status::Done => 0,
+            Status::Bad(reason) => number_of_reason(reason),
+            Status::NoMemory => 11,
+            Status::BadSize => 12,
+            Status::BadCache => 13,
+            Status::AlreadyOpen => 14,
+            Status::NotOpen => 15,
+            Status::SmallBuffer => 16,
+            Status::CallsLost => 17,
+            Status::Failed => 18,
+        }
+    }
+}

@@ -1,0 +1,100 @@
+/* Counts in a page of a persistent machine, and prints each count once it is committed. Kill it at any moment and start
+ * it again: it continues after the last count that it printed, or after the next one.
+ *
+ *     ./eros build examples/embed/counter.toml counter.image
+ *     gcc -Iinclude examples/embed/counter.c out/libvezhnake.a -o counter
+ *     ./counter counter.image 1000
+ */
+#include "vezhnake.h"
+
+#include <fcntl.h>
+#include <inttypes.h>
+#include <stdio.h>
+#include <stdlib.h>
+#include <string.h>
+#include <sys/stat.h>
+#include <unistd.h>
+
+static uint8_t answer[1 << 16], calls[1 << 20];
+
+static void fail(const char *what) {
+    fprintf(stderr, "counter: %s\n", what);
+    exit(1);
+}
+
+static void check(uint32_t status, const char *what) {
+    if (status != VEZHNAKE_OK) {
+        fprintf(stderr, "counter: %s: status %" PRIu32 "\n", what, status);
+        exit(1);
+    }
+}
+
+/* A number of 8 bytes, the lowest first. */
+static uint64_t number_at(const uint8_t *bytes) {
+    uint64_t number = 0;
+    for (int i = 7; i >= 0; i--) number = number << 8 | bytes[i];
+    return number;
+}
+
+/* Carries out the device calls on the file, in order. */
+static void carry_out(int file, vezhnake *machine) {
+    size_t size;
+    check(vezhnake_calls(machine, calls, sizeof calls, &size), "calls");
+    for (size_t place = 0; place < size;) {
+        uint64_t byte = number_at(calls + place), length = number_at(calls + place + 8);
+        place += 16;
+        if (byte == UINT64_MAX) {
+            if (fdatasync(file)) fail("the image can't be synced");
+        } else if (pwrite(file, calls + place, length, (off_t)byte) != (ssize_t)length) {
+            fail("the image can't be written");
+        }
+        place += length;
+    }
+}
+
+/* Runs the lines of a text and carries out their device calls. Returns the answers, which end with a 0. */
+static const char *step(int file, vezhnake *machine, const char *text) {
+    size_t size;
+    check(vezhnake_step(machine, (const uint8_t *)text, strlen(text), answer, sizeof answer - 1, &size), text);
+    carry_out(file, machine);
+    answer[size] = 0;
+    return (const char *)answer;
+}
+
+/* The count in the page. `show` leaves out a word that is 0. */
+static uint64_t read_count(int file, vezhnake *machine) {
+    uint64_t count = 0;
+    const char *word = strstr(step(file, machine, "show 16\n"), "\nword 0 ");
+    if (word) sscanf(word, "\nword 0 %" SCNu64, &count);
+    return count;
+}
+
+/* Opens the machine in the file. */
+static void open_machine(int file, vezhnake *machine) {
+    struct stat about;
+    if (file < 0 || fsync(file) || fstat(file, &about)) fail("the image can't be opened");
+    size_t size = (size_t)about.st_size;
+    uint8_t *image = malloc(size);
+    if (!image || read(file, image, size) != (ssize_t)size) fail("the image can't be read");
+    check(vezhnake_open(image, size, 0, machine), "open");
+    free(image);
+}
+
+int main(int words, char **word) {
+    if (words != 3) fail("usage: counter IMAGE TIMES");
+    vezhnake machine = VEZHNAKE_CLOSED;
+    int file = open(word[1], O_RDWR);
+    open_machine(file, &machine);
+    uint64_t count = read_count(file, &machine), last = count + strtoull(word[2], NULL, 10);
+    step(file, &machine, "migrate 9\n");
+    while (count < last) {
+        char text[128];
+        snprintf(text, sizeof text, "send 1 6 2 0 %" PRIu64 " 0 0 0 0 0\ncheckpoint\nstabilize 9\ncommit\n", ++count);
+        if (!strstr(step(file, &machine, text), "committed")) fail(text);
+        printf("%" PRIu64 "\n", count);
+        fflush(stdout);
+        step(file, &machine, "migrate 9\n");
+    }
+    check(vezhnake_close(&machine), "close");
+    return close(file);
+}
