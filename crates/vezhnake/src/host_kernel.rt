@@ -15,7 +15,7 @@ use file_device::CopiedFile;
 use kernel::Kernel;
 use object_cache::PlainStore;
 use object_store::ObjectStore;
-use runs::{ScriptReader, run};
+use runs::{ScriptReader, Silent, run};
 use runs_laws::laws::crashes_are_survived;
 use script::RunFault;
 use std::alloc::{AllocError, Global};
@@ -107,7 +107,7 @@ fn run_lines<S: ObjectStore<HostDevice>>(
 {
     crashes_are_survived::<HostDevice, S>();
     let mut reader = reader_of(text);
-    run(alloc, kernel, &mut reader, answers)
+    run(alloc, kernel, &mut reader, answers, &mut Silent)
 }
 
 impl HostKernel {

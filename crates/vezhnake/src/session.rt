@@ -83,7 +83,7 @@ impl Session {
                 }
             }
             Err(RunFault::Write) => Status::NoMemory,
-            Err(RunFault::Read) => Status::Failed,
+            Err(RunFault::Read | RunFault::Stopped) => Status::Failed,
         }
     }
 
