@@ -1,4 +1,4 @@
-"""For what tries the program in Python: the program, and a reader of scripts and answers by docs/MANUAL.md."""
+"""For what tries the program in Python: the program, and a reader of scripts and answers by docs/SCRIPTS.md."""
 import os
 import re
 import subprocess

@@ -36,7 +36,7 @@ pub(crate) const STRICT: &str = "strict";
 pub(crate) const STOP_AFTER: &str = "stop-after";
 
 /// What `eros --version` prints behind the name.
-const VERSION: &str = "1.0.0\nlayouts 1 and 2\nproved with rattle-kit-13f logic dac8208d650f15bf";
+const VERSION: &str = "1.0.0\nlayouts 1 and 2\nproved with rattle-kit-13 logic dac8208d650f15bf";
 
 /// The least number of objects that a cache may hold.
 pub(crate) const LEAST_CAPACITY: u64 = 8;
