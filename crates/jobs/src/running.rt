@@ -14,7 +14,7 @@ use checkpoint::OpenFault;
 use device::Device;
 use kernel::Kernel;
 use object_store::ObjectStore;
-use runs::{Observer, Output, Script, Silent, Tracer, Unsaved, run};
+use runs::{Observer, Output, Script, Silent, Tracer, Unsaved, run_observed};
 use script::RunFault;
 use std::alloc::Global;
 use std::io::Write;
@@ -35,7 +35,7 @@ fn open_and_run<D: Device, S: ObjectStore<D>, R: Script, W: Output, O: Observer>
         Ok(kernel) => kernel,
         Err(refused) => return (Err(refused.fault), refused.device),
     };
-    let outcome = run(alloc, &mut kernel, reader, writer, observer);
+    let outcome = run_observed(alloc, &mut kernel, reader, writer, observer);
     (Ok(outcome), kernel.into_device())
 }
 

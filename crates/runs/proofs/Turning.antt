@@ -76,6 +76,9 @@ seen_more sees old mid new (u ∷ us) t on are seen =
 pub not_read : (e : RunFault) → e ≡ fault.Write → e ≢ fault.Read
 not_read e is read = let never : fault.Write ≡ fault.Read = sym is ∙ read in absurd cc
 
+pub not_stopped : (e : RunFault) → e ≡ fault.Write → e ≢ fault.Stopped
+not_stopped e is stopped = let never : fault.Write ≡ fault.Stopped = sym is ∙ stopped in absurd cc
+
 -- whether the run ends after a line that was taken, and by which fault
 abbrev pub Ending : Result Bool RunFault → RunFault → Type 0
 Ending (Ok true) e = ⊥

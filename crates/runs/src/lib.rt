@@ -13,7 +13,7 @@ mod unsaved;
 pub use cause::{Cause, Stop};
 pub use observer::{Observer, Silent};
 pub use output::Output;
-pub use running::run;
+pub use running::{run, run_observed};
 pub use script_pieces::{Piece, Script};
 pub use script_reader::ScriptReader;
 pub use tracer::{TraceOptions, Tracer};

@@ -1,5 +1,5 @@
 // Runs of scripts over a kernel.
-ghost use Rattle.std.specs.Prelude.{◌≡◌, ◌≢◌, ◌<◌, ◌++◌, ℕ, List, [], Option, length, option_map, slice_index_or, take, OnOk, IfErr, IsErrOf, IfNone, IfSome};
+ghost use Rattle.std.specs.Prelude.{◌≡◌, ◌≢◌, ◌<◌, ◌++◌, ℕ, List, [], Option, length, option_map, slice_index_or, take, OnOk, IfErr, IfOk, IsErrOf, IfNone, IfSome, false, true};
 ghost use Rattle.model.specs.declared.geometry.Geometry.{Geometry};
 ghost use Rattle.model.specs.Machine.{Machine};
 ghost use Rattle.model.specs.Run.{lines_of};
@@ -10,7 +10,7 @@ ghost use Rattle.script.specs.Lines.{Holds, IsOneLine, IsTextOf};
 ghost use Rattle.runs.specs.KernelRuns.{BeginsWith, IsConfined, IsCounted, RunsOver, RunsSeen};
 ghost use Rattle.runs.specs.Taking.{Ended, SoFar, Stopped, TakesLine, TakesTurn};
 
-use crate::observer::Observer;
+use crate::observer::{Observer, Silent};
 use crate::output::Output;
 use crate::script_pieces::{Piece, Script};
 use device::Device;
@@ -41,6 +41,7 @@ fn take<D: Device, S: ObjectStore<D>, W: Write, O: Observer>(
         → IsTextOf (option_map (λ t. t.now) text.entry) whole → Says whole line.now
         → TakesTurn D.disk S.view S.parts O.sees g m whole line.now kernel.old kernel.new observer.old observer.new
         (W.contents writer.old) (W.contents writer.new) result }
+    ensures goes_on { IfOk result (λ on. O.may_end ≡ false → on ≡ true) }
     ensures fault { IfErr result (λ e. e ≡ RunFault.Write) }
 {
     match line {
@@ -83,6 +84,7 @@ fn take_line<D: Device, S: ObjectStore<D>, W: Write, O: Observer>(
         → TakesLine D.disk S.view S.parts O.sees g m (held ++ bytes.now) kernel.old kernel.new observer.old observer.new
         (W.contents writer.old) (W.contents writer.new) result }
     ensures begun { (held : List ℕ) → Holds line.old held → Holds line.new [] }
+    ensures goes_on { IfOk result (λ on. O.may_end ≡ false → on ≡ true) }
     ensures fault { IfErr result (λ e. e ≡ RunFault.Write) }
 {
     if line.is_empty() {
@@ -113,6 +115,7 @@ fn take_held<D: Device, S: ObjectStore<D>, W: Write, O: Observer>(
         → TakesLine D.disk S.view S.parts O.sees g m held kernel.old kernel.new observer.old observer.new
         (W.contents writer.old) (W.contents writer.new) result }
     ensures begun { Holds line.new [] }
+    ensures goes_on { IfOk result (λ on. O.may_end ≡ false → on ≡ true) }
     ensures fault { IfErr result (λ e. e ≡ RunFault.Write) }
 {
     let taken = take(alloc, kernel, line.text(), &line.says(), writer, observer);
@@ -136,6 +139,7 @@ fn take_piece<D: Device, S: ObjectStore<D>, W: Write, O: Observer>(
         → SoFar D.disk S.view S.parts O.sees g m start kernel.old first observer.old text line.old output (W.contents writer.old)
         → Stopped D.disk S.view S.parts O.sees (BeginsWith (text ++ piece.now)) e g m start kernel.new first observer.new output (W.contents writer.new)) }
     ensures fault { IfErr result (λ e. e ≢ RunFault.Read) }
+    ensures unstopped { O.may_end ≡ false → IfErr result (λ e. e ≢ RunFault.Stopped) }
 {
     let mut rest = piece;
     while let Some(end) = end_of_line(rest) {
@@ -164,6 +168,7 @@ fn take_rest<D: Device, S: ObjectStore<D>, W: Write, O: Observer>(
         → SoFar D.disk S.view S.parts O.sees g m start kernel.old first observer.old text line.old output (W.contents writer.old)
         → Stopped D.disk S.view S.parts O.sees (λ lines. lines_of text ≡ lines) e g m start kernel.new first observer.new output (W.contents writer.new)) }
     ensures fault { IfErr result (λ e. e ≢ RunFault.Read) }
+    ensures unstopped { O.may_end ≡ false → IfErr result (λ e. e ≢ RunFault.Stopped) }
 {
     if line.is_empty() {
         return Ok(());
@@ -175,7 +180,7 @@ fn take_rest<D: Device, S: ObjectStore<D>, W: Write, O: Observer>(
     Ok(())
 }
 
-// Runs a script over a kernel, as `run` does.
+// Runs a script over a kernel, as `run_observed` does.
 fn run_turns<D: Device, S: ObjectStore<D>, R: Script, W: Output, O: Observer>(
     alloc: Global,
     kernel: &mut Kernel<D, S>,
@@ -187,6 +192,7 @@ fn run_turns<D: Device, S: ObjectStore<D>, R: Script, W: Output, O: Observer>(
         (R.unread reader.old) (R.unread reader.new) (W.contents writer.old) (W.contents writer.new) result }
     ensures none_waits { OnOk result (W.waiting writer.new ≡ []) }
     ensures read_failed { IsCounted (IsErrOf result RunFault.Read) (R.failures reader.old) (R.failures reader.new) }
+    ensures unstopped { O.may_end ≡ false → IfErr result (λ e. e ≢ RunFault.Stopped) }
 {
     let mut piece = [0; PIECE_SIZE];
     let mut line = LineBuffer::new();
@@ -226,11 +232,29 @@ fn run_turns<D: Device, S: ObjectStore<D>, R: Script, W: Output, O: Observer>(
 /// short; where it fails to pass on what it took, all of those lines were answered. The kernel then
 /// stands where the lines taken left it. A read that was interrupted is tried again. The lines and
 /// answers take no memory.
+pub fn run<D: Device, S: ObjectStore<D>, R: Script, W: Output>(
+    alloc: Global,
+    kernel: &mut Kernel<D, S>,
+    reader: &mut R,
+    writer: &mut W,
+) -> Result<(), RunFault>
+    ensures runs { RunsOver D.disk S.view S.parts kernel.old kernel.new (R.unread reader.old)
+        (R.unread reader.new) (W.contents writer.old) (W.contents writer.new) result }
+    ensures none_waits { OnOk result (W.waiting writer.new ≡ []) }
+    ensures read_failed { IsCounted (IsErrOf result RunFault.Read) (R.failures reader.old) (R.failures reader.new) }
+    ensures confined { IsConfined D.disk S.view S.parts kernel.old kernel.new (R.unread reader.old)
+        (R.unread reader.new) }
+    ensures goes_on { IfErr result (λ e. e ≢ RunFault.Stopped) }
+{
+    run_observed(alloc, kernel, reader, writer, &mut Silent)
+}
+
+/// Runs a script over a kernel as `run` does, and shows an observer each turn, in order. What is
+/// written is the same with each observer.
 ///
-/// The observer sees each turn, in order. `RunFault::Stopped` exactly where it ends the run: then
-/// all lines taken were answered, and the last of them is where it did. What is written is the same
-/// with each observer.
-pub fn run<D: Device, S: ObjectStore<D>, R: Script, W: Output, O: Observer>(
+/// `RunFault::Stopped` exactly where the observer ends the run: then all lines taken were answered,
+/// and the last of them is where it did.
+pub fn run_observed<D: Device, S: ObjectStore<D>, R: Script, W: Output, O: Observer>(
     alloc: Global,
     kernel: &mut Kernel<D, S>,
     reader: &mut R,
@@ -243,6 +267,7 @@ pub fn run<D: Device, S: ObjectStore<D>, R: Script, W: Output, O: Observer>(
     ensures read_failed { IsCounted (IsErrOf result RunFault.Read) (R.failures reader.old) (R.failures reader.new) }
     ensures confined { IsConfined D.disk S.view S.parts kernel.old kernel.new (R.unread reader.old)
         (R.unread reader.new) }
+    ensures unstopped { O.may_end ≡ false → IfErr result (λ e. e ≢ RunFault.Stopped) }
     ensures watched { RunsSeen D.disk S.view S.parts O.sees kernel.old kernel.new observer.old observer.new
         (R.unread reader.old) (R.unread reader.new) (W.contents writer.old) (W.contents writer.new) result }
 {

@@ -1,5 +1,5 @@
 // What becomes of each line of a run, on standard error.
-ghost use Rattle.std.specs.Prelude.{◌≡◌, ◌+◌, ◌-◌, ◌<◌, ◌≤◌, ◌^◌, ◌∷◌, [], ◌++◌, List, ℕ, IfNone, IfSome, Some, codes, length, min, option_map};
+ghost use Rattle.std.specs.Prelude.{◌≡◌, ◌+◌, ◌-◌, ◌<◌, ◌≤◌, ◌^◌, ◌∷◌, [], ◌++◌, List, ℕ, IfNone, IfSome, Some, codes, length, min, option_map, true};
 ghost use Rattle.model.specs.Text.{Says, line_of, spaced};
 ghost use Rattle.script.specs.Keywords.{command_name};
 ghost use Rattle.script.specs.LineFaults.{IsFaultOf};
@@ -185,6 +185,8 @@ fn cause_of(answer: &Answer, code: Option<ResultCode>) -> Option<Cause>
 
 impl<V: Write> Observer for Tracer<V> {
     ghost sees = { λ g t old new on. Sees V.contents g t old new on };
+
+    ghost may_end = { true };
 
     fn skip(&mut self) -> bool {
         self.line = self.next();

@@ -1,5 +1,5 @@
 // What a run did that isn't committed.
-ghost use Rattle.std.specs.Prelude.{◌≡◌, ◌||◌};
+ghost use Rattle.std.specs.Prelude.{◌≡◌, ◌||◌, false};
 ghost use Rattle.runs.specs.Unsaved.{Notes, nothing_unsaved};
 
 use crate::observer::Observer;
@@ -35,6 +35,8 @@ impl Unsaved {
 
 impl Observer for Unsaved {
     ghost sees = { Notes };
+
+    ghost may_end = { false };
 
     fn skip(&mut self) -> bool {
         true

@@ -7,7 +7,7 @@ use capability::Plain;
 use device::Device;
 use kernel_tests::{opened, written};
 use memory_device::{Memory, Outcome};
-use runs::{Output, Script, Silent, run};
+use runs::{Output, Script, run};
 use script::RunFault;
 use std::alloc::Global;
 use std::test::Fail;
@@ -37,5 +37,5 @@ pub fn run_over<D: Device, R: Script, W: Output>(
     writer: &mut W,
 ) -> Result<Result<(), RunFault>, Fail> {
     let mut kernel = opened(alloc, device)?;
-    Ok(run(alloc, &mut kernel, reader, writer, &mut Silent))
+    Ok(run(alloc, &mut kernel, reader, writer))
 }

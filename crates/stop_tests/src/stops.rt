@@ -5,7 +5,7 @@ use device::Device;
 use kernel::Kernel;
 use object_cache::PlainStore;
 use object_store::ObjectStore;
-use runs::{ScriptReader, Silent, run};
+use runs::{ScriptReader, run};
 use script::RunFault;
 use std::alloc::Global;
 use std::io::Write;
@@ -37,7 +37,7 @@ fn tell_line<D: Device, S: ObjectStore<D>>(
     told: &mut Vec<u8>,
 ) -> Result<bool, RunFault> {
     let (mut reader, before) = (ScriptReader::new(line), told.len());
-    run(alloc, kernel, &mut reader, told, &mut Silent)?;
+    run(alloc, kernel, &mut reader, told)?;
     Ok(told.get(before..) == Some(FAULT))
 }
 
@@ -65,7 +65,7 @@ fn tell_standing<D: Device, S: ObjectStore<D>>(
 ) -> Result<(), RunFault> {
     let mut reader = ScriptReader::new(script);
     tell_saved(kernel.saved(), told)?;
-    run(alloc, kernel, &mut reader, told, &mut Silent)
+    run(alloc, kernel, &mut reader, told)
 }
 
 /// Tells what a power cut leaves of a device, and what a kernel answers that opens it.

@@ -83,7 +83,8 @@ impl Session {
                 }
             }
             Err(RunFault::Write) => Status::NoMemory,
-            Err(RunFault::Read | RunFault::Stopped) => Status::Failed,
+            Err(RunFault::Read) => Status::Failed,
+            Err(RunFault::Stopped) => unreachable!(),
         }
     }
 

@@ -2,7 +2,7 @@ use Rattle.std.proofs.Common.{[], Err, Ok, refl}
 use Rattle.std.proofs.lemmas.Result.{err_from_is_err_and}
 use Rattle.script.specs.declared.fault.RunFault.TheVariants as fault
 use Rattle.runs.proofs.ScriptLines.{rest_of}
-use Rattle.runs.proofs.Turning.{goes_to_end, goes_to_next, none_read, not_read, stops_in_piece}
+use Rattle.runs.proofs.Turning.{goes_to_end, goes_to_next, none_read, not_read, not_stopped, stops_in_piece}
 use Rattle.runs.proofs.running.take_piece.Goals as goal
 
 pub loop-end-init : goal.loop-end-init
@@ -40,3 +40,8 @@ pub returns-in_err-goes_on-clause-fault : goal.returns-in_err-goes_on-clause-fau
 returns-in_err-goes_on-clause-fault g c =
     let p = err_from_is_err_and c.from_residual.result c.from_residual.ensures.1 in
     rw (p.1, p.2) (not_read c.in_err-goes_on.field-0.0 c.in_err-goes_on.ensures.fault)
+
+pub returns-in_err-goes_on-clause-unstopped : goal.returns-in_err-goes_on-clause-unstopped
+returns-in_err-goes_on-clause-unstopped g c goes_on =
+    let p = err_from_is_err_and c.from_residual.result c.from_residual.ensures.1 in
+    rw (p.1, p.2) (not_stopped c.in_err-goes_on.field-0.0 c.in_err-goes_on.ensures.fault)

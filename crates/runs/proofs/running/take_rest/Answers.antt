@@ -1,7 +1,7 @@
 use Rattle.std.proofs.Common.{Err, Ok, refl}
 use Rattle.std.proofs.lemmas.Result.{err_from_is_err_and}
 use Rattle.script.specs.declared.fault.RunFault.TheVariants as fault
-use Rattle.runs.proofs.Turning.{ended, not_read, rest_ends, rest_stops}
+use Rattle.runs.proofs.Turning.{ended, not_read, not_stopped, rest_ends, rest_stops}
 use Rattle.runs.proofs.running.take_rest.Goals as goal
 
 pub returns-then-is_empty-clause-ends : goal.returns-then-is_empty-clause-ends
@@ -32,3 +32,8 @@ pub returns-in_err-goes_on-clause-fault : goal.returns-in_err-goes_on-clause-fau
 returns-in_err-goes_on-clause-fault g c =
     let p = err_from_is_err_and c.from_residual.result c.from_residual.ensures.1 in
     rw (p.1, p.2) (not_read c.in_err-goes_on.field-0.0 c.in_err-goes_on.ensures.fault)
+
+pub returns-in_err-goes_on-clause-unstopped : goal.returns-in_err-goes_on-clause-unstopped
+returns-in_err-goes_on-clause-unstopped g c goes_on =
+    let p = err_from_is_err_and c.from_residual.result c.from_residual.ensures.1 in
+    rw (p.1, p.2) (not_stopped c.in_err-goes_on.field-0.0 c.in_err-goes_on.ensures.fault)

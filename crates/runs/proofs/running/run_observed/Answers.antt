@@ -1,6 +1,6 @@
 use Rattle.runs.proofs.Confining.{run_is_confined}
 use Rattle.runs.proofs.Turning.{run_of_seen}
-use Rattle.runs.proofs.running.run.Goals as goal
+use Rattle.runs.proofs.running.run_observed.Goals as goal
 
 pub returns-clause-runs : goal.returns-clause-runs
 returns-clause-runs g c =
