@@ -1,6 +1,7 @@
 mod AcceptedDescriptions
 mod BuiltImages
 mod DescribedImages
+mod Observed
 mod ReachedImages
 mod RunImages
 mod UpgradedImages

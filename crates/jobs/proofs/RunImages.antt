@@ -1,5 +1,5 @@
 -- What the commands that open an image come to.
-use Rattle.std.proofs.Common.{◌≡◌, ℕ, List, Option, Result, Ok, Err, sym, ap, ◌∙◌, subst}
+use Rattle.std.proofs.Common.{◌≡◌, ℕ, List, Option, Ok, Err, sym, ap, ◌∙◌, subst}
 use Rattle.std.specs.Prelude.{None, Some}
 use Rattle.std.specs.Io.KnownBytes.{Appends}
 use Rattle.model.specs.Machine.{Running, Saved}
@@ -13,24 +13,11 @@ use Rattle.kernel.specs.declared.power.Power.{Power}
 use Rattle.kernel.specs.declared.power.Power.TheVariants as power
 use Rattle.kernel.specs.Opening.{Opens}
 use Rattle.kernel.specs.Standing.{IsDeviceOf, IsTold}
-use Rattle.script.specs.declared.fault.RunFault.{RunFault}
-use Rattle.script.specs.declared.fault.RunFault.TheVariants as run
 use Rattle.script.specs.Writing.{AppendsFront}
-use Rattle.jobs.specs.declared.fault.Fault.{Fault}
 use Rattle.jobs.specs.declared.fault.Fault.TheVariants as fault
-use Rattle.jobs.specs.Faults.{run_outcome}
-use Rattle.jobs.specs.Images.{ChecksImage, OpensAndRuns, RunsImage, checked_text}
+use Rattle.jobs.specs.Images.{ChecksImage, checked_text}
 
 module _ {D S : Type 0} (disk : D → Disk) (view : S → View D) (parts : S → Parts) (device : D) where
-  pub ran_to : (back : D) (input input_left output output_left : Option (List ℕ)) (outcome : Result (Unit {0}) RunFault) (told : Result (Unit {0}) Fault) → told ≡ run_outcome outcome →
-      OpensAndRuns disk view parts device back input input_left output output_left outcome → RunsImage disk view parts device back input input_left output output_left told
-  ran_to back input input_left output output_left (Ok a) told is ran =
-      subst (λ (t : Result (Unit {0}) Fault). RunsImage disk view parts device back input input_left output output_left t) (sym is) ran
-  ran_to back input input_left output output_left (Err run.Read) told is ran =
-      subst (λ (t : Result (Unit {0}) Fault). RunsImage disk view parts device back input input_left output output_left t) (sym is) ran
-  ran_to back input input_left output output_left (Err run.Write) told is ran =
-      subst (λ (t : Result (Unit {0}) Fault). RunsImage disk view parts device back input input_left output output_left t) (sym is) ran
-
   -- nothing was written to the device beneath a kernel that was just opened
   looked_at : (back : D) (p : Power D S) → Opens disk view parts device p → IsDeviceOf disk view parts p back → Looks (disk device) (disk back)
   looked_at back (power.Up l) opens is = subst (λ (d : D). Looks (disk device) (disk d)) (sym is) opens.looks

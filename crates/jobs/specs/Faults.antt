@@ -1,5 +1,5 @@
 -- What is told of a fault, and the status of a command.
-use Rattle.std.specs.Prelude.{◌≡◌, ℕ, List, [], ◌∷◌, codes, decimal, Option, Result, Ok, Err}
+use Rattle.std.specs.Prelude.{◌≡◌, ℕ, List, [], ◌∷◌, ◌++◌, codes, decimal, Option, None, Some, Result, Ok, Err}
 use Rattle.layout.specs.declared.bad_image.BadImage.{BadImage}
 use Rattle.layout.specs.declared.bad_image.BadImage.TheVariants as bad
 use Rattle.checkpoint.specs.declared.open_fault.OpenFault.{OpenFault}
@@ -10,6 +10,8 @@ use Rattle.image_builder.specs.declared.fault.BuildFault.TheVariants as build
 use Rattle.image_builder.specs.declared.upgrade_fault.UpgradeFault.{UpgradeFault}
 use Rattle.image_builder.specs.declared.upgrade_fault.UpgradeFault.TheVariants as upgrade
 use Rattle.image_builder.specs.Built.{fault_number}
+use Rattle.runs.specs.declared.cause.Stop.{Stop}
+use Rattle.runs.specs.Tracing.{cause_text}
 use Rattle.script.specs.declared.fault.RunFault.{RunFault}
 use Rattle.script.specs.declared.fault.RunFault.TheVariants as run
 use Rattle.script.specs.Writing.{Writes}
@@ -46,6 +48,10 @@ upgrade_text upgrade.Small = codes "eros: cannot write image"
 upgrade_text upgrade.Failed = codes "eros: device failed"
 upgrade_text upgrade.NoMemory = codes "eros: no memory"
 
+-- where a strict run ended, and why
+abbrev pub stop_text : Stop → List ℕ
+stop_text stop = spaced (codes "eros: stopped at line" ∷ (decimal stop.line ++ codes ":") ∷ cause_text stop.cause ∷ [])
+
 abbrev pub fault_text : Fault → List ℕ
 fault_text fault.CannotReadDescription = codes "eros: cannot read description"
 fault_text fault.NotToml = codes "eros: bad description"
@@ -57,17 +63,22 @@ fault_text fault.NoMemory = codes "eros: no memory"
 fault_text (fault.Build why) = build_text why
 fault_text (fault.Open why) = open_text why
 fault_text (fault.Upgrade why) = upgrade_text why
+fault_text (fault.Stopped stop) = stop_text stop
 fault_text (fault.NoProcess p) = spaced (codes "eros: no process" ∷ decimal p ∷ [])
 
--- what a run's failure is to the program
-abbrev pub run_fault : RunFault → Fault
-run_fault run.Read = fault.CannotReadScript
-run_fault run.Write = fault.CannotWriteOutput
+-- a run that was ended by its observer has a place where it was
+abbrev pub HasStop : Result (Result (Unit {0}) RunFault) OpenFault → Option Stop → Type 0
+HasStop (Ok (Err run.Stopped)) None = ⊥
+HasStop outcome stop = Unit {0}
 
--- and its end
-abbrev pub run_outcome : Result (Unit {0}) RunFault → Result (Unit {0}) Fault
-run_outcome (Ok a) = Ok a
-run_outcome (Err f) = Err (run_fault f)
+-- the end of a run, or why the device wasn't opened, as a fault of the program
+abbrev pub IsRunEnd : Result (Result (Unit {0}) RunFault) OpenFault → Option Stop → Result (Unit {0}) Fault → Type 0
+IsRunEnd (Ok (Ok a)) stop end = end ≡ Ok a
+IsRunEnd (Ok (Err run.Read)) stop end = end ≡ Err fault.CannotReadScript
+IsRunEnd (Ok (Err run.Write)) stop end = end ≡ Err fault.CannotWriteOutput
+IsRunEnd (Ok (Err run.Stopped)) None end = ⊥
+IsRunEnd (Ok (Err run.Stopped)) (Some stop) end = end ≡ Err (fault.Stopped stop)
+IsRunEnd (Err why) stop end = end ≡ Err (fault.Open why)
 
 -- the status of a command
 abbrev pub status_of : Result (Unit {0}) Fault → ℕ

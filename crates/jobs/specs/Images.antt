@@ -1,5 +1,5 @@
 -- What the commands do with images.
-use Rattle.std.specs.Prelude.{◌≡◌, ◌≢◌, ◌↔◌, ◌<◌, ℕ, List, [], ◌∷◌, codes, decimal, map, Option, Some, Result, Ok, Err}
+use Rattle.std.specs.Prelude.{◌≡◌, ◌≢◌, ◌↔◌, ◌<◌, ℕ, List, [], ◌∷◌, codes, decimal, Bool, map, Option, Some, Result, Ok, Err}
 use Rattle.std.specs.Io.KnownBytes.{Appends}
 use Rattle.toml.specs.Data.{Members}
 use Rattle.toml.specs.Parse.{parse_document}
@@ -7,6 +7,7 @@ use Rattle.model.specs.declared.frame.Frame.{Frame}
 use Rattle.model.specs.declared.geometry.Geometry.{Geometry}
 use Rattle.model.specs.Keepable.{IsSoundFrames, world_at}
 use Rattle.model.specs.Machine.{Saved}
+use Rattle.model.specs.Run.{Turn}
 use Rattle.model.specs.Text.{line_of, spaced}
 use Rattle.device.specs.Disk.{Disk}
 use Rattle.layout.specs.Image.{Encodes, SavedState}
@@ -31,12 +32,14 @@ use Rattle.image_describer.specs.Describes.{Describes, IsBrief}
 use Rattle.image_describer.specs.Text.{description_text}
 use Rattle.image_drawer.specs.Graph.{graph_text}
 use Rattle.image_builder.specs.Upgraded.{IsNotUpgraded, Upgrades}
-use Rattle.runs.specs.KernelRuns.{RunsOver}
+use Rattle.runs.specs.declared.cause.Stop.{Stop}
+use Rattle.runs.specs.KernelRuns.{RunsOver, RunsSeen}
 use Rattle.script.specs.declared.fault.RunFault.{RunFault}
 use Rattle.script.specs.declared.fault.RunFault.TheVariants as run
 use Rattle.script.specs.Writing.{AppendsFront}
 use Rattle.jobs.specs.declared.fault.Fault.{Fault}
 use Rattle.jobs.specs.declared.fault.Fault.TheVariants as fault
+use Rattle.jobs.specs.Faults.{IsRunEnd}
 
 -- what is told of an image that was built, and of one that can be opened
 abbrev pub built_text : ℕ → List ℕ
@@ -87,6 +90,28 @@ module _ {D S : Type 0} (disk : D → Disk) (view : S → View D) (parts : S →
   OpensAndRuns device back input input_left output output_left outcome =
       (first : Power D S) × (last : Power D S) × Opens disk view parts device first × RunsOver disk view parts first last input input_left output output_left outcome
       × IsDeviceOf disk view parts last back
+
+  -- so it was, and an observer saw each turn
+  abbrev pub OpensAndSees : {O : Type 0} → (Geometry → Turn → O → O → Bool → Type 0) → D → D → O → O
+      → Option (List ℕ) → Option (List ℕ) → Option (List ℕ) → Option (List ℕ) → Result (Unit {0}) RunFault → Type 0
+  OpensAndSees sees device back before after input input_left output output_left outcome =
+      (first : Power D S) × (last : Power D S) × Opens disk view parts device first
+      × RunsSeen disk view parts sees first last before after input input_left output output_left outcome × IsDeviceOf disk view parts last back
+
+  -- so it was; or the device wasn't opened, nothing was read or written, and the observer saw nothing
+  abbrev pub SeesImage : {O : Type 0} → (Geometry → Turn → O → O → Bool → Type 0) → D → D → O → O
+      → Option (List ℕ) → Option (List ℕ) → Option (List ℕ) → Option (List ℕ) → Result (Result (Unit {0}) RunFault) OpenFault → Type 0
+  SeesImage sees device back before after input input_left output output_left (Ok outcome) =
+      OpensAndSees sees device back before after input input_left output output_left outcome
+  SeesImage sees device back before after input input_left output output_left (Err why) =
+      RefusesToOpen disk device back why × (input_left ≡ input) × (output_left ≡ output) × (after ≡ before)
+
+  -- what a command that runs a script comes to: the run that its observer saw, and where that ended it
+  abbrev pub EndsAs : {O : Type 0} → (Geometry → Turn → O → O → Bool → Type 0) → (O → Option Stop) → D → D → O → O
+      → Option (List ℕ) → Option (List ℕ) → Option (List ℕ) → Option (List ℕ) → Result (Unit {0}) Fault → Type 0
+  EndsAs sees stop device back before after input input_left output output_left result =
+      (outcome : Result (Result (Unit {0}) RunFault) OpenFault) × IsRunEnd outcome (stop after) result
+      × SeesImage sees device back before after input input_left output output_left outcome
 
   -- so it was; or the device wasn't opened, and nothing was read or written, there either
   abbrev pub RunsImage : D → D → Option (List ℕ) → Option (List ℕ) → Option (List ℕ) → Option (List ℕ) → Result (Unit {0}) Fault → Type 0

@@ -3,4 +3,5 @@ pub mod Faults
 pub mod Images
 pub mod Info
 pub mod Laws
+pub mod Shell
 pub mod Reaching

@@ -2,11 +2,12 @@
 ghost use Rattle.std.specs.Prelude.{◌≡◌, ◌≤◌, length};
 ghost use Rattle.model.specs.Text.{line_of};
 ghost use Rattle.script.specs.Writing.{Writes};
-ghost use Rattle.jobs.specs.Faults.{IsTold, build_text, fault_text, open_text, reason_number, run_outcome, status_of, upgrade_text};
+ghost use Rattle.jobs.specs.Faults.{HasStop, IsRunEnd, IsTold, build_text, fault_text, open_text, reason_number, status_of, stop_text, upgrade_text};
 
 use checkpoint::OpenFault;
 use image_builder::{BuildFault, UpgradeFault};
 use layout::BadImage;
+use runs::Stop;
 use script::{LineText, RunFault};
 use std::io::Write;
 
@@ -33,18 +34,30 @@ pub enum Fault {
     Open(OpenFault),
     /// No image was upgraded.
     Upgrade(UpgradeFault),
+    /// A strict run ended at a line.
+    Stopped(Stop),
     /// This number isn't the number of a process.
     NoProcess(u64),
 }
 
-/// What the end of a run is to the program.
-pub(crate) fn of_run(outcome: Result<(), RunFault>) -> Result<(), Fault>
-    ensures { result ≡ run_outcome outcome }
+/// The end of a run, where the device was opened, as a fault of the command. A run that its observer
+/// ended has the place where it did.
+pub(crate) fn of_run(
+    outcome: Result<Result<(), RunFault>, OpenFault>,
+    stop: Option<Stop>,
+) -> Result<(), Fault>
+    requires { HasStop outcome stop }
+    ensures { IsRunEnd outcome stop result }
 {
     match outcome {
-        Ok(()) => Ok(()),
-        Err(RunFault::Read) => Err(Fault::CannotReadScript),
-        Err(RunFault::Write) => Err(Fault::CannotWriteOutput),
+        Ok(Ok(())) => Ok(()),
+        Ok(Err(RunFault::Read)) => Err(Fault::CannotReadScript),
+        Ok(Err(RunFault::Write)) => Err(Fault::CannotWriteOutput),
+        Ok(Err(RunFault::Stopped)) => match stop {
+            Some(stop) => Err(Fault::Stopped(stop)),
+            None => unreachable!(),
+        },
+        Err(fault) => Err(Fault::Open(fault)),
     }
 }
 
@@ -98,11 +111,22 @@ fn upgrade_line(fault: UpgradeFault) -> LineText
     }
 }
 
+// The line of a strict run that ended.
+fn stop_line(stop: Stop) -> LineText
+    ensures text { result ≡ stop_text stop }
+    ensures short { length result ≤ 120 }
+{
+    let mut line = LineText::numbered(b"eros: stopped at line", stop.line);
+    line.push(b":");
+    stop.cause.add_to(&mut line);
+    line
+}
+
 impl Fault {
     // What is told of it.
     fn line(self) -> LineText
         ensures text { result ≡ fault_text self }
-        ensures short { length result ≤ 60 }
+        ensures short { length result ≤ 120 }
     {
         match self {
             Fault::CannotReadDescription => LineText::new(b"eros: cannot read description"),
@@ -115,6 +139,7 @@ impl Fault {
             Fault::Build(fault) => build_line(fault),
             Fault::Open(fault) => open_line(fault),
             Fault::Upgrade(fault) => upgrade_line(fault),
+            Fault::Stopped(stop) => stop_line(stop),
             Fault::NoProcess(number) => LineText::numbered(b"eros: no process", number),
         }
     }

@@ -1,40 +1,48 @@
-// The command that runs a script over an image.
-ghost use Rattle.std.specs.Prelude.{◌≡◌, Result};
+// The commands that run a script over an image.
+ghost use Rattle.std.specs.Prelude.{◌≡◌, List, Option, ℕ, Result, None};
 ghost use Rattle.jobs.specs.Faults.{IsTold, status_of};
-ghost use Rattle.jobs.specs.Images.{RunsImage};
+ghost use Rattle.jobs.specs.Images.{EndsAs, RunsImage, SeesImage};
+ghost use Rattle.jobs.specs.Shell.{TellsUnsaved};
+ghost use Rattle.runs.specs.Tracing.{Sees, stop_of};
+ghost use Rattle.runs.specs.Unsaved.{Notes, nothing_unsaved};
+ghost use Rattle.runs.specs.declared.unsaved.Unsaved.{Unsaved};
 
 use crate::done::Done;
 use crate::fault::{Fault, of_run, status};
+use crate::shell::tell_unsaved;
+use checkpoint::OpenFault;
 use device::Device;
 use kernel::Kernel;
 use object_store::ObjectStore;
-use runs::{Output, Script, run};
+use runs::{Observer, Output, Script, Silent, Tracer, Unsaved, run_observed};
+use script::RunFault;
 use std::alloc::Global;
 use std::io::Write;
 
 // Opens a device, runs a script over it, and gives it back.
-fn open_and_run<D: Device, S: ObjectStore<D>, R: Script, W: Output>(
+fn open_and_run<D: Device, S: ObjectStore<D>, R: Script, W: Output, O: Observer>(
     alloc: Global,
     device: D,
     setting: S::Setting,
     reader: &mut R,
     writer: &mut W,
-) -> (Result<(), Fault>, D)
-    ensures { RunsImage D.disk S.view S.parts device result.1 (R.unread reader.old)
+    observer: &mut O,
+) -> (Result<Result<(), RunFault>, OpenFault>, D)
+    ensures { SeesImage D.disk S.view S.parts O.sees device result.1 observer.old observer.new (R.unread reader.old)
         (R.unread reader.new) (W.contents writer.old) (W.contents writer.new) result.0 }
 {
     let mut kernel = match Kernel::<D, S>::open(alloc, device, setting) {
         Ok(kernel) => kernel,
-        Err(refused) => return (Err(Fault::Open(refused.fault)), refused.device),
+        Err(refused) => return (Err(refused.fault), refused.device),
     };
-    let outcome = of_run(run(alloc, &mut kernel, reader, writer));
-    (outcome, kernel.into_device())
+    let outcome = run_observed(alloc, &mut kernel, reader, writer, observer);
+    (Ok(outcome), kernel.into_device())
 }
 
 /// Opens a device that holds an image, runs a script over it, and writes the answers; then the
 /// status is 0, whatever they are. After a fault one line is written to `errors`, and the status is
 /// 1: `bad image` with a number from 1 to 10, `device failed` or `no memory` where the device isn't
-/// opened, of which nothing was read or written; `cannot read script` and `cannot write output`
+/// opened, and nothing was read or written; `cannot read script` and `cannot write output`
 /// where the reader or the writer fails.
 ///
 /// The device is given back as the last answer left it. One that isn't opened is as it was.
@@ -51,9 +59,79 @@ pub fn run_image<D: Device, S: ObjectStore<D>, R: Script, W: Output, V: Write>(
         × RunsImage D.disk S.view S.parts device result.device (R.unread reader.old)
         (R.unread reader.new) (W.contents writer.old) (W.contents writer.new) outcome }
 {
-    let (outcome, device) = open_and_run::<D, S, R, W>(alloc, device, setting, reader, writer);
+    let mut observer = Silent;
+    let (outcome, device) = open_and_run::<D, S, R, W, Silent>(
+        alloc,
+        device,
+        setting,
+        reader,
+        writer,
+        &mut observer,
+    );
     Done {
-        status: status(outcome, errors),
+        status: status(of_run(outcome, None), errors),
+        device,
+    }
+}
+
+/// Runs a script as `run_image` does, and traces it. Where the run is strict it ends at the first
+/// line that is bad or refused, or whose order has a result code other than 0. Answers up to and
+/// with that of this line are written, the line `stopped at line` with its number and the reason is
+/// written to `errors`, and the status is 1.
+///
+/// What is written to `writer`, and what becomes of the device, is that of `run_image` for the lines
+/// taken.
+pub fn run_traced<D: Device, S: ObjectStore<D>, R: Script, W: Output, T: Write, V: Write>(
+    alloc: Global,
+    device: D,
+    setting: S::Setting,
+    reader: &mut R,
+    writer: &mut W,
+    tracer: &mut Tracer<T>,
+    errors: &mut V,
+) -> Done<D>
+    ensures { (outcome : Result (Unit {0}) Fault) × (result.status ≡ status_of outcome)
+        × IsTold outcome (V.contents errors.old) (V.contents errors.new)
+        × EndsAs D.disk S.view S.parts (Sees T.contents) stop_of device result.device tracer.old tracer.new
+        (R.unread reader.old) (R.unread reader.new) (W.contents writer.old) (W.contents writer.new) outcome }
+{
+    let (outcome, device) = open_and_run::<D, S, R, W, Tracer<T>>(
+        alloc, device, setting, reader, writer, tracer,
+    );
+    Done {
+        status: status(of_run(outcome, tracer.stop()), errors),
+        device,
+    }
+}
+
+/// Runs what a shell is given as `run_image` does. If a process did something that isn't committed,
+/// one line in the end says so.
+pub fn run_shell<D: Device, S: ObjectStore<D>, R: Script, W: Output, V: Write>(
+    alloc: Global,
+    device: D,
+    setting: S::Setting,
+    reader: &mut R,
+    writer: &mut W,
+    errors: &mut V,
+) -> Done<D>
+    ensures { (outcome : Result (Unit {0}) Fault) × (told : Option (List ℕ)) × (before : Unsaved) × (after : Unsaved)
+        × (result.status ≡ status_of outcome) × (before ≡ nothing_unsaved)
+        × TellsUnsaved after (V.contents errors.old) told × IsTold outcome told (V.contents errors.new)
+        × EndsAs D.disk S.view S.parts Notes (λ _. None) device result.device before after
+        (R.unread reader.old) (R.unread reader.new) (W.contents writer.old) (W.contents writer.new) outcome }
+{
+    let mut observer = Unsaved::new();
+    let (outcome, device) = open_and_run::<D, S, R, W, Unsaved>(
+        alloc,
+        device,
+        setting,
+        reader,
+        writer,
+        &mut observer,
+    );
+    tell_unsaved(&observer, errors);
+    Done {
+        status: status(of_run(outcome, None), errors),
         device,
     }
 }

@@ -10,15 +10,15 @@ use device::{Device, MAX_SECTORS};
 use file_device::{FileDevice, FileFault};
 use image_builder::{Blueprint, OldImage};
 use jobs::{
-    Fault, build_image, check_image, describe_image, draw_image, explain_description, finish,
-    info_image, reach_image, run_image, upgrade_opened,
+    Fault, ShellInput, build_image, check_image, describe_image, draw_image, explain_description,
+    finish, info_image, reach_image, run_image, run_shell, run_traced, upgrade_opened,
 };
 use memory_device::Fuse;
 use object_cache::PlainStore;
 use object_store::ObjectStore;
-use runs::ScriptReader;
+use runs::{ScriptReader, TraceOptions, Tracer};
 use std::fs::{self, File};
-use std::io::{self, BufWriter, ErrorKind, Read, Stderr, Stdout, Write};
+use std::io::{self, BufWriter, ErrorKind, IsTerminal, Read, Stderr, Stdout, Write};
 use std::os::unix::fs::{FileTypeExt, MetadataExt};
 use std::process::ExitCode;
 use toml::Table;
@@ -135,18 +135,82 @@ fn build(
     Ok(build_image(rt.alloc(), &blueprint, &mut device, writer, errors))
 }
 
+// How a script is run.
+#[derive(Clone, Copy)]
+enum Mode {
+    Plain,
+    Traced(TraceOptions),
+    Shell,
+}
+
+// Runs a script over the image on a device, by a store of this kind, traces it, and gives the status.
+fn trace_by<D: Device + Drop, S: ObjectStore<D>, R: Read + Drop>(
+    rt: &HostRuntime,
+    device: D,
+    setting: S::Setting,
+    script: R,
+    options: TraceOptions,
+    writer: &mut BufWriter<Stdout>,
+    errors: &mut Stderr,
+) -> u8 {
+    let mut script = ScriptReader::new(script);
+    let mut tracer = Tracer::new(rt.stderr(), options);
+    let done = run_traced::<D, S, _, _, _, _>(
+        rt.alloc(),
+        device,
+        setting,
+        &mut script,
+        writer,
+        &mut tracer,
+        errors,
+    );
+    done.status
+}
+
+// Runs the lines that a shell is given over the image on a device, and gives the status. It prompts
+// if standard input and standard error are a terminal.
+fn shell_by<D: Device + Drop, S: ObjectStore<D>, R: Read + Drop>(
+    rt: &HostRuntime,
+    device: D,
+    setting: S::Setting,
+    lines: R,
+    writer: &mut BufWriter<Stdout>,
+    errors: &mut Stderr,
+) -> u8 {
+    let is_prompting = rt.stdin().is_terminal() && rt.stderr().is_terminal();
+    let mut input = ShellInput::new(lines, rt.stderr(), is_prompting);
+    let done = run_shell::<D, S, _, _, _>(rt.alloc(), device, setting, &mut input, writer, errors);
+    done.status
+}
+
 // Runs a script over the image on a device, by a store of this kind, and gives the status.
 fn run_by<D: Device + Drop, S: ObjectStore<D>, R: Read + Drop>(
     rt: &HostRuntime,
     device: D,
     setting: S::Setting,
     script: R,
+    mode: Mode,
     writer: &mut BufWriter<Stdout>,
     errors: &mut Stderr,
 ) -> u8 {
-    let mut script = ScriptReader::new(script);
-    let done = run_image::<D, S, _, _, _>(rt.alloc(), device, setting, &mut script, writer, errors);
-    done.status
+    match mode {
+        Mode::Plain => {
+            let mut script = ScriptReader::new(script);
+            let done = run_image::<D, S, _, _, _>(
+                rt.alloc(),
+                device,
+                setting,
+                &mut script,
+                writer,
+                errors,
+            );
+            done.status
+        }
+        Mode::Traced(options) => {
+            trace_by::<D, S, R>(rt, device, setting, script, options, writer, errors)
+        }
+        Mode::Shell => shell_by::<D, S, R>(rt, device, setting, script, writer, errors),
+    }
 }
 
 // Runs a script over the image on a device, with a bounded cache where it has a capacity, and gives the status.
@@ -155,14 +219,15 @@ fn run_on<D: Device + Drop, R: Read + Drop>(
     device: D,
     cache: Option<Capacity>,
     script: R,
+    mode: Mode,
     writer: &mut BufWriter<Stdout>,
     errors: &mut Stderr,
 ) -> u8 {
     match cache {
         Some(capacity) => {
-            run_by::<D, BoundedCache<D>, R>(rt, device, capacity, script, writer, errors)
+            run_by::<D, BoundedCache<D>, R>(rt, device, capacity, script, mode, writer, errors)
         }
-        None => run_by::<D, PlainStore<D>, R>(rt, device, (), script, writer, errors),
+        None => run_by::<D, PlainStore<D>, R>(rt, device, (), script, mode, writer, errors),
     }
 }
 
@@ -172,13 +237,14 @@ fn run_script<D: Device + Drop>(
     device: D,
     script: &Script<'_>,
     cache: Option<Capacity>,
+    mode: Mode,
     writer: &mut BufWriter<Stdout>,
     errors: &mut Stderr,
 ) -> Result<u8, Fault> {
     match script {
-        Script::Input => Ok(run_on(rt, device, cache, rt.stdin(), writer, errors)),
+        Script::Input => Ok(run_on(rt, device, cache, rt.stdin(), mode, writer, errors)),
         Script::File(path) => match File::open(rt, *path) {
-            Ok(file) => Ok(run_on(rt, device, cache, file, writer, errors)),
+            Ok(file) => Ok(run_on(rt, device, cache, file, mode, writer, errors)),
             Err(error) => Err(of_io(&error, Fault::CannotReadScript)),
         },
     }
@@ -190,6 +256,7 @@ fn run(
     image: &str,
     script: &Script<'_>,
     cache: Option<Capacity>,
+    mode: Mode,
     stop_after: Option<u64>,
     writer: &mut BufWriter<Stdout>,
     errors: &mut Stderr,
@@ -198,9 +265,9 @@ fn run(
     match stop_after {
         Some(calls) => {
             let device = Fuse::new(device, calls);
-            run_script(rt, device, script, cache, writer, errors)
+            run_script(rt, device, script, cache, mode, writer, errors)
         }
-        None => run_script(rt, device, script, cache, writer, errors),
+        None => run_script(rt, device, script, cache, mode, writer, errors),
     }
 }
 
@@ -281,6 +348,26 @@ fn reach(
     Ok(done.status)
 }
 
+// How a script is run by these options.
+fn mode_of(trace: bool, strict: bool) -> Mode {
+    if trace || strict {
+        Mode::Traced(TraceOptions { trace, strict })
+    } else {
+        Mode::Plain
+    }
+}
+
+// The capacity of a cache, or the status of a bad command line, which names no job.
+fn capacity_of(cache: Option<u64>) -> Result<Option<Capacity>, u8> {
+    match cache {
+        Some(count) => match Capacity::new(count) {
+            Some(capacity) => Ok(Some(capacity)),
+            None => Err(2),
+        },
+        None => Ok(None),
+    }
+}
+
 // Tells why the file that is to be explained can't be read, and gives the status.
 fn refuse_file(file: &str, cause: &io::Error, errors: &mut Stderr) -> u8 {
     let _told = writeln!(errors, "eros: {file}: {cause}");
@@ -342,28 +429,23 @@ fn serve(
         Job::Run {
             image,
             script,
-            cache: None,
+            cache,
+            trace,
+            strict,
             stop_after,
-            ..
-        } => run(rt, image, script, None, *stop_after, writer, errors),
-        Job::Run {
-            image,
-            script,
-            cache: Some(count),
-            stop_after,
-            ..
-        } => match Capacity::new(*count) {
-            Some(capacity) => run(
-                rt,
-                image,
-                script,
-                Some(capacity),
-                *stop_after,
-                writer,
-                errors,
-            ),
-            // A bad command line, of which no job comes.
-            None => Ok(2),
+        } => match capacity_of(*cache) {
+            Ok(cache) => {
+                let mode = mode_of(*trace, *strict);
+                run(rt, image, script, cache, mode, *stop_after, writer, errors)
+            }
+            Err(status) => Ok(status),
+        },
+        Job::Shell { image, cache } => match capacity_of(*cache) {
+            Ok(cache) => {
+                let lines = Script::Input;
+                run(rt, image, &lines, cache, Mode::Shell, None, writer, errors)
+            }
+            Err(status) => Ok(status),
         },
         Job::Check { image } => check(rt, image, writer, errors),
         Job::Upgrade { old, new } => upgrade(rt, old, new, writer, errors),

@@ -48,6 +48,7 @@ lines_read turns input left output written (Ok a) does = (does.0, does.1, all_of
 lines_read turns input left output written (Err fault.Read) does = (does.0, does.2, with_rest does.0 (lines_in turns) does.1 does.3)
 lines_read turns input left output written (Err fault.Write) does =
     (does.0, does.1, ⊎_elim (λ first. first_of does.0 left (lines_in turns) first.0) (λ whole. all_or_with_rest does.0 left (lines_in turns) whole.0) does.2)
+lines_read turns input left output written (Err fault.Stopped) does = (does.0, does.1, first_of does.0 left (lines_in turns) does.2)
 
 -- and so its turns are by whom its lines are by
 abbrev IsTurnBy : (ℕ → Bool) → Turn → Type 0

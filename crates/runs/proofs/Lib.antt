@@ -1,5 +1,6 @@
 pub mod Confining
 mod Newlines
 mod ScriptLines
+mod Tracing
 mod TurnLists
 mod Turning

@@ -1,6 +1,6 @@
 -- Turns of a kernel, one after another.
-use Rattle.std.proofs.Common.{◌≡◌, ◌⊎◌, ℕ, ◌<◌, suc, take, drop, length, Bool, true, false, List, [], ◌∷◌, ◌++◌, Option, None, Some, Ok, Err, refl, sym, ap, ◌∙◌, subst, ⊎_elim, inl, inr, append_assoc, append-nil, arith}
-use Rattle.std.specs.Prelude.{◌↔◌, slice_index_or, IfErr, IsTrue, OnErr, OnOk, Result}
+use Rattle.std.proofs.Common.{◌≡◌, ◌≢◌, ◌⊎◌, ℕ, ◌<◌, suc, take, drop, length, Bool, true, false, List, [], ◌∷◌, ◌++◌, Option, None, Some, Ok, Err, refl, sym, ap, ◌∙◌, subst, ⊎_elim, inl, inr, append_assoc, append-nil, arith}
+use Rattle.std.specs.Prelude.{◌↔◌, slice_index_or, IfErr, IsTrue, Result}
 use Rattle.std.proofs.KnownBytes.{Consumes-trans}
 use Rattle.std.specs.Io.KnownBytes.{Appends, Consumes, IsAtEnd, Keeps}
 use Rattle.model.specs.declared.answer.Answer.{Answer}
@@ -9,6 +9,7 @@ use Rattle.model.specs.declared.answer.Refusal.TheVariants as refusal
 use Rattle.model.specs.declared.command.Command.{Command}
 use Rattle.model.specs.declared.geometry.Geometry.{Geometry}
 use Rattle.model.specs.declared.line.Line.{Line}
+use Rattle.model.specs.declared.order.ResultCode.{ResultCode}
 use Rattle.model.specs.declared.line.Line.TheVariants as line
 use Rattle.model.specs.Machine.{Machine, Running, Saved, Up, Down, candidates}
 use Rattle.model.specs.Run.{Reply, Nothing, BadLine, Told, Turn, Replies, lines_of, reply_text, output_of}
@@ -27,9 +28,10 @@ use Rattle.script.specs.declared.fault.RunFault.{RunFault}
 use Rattle.script.specs.declared.fault.RunFault.TheVariants as fault
 use Rattle.script.specs.declared.lines.LineBuffer.{LineBuffer}
 use Rattle.script.specs.Lines.{Holds, IsOneLine}
-use Rattle.script.specs.Writing.{AppendsFront, Writes}
-use Rattle.runs.specs.KernelRuns.{AreLines, AreTurnsOf, BeginsWith, Does, IsCutShort, IsLeftIn, IsRunOf, IsToldBy, IsTurnOf, RunsOver, lines_in, tells_fault}
-use Rattle.runs.specs.Taking.{Ended, SoFar, Stopped, TakesTurn}
+use Rattle.script.specs.Writing.{AppendsFront}
+use Rattle.runs.specs.KernelRuns.{AreFirst, AreLines, AreSeen, AreTurnsOf, BeginsWith, Does, IsCutShort, IsLeftIn, IsRunOf, IsToldBy, IsTurnOf, EndsBy, RunsOver, RunsSeen, lines_in, tells_fault}
+use Rattle.kernel.specs.Standing.{told_code}
+use Rattle.runs.specs.Taking.{Ended, IsWritten, SoFar, Stopped, StopsBy, TakesLine, TakesTurn}
 use Rattle.runs.proofs.ScriptLines.{begins_with, bytes_more, line_more, line_taken, lines_whole, lines_with_rest, no_lines}
 use Rattle.runs.proofs.TurnLists.{appends_kept, appends_more, appends_none, lines_more, output_more, run_more}
 
@@ -60,7 +62,30 @@ none_told disk reply fine = record {
   exact = (λ told. let never : true ≡ false = sym told ∙ fine in cc, λ rose. absurd (omega (arith, rose)));
 }
 
-module _ {D S : Type 0} (disk : D → Disk) (view : S → View D) (parts : S → Parts)
+-- ---- what an observer saw
+
+-- one turn more
+pub seen_more : {O : Type 0} (sees : Turn → O → O → Bool → Type 0) (old mid new : O) (ts : List Turn) (t : Turn) (on : Bool) →
+    AreSeen sees old mid ts true → sees t mid new on → AreSeen sees old new (ts ++ t ∷ []) on
+seen_more sees old mid new [] t true same seen = inl (new, subst (λ x. sees t x new true) same.0 seen, (refl, refl))
+seen_more sees old mid new [] t false same seen = inr (refl, refl, subst (λ x. sees t x new false) same.0 seen)
+seen_more sees old mid new (u ∷ us) t on are seen =
+    ⊎_elim (λ goes. inl (goes.0, goes.1, seen_more sees goes.0 mid new us t on goes.2 seen)) (λ ends. let never : true ≡ false = ends.1 in cc) are
+
+-- a fault of the writer is none of the reader
+pub not_read : (e : RunFault) → e ≡ fault.Write → e ≢ fault.Read
+not_read e is read = let never : fault.Write ≡ fault.Read = sym is ∙ read in absurd cc
+
+pub not_stopped : (e : RunFault) → e ≡ fault.Write → e ≢ fault.Stopped
+not_stopped e is stopped = let never : fault.Write ≡ fault.Stopped = sym is ∙ stopped in absurd cc
+
+-- whether the run ends after a line that was taken, and by which fault
+abbrev pub Ending : Result Bool RunFault → RunFault → Type 0
+Ending (Ok true) e = ⊥
+Ending (Ok false) e = e ≡ fault.Stopped
+Ending (Err f) e = e ≡ f
+
+module _ {D S O : Type 0} (disk : D → Disk) (view : S → View D) (parts : S → Parts) (sees : Geometry → Turn → O → O → Bool → Type 0)
     (only_now : (d : D) (c : Image) → (disk d).left_since (disk d).moment c → (disk d).may_leave c) where
   -- ---- a turn
 
@@ -76,10 +101,10 @@ module _ {D S : Type 0} (disk : D → Disk) (view : S → View D) (parts : S →
   here g m power.Between stands = absurd stands
 
   -- a line that is no command
-  no_command : (g : Geometry) (m : Machine) (says : Line) (p : Power D S) (written wrote : Option (List ℕ)) (result : Result (Unit {0}) RunFault) (reply : Reply) →
-      Stands disk view parts g p m → Replies g says m reply m → tells_fault reply ≡ false → Writes written wrote result (reply_text reply) →
-      TakesTurn disk view parts g m says p p written wrote result
-  no_command g m says p written wrote result reply stands replies fine writes =
+  no_command : (g : Geometry) (m : Machine) (text : List ℕ) (says : Line) (p : Power D S) (before seen : O) (written wrote : Option (List ℕ)) (result : Result Bool RunFault) (reply : Reply) (on : Bool) →
+      Stands disk view parts g p m → Replies g says m reply m → tells_fault reply ≡ false → sees g (record { line = text; before = m; reply = reply; after = m }) before seen on →
+      IsWritten written wrote result on (reply_text reply) → TakesTurn disk view parts sees g m text says p p before seen written wrote result
+  no_command g m text says p before seen written wrote result reply on stands replies fine is_seen writes =
       let d = disk_of disk view parts p in
       let size = d.sectors in
       record {
@@ -91,29 +116,34 @@ module _ {D S : Type 0} (disk : D → Disk) (view : S → View D) (parts : S →
         any_moment = leaves_weaker {old = d} {new = d} {P = DenotesOne g size (candidates m)}
             (λ c. DenotesOne g size (candidates m) c ⊎ ((command : Command) × (says ≡ line.Command command) × DenotesOne g size (second m command) c)) (λ c one. inl one) (here g m p stands);
         faults = none_told d reply fine;
+        on = on;
+        is_seen = is_seen;
         writes = writes;
       }
 
-  pub skipped : (g : Geometry) (m : Machine) (says : Line) (p : Power D S) (written : Option (List ℕ)) → says ≡ line.Skip → Stands disk view parts g p m →
-      TakesTurn disk view parts g m says p p written written (Ok tt)
-  skipped g m says p written is stands =
-      subst (λ (x : Line). TakesTurn disk view parts g m x p p written written (Ok tt)) (sym is)
-      (no_command g m line.Skip p written written (Ok tt) Nothing stands (refl, refl) refl (appends_none written))
+  pub skipped : (g : Geometry) (m : Machine) (text : List ℕ) (says : Line) (p : Power D S) (before seen : O) (on : Bool) (written : Option (List ℕ)) → says ≡ line.Skip → Stands disk view parts g p m →
+      ((t : Turn) → t.reply ≡ Nothing → sees g t before seen on) → TakesTurn disk view parts sees g m text says p p before seen written written (Ok on)
+  skipped g m text says p before seen on written is stands saw =
+      subst (λ (x : Line). TakesTurn disk view parts sees g m text x p p before seen written written (Ok on)) (sym is)
+      (no_command g m text line.Skip p before seen written written (Ok on) Nothing on stands (refl, refl) refl (saw _ refl) (refl, appends_none written))
 
-  pub is_bad : (g : Geometry) (m : Machine) (says : Line) (p : Power D S) (written wrote : Option (List ℕ)) (result : Result (Unit {0}) RunFault) → says ≡ line.Bad → Stands disk view parts g p m →
-      Writes written wrote result bad_line → TakesTurn disk view parts g m says p p written wrote result
-  is_bad g m says p written wrote result is stands writes =
-      subst (λ (x : Line). TakesTurn disk view parts g m x p p written wrote result) (sym is)
-      (no_command g m line.Bad p written wrote result BadLine stands (refl, refl) refl writes)
+  pub is_bad : (g : Geometry) (m : Machine) (text : List ℕ) (says : Line) (p : Power D S) (before seen : O) (on : Bool) (written wrote : Option (List ℕ)) (result : Result Bool RunFault) →
+      says ≡ line.Bad → Stands disk view parts g p m → ((t : Turn) → t.line ≡ text → t.reply ≡ BadLine → sees g t before seen on) →
+      IsWritten written wrote result on bad_line → TakesTurn disk view parts sees g m text says p p before seen written wrote result
+  is_bad g m text says p before seen on written wrote result is stands saw writes =
+      subst (λ (x : Line). TakesTurn disk view parts sees g m text x p p before seen written wrote result) (sym is)
+      (no_command g m text line.Bad p before seen written wrote result BadLine on stands (refl, refl) refl (saw _ refl refl) writes)
 
-  pub answered : (g : Geometry) (m : Machine) (says : Line) (c : Command) (a : Answer) (p q : Power D S) (written wrote : Option (List ℕ)) (result : Result (Unit {0}) RunFault) → says ≡ line.Command c →
-      Stands disk view parts g p m → Serves disk view parts p c a q → IsCaused (disk_of disk view parts p) (disk_of disk view parts q) a →
-      Writes written wrote result (reply_text (Told a)) → TakesTurn disk view parts g m says p q written wrote result
-  answered g m says c a p q written wrote result is stands serves caused writes =
+  pub answered : (g : Geometry) (m : Machine) (text : List ℕ) (says : Line) (c : Command) (a : Answer) (code : Option ResultCode) (p q : Power D S) (before seen : O) (on : Bool)
+      (written wrote : Option (List ℕ)) (result : Result Bool RunFault) → says ≡ line.Command c → Says text says →
+      Stands disk view parts g p m → Serves disk view parts p c a q → IsCaused (disk_of disk view parts p) (disk_of disk view parts q) a → code ≡ told_code g m c a →
+      ((t : Turn) → Says t.line (line.Command c) → t.reply ≡ Told a → told_code g t.before c a ≡ code → sees g t before seen on) →
+      IsWritten written wrote result on (reply_text (Told a)) → TakesTurn disk view parts sees g m text says p q before seen written wrote result
+  answered g m text says c a code p q before seen on written wrote result is said stands serves caused coded saw writes =
       let s = serves g m stands in
       let old = disk_of disk view parts p in
       let new = disk_of disk view parts q in
-      subst (λ (x : Line). TakesTurn disk view parts g m x p q written wrote result) (sym is) (record {
+      subst (λ (x : Line). TakesTurn disk view parts sees g m text x p q before seen written wrote result) (sym is) (record {
         reply = Told a;
         after = s.after;
         replies = (a, refl, s.step);
@@ -123,17 +153,20 @@ module _ {D S : Type 0} (disk : D → Disk) (view : S → View D) (parts : S →
             (λ x. DenotesOne g old.sectors (candidates m) x ⊎ ((command : Command) × (line.Command c ≡ line.Command command) × DenotesOne g old.sectors (second m command) x))
             (λ x one. ⊎_elim (λ first. inl first) (λ last. inr (c, refl, last)) (split_one g old.sectors x (candidates m) (second m c) one)) s.leaves.any_moment;
         faults = answer_told old new a caused;
+        on = on;
+        is_seen = saw (record { line = text; before = m; reply = Told a; after = s.after }) (subst (Says text) is said) refl (sym coded);
         writes = writes;
       })
 
   -- ---- a run
 
-  pub begun : (g : Geometry) (m : Machine) (p : Power D S) (line : LineBuffer) (output : Option (List ℕ)) → Holds line [] → Stands disk view parts g p m →
-      SoFar disk view parts g m p p [] line output output
-  begun g m p line output empty stands = record {
+  pub begun : (g : Geometry) (m : Machine) (p : Power D S) (seen : O) (line : LineBuffer) (output : Option (List ℕ)) → Holds line [] → Stands disk view parts g p m →
+      SoFar disk view parts sees g m p p seen seen [] line output output
+  begun g m p seen line output empty stands = record {
     turns = [];
     rest = [];
     run = record { after = m; run = refl; stands = stands; each = refl };
+    are_seen = (refl, refl);
     lines = no_lines;
     held = empty;
     written = appends_none output;
@@ -146,23 +179,26 @@ module _ {D S : Type 0} (disk : D → Disk) (view : S → View D) (parts : S →
   turns_more g old mid new (u ∷ us) t goes turn = (goes.0, goes.1, turns_more g goes.0 mid new us t goes.2 turn)
 
   -- more bytes of a line
-  pub longer : (g : Geometry) (m : Machine) (old new : Power D S) (text : List ℕ) (line longer : LineBuffer) (output output_left : Option (List ℕ)) (bytes : List ℕ) →
-      SoFar disk view parts g m old new text line output output_left → IsOneLine bytes → ((l : List ℕ) → Holds line l → Holds longer (l ++ bytes)) →
-      SoFar disk view parts g m old new (text ++ bytes) longer output output_left
-  longer g m old new text line buffer output output_left bytes so_far one extended = record {
+  pub longer : (g : Geometry) (m : Machine) (old new : Power D S) (first seen : O) (text : List ℕ) (line longer : LineBuffer) (output output_left : Option (List ℕ)) (bytes : List ℕ) →
+      SoFar disk view parts sees g m old new first seen text line output output_left → IsOneLine bytes → ((l : List ℕ) → Holds line l → Holds longer (l ++ bytes)) →
+      SoFar disk view parts sees g m old new first seen (text ++ bytes) longer output output_left
+  longer g m old new first seen text line buffer output output_left bytes so_far one extended = record {
     turns = so_far.turns;
     rest = so_far.rest ++ bytes;
     run = so_far.run;
+    are_seen = so_far.are_seen;
     lines = bytes_more text (lines_in so_far.turns) so_far.rest bytes so_far.lines one;
     held = extended so_far.rest so_far.held;
     written = so_far.written;
   }
 
   -- a line is at its end, and this the text that it ends
-  module _ (g : Geometry) (m : Machine) (old mid new : Power D S) (before : List ℕ) (held next : LineBuffer) (output written wrote : Option (List ℕ))
-      (so_far : SoFar disk view parts g m old mid before held output written) (text rest : List ℕ) (lines : AreLines text (lines_in so_far.turns) rest)
-      (says : Line) (said : Says rest says) (empty : Holds next [])
-      (result : Result (Unit {0}) RunFault) (turn : TakesTurn disk view parts g so_far.run.after says mid new written wrote result) where
+  module _ (g : Geometry) (m : Machine) (old mid new : Power D S) (first before seen : O) (begins : List ℕ) (held next : LineBuffer) (output written wrote : Option (List ℕ))
+      (so_far : SoFar disk view parts sees g m old mid first before begins held output written) (text rest : List ℕ) (lines : AreLines text (lines_in so_far.turns) rest) (empty : Holds next [])
+      (result : Result Bool RunFault) (taken : TakesLine disk view parts sees g so_far.run.after rest mid new before seen written wrote result) where
+    abbrev turn : TakesTurn disk view parts sees g so_far.run.after rest taken.0 mid new before seen written wrote result
+    turn = taken.2
+
     abbrev turn_of : Turn
     turn_of = record { line = rest; before = so_far.run.after; reply = turn.reply; after = turn.after }
 
@@ -176,19 +212,25 @@ module _ {D S : Type 0} (disk : D → Disk) (view : S → View D) (parts : S →
           stands = turn.stands;
           size = turn.size;
           any_moment = leaves_weaker {old = disk_of disk view parts mid} {new = disk_of disk view parts new}
-              {P = λ c. DenotesOne g size (candidates so_far.run.after) c ⊎ ((command : Command) × (says ≡ line.Command command) × DenotesOne g size (second so_far.run.after command) c)}
+              {P = λ c. DenotesOne g size (candidates so_far.run.after) c ⊎ ((command : Command) × (taken.0 ≡ line.Command command) × DenotesOne g size (second so_far.run.after command) c)}
               (IsLeftIn g size turn_of)
-              (λ c has. ⊎_elim (λ first. inl first) (λ besides. inr (besides.0, subst (Says rest) besides.1 said, besides.2)) has) turn.any_moment;
+              (λ c has. ⊎_elim (λ first. inl first) (λ besides. inr (besides.0, subst (Says rest) besides.1 taken.1, besides.2)) has) turn.any_moment;
           faults = turn.faults;
         }
 
     more_run : IsRunOf disk view parts g m old new turns_on
     more_run = record {
       after = turn.after;
-      run = run_more g m so_far.turns so_far.run.after turn_of so_far.run.run refl (says, said, turn.replies);
+      run = run_more g m so_far.turns so_far.run.after turn_of so_far.run.run refl (taken.0, taken.1, turn.replies);
       stands = turn.stands;
       each = turns_more g old mid new so_far.turns turn_of so_far.run.each turn_taken;
     }
+
+    all_seen : AreSeen (sees g) first seen turns_on turn.on
+    all_seen = seen_more (sees g) first before seen so_far.turns turn_of turn.on so_far.are_seen turn.is_seen
+
+    seen_on : true ≡ turn.on → AreSeen (sees g) first seen turns_on true
+    seen_on on = subst (AreSeen (sees g) first seen turns_on) (sym on) all_seen
 
     all_written : Appends written wrote (reply_text turn.reply) → Appends output wrote (output_of turns_on)
     all_written all = subst (Appends output wrote) (sym (output_more so_far.turns turn_of)) (appends_more output written wrote (output_of so_far.turns) (reply_text turn.reply) so_far.written all)
@@ -204,233 +246,261 @@ module _ {D S : Type 0} (disk : D → Disk) (view : S → View D) (parts : S →
       written = appends_more output written wrote (output_of so_far.turns) cut.0 so_far.written cut.3;
     }
 
+    stops_by : (r : Result Bool RunFault) (e : RunFault) → Ending r e → IsWritten written wrote r turn.on (reply_text turn.reply) → StopsBy disk view parts sees e turns_on turn.on output wrote
+    stops_by (Ok true) e ending writes = absurd ending
+    stops_by (Ok false) e ending writes = subst (λ (f : RunFault). StopsBy disk view parts sees f turns_on turn.on output wrote) (sym ending) (sym writes.0, all_written writes.1)
+    stops_by (Err f) e ending writes = subst (λ (x : RunFault). StopsBy disk view parts sees x turns_on turn.on output wrote) (sym (ending ∙ writes.0)) (cut_short writes.1)
+
     whole_lines : AreLines (text ++ 10 ∷ []) (lines_in turns_on) []
     whole_lines = subst (λ (ls : List (List ℕ)). AreLines (text ++ 10 ∷ []) ls []) (sym (lines_more so_far.turns turn_of)) (line_more text (lines_in so_far.turns) rest lines)
 
     -- by its newline
-    pub goes_on : Appends written wrote (reply_text turn.reply) → SoFar disk view parts g m old new (text ++ 10 ∷ []) next output wrote
-    goes_on all = record { turns = turns_on; rest = []; run = more_run; lines = whole_lines; held = empty; written = all_written all }
+    pub goes_on : true ≡ turn.on → Appends written wrote (reply_text turn.reply) → SoFar disk view parts sees g m old new first seen (text ++ 10 ∷ []) next output wrote
+    goes_on on all = record { turns = turns_on; rest = []; run = more_run; are_seen = seen_on on; lines = whole_lines; held = empty; written = all_written all }
 
-    pub stopped : (more : List ℕ) → AppendsFront written wrote (reply_text turn.reply) → Stopped disk view parts (BeginsWith ((text ++ 10 ∷ []) ++ more)) g m old new output wrote
-    stopped more cut = record {
+    pub stopped : (more : List ℕ) (e : RunFault) → Ending result e → Stopped disk view parts sees (BeginsWith ((text ++ 10 ∷ []) ++ more)) e g m old new first seen output wrote
+    stopped more e ending = record {
       turns = turns_on;
       run = more_run;
+      on = turn.on;
+      are_seen = all_seen;
       lines = begins_with (text ++ 10 ∷ []) (lines_in turns_on) more whole_lines;
-      cut = cut_short cut;
+      stops = stops_by result e ending turn.writes;
     }
 
     -- by the end of the input
     last_lines : (rest ≡ [] → ⊥) → lines_of text ≡ lines_in turns_on
     last_lines some = lines_with_rest text (lines_in so_far.turns) rest lines some ∙ sym (lines_more so_far.turns turn_of)
 
-    pub ended_by_rest : (rest ≡ [] → ⊥) → Appends written wrote (reply_text turn.reply) → Ended disk view parts g m old new text output wrote
-    ended_by_rest some all = record { turns = turns_on; run = more_run; lines = last_lines some; written = all_written all }
+    pub ended_by_rest : (rest ≡ [] → ⊥) → true ≡ turn.on → Appends written wrote (reply_text turn.reply) → Ended disk view parts sees g m old new first seen text output wrote
+    ended_by_rest some on all = record { turns = turns_on; run = more_run; are_seen = seen_on on; lines = last_lines some; written = all_written all }
 
-    pub stopped_at_rest : (rest ≡ [] → ⊥) → AppendsFront written wrote (reply_text turn.reply) → Stopped disk view parts (λ lines. lines_of text ≡ lines) g m old new output wrote
-    stopped_at_rest some cut = record { turns = turns_on; run = more_run; lines = last_lines some; cut = cut_short cut }
+    pub stopped_at_rest : (rest ≡ [] → ⊥) → (e : RunFault) → Ending result e → Stopped disk view parts sees (λ lines. lines_of text ≡ lines) e g m old new first seen output wrote
+    stopped_at_rest some e ending = record { turns = turns_on; run = more_run; on = turn.on; are_seen = all_seen; lines = last_lines some; stops = stops_by result e ending turn.writes }
 
   -- nothing is left of the input
-  pub ended : (g : Geometry) (m : Machine) (old new : Power D S) (text : List ℕ) (line : LineBuffer) (output written : Option (List ℕ))
-      (so_far : SoFar disk view parts g m old new text line output written) → so_far.rest ≡ [] → Ended disk view parts g m old new text output written
-  ended g m old new text line output written so_far none = record {
+  pub ended : (g : Geometry) (m : Machine) (old new : Power D S) (first seen : O) (text : List ℕ) (line : LineBuffer) (output written : Option (List ℕ))
+      (so_far : SoFar disk view parts sees g m old new first seen text line output written) → so_far.rest ≡ [] → Ended disk view parts sees g m old new first seen text output written
+  ended g m old new first seen text line output written so_far none = record {
     turns = so_far.turns;
     run = so_far.run;
+    are_seen = so_far.are_seen;
     lines = lines_whole text (lines_in so_far.turns) (subst (AreLines text (lines_in so_far.turns)) none so_far.lines);
     written = so_far.written;
   }
 
   -- ---- a piece
 
-  -- from a kernel, a line and a writer on, these bytes were read
-  module _ (first : Power D S) (begun_line : LineBuffer) (had : Option (List ℕ)) where
-    abbrev pub Goes : List ℕ → Power D S → LineBuffer → Option (List ℕ) → Type 0
-    Goes read k line written = (g : Geometry) (m : Machine) (start : Power D S) (text : List ℕ) (output : Option (List ℕ)) →
-        SoFar disk view parts g m start first text begun_line output had → SoFar disk view parts g m start k (text ++ read) line output written
+  -- from a kernel, an observer, a line and a writer on, these bytes were read
+  module _ (first : Power D S) (saw : O) (begun_line : LineBuffer) (had : Option (List ℕ)) where
+    abbrev pub Goes : List ℕ → Power D S → O → LineBuffer → Option (List ℕ) → Type 0
+    Goes read k seen line written = (g : Geometry) (m : Machine) (start : Power D S) (begins : O) (text : List ℕ) (output : Option (List ℕ)) →
+        SoFar disk view parts sees g m start first begins saw text begun_line output had → SoFar disk view parts sees g m start k begins seen (text ++ read) line output written
 
-    pub none_read : Goes [] first begun_line had
-    none_read g m start text output so_far = subst (λ (t : List ℕ). SoFar disk view parts g m start first t begun_line output had) (sym (append-nil text)) so_far
+    pub none_read : Goes [] first saw begun_line had
+    none_read g m start begins text output so_far = subst (λ (t : List ℕ). SoFar disk view parts sees g m start first begins saw t begun_line output had) (sym (append-nil text)) so_far
 
-    pub goes_longer : (read : List ℕ) (k : Power D S) (line longer_line : LineBuffer) (written : Option (List ℕ)) (bytes : List ℕ) → Goes read k line written → IsOneLine bytes →
-        ((l : List ℕ) → Holds line l → Holds longer_line (l ++ bytes)) → Goes (read ++ bytes) k longer_line written
-    goes_longer read k line longer_line written bytes goes one extended g m start text output so_far =
-        subst (λ (t : List ℕ). SoFar disk view parts g m start k t longer_line output written) (append_assoc text read bytes)
-        (longer g m start k (text ++ read) line longer_line output written bytes (goes g m start text output so_far) one extended)
+    pub goes_longer : (read : List ℕ) (k : Power D S) (seen : O) (line longer_line : LineBuffer) (written : Option (List ℕ)) (bytes : List ℕ) → Goes read k seen line written → IsOneLine bytes →
+        ((l : List ℕ) → Holds line l → Holds longer_line (l ++ bytes)) → Goes (read ++ bytes) k seen longer_line written
+    goes_longer read k seen line longer_line written bytes goes one extended g m start begins text output so_far =
+        subst (λ (t : List ℕ). SoFar disk view parts sees g m start k begins seen t longer_line output written) (append_assoc text read bytes)
+        (longer g m start k begins seen (text ++ read) line longer_line output written bytes (goes g m start begins text output so_far) one extended)
 
     -- so were the first bytes of a piece, of which these are left
-    abbrev pub GoesTo : List ℕ → List ℕ → Power D S → LineBuffer → Option (List ℕ) → Type 0
-    GoesTo piece rest k line written = (read : List ℕ) × (piece ≡ read ++ rest) × Goes read k line written
+    abbrev pub GoesTo : List ℕ → List ℕ → Power D S → O → LineBuffer → Option (List ℕ) → Type 0
+    GoesTo piece rest k seen line written = (read : List ℕ) × (piece ≡ read ++ rest) × Goes read k seen line written
 
     -- a line is at its end, of which these are the last bytes
-    module _ (read : List ℕ) (k new : Power D S) (line next : LineBuffer) (written wrote : Option (List ℕ)) (goes : Goes read k line written) (bytes : List ℕ) (one : IsOneLine bytes)
-        (says : Line) (said : (l : List ℕ) → Holds line l → Says (l ++ bytes) says) (empty : Holds next []) where
+    module _ (read : List ℕ) (k new : Power D S) (before seen : O) (line next : LineBuffer) (written wrote : Option (List ℕ)) (goes : Goes read k before line written) (bytes : List ℕ) (one : IsOneLine bytes)
+        (empty : (held : List ℕ) → Holds line held → Holds next []) (result : Result Bool RunFault)
+        (turn : (g : Geometry) (m : Machine) (held : List ℕ) → Stands disk view parts g k m → Holds line held → TakesLine disk view parts sees g m (held ++ bytes) k new before seen written wrote result) where
       text_is : (text : List ℕ) → ((text ++ read) ++ bytes) ++ 10 ∷ [] ≡ text ++ ((read ++ bytes) ++ 10 ∷ [])
       text_is text =
           append_assoc (text ++ read) bytes (10 ∷ []) ∙ append_assoc text read (bytes ++ 10 ∷ []) ∙ ap (λ (t : List ℕ). text ++ t) (sym (append_assoc read bytes (10 ∷ [])))
 
-      pub goes_newline : ((g : Geometry) (m : Machine) → Stands disk view parts g k m → TakesTurn disk view parts g m says k new written wrote (Ok tt)) → Goes ((read ++ bytes) ++ 10 ∷ []) new next wrote
-      goes_newline turn g m start text output so_far =
-          let now = goes g m start text output so_far in
-          let taken = turn g now.run.after now.run.stands in
-          subst (λ (t : List ℕ). SoFar disk view parts g m start new t next output wrote) (text_is text)
-          (goes_on g m start k new (text ++ read) line next output written wrote now ((text ++ read) ++ bytes) (now.rest ++ bytes)
-          (bytes_more (text ++ read) (lines_in now.turns) now.rest bytes now.lines one) says (said now.rest now.held) empty (Ok tt) taken taken.writes)
+      -- the line with its newline, in a run so far
+      module _ (g : Geometry) (m : Machine) (start : Power D S) (begins : O) (text : List ℕ) (output : Option (List ℕ))
+          (so_far : SoFar disk view parts sees g m start first begins saw text begun_line output had) where
+        abbrev now : SoFar disk view parts sees g m start k begins before (text ++ read) line output written
+        now = goes g m start begins text output so_far
 
-      pub stops_newline : (e : RunFault) (more whole : List ℕ) → whole ≡ ((read ++ bytes) ++ 10 ∷ []) ++ more →
-          ((g : Geometry) (m : Machine) → Stands disk view parts g k m → TakesTurn disk view parts g m says k new written wrote (Err e)) →
-          (g : Geometry) (m : Machine) (start : Power D S) (text : List ℕ) (output : Option (List ℕ)) →
-          SoFar disk view parts g m start first text begun_line output had → Stopped disk view parts (BeginsWith (text ++ whole)) g m start new output wrote
-      stops_newline e more whole is turn g m start text output so_far =
-          let now = goes g m start text output so_far in
-          let taken = turn g now.run.after now.run.stands in
-          subst (λ (t : List ℕ). Stopped disk view parts (BeginsWith t) g m start new output wrote)
-          (ap (λ (t : List ℕ). t ++ more) (text_is text) ∙ append_assoc text ((read ++ bytes) ++ 10 ∷ []) more ∙ ap (λ (t : List ℕ). text ++ t) (sym is))
-          (stopped g m start k new (text ++ read) line next output written wrote now ((text ++ read) ++ bytes) (now.rest ++ bytes)
-          (bytes_more (text ++ read) (lines_in now.turns) now.rest bytes now.lines one) says (said now.rest now.held) empty (Err e) taken more taken.writes.1)
+        abbrev taken : TakesLine disk view parts sees g now.run.after (now.rest ++ bytes) k new before seen written wrote result
+        taken = turn g now.run.after now.rest now.run.stands now.held
+
+        on_by_newline : true ≡ taken.2.on → Appends written wrote (reply_text taken.2.reply) → SoFar disk view parts sees g m start new begins seen (text ++ ((read ++ bytes) ++ 10 ∷ [])) next output wrote
+        on_by_newline on all =
+            subst (λ (t : List ℕ). SoFar disk view parts sees g m start new begins seen t next output wrote) (text_is text)
+            (goes_on g m start k new begins before seen (text ++ read) line next output written wrote now ((text ++ read) ++ bytes) (now.rest ++ bytes)
+            (bytes_more (text ++ read) (lines_in now.turns) now.rest bytes now.lines one) (empty now.rest now.held) result taken on all)
+
+        stopped_by_newline : (e : RunFault) → Ending result e → (more whole : List ℕ) → whole ≡ ((read ++ bytes) ++ 10 ∷ []) ++ more →
+            Stopped disk view parts sees (BeginsWith (text ++ whole)) e g m start new begins seen output wrote
+        stopped_by_newline e ending more whole is =
+            subst (λ (t : List ℕ). Stopped disk view parts sees (BeginsWith t) e g m start new begins seen output wrote)
+            (ap (λ (t : List ℕ). t ++ more) (text_is text) ∙ append_assoc text ((read ++ bytes) ++ 10 ∷ []) more ∙ ap (λ (t : List ℕ). text ++ t) (sym is))
+            (stopped g m start k new begins before seen (text ++ read) line next output written wrote now ((text ++ read) ++ bytes) (now.rest ++ bytes)
+            (bytes_more (text ++ read) (lines_in now.turns) now.rest bytes now.lines one) (empty now.rest now.held) result taken more e ending)
 
     -- what is left of a piece begins with the end of a line, which was taken
-    module _ (piece rest : List ℕ) (k new : Power D S) (line next : LineBuffer) (written wrote : Option (List ℕ)) (goes : GoesTo piece rest k line written)
-        (end : ℕ) (within : end < length rest) (one : IsOneLine (take end rest)) (newline : slice_index_or rest end 0 ≡ 10)
-        (says : Line) (said : (l : List ℕ) → Holds line l → Says (l ++ take end rest) says) (empty : Holds next []) where
-      pub goes_to_next : ((g : Geometry) (m : Machine) → Stands disk view parts g k m → TakesTurn disk view parts g m says k new written wrote (Ok tt)) →
-          GoesTo piece (drop (suc end) rest) new next wrote
+    module _ (piece rest : List ℕ) (k new : Power D S) (before seen : O) (line next : LineBuffer) (written wrote : Option (List ℕ)) (goes : GoesTo piece rest k before line written)
+        (end : ℕ) (within : end < length rest) (one : IsOneLine (take end rest)) (newline : slice_index_or rest end 0 ≡ 10) (empty : (held : List ℕ) → Holds line held → Holds next []) where
+      pub goes_to_next : ((g : Geometry) (m : Machine) (held : List ℕ) → Stands disk view parts g k m → Holds line held →
+          TakesLine disk view parts sees g m (held ++ take end rest) k new before seen written wrote (Ok true)) → GoesTo piece (drop (suc end) rest) new seen next wrote
       goes_to_next turn = (
         (goes.0 ++ take end rest) ++ 10 ∷ [],
         line_taken piece goes.0 rest end goes.1 within newline,
-        goes_newline goes.0 k new line next written wrote goes.2 (take end rest) one says said empty turn,
+        λ g m start begins text output so_far.
+            let writes = (taken goes.0 k new before seen line next written wrote goes.2 (take end rest) one empty (Ok true) turn g m start begins text output so_far).2.writes in
+            on_by_newline goes.0 k new before seen line next written wrote goes.2 (take end rest) one empty (Ok true) turn g m start begins text output so_far writes.0 writes.1,
       )
 
-      pub stops_in_piece : (e : RunFault) →
-          ((g : Geometry) (m : Machine) → Stands disk view parts g k m → TakesTurn disk view parts g m says k new written wrote (Err e)) →
-          (g : Geometry) (m : Machine) (start : Power D S) (text : List ℕ) (output : Option (List ℕ)) →
-          SoFar disk view parts g m start first text begun_line output had → Stopped disk view parts (BeginsWith (text ++ piece)) g m start new output wrote
-      stops_in_piece e = stops_newline goes.0 k new line next written wrote goes.2 (take end rest) one says said empty e (drop (suc end) rest) piece
+      pub stops_in_piece : (result : Result Bool RunFault) (e : RunFault) → Ending result e →
+          ((g : Geometry) (m : Machine) (held : List ℕ) → Stands disk view parts g k m → Holds line held → TakesLine disk view parts sees g m (held ++ take end rest) k new before seen written wrote result) →
+          (g : Geometry) (m : Machine) (start : Power D S) (begins : O) (text : List ℕ) (output : Option (List ℕ)) →
+          SoFar disk view parts sees g m start first begins saw text begun_line output had → Stopped disk view parts sees (BeginsWith (text ++ piece)) e g m start new begins seen output wrote
+      stops_in_piece result e ending turn g m start begins text output so_far =
+          stopped_by_newline goes.0 k new before seen line next written wrote goes.2 (take end rest) one empty result turn g m start begins text output so_far e ending (drop (suc end) rest) piece
           (line_taken piece goes.0 rest end goes.1 within newline)
 
     -- or it has no newline
-    pub goes_to_end : (piece rest : List ℕ) (k : Power D S) (line longer_line : LineBuffer) (written : Option (List ℕ)) → GoesTo piece rest k line written → IsOneLine rest →
-        ((l : List ℕ) → Holds line l → Holds longer_line (l ++ rest)) → Goes piece k longer_line written
-    goes_to_end piece rest k line longer_line written goes one extended =
-        subst (λ (read : List ℕ). Goes read k longer_line written) (sym goes.1) (goes_longer goes.0 k line longer_line written rest goes.2 one extended)
+    pub goes_to_end : (piece rest : List ℕ) (k : Power D S) (seen : O) (line longer_line : LineBuffer) (written : Option (List ℕ)) → GoesTo piece rest k seen line written → IsOneLine rest →
+        ((l : List ℕ) → Holds line l → Holds longer_line (l ++ rest)) → Goes piece k seen longer_line written
+    goes_to_end piece rest k seen line longer_line written goes one extended =
+        subst (λ (read : List ℕ). Goes read k seen longer_line written) (sym goes.1) (goes_longer goes.0 k seen line longer_line written rest goes.2 one extended)
 
   -- ---- a run
 
   -- whichever machine the first kernel stands for
-  abbrev pub RunsSoFar : Power D S → Power D S → List ℕ → LineBuffer → Option (List ℕ) → Option (List ℕ) → Type 0
-  RunsSoFar old new text line output output_left = (g : Geometry) (m : Machine) → Stands disk view parts g old m → SoFar disk view parts g m old new text line output output_left
+  abbrev pub RunsSoFar : Power D S → Power D S → O → O → List ℕ → LineBuffer → Option (List ℕ) → Option (List ℕ) → Type 0
+  RunsSoFar old new first seen text line output output_left = (g : Geometry) (m : Machine) → Stands disk view parts g old m → SoFar disk view parts sees g m old new first seen text line output output_left
 
   pub no_text : (old : Option (List ℕ)) → Consumes old old []
   no_text None = tt
   no_text (Some xs) = refl
 
   -- a text was read, and the run is that of its lines
-  abbrev pub HasRead : Power D S → Power D S → LineBuffer → Option (List ℕ) → Option (List ℕ) → Option (List ℕ) → Option (List ℕ) → Type 0
-  HasRead old new line input input_left output output_left =
-      (text : List ℕ) × Consumes input input_left text × RunsSoFar old new text line output output_left
+  abbrev pub HasRead : Power D S → Power D S → O → O → LineBuffer → Option (List ℕ) → Option (List ℕ) → Option (List ℕ) → Option (List ℕ) → Type 0
+  HasRead old new first seen line input input_left output output_left =
+      (text : List ℕ) × Consumes input input_left text × RunsSoFar old new first seen text line output output_left
 
   -- what was written stays so
-  kept_so_far : (g : Geometry) (m : Machine) (old new : Power D S) (text : List ℕ) (line : LineBuffer) (output written kept : Option (List ℕ)) → Keeps written kept →
-      SoFar disk view parts g m old new text line output written → SoFar disk view parts g m old new text line output kept
-  kept_so_far g m old new text line output written kept keeps so_far = record {
+  kept_so_far : (g : Geometry) (m : Machine) (old new : Power D S) (first seen : O) (text : List ℕ) (line : LineBuffer) (output written kept : Option (List ℕ)) → Keeps written kept →
+      SoFar disk view parts sees g m old new first seen text line output written → SoFar disk view parts sees g m old new first seen text line output kept
+  kept_so_far g m old new first seen text line output written kept keeps so_far = record {
     turns = so_far.turns;
     rest = so_far.rest;
     run = so_far.run;
+    are_seen = so_far.are_seen;
     lines = so_far.lines;
     held = so_far.held;
     written = appends_kept output written kept (output_of so_far.turns) so_far.written keeps;
   }
 
-  pub nothing_read : (k : Power D S) (line : LineBuffer) (input output : Option (List ℕ)) → Holds line [] → HasRead k k line input input output output
-  nothing_read k line input output empty = ([], no_text input, λ g m stands. begun g m k line output empty stands)
+  pub nothing_read : (k : Power D S) (seen : O) (line : LineBuffer) (input output : Option (List ℕ)) → Holds line [] → HasRead k k seen seen line input input output output
+  nothing_read k seen line input output empty = ([], no_text input, λ g m stands. begun g m k seen line output empty stands)
 
-  module _ (old mid : Power D S) (line : LineBuffer) (input read left output written : Option (List ℕ)) (so_far : HasRead old mid line input read output written) where
+  module _ (old mid : Power D S) (first before : O) (line : LineBuffer) (input read left output written : Option (List ℕ)) (so_far : HasRead old mid first before line input read output written) where
     -- a read gave nothing
-    pub still_read : Consumes read left [] → HasRead old mid line input left output written
+    pub still_read : Consumes read left [] → HasRead old mid first before line input left output written
     still_read nothing = (so_far.0, subst (Consumes input left) (append-nil so_far.0) (Consumes-trans input read left so_far.0 [] so_far.1 nothing), so_far.2)
 
     -- what was written was passed on, or wasn't
     module _ (passed : Option (List ℕ)) (kept : Keeps written passed) where
-      pub passed_on : HasRead old mid line input read output passed
-      passed_on = (so_far.0, so_far.1, λ g m stands. kept_so_far g m old mid so_far.0 line output written passed kept (so_far.2 g m stands))
+      pub passed_on : HasRead old mid first before line input read output passed
+      passed_on = (so_far.0, so_far.1, λ g m stands. kept_so_far g m old mid first before so_far.0 line output written passed kept (so_far.2 g m stands))
 
-      pub not_passed_on : (e : RunFault) → e ≡ fault.Write → RunsOver disk view parts old mid input read output passed (Err e)
+      pub not_passed_on : (e : RunFault) → e ≡ fault.Write → RunsSeen disk view parts sees old mid first before input read output passed (Err e)
       not_passed_on e write g m stands =
           let s = so_far.2 g m stands in (
             s.turns,
             s.run,
             subst (λ (d : RunFault). Does s.turns input read output passed (Err d)) (sym write)
                 (so_far.0, so_far.1, inr (inl (s.rest, s.lines), appends_kept output written passed (output_of s.turns) s.written kept)),
+            true,
+            s.are_seen,
+            subst (λ (d : RunFault). EndsBy true (Err d)) (sym write) tt,
           )
 
-    module _ (bytes : List ℕ) (new : Power D S) (wrote : Option (List ℕ)) (more : Consumes read left bytes) where
-      pub piece_on : (next : LineBuffer) → ((g : Geometry) (m : Machine) (start : Power D S) (text : List ℕ) (out : Option (List ℕ)) →
-          SoFar disk view parts g m start mid text line out written → SoFar disk view parts g m start new (text ++ bytes) next out wrote) → HasRead old new next input left output wrote
+    module _ (bytes : List ℕ) (new : Power D S) (seen : O) (wrote : Option (List ℕ)) (more : Consumes read left bytes) where
+      pub piece_on : (next : LineBuffer) → ((g : Geometry) (m : Machine) (start : Power D S) (begins : O) (text : List ℕ) (out : Option (List ℕ)) →
+          SoFar disk view parts sees g m start mid begins before text line out written → SoFar disk view parts sees g m start new begins seen (text ++ bytes) next out wrote) →
+          HasRead old new first seen next input left output wrote
       piece_on next goes = (
         so_far.0 ++ bytes,
         Consumes-trans input read left so_far.0 bytes so_far.1 more,
-        λ g m stands. goes g m old so_far.0 output (so_far.2 g m stands),
+        λ g m stands. goes g m old first so_far.0 output (so_far.2 g m stands),
       )
 
-      pub piece_stops : ((g : Geometry) (m : Machine) (start : Power D S) (text : List ℕ) (out : Option (List ℕ)) →
-          SoFar disk view parts g m start mid text line out written → Stopped disk view parts (BeginsWith (text ++ bytes)) g m start new out wrote) → (e : RunFault) → e ≡ fault.Write →
-          RunsOver disk view parts old new input left output wrote (Err e)
-      piece_stops stops e write g m stands =
-          let s = stops g m old so_far.0 output (so_far.2 g m stands) in
-          (s.turns, s.run, subst (λ (d : RunFault). Does s.turns input left output wrote (Err d)) (sym write) (so_far.0 ++ bytes, Consumes-trans input read left so_far.0 bytes so_far.1 more, inl (inl s.lines, s.cut)))
+      -- a run that stops early reads and writes as it should
+      does_stop : (AreTaken : List (List ℕ) → Type 0) (text : List ℕ) → Consumes input left text → ((lines : List (List ℕ)) → AreTaken lines → AreFirst text left lines) →
+          (e : RunFault) (g : Geometry) (m : Machine) (s : Stopped disk view parts sees AreTaken e g m old new first seen output wrote) →
+          Does s.turns input left output wrote (Err e) × EndsBy s.on (Err e)
+      does_stop AreTaken text consumed are fault.Read g m s = absurd s.stops
+      does_stop AreTaken text consumed are fault.Write g m s = ((text, consumed, inl (are (lines_in s.turns) s.lines, s.stops)), tt)
+      does_stop AreTaken text consumed are fault.Stopped g m s = ((text, consumed, are (lines_in s.turns) s.lines, s.stops.1), s.stops.0)
+
+      pub piece_stops : (e : RunFault) → ((g : Geometry) (m : Machine) (start : Power D S) (begins : O) (text : List ℕ) (out : Option (List ℕ)) →
+          SoFar disk view parts sees g m start mid begins before text line out written → Stopped disk view parts sees (BeginsWith (text ++ bytes)) e g m start new begins seen out wrote) →
+          RunsSeen disk view parts sees old new first seen input left output wrote (Err e)
+      piece_stops e stops g m stands =
+          let s = stops g m old first so_far.0 output (so_far.2 g m stands) in
+          let does = does_stop (BeginsWith (so_far.0 ++ bytes)) (so_far.0 ++ bytes) (Consumes-trans input read left so_far.0 bytes so_far.1 more) (λ lines begin. inl begin) e g m s in
+          (s.turns, s.run, does.0, s.on, s.are_seen, does.1)
 
     -- the input is at its end
-    module _ (new : Power D S) (wrote : Option (List ℕ)) (none : Consumes read left []) (end : IsAtEnd left) where
+    module _ (new : Power D S) (seen : O) (wrote : Option (List ℕ)) (none : Consumes read left []) (end : IsAtEnd left) where
       all_read : Consumes input left so_far.0
       all_read = subst (Consumes input left) (append-nil so_far.0) (Consumes-trans input read left so_far.0 [] so_far.1 none)
 
-      pub rest_taken : (result : Result (Unit {0}) RunFault) →
-          OnOk result ((g : Geometry) (m : Machine) (start : Power D S) (text : List ℕ) (out : Option (List ℕ)) →
-          SoFar disk view parts g m start mid text line out written → Ended disk view parts g m start new text out wrote) →
-          OnErr result ((g : Geometry) (m : Machine) (start : Power D S) (text : List ℕ) (out : Option (List ℕ)) →
-          SoFar disk view parts g m start mid text line out written → Stopped disk view parts (λ lines. lines_of text ≡ lines) g m start new out wrote) →
-          IfErr result (λ e. e ≡ fault.Write) → RunsOver disk view parts old new input left output wrote result
-      rest_taken (Ok a) ends stops write g m stands =
-          let e = ends g m old so_far.0 output (so_far.2 g m stands) in
-          (e.turns, e.run, (so_far.0, all_read, end, e.lines, e.written))
-      rest_taken (Err e) ends stops write g m stands =
-          let s = stops g m old so_far.0 output (so_far.2 g m stands) in
-          (s.turns, s.run, subst (λ (d : RunFault). Does s.turns input left output wrote (Err d)) (sym write) (so_far.0, all_read, inl (inr (end, s.lines), s.cut)))
+      pub rest_stops_run : (e : RunFault) → ((g : Geometry) (m : Machine) (start : Power D S) (begins : O) (text : List ℕ) (out : Option (List ℕ)) →
+          SoFar disk view parts sees g m start mid begins before text line out written → Stopped disk view parts sees (λ lines. lines_of text ≡ lines) e g m start new begins seen out wrote) →
+          RunsSeen disk view parts sees old new first seen input left output wrote (Err e)
+      rest_stops_run e stops g m stands =
+          let s = stops g m old first so_far.0 output (so_far.2 g m stands) in
+          let does = does_stop [] new seen wrote none (λ lines. lines_of so_far.0 ≡ lines) so_far.0 all_read (λ lines whole. inr (end, whole)) e g m s in
+          (s.turns, s.run, does.0, s.on, s.are_seen, does.1)
 
       -- and the answers were passed on, or weren't
-      pub end_passed_on : (passed : Option (List ℕ)) → Keeps wrote passed → ((g : Geometry) (m : Machine) (start : Power D S) (text : List ℕ) (out : Option (List ℕ)) →
-          SoFar disk view parts g m start mid text line out written → Ended disk view parts g m start new text out wrote) →
-          (result : Result (Unit {0}) RunFault) → IfErr result (λ e. e ≡ fault.Write) → RunsOver disk view parts old new input left output passed result
+      pub end_passed_on : (passed : Option (List ℕ)) → Keeps wrote passed → ((g : Geometry) (m : Machine) (start : Power D S) (begins : O) (text : List ℕ) (out : Option (List ℕ)) →
+          SoFar disk view parts sees g m start mid begins before text line out written → Ended disk view parts sees g m start new begins seen text out wrote) →
+          (result : Result (Unit {0}) RunFault) → IfErr result (λ e. e ≡ fault.Write) → RunsSeen disk view parts sees old new first seen input left output passed result
       end_passed_on passed kept ends (Ok a) write g m stands =
-          let e = ends g m old so_far.0 output (so_far.2 g m stands) in
-          (e.turns, e.run, (so_far.0, all_read, end, e.lines, appends_kept output wrote passed (output_of e.turns) e.written kept))
+          let e = ends g m old first so_far.0 output (so_far.2 g m stands) in
+          (e.turns, e.run, (so_far.0, all_read, end, e.lines, appends_kept output wrote passed (output_of e.turns) e.written kept), true, e.are_seen, refl)
       end_passed_on passed kept ends (Err d) write g m stands =
-          let e = ends g m old so_far.0 output (so_far.2 g m stands) in (
+          let e = ends g m old first so_far.0 output (so_far.2 g m stands) in (
             e.turns,
             e.run,
             subst (λ (d : RunFault). Does e.turns input left output passed (Err d)) (sym write)
                 (so_far.0, all_read, inr (inr (end, e.lines), appends_kept output wrote passed (output_of e.turns) e.written kept)),
+            true,
+            e.are_seen,
+            subst (λ (d : RunFault). EndsBy true (Err d)) (sym write) tt,
           )
 
   -- ---- the rest at the end
 
-  module _ (k new : Power D S) (line next : LineBuffer) (written wrote : Option (List ℕ)) (says : Line) (said : (l : List ℕ) → Holds line l → Says l says) (empty : Holds next [])
-      (is_empty : Bool) (tells : (l : List ℕ) → Holds line l → (IsTrue is_empty ↔ (l ≡ []))) (some : is_empty ≡ false) where
+  module _ (k new : Power D S) (before seen : O) (line : LineBuffer) (next : LineBuffer) (written wrote : Option (List ℕ)) (empty : Holds next [])
+      (is_empty : Bool) (tells : (l : List ℕ) → Holds line l → (IsTrue is_empty ↔ (l ≡ []))) (some : is_empty ≡ false) (result : Result Bool RunFault)
+      (turn : (g : Geometry) (m : Machine) (held : List ℕ) → Stands disk view parts g k m → Holds line held → TakesLine disk view parts sees g m held k new before seen written wrote result) where
     not_none : (l : List ℕ) → Holds line l → l ≡ [] → ⊥
     not_none l held none = let told : IsTrue is_empty = (tells l held).1 none in cc
 
-    pub rest_ends : (result : Result (Unit {0}) RunFault) →
-        ((g : Geometry) (m : Machine) → Stands disk view parts g k m → TakesTurn disk view parts g m says k new written wrote result) →
-        OnOk result ((g : Geometry) (m : Machine) (start : Power D S) (text : List ℕ) (output : Option (List ℕ)) →
-        SoFar disk view parts g m start k text line output written → Ended disk view parts g m start new text output wrote)
-    rest_ends (Err e) turn = tt
-    rest_ends (Ok a) turn = λ g m start text output so_far.
-        let taken = turn g so_far.run.after so_far.run.stands in
-        ended_by_rest g m start k new text line next output written wrote so_far text so_far.rest so_far.lines says (said so_far.rest so_far.held) empty (Ok a) taken (not_none so_far.rest so_far.held) taken.writes
+    pub rest_ends : result ≡ Ok true → (g : Geometry) (m : Machine) (start : Power D S) (begins : O) (text : List ℕ) (output : Option (List ℕ)) →
+        SoFar disk view parts sees g m start k begins before text line output written → Ended disk view parts sees g m start new begins seen text output wrote
+    rest_ends ok g m start begins text output so_far =
+        let taken = turn g so_far.run.after so_far.rest so_far.run.stands so_far.held in
+        let writes = subst (λ (r : Result Bool RunFault). IsWritten written wrote r taken.2.on (reply_text taken.2.reply)) ok taken.2.writes in
+        ended_by_rest g m start k new begins before seen text line next output written wrote so_far text so_far.rest so_far.lines empty result taken (not_none so_far.rest so_far.held) writes.0 writes.1
 
-    pub rest_stops : (result : Result (Unit {0}) RunFault) →
-        ((g : Geometry) (m : Machine) → Stands disk view parts g k m → TakesTurn disk view parts g m says k new written wrote result) →
-        OnErr result ((g : Geometry) (m : Machine) (start : Power D S) (text : List ℕ) (output : Option (List ℕ)) →
-        SoFar disk view parts g m start k text line output written → Stopped disk view parts (λ lines. lines_of text ≡ lines) g m start new output wrote)
-    rest_stops (Ok a) turn = tt
-    rest_stops (Err e) turn = λ g m start text output so_far.
-        let taken = turn g so_far.run.after so_far.run.stands in
-        stopped_at_rest g m start k new text line next output written wrote so_far text so_far.rest so_far.lines says (said so_far.rest so_far.held) empty (Err e) taken (not_none so_far.rest so_far.held) taken.writes.1
+    pub rest_stops : (e : RunFault) → Ending result e → (g : Geometry) (m : Machine) (start : Power D S) (begins : O) (text : List ℕ) (output : Option (List ℕ)) →
+        SoFar disk view parts sees g m start k begins before text line output written → Stopped disk view parts sees (λ lines. lines_of text ≡ lines) e g m start new begins seen output wrote
+    rest_stops e ending g m start begins text output so_far =
+        let taken = turn g so_far.run.after so_far.rest so_far.run.stands so_far.held in
+        stopped_at_rest g m start k new begins before seen text line next output written wrote so_far text so_far.rest so_far.lines empty result taken (not_none so_far.rest so_far.held) e ending
+
+  -- ---- what the observer adds is left out
+
+  pub run_of_seen : (old new : Power D S) (first seen : O) (input left output wrote : Option (List ℕ)) (result : Result (Unit {0}) RunFault) →
+      RunsSeen disk view parts sees old new first seen input left output wrote result → RunsOver disk view parts old new input left output wrote result
+  run_of_seen old new first seen input left output wrote result runs g m stands = let r = runs g m stands in (r.0, r.1, r.2)

@@ -76,7 +76,8 @@ pub record IsCutShort (turns : List Turn) (output output_left : Option (List ℕ
 -- What a run with these turns read and wrote. At Ok all of the input was read, and each line of it is a turn whose
 -- answer was written. Where the reader failed the same holds of the lines read whole. Where the writer failed the
 -- turns are the first of the lines read whole, or all lines of an input at its end, and only the answer to the last
--- may be cut short; or it took the answers to all of these lines, and didn't pass them on.
+-- may be cut short; or it took the answers to all of these lines, and didn't pass them on. Where the observer ended the
+-- run the turns are the first of the lines read whole, or all lines of an input at its end, and each was answered.
 abbrev pub Does : List Turn → Option (List ℕ) → Option (List ℕ) → Option (List ℕ) → Option (List ℕ) → Result (Unit {0}) RunFault → Type 0
 Does turns input input_left output output_left (Ok a) =
     (text : List ℕ) × Consumes input input_left text × IsAtEnd input_left × (lines_of text ≡ lines_in turns) × Appends output output_left (output_of turns)
@@ -85,6 +86,8 @@ Does turns input input_left output output_left (Err fault.Read) =
 Does turns input input_left output output_left (Err fault.Write) =
     (text : List ℕ) × Consumes input input_left text
     × ((AreFirst text input_left (lines_in turns) × IsCutShort turns output output_left) ⊎ (AreAll text input_left (lines_in turns) × Appends output output_left (output_of turns)))
+Does turns input input_left output output_left (Err fault.Stopped) =
+    (text : List ℕ) × Consumes input input_left text × AreFirst text input_left (lines_in turns) × Appends output output_left (output_of turns)
 
 -- the device failed exactly where that was answered
 pub record IsToldBy (old new : Disk) (reply : Reply) : Type 0 where
@@ -95,6 +98,19 @@ pub record IsToldBy (old new : Disk) (reply : Reply) : Type 0 where
 pub record IsCounted (Failed : Type 0) (old new : ℕ) : Type 0 where
   pub never_falls : old ≤ new
   pub cause : Failed ↔ (old < new)
+
+-- An observer saw these turns, one after another, and let the run go on at each but the last. The flag says whether it
+-- let it go on there too.
+abbrev pub AreSeen : {O : Type 0} → (Turn → O → O → Bool → Type 0) → O → O → List Turn → Bool → Type 0
+AreSeen sees old new [] on = (new ≡ old) × (on ≡ true)
+AreSeen sees old new (t ∷ ts) on = ((next : _) × sees t old next true × AreSeen sees next new ts on) ⊎ ((ts ≡ []) × (on ≡ false) × sees t old new false)
+
+-- it ended the run exactly where the run says so; where the writer failed the observer may have ended it at that line
+abbrev pub EndsBy : Bool → Result (Unit {0}) RunFault → Type 0
+EndsBy on (Ok a) = on ≡ true
+EndsBy on (Err fault.Read) = on ≡ true
+EndsBy on (Err fault.Write) = Unit {0}
+EndsBy on (Err fault.Stopped) = on ≡ false
 
 -- each line is an invocation or a memory reference by a process of a set, or no command
 abbrev pub AreLinesBy : (ℕ → Bool) → List (List ℕ) → Type 0
@@ -127,6 +143,14 @@ module _ {D S : Type 0} (disk : D → Disk) (view : S → View D) (parts : S →
   RunsOver old new input input_left output output_left result =
       (g : Geometry) (m : Machine) → Stands disk view parts g old m →
       (turns : List Turn) × IsRunOf g m old new turns × Does turns input input_left output output_left result
+
+  -- the same of a run that an observer saw, each of whose turns it saw
+  abbrev pub RunsSeen : {O : Type 0} → (Geometry → Turn → O → O → Bool → Type 0) → Power D S → Power D S → O → O
+      → Option (List ℕ) → Option (List ℕ) → Option (List ℕ) → Option (List ℕ) → Result (Unit {0}) RunFault → Type 0
+  RunsSeen sees old new before after input input_left output output_left result =
+      (g : Geometry) (m : Machine) → Stands disk view parts g old m →
+      (turns : List Turn) × IsRunOf g m old new turns × Does turns input input_left output output_left result
+      × (on : Bool) × AreSeen (sees g) before after turns on × EndsBy on result
 
   -- The authority bound. The kernel is up before and after. If each line that was read is by a process of a closed set, or by
   -- one made of numbers that were free, then each object outside the set that wasn't free is kept.

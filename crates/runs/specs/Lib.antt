@@ -1,4 +1,6 @@
 pub use Rattle.kernel.specs.Standing
 pub mod KernelRuns
 pub mod Taking
+pub mod Tracing
 pub mod Reader
+pub mod Unsaved

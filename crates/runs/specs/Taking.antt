@@ -1,5 +1,5 @@
 -- A run of a script in its course.
-use Rattle.std.specs.Prelude.{◌≡◌, ◌⊎◌, ℕ, ◌≤◌, List, [], length, take, Option, Result, Ok, Err}
+use Rattle.std.specs.Prelude.{◌≡◌, ◌⊎◌, ℕ, ◌≤◌, Bool, true, false, List, [], length, take, Option, Result, Ok, Err}
 use Rattle.std.specs.Io.KnownBytes.{Appends, Consumes, IsAtEnd}
 use Rattle.model.specs.declared.command.Command.{Command}
 use Rattle.model.specs.declared.geometry.Geometry.{Geometry}
@@ -8,6 +8,7 @@ use Rattle.model.specs.declared.line.Line.TheVariants as line
 use Rattle.model.specs.Machine.{Machine, candidates}
 use Rattle.model.specs.Run.{Reply, Turn, Replies, lines_of, reply_text, output_of}
 use Rattle.model.specs.Step.{second}
+use Rattle.model.specs.Text.{Says}
 use Rattle.device.specs.Disk.{Disk}
 use Rattle.device.specs.Moments.{LeavesOnly}
 use Rattle.capability.specs.Parts.{Parts}
@@ -19,10 +20,10 @@ use Rattle.script.specs.declared.fault.RunFault.{RunFault}
 use Rattle.script.specs.declared.fault.RunFault.TheVariants as fault
 use Rattle.script.specs.declared.lines.LineBuffer.{LineBuffer}
 use Rattle.script.specs.Lines.{Holds}
-use Rattle.script.specs.Writing.{Writes}
+use Rattle.script.specs.Writing.{AppendsFront}
 use Rattle.runs.specs.declared.script_pieces.Piece.{Piece}
 use Rattle.runs.specs.declared.script_pieces.Piece.TheVariants as piece
-use Rattle.runs.specs.KernelRuns.{AreLines, IsCutShort, IsRunOf, IsToldBy, lines_in}
+use Rattle.runs.specs.KernelRuns.{AreLines, AreSeen, IsCutShort, IsRunOf, IsToldBy, lines_in}
 
 -- bytes were read, or none
 abbrev pub ReadsPiece : Option (List ℕ) → Option (List ℕ) → List ℕ → Result Piece RunFault → Type 0
@@ -31,10 +32,15 @@ ReadsPiece old new bytes (Ok piece.End) = Consumes old new [] × IsAtEnd new
 ReadsPiece old new bytes (Ok piece.Nothing) = Consumes old new []
 ReadsPiece old new bytes (Err e) = (e ≡ fault.Read) × Consumes old new []
 
--- The parameters are ghost members of a device and of an object store.
-module _ {D S : Type 0} (disk : D → Disk) (view : S → View D) (parts : S → Parts) where
-  -- a line was taken: the machine after it, and what a crash leaves in its course
-  pub record TakesTurn (g : Geometry) (m : Machine) (says : Line) (old new : Power D S) (written wrote : Option (List ℕ)) (result : Result (Unit {0}) RunFault) : Type 0 where
+-- the answer was written, and the observer let the run go on or not; or the writer failed
+abbrev pub IsWritten : Option (List ℕ) → Option (List ℕ) → Result Bool RunFault → Bool → List ℕ → Type 0
+IsWritten written wrote (Ok goes_on) on text = (goes_on ≡ on) × Appends written wrote text
+IsWritten written wrote (Err e) on text = (e ≡ fault.Write) × AppendsFront written wrote text
+
+-- The parameters are ghost members of a device, of an object store, and of an observer.
+module _ {D S O : Type 0} (disk : D → Disk) (view : S → View D) (parts : S → Parts) (sees : Geometry → Turn → O → O → Bool → Type 0) where
+  -- a line was taken: the machine after it, what a crash leaves in its course, and what the observer made of it
+  pub record TakesTurn (g : Geometry) (m : Machine) (text : List ℕ) (says : Line) (old new : Power D S) (before seen : O) (written wrote : Option (List ℕ)) (result : Result Bool RunFault) : Type 0 where
     pub reply : Reply
     pub after : Machine
     pub replies : Replies g says m reply after
@@ -43,27 +49,43 @@ module _ {D S : Type 0} (disk : D → Disk) (view : S → View D) (parts : S →
     pub any_moment : LeavesOnly (disk_of disk view parts old) (disk_of disk view parts new) (λ c. DenotesOne g (disk_of disk view parts old).sectors (candidates m) c
         ⊎ ((command : Command) × (says ≡ line.Command command) × DenotesOne g (disk_of disk view parts old).sectors (second m command) c))
     pub faults : IsToldBy (disk_of disk view parts old) (disk_of disk view parts new) reply
-    pub writes : Writes written wrote result (reply_text reply)
+    pub on : Bool
+    pub is_seen : sees g (record { line = text; before = m; reply = reply; after = after }) before seen on
+    pub writes : IsWritten written wrote result on (reply_text reply)
+
+  -- the same, whatever the line says
+  abbrev pub TakesLine : Geometry → Machine → List ℕ → Power D S → Power D S → O → O → Option (List ℕ) → Option (List ℕ) → Result Bool RunFault → Type 0
+  TakesLine g m text old new before seen written wrote result = (says : Line) × Says text says × TakesTurn g m text says old new before seen written wrote result
 
   -- a run so far: its turns, what was read of a line that isn't whole, and the answers written
-  pub record SoFar (g : Geometry) (m : Machine) (old new : Power D S) (text : List ℕ) (line : LineBuffer) (output output_left : Option (List ℕ)) : Type 0 where
+  pub record SoFar (g : Geometry) (m : Machine) (old new : Power D S) (before seen : O) (text : List ℕ) (line : LineBuffer) (output output_left : Option (List ℕ)) : Type 0 where
     pub turns : List Turn
     pub rest : List ℕ
     pub run : IsRunOf disk view parts g m old new turns
+    pub are_seen : AreSeen (sees g) before seen turns true
     pub lines : AreLines text (lines_in turns) rest
     pub held : Holds line rest
     pub written : Appends output output_left (output_of turns)
 
   -- a run of all lines of a text
-  pub record Ended (g : Geometry) (m : Machine) (old new : Power D S) (text : List ℕ) (output output_left : Option (List ℕ)) : Type 0 where
+  pub record Ended (g : Geometry) (m : Machine) (old new : Power D S) (before seen : O) (text : List ℕ) (output output_left : Option (List ℕ)) : Type 0 where
     pub turns : List Turn
     pub run : IsRunOf disk view parts g m old new turns
+    pub are_seen : AreSeen (sees g) before seen turns true
     pub lines : lines_of text ≡ lines_in turns
     pub written : Appends output output_left (output_of turns)
 
-  -- a run of such lines whose last answer wasn't written whole
-  pub record Stopped (AreTaken : List (List ℕ) → Type 0) (g : Geometry) (m : Machine) (old new : Power D S) (output output_left : Option (List ℕ)) : Type 0 where
+  -- the last answer wasn't written whole, or the observer ended the run there
+  abbrev pub StopsBy : RunFault → List Turn → Bool → Option (List ℕ) → Option (List ℕ) → Type 0
+  StopsBy fault.Read turns on output output_left = ⊥
+  StopsBy fault.Write turns on output output_left = IsCutShort turns output output_left
+  StopsBy fault.Stopped turns on output output_left = (on ≡ false) × Appends output output_left (output_of turns)
+
+  -- a run of such lines that ended early
+  pub record Stopped (AreTaken : List (List ℕ) → Type 0) (e : RunFault) (g : Geometry) (m : Machine) (old new : Power D S) (before seen : O) (output output_left : Option (List ℕ)) : Type 0 where
     pub turns : List Turn
     pub run : IsRunOf disk view parts g m old new turns
+    pub on : Bool
+    pub are_seen : AreSeen (sees g) before seen turns on
     pub lines : AreTaken (lines_in turns)
-    pub cut : IsCutShort turns output output_left
+    pub stops : StopsBy e turns on output output_left

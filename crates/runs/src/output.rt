@@ -1,5 +1,5 @@
 // Where the answers of a run go.
-ghost use Rattle.std.specs.Prelude.{◌≡◌, ℕ, List, [], OnOk, IfErr};
+ghost use Rattle.std.specs.Prelude.{◌≡◌, ℕ, List, [], OnOk, IfErr, IsOk};
 ghost use Rattle.std.specs.Io.KnownBytes.{Keeps};
 ghost use Rattle.std.specs.Io.Buffered.{writer_buffer};
 
@@ -31,7 +31,10 @@ impl<W: Write + Drop, A: Allocator> Output for BufWriter<W, A> {
 impl<A: Allocator> Output for Vec<u8, A> {
     ghost waiting = { λ _. [] };
 
-    fn pass_on(&mut self) -> Result<(), RunFault> {
+    fn pass_on(&mut self) -> Result<(), RunFault>
+        ensures same { self.new ≡ self.old }
+        ensures passed { IsOk result }
+    {
         Ok(())
     }
 }

@@ -1,14 +1,16 @@
 // Runs of scripts over a kernel.
-ghost use Rattle.std.specs.Prelude.{◌≡◌, ◌<◌, ◌++◌, ℕ, List, [], Option, length, slice_index_or, take, OnOk, OnErr, IfErr, IsErrOf, IfNone, IfSome};
+ghost use Rattle.std.specs.Prelude.{◌≡◌, ◌≢◌, ◌<◌, ◌++◌, ℕ, List, [], Option, length, option_map, slice_index_or, take, OnOk, IfErr, IfOk, IsErrOf, IfNone, IfSome, false, true};
 ghost use Rattle.model.specs.declared.geometry.Geometry.{Geometry};
 ghost use Rattle.model.specs.Machine.{Machine};
 ghost use Rattle.model.specs.Run.{lines_of};
 ghost use Rattle.kernel.specs.declared.power.Power.{Power};
 ghost use Rattle.kernel.specs.Standing.{Stands};
-ghost use Rattle.script.specs.Lines.{IsOneLine};
-ghost use Rattle.runs.specs.KernelRuns.{BeginsWith, IsConfined, IsCounted, RunsOver};
-ghost use Rattle.runs.specs.Taking.{Ended, SoFar, Stopped, TakesTurn};
+ghost use Rattle.model.specs.Text.{Says};
+ghost use Rattle.script.specs.Lines.{Holds, IsOneLine, IsTextOf};
+ghost use Rattle.runs.specs.KernelRuns.{BeginsWith, IsConfined, IsCounted, RunsOver, RunsSeen};
+ghost use Rattle.runs.specs.Taking.{Ended, SoFar, Stopped, TakesLine, TakesTurn};
 
+use crate::observer::{Observer, Silent};
 use crate::output::Output;
 use crate::script_pieces::{Piece, Script};
 use device::Device;
@@ -16,31 +18,44 @@ use kernel::Kernel;
 use memchr::memchr;
 use model::Line;
 use object_store::ObjectStore;
-use script::{LineBuffer, RunFault, print_answer, print_bad_line};
+use script::{LineBuffer, RunFault, parse_line, print_answer, print_bad_line};
 use std::alloc::Global;
 use std::io::Write;
 
 // How many bytes a reader is asked for at a time.
 const PIECE_SIZE: usize = 4096;
 
-// Does what a line says, and writes the answer.
+// Does what a line says, shows the observer what became of it, and writes the answer. It returns
+// whether the observer lets the run go on. The text is the line, or `None` where that is too long.
 #[inline(never)]
-fn take<D: Device, S: ObjectStore<D>, W: Write>(
+fn take<D: Device, S: ObjectStore<D>, W: Write, O: Observer>(
     alloc: Global,
     kernel: &mut Kernel<D, S>,
+    text: Option<&[u8]>,
     line: &Line,
     writer: &mut W,
-) -> Result<(), RunFault>
-    ensures turn { (g : Geometry) (m : Machine) → Stands D.disk S.view S.parts g kernel.old m
-        → TakesTurn D.disk S.view S.parts g m line.now kernel.old kernel.new (W.contents writer.old) (W.contents writer.new) result }
+    observer: &mut O,
+) -> Result<bool, RunFault>
+    requires { IfSome text (λ t. Says t.now line.now) }
+    ensures turn { (g : Geometry) (m : Machine) (whole : List ℕ) → Stands D.disk S.view S.parts g kernel.old m
+        → IsTextOf (option_map (λ t. t.now) text.entry) whole → Says whole line.now
+        → TakesTurn D.disk S.view S.parts O.sees g m whole line.now kernel.old kernel.new observer.old observer.new
+        (W.contents writer.old) (W.contents writer.new) result }
+    ensures goes_on { IfOk result (λ on. O.may_end ≡ false → on ≡ true) }
     ensures fault { IfErr result (λ e. e ≡ RunFault.Write) }
 {
     match line {
-        Line::Skip => Ok(()),
-        Line::Bad => print_bad_line(writer),
+        Line::Skip => Ok(observer.skip()),
+        Line::Bad => {
+            let goes_on = observer.bad(text);
+            print_bad_line(writer)?;
+            Ok(goes_on)
+        }
         Line::Command(command) => {
-            let answer = kernel.step(alloc, *command);
-            print_answer(&answer, writer)
+            let served = kernel.step_with_code(alloc, *command);
+            let goes_on = observer.answer(command, &served.answer, served.code);
+            print_answer(&served.answer, writer)?;
+            Ok(goes_on)
         }
     }
 }
@@ -54,25 +69,84 @@ fn end_of_line(bytes: &[u8]) -> Option<usize>
     memchr(b'\n', bytes)
 }
 
+// Takes the line of which these are the last bytes, and begins another.
+#[inline(always)]
+fn take_line<D: Device, S: ObjectStore<D>, W: Write, O: Observer>(
+    alloc: Global,
+    kernel: &mut Kernel<D, S>,
+    line: &mut LineBuffer,
+    bytes: &[u8],
+    writer: &mut W,
+    observer: &mut O,
+) -> Result<bool, RunFault>
+    ensures turn { (g : Geometry) (m : Machine) (held : List ℕ) → Stands D.disk S.view S.parts g kernel.old m
+        → Holds line.old held
+        → TakesLine D.disk S.view S.parts O.sees g m (held ++ bytes.now) kernel.old kernel.new observer.old observer.new
+        (W.contents writer.old) (W.contents writer.new) result }
+    ensures begun { (held : List ℕ) → Holds line.old held → Holds line.new [] }
+    ensures goes_on { IfOk result (λ on. O.may_end ≡ false → on ≡ true) }
+    ensures fault { IfErr result (λ e. e ≡ RunFault.Write) }
+{
+    if line.is_empty() {
+        return take(
+            alloc,
+            kernel,
+            Some(bytes),
+            &parse_line(bytes),
+            writer,
+            observer,
+        );
+    }
+    line.extend(bytes);
+    take_held(alloc, kernel, line, writer, observer)
+}
+
+// Takes the line that was gathered, and begins another.
+#[inline(never)]
+fn take_held<D: Device, S: ObjectStore<D>, W: Write, O: Observer>(
+    alloc: Global,
+    kernel: &mut Kernel<D, S>,
+    line: &mut LineBuffer,
+    writer: &mut W,
+    observer: &mut O,
+) -> Result<bool, RunFault>
+    ensures turn { (g : Geometry) (m : Machine) (held : List ℕ) → Stands D.disk S.view S.parts g kernel.old m
+        → Holds line.old held
+        → TakesLine D.disk S.view S.parts O.sees g m held kernel.old kernel.new observer.old observer.new
+        (W.contents writer.old) (W.contents writer.new) result }
+    ensures begun { Holds line.new [] }
+    ensures goes_on { IfOk result (λ on. O.may_end ≡ false → on ≡ true) }
+    ensures fault { IfErr result (λ e. e ≡ RunFault.Write) }
+{
+    let taken = take(alloc, kernel, line.text(), &line.says(), writer, observer);
+    line.clear();
+    taken
+}
+
 // Takes each line that ends in a piece, in place where it lies in it whole, and keeps the beginning of the next.
-fn take_piece<D: Device, S: ObjectStore<D>, W: Write>(
+fn take_piece<D: Device, S: ObjectStore<D>, W: Write, O: Observer>(
     alloc: Global,
     kernel: &mut Kernel<D, S>,
     line: &mut LineBuffer,
     piece: &[u8],
     writer: &mut W,
+    observer: &mut O,
 ) -> Result<(), RunFault>
-    ensures goes_on { OnOk result ((g : Geometry) (m : Machine) (start : Power D S) (text : List ℕ) (output : Option (List ℕ))
-        → SoFar D.disk S.view S.parts g m start kernel.old text line.old output (W.contents writer.old)
-        → SoFar D.disk S.view S.parts g m start kernel.new (text ++ piece.now) line.new output (W.contents writer.new)) }
-    ensures stops { OnErr result ((g : Geometry) (m : Machine) (start : Power D S) (text : List ℕ) (output : Option (List ℕ))
-        → SoFar D.disk S.view S.parts g m start kernel.old text line.old output (W.contents writer.old)
-        → Stopped D.disk S.view S.parts (BeginsWith (text ++ piece.now)) g m start kernel.new output (W.contents writer.new)) }
-    ensures fault { IfErr result (λ e. e ≡ RunFault.Write) }
+    ensures goes_on { OnOk result ((g : Geometry) (m : Machine) (start : Power D S) (first : O) (text : List ℕ) (output : Option (List ℕ))
+        → SoFar D.disk S.view S.parts O.sees g m start kernel.old first observer.old text line.old output (W.contents writer.old)
+        → SoFar D.disk S.view S.parts O.sees g m start kernel.new first observer.new (text ++ piece.now) line.new output (W.contents writer.new)) }
+    ensures stops { IfErr result (λ e. (g : Geometry) (m : Machine) (start : Power D S) (first : O) (text : List ℕ) (output : Option (List ℕ))
+        → SoFar D.disk S.view S.parts O.sees g m start kernel.old first observer.old text line.old output (W.contents writer.old)
+        → Stopped D.disk S.view S.parts O.sees (BeginsWith (text ++ piece.now)) e g m start kernel.new first observer.new output (W.contents writer.new)) }
+    ensures fault { IfErr result (λ e. e ≢ RunFault.Read) }
+    ensures unstopped { O.may_end ≡ false → IfErr result (λ e. e ≢ RunFault.Stopped) }
 {
     let mut rest = piece;
     while let Some(end) = end_of_line(rest) {
-        take(alloc, kernel, &line.end_with(&rest[..end]), writer)?;
+        let goes_on = take_line(alloc, kernel, line, &rest[..end], writer, observer)?;
+        if !goes_on {
+            return Err(RunFault::Stopped);
+        }
         rest = &rest[end + 1..];
     }
     line.extend(rest);
@@ -80,37 +154,45 @@ fn take_piece<D: Device, S: ObjectStore<D>, W: Write>(
 }
 
 // Takes the rest at the end of the input, where it isn't empty.
-fn take_rest<D: Device, S: ObjectStore<D>, W: Write>(
+fn take_rest<D: Device, S: ObjectStore<D>, W: Write, O: Observer>(
     alloc: Global,
     kernel: &mut Kernel<D, S>,
     line: &mut LineBuffer,
     writer: &mut W,
+    observer: &mut O,
 ) -> Result<(), RunFault>
-    ensures ends { OnOk result ((g : Geometry) (m : Machine) (start : Power D S) (text : List ℕ) (output : Option (List ℕ))
-        → SoFar D.disk S.view S.parts g m start kernel.old text line.old output (W.contents writer.old)
-        → Ended D.disk S.view S.parts g m start kernel.new text output (W.contents writer.new)) }
-    ensures stops { OnErr result ((g : Geometry) (m : Machine) (start : Power D S) (text : List ℕ) (output : Option (List ℕ))
-        → SoFar D.disk S.view S.parts g m start kernel.old text line.old output (W.contents writer.old)
-        → Stopped D.disk S.view S.parts (λ lines. lines_of text ≡ lines) g m start kernel.new output (W.contents writer.new)) }
-    ensures fault { IfErr result (λ e. e ≡ RunFault.Write) }
+    ensures ends { OnOk result ((g : Geometry) (m : Machine) (start : Power D S) (first : O) (text : List ℕ) (output : Option (List ℕ))
+        → SoFar D.disk S.view S.parts O.sees g m start kernel.old first observer.old text line.old output (W.contents writer.old)
+        → Ended D.disk S.view S.parts O.sees g m start kernel.new first observer.new text output (W.contents writer.new)) }
+    ensures stops { IfErr result (λ e. (g : Geometry) (m : Machine) (start : Power D S) (first : O) (text : List ℕ) (output : Option (List ℕ))
+        → SoFar D.disk S.view S.parts O.sees g m start kernel.old first observer.old text line.old output (W.contents writer.old)
+        → Stopped D.disk S.view S.parts O.sees (λ lines. lines_of text ≡ lines) e g m start kernel.new first observer.new output (W.contents writer.new)) }
+    ensures fault { IfErr result (λ e. e ≢ RunFault.Read) }
+    ensures unstopped { O.may_end ≡ false → IfErr result (λ e. e ≢ RunFault.Stopped) }
 {
     if line.is_empty() {
         return Ok(());
     }
-    take(alloc, kernel, &line.end(), writer)
+    let goes_on = take_held(alloc, kernel, line, writer, observer)?;
+    if !goes_on {
+        return Err(RunFault::Stopped);
+    }
+    Ok(())
 }
 
-// Runs a script over a kernel, as `run` does.
-fn run_turns<D: Device, S: ObjectStore<D>, R: Script, W: Output>(
+// Runs a script over a kernel, as `run_observed` does.
+fn run_turns<D: Device, S: ObjectStore<D>, R: Script, W: Output, O: Observer>(
     alloc: Global,
     kernel: &mut Kernel<D, S>,
     reader: &mut R,
     writer: &mut W,
+    observer: &mut O,
 ) -> Result<(), RunFault>
-    ensures runs { RunsOver D.disk S.view S.parts kernel.old kernel.new (R.unread reader.old)
-        (R.unread reader.new) (W.contents writer.old) (W.contents writer.new) result }
+    ensures watched { RunsSeen D.disk S.view S.parts O.sees kernel.old kernel.new observer.old observer.new
+        (R.unread reader.old) (R.unread reader.new) (W.contents writer.old) (W.contents writer.new) result }
     ensures none_waits { OnOk result (W.waiting writer.new ≡ []) }
     ensures read_failed { IsCounted (IsErrOf result RunFault.Read) (R.failures reader.old) (R.failures reader.new) }
+    ensures unstopped { O.may_end ≡ false → IfErr result (λ e. e ≢ RunFault.Stopped) }
 {
     let mut piece = [0; PIECE_SIZE];
     let mut line = LineBuffer::new();
@@ -118,10 +200,10 @@ fn run_turns<D: Device, S: ObjectStore<D>, R: Script, W: Output>(
         writer.pass_on()?;
         match reader.read_piece(writer, &mut piece)? {
             Piece::Bytes(count) => {
-                take_piece(alloc, kernel, &mut line, &piece[..count], writer)?;
+                take_piece(alloc, kernel, &mut line, &piece[..count], writer, observer)?;
             }
             Piece::End => {
-                take_rest(alloc, kernel, &mut line, writer)?;
+                take_rest(alloc, kernel, &mut line, writer, observer)?;
                 return writer.pass_on();
             }
             Piece::Nothing => {}
@@ -162,6 +244,32 @@ pub fn run<D: Device, S: ObjectStore<D>, R: Script, W: Output>(
     ensures read_failed { IsCounted (IsErrOf result RunFault.Read) (R.failures reader.old) (R.failures reader.new) }
     ensures confined { IsConfined D.disk S.view S.parts kernel.old kernel.new (R.unread reader.old)
         (R.unread reader.new) }
+    ensures goes_on { IfErr result (λ e. e ≢ RunFault.Stopped) }
 {
-    run_turns(alloc, kernel, reader, writer)
+    run_observed(alloc, kernel, reader, writer, &mut Silent)
+}
+
+/// Runs a script over a kernel as `run` does, and shows an observer each turn, in order. What is
+/// written is the same with each observer.
+///
+/// `RunFault::Stopped` exactly where the observer ends the run: then all lines taken were answered,
+/// and the last of them is where it did.
+pub fn run_observed<D: Device, S: ObjectStore<D>, R: Script, W: Output, O: Observer>(
+    alloc: Global,
+    kernel: &mut Kernel<D, S>,
+    reader: &mut R,
+    writer: &mut W,
+    observer: &mut O,
+) -> Result<(), RunFault>
+    ensures runs { RunsOver D.disk S.view S.parts kernel.old kernel.new (R.unread reader.old)
+        (R.unread reader.new) (W.contents writer.old) (W.contents writer.new) result }
+    ensures none_waits { OnOk result (W.waiting writer.new ≡ []) }
+    ensures read_failed { IsCounted (IsErrOf result RunFault.Read) (R.failures reader.old) (R.failures reader.new) }
+    ensures confined { IsConfined D.disk S.view S.parts kernel.old kernel.new (R.unread reader.old)
+        (R.unread reader.new) }
+    ensures unstopped { O.may_end ≡ false → IfErr result (λ e. e ≢ RunFault.Stopped) }
+    ensures watched { RunsSeen D.disk S.view S.parts O.sees kernel.old kernel.new observer.old observer.new
+        (R.unread reader.old) (R.unread reader.new) (W.contents writer.old) (W.contents writer.new) result }
+{
+    run_turns(alloc, kernel, reader, writer, observer)
 }

@@ -97,7 +97,7 @@ four_again read limit again (a ∷ b ∷ []) rest four small = absurd (omega ari
 four_again read limit again (a ∷ b ∷ c ∷ []) rest four small = absurd (omega arith)
 four_again read limit again (a ∷ b ∷ c ∷ d ∷ e ∷ more) rest four small = absurd (omega arith)
 
-all_four : (limit a b c d : ℕ) → a < limit → b < limit → c < limit → d < limit → All (λ n. n < limit) (a ∷ b ∷ c ∷ d ∷ [])
+pub all_four : (limit a b c d : ℕ) → a < limit → b < limit → c < limit → d < limit → All (λ n. n < limit) (a ∷ b ∷ c ∷ d ∷ [])
 all_four limit a b c d pa pb pc pd zero e lt = pa
 all_four limit a b c d pa pb pc pd (suc zero) e lt = pb
 all_four limit a b c d pa pb pc pd (suc (suc zero)) e lt = pc

@@ -3,6 +3,7 @@ pub mod CapabilityWords
 mod Commands
 mod Digits
 mod FirstWords
+mod LineFaults
 pub mod Fronts
 mod Numbers
 mod ShortInvocations

@@ -1,5 +1,6 @@
-use Rattle.std.specs.Prelude.{ℕ, List, codes}
-use Rattle.model.specs.Text.{operation_name}
+use Rattle.std.specs.Prelude.{ℕ, List, [], codes, slice_index_or}
+use Rattle.model.specs.declared.command.Command.{Command}
+use Rattle.model.specs.Text.{command_words, operation_name}
 use Rattle.script.specs.declared.keyword.Keyword.{Keyword}
 use Rattle.script.specs.declared.keyword.Keyword.TheVariants.{Invoke, Load, Store, Show, Evict, Checkpoint, Stabilize, Commit, Migrate, Journal, Restart, Cut}
 
@@ -17,3 +18,7 @@ keyword_name Migrate = codes "migrate"
 keyword_name Journal = codes "journal"
 keyword_name Restart = codes "restart"
 keyword_name Cut = codes "cut"
+
+-- the first word of a command's line
+abbrev pub command_name : Command → List ℕ
+command_name c = slice_index_or (command_words c) 0 []

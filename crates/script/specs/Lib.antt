@@ -1,4 +1,6 @@
+pub mod Answers
 pub mod Keywords
+pub mod LineFaults
 pub mod Lines
 pub mod Named
 pub mod Reading

@@ -1,5 +1,5 @@
 -- What is kept of a line while it is read.
-use Rattle.std.specs.Prelude.{◌≡◌, ◌≢◌, ◌⊎◌, ℕ, ◌<◌, true, false, List, length}
+use Rattle.std.specs.Prelude.{◌≡◌, ◌≢◌, ◌⊎◌, ℕ, ◌<◌, true, false, Option, None, Some, List, length}
 use Rattle.std.specs.List.{All}
 use Rattle.script.specs.declared.lines.LineBuffer.{LineBuffer}
 
@@ -10,3 +10,8 @@ IsOneLine text = All (λ b. b ≢ 10) text
 -- the bytes that are kept are the line, or it is too long
 abbrev pub Holds : LineBuffer → List ℕ → Type 0
 Holds b line = ((b.is_long ≡ false) × (b.text.items ≡ line)) ⊎ ((b.is_long ≡ true) × (256 < length line))
+
+-- the bytes are the line, or it is too long
+abbrev pub IsTextOf : Option (List ℕ) → List ℕ → Type 0
+IsTextOf (Some text) line = text ≡ line
+IsTextOf None line = 256 < length line

@@ -10,4 +10,7 @@ pub enum RunFault {
     /// The writer of the answers failed, or took nothing.
     #[error("cannot write output")]
     Write = 2,
+    /// The observer of the run ended it.
+    #[error("stopped")]
+    Stopped = 3,
 }

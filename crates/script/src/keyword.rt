@@ -1,11 +1,11 @@
 // The first words of commands.
-ghost use Rattle.std.specs.Prelude.{◌≡◌, ◌≢◌, ◌+◌, ◌*◌, ◌<◌, ◌∷◌, IfSome, IfNone, IsTrue, codes, length, drop, slice_index_or};
+ghost use Rattle.std.specs.Prelude.{◌≡◌, ◌≢◌, ◌+◌, ◌*◌, ◌<◌, ◌≤◌, ◌∷◌, IfSome, IfNone, IsTrue, codes, length, drop, slice_index_or};
 ghost use Rattle.model.specs.Text.{operation_name};
 ghost use Rattle.script.specs.declared.keyword.Keyword.{Keyword};
-ghost use Rattle.script.specs.Keywords.{keyword_name};
+ghost use Rattle.script.specs.Keywords.{command_name, keyword_name};
 ghost use Rattle.script.specs.Reading.{words_of};
 
-use model::Operation;
+use model::{Command, Operation};
 
 // The first four bytes of `load`, `store`, `call`, `send` and `return`.
 const LOAD: u64 = 0x6461_6f6c;
@@ -75,6 +75,28 @@ impl Keyword {
             Keyword::Restart => b"restart",
             Keyword::Cut => b"cut",
         }
+    }
+}
+
+/// The first word of a command's line.
+#[tactic(auto, unfolding(model::specs::Text::command_words))]
+pub fn command_word(command: &Command) -> &'static [u8]
+    ensures word { result.now ≡ command_name command.now }
+    ensures short { length result.now ≤ 10 }
+{
+    match command {
+        Command::Invoke(invocation) => operation_word(invocation.operation),
+        Command::Load { .. } => b"load",
+        Command::Store { .. } => b"store",
+        Command::Show { .. } => b"show",
+        Command::Evict { .. } => b"evict",
+        Command::Checkpoint => b"checkpoint",
+        Command::Stabilize { .. } => b"stabilize",
+        Command::Commit => b"commit",
+        Command::Migrate { .. } => b"migrate",
+        Command::Journal { .. } => b"journal",
+        Command::Restart => b"restart",
+        Command::Cut => b"cut",
     }
 }
 

@@ -3,6 +3,7 @@
 
 mod fault;
 mod keyword;
+mod line_fault;
 mod line_text;
 mod lines;
 mod loads;
@@ -16,10 +17,12 @@ mod words;
 mod writing;
 
 pub use fault::RunFault;
+pub use keyword::command_word;
+pub use line_fault::{LineFault, why_bad};
 pub use line_text::LineText;
 pub use lines::LineBuffer;
 pub use named::{capability_of, state_of};
 pub use parse::parse_line;
-pub use print::{print_answer, print_bad_line};
+pub use print::{answer_line, print_answer, print_bad_line, refusal_line};
 pub use shown::state_word;
 pub use writing::write_fully;

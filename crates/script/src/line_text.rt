@@ -130,6 +130,16 @@ impl LineText {
         self.word(buffer.format(number).as_bytes());
     }
 
+    /// Adds the number.
+    pub fn digits(&mut self, number: u64)
+        requires { length self.old + 20 ≤ 320 }
+        ensures text { self.new ≡ self.old ++ decimal number }
+        ensures short { length self.new ≤ length self.old + 20 }
+    {
+        let mut buffer = Buffer::new();
+        self.push(buffer.format(number).as_bytes());
+    }
+
     /// Adds a space and the word, and a space and the number.
     pub fn named(&mut self, word: &[u8], number: u64)
         requires { length self.old + length word.now + 22 ≤ 320 }

@@ -1,6 +1,6 @@
 // A line of a script, gathered piece by piece.
-ghost use Rattle.std.specs.Prelude.{◌≡◌, ◌↔◌, List, ℕ, [], ◌++◌, IsTrue};
-ghost use Rattle.script.specs.Lines.{Holds};
+ghost use Rattle.std.specs.Prelude.{◌≡◌, ◌↔◌, List, ℕ, [], ◌++◌, IfSome, IsTrue, option_map};
+ghost use Rattle.script.specs.Lines.{Holds, IsTextOf};
 ghost use Rattle.model.specs.Text.{Says};
 
 use crate::parse::{LONGEST_LINE, parse_line};
@@ -42,31 +42,34 @@ impl LineBuffer {
         }
     }
 
-    /// What it says with these bytes behind it, and begins another. Where nothing was read of it
-    /// before, they are read where they lie.
-    pub fn end_with(&mut self, bytes: &[u8]) -> Line
-        ensures says { (line : List ℕ) → Holds self.old line → Says (line ++ bytes.now) result }
-        ensures begun { Holds self.new [] }
+    /// Its bytes, or `None` where it has more than 256.
+    pub fn text(&self) -> Option<&[u8]>
+        ensures text { (line : List ℕ) → Holds self.now line → IsTextOf (option_map (λ t. t.now) result) line }
+        ensures held { IfSome result (λ t. Holds self.now t.now) }
     {
-        if !self.is_long && self.text.is_empty() {
-            return parse_line(bytes);
+        if self.is_long {
+            None
+        } else {
+            Some(self.text.as_slice())
         }
-        self.extend(bytes);
-        self.end()
     }
 
-    /// What it says, and begins another.
-    pub fn end(&mut self) -> Line
-        ensures says { (line : List ℕ) → Holds self.old line → Says line result }
-        ensures begun { Holds self.new [] }
+    /// What it says.
+    pub fn says(&self) -> Line
+        ensures { (line : List ℕ) → Holds self.now line → Says line result }
     {
-        let line = if self.is_long {
+        if self.is_long {
             Line::Bad
         } else {
             parse_line(self.text.as_slice())
-        };
+        }
+    }
+
+    /// Begins another line.
+    pub fn clear(&mut self)
+        ensures { Holds self.new [] }
+    {
         self.text.clear();
         self.is_long = false;
-        line
     }
 }

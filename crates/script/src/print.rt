@@ -1,6 +1,7 @@
 // The text of an answer.
 ghost use Rattle.std.specs.Prelude.{◌≡◌, ◌≤◌, [], ◌∷◌, ◌++◌, codes, length, decimal};
 ghost use Rattle.model.specs.Text.{bad_line, line_of, object_text, printed, refusal_text, spaced, unjournaled_number};
+ghost use Rattle.script.specs.Answers.{IsAnswerText};
 ghost use Rattle.script.specs.Writing.{Writes};
 
 use crate::fault::RunFault;
@@ -21,8 +22,8 @@ fn unjournaled_line(why: Unjournaled) -> LineText
     }
 }
 
-// The line of a refusal.
-fn refusal_line(refusal: Refusal) -> LineText
+/// The line of a refusal.
+pub fn refusal_line(refusal: Refusal) -> LineText
     ensures text { result ≡ refusal_text refusal }
     ensures short { length result ≤ 41 }
 {
@@ -42,6 +43,36 @@ fn refusal_line(refusal: Refusal) -> LineText
         Refusal::BadNumber => LineText::new(b"bad number"),
         Refusal::NotJournaled(why) => unjournaled_line(why),
     }
+}
+
+/// The line of an answer, or `shown` for an object. It takes no memory.
+#[tactic(auto, unfolding(model::specs::Text::printed))]
+pub fn answer_line(answer: &Answer) -> LineText
+    ensures text { IsAnswerText answer.now result }
+    ensures short { length result ≤ 44 }
+{
+    match answer {
+        Answer::Done => LineText::new(b"done"),
+        Answer::Value(word) => LineText::numbered(b"value", *word),
+        Answer::MemoryFault(fault) => LineText::numbered(b"memory fault", *fault as u64),
+        Answer::Frozen(count) => LineText::numbered(b"frozen", *count),
+        Answer::Left(count) => LineText::numbered(b"left", *count),
+        Answer::Committed(generation) => LineText::numbered(b"committed", *generation),
+        Answer::Journaled(generation) => LineText::numbered(b"journaled", *generation),
+        Answer::At { generation, age } => place_line(*generation, *age),
+        Answer::Shown(_) => LineText::new(b"shown"),
+        Answer::Refused(refusal) => refusal_line(*refusal),
+    }
+}
+
+// The line of the place at which the machine stands.
+fn place_line(generation: u64, age: u64) -> LineText
+    ensures text { result ≡ spaced (codes "at" ∷ decimal generation ∷ decimal age ∷ []) }
+    ensures short { length result ≤ 44 }
+{
+    let mut line = LineText::numbered(b"at", generation);
+    line.number(age);
+    line
 }
 
 // Writes a line that has a word and a number.

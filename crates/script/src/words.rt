@@ -65,6 +65,13 @@ impl<'a> Words<'a> {
         Words { rest: Some(line) }
     }
 
+    /// The same words.
+    pub fn copy(&self) -> Words<'a>
+        ensures { result ≡ self.now }
+    {
+        Words { rest: self.rest }
+    }
+
     /// Whether no word is left.
     pub fn is_empty(&self) -> bool
         ensures { IsTrue result ↔ (self.now ≡ []) }

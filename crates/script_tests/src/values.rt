@@ -126,6 +126,7 @@ fn faults_of_runs_have_texts(rt: HostRuntime) -> Result<(), Fail> {
     for (fault, text) in [
         (RunFault::Read, "cannot read script"),
         (RunFault::Write, "cannot write output"),
+        (RunFault::Stopped, "stopped"),
     ] {
         assert_eq!(rt; format!(in rt.alloc(); "{}", fault)?.as_str(), text);
     }

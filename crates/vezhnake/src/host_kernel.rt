@@ -1,5 +1,5 @@
 // A kernel over the host's storage.
-ghost use Rattle.std.specs.Prelude.{◌≡◌, ◌≢◌, ◌⊎◌, ◌<◌, ◌≤◌, ◌%◌, true, false, drop, length, IfOk, IfNone, IfSome, IsErr, Err};
+ghost use Rattle.std.specs.Prelude.{◌≡◌, ◌≢◌, ◌⊎◌, ◌<◌, ◌≤◌, ◌%◌, true, false, drop, length, IfErr, IfOk, IfNone, IfSome, IsErr, Err};
 ghost use Rattle.runs.specs.Reader.{read_from};
 ghost use Rattle.vezhnake.specs.Hosting.{IsFresh, RunsText};
 ghost use Rattle.vezhnake.specs.Sessions.{IsCapacity, OpensFrom, OpensKernel, RunsKernel, calls_in, kept_from};
@@ -103,7 +103,8 @@ fn run_lines<S: ObjectStore<HostDevice>>(
     text: &[u8],
     answers: &mut Vec<u8>,
 ) -> Result<(), RunFault>
-    ensures { RunsText S.view S.parts kernel.old kernel.new text.now answers.old.items answers.new.items result }
+    ensures runs { RunsText S.view S.parts kernel.old kernel.new text.now answers.old.items answers.new.items result }
+    ensures goes_on { IfErr result (λ e. e ≢ RunFault.Stopped) }
 {
     crashes_are_survived::<HostDevice, S>();
     let mut reader = reader_of(text);
@@ -145,7 +146,8 @@ impl HostKernel {
         text: &[u8],
         answers: &mut Vec<u8>,
     ) -> Result<(), RunFault>
-        ensures { RunsKernel self.old self.new text.now answers.old.items answers.new.items result }
+        ensures runs { RunsKernel self.old self.new text.now answers.old.items answers.new.items result }
+        ensures goes_on { IfErr result (λ e. e ≢ RunFault.Stopped) }
     {
         match self {
             HostKernel::Plain(kernel) => run_lines(alloc, kernel, text, answers),

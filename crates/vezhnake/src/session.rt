@@ -84,6 +84,7 @@ impl Session {
             }
             Err(RunFault::Write) => Status::NoMemory,
             Err(RunFault::Read) => Status::Failed,
+            Err(RunFault::Stopped) => unreachable!(),
         }
     }
 

@@ -1,0 +1,25 @@
+-- What a shell tells beside the answers.
+use Rattle.std.specs.Prelude.{◌≡◌, ℕ, ◌||◌, Bool, true, false, List, length, codes, Option, Result}
+use Rattle.model.specs.Text.{line_of}
+use Rattle.runs.specs.declared.script_pieces.Piece.{Piece}
+use Rattle.runs.specs.declared.script_pieces.Piece.TheVariants as piece
+use Rattle.runs.specs.declared.unsaved.Unsaved.{Unsaved}
+use Rattle.script.specs.declared.fault.RunFault.{RunFault}
+use Rattle.script.specs.Writing.{Writes}
+
+abbrev pub unsaved_text : List ℕ
+unsaved_text = codes "eros: some invocations or stores are not committed"
+
+-- a line is told, as far as it can be written, or none is
+abbrev pub TellsIf : Bool → List ℕ → Option (List ℕ) → Option (List ℕ) → Type 0
+TellsIf true text old new = (wrote : Result (Unit {0}) RunFault) × Writes old new wrote (line_of text)
+TellsIf false text old new = new ≡ old
+
+-- it is told whether something isn't committed
+abbrev pub TellsUnsaved : Unsaved → Option (List ℕ) → Option (List ℕ) → Type 0
+TellsUnsaved unsaved old new = TellsIf (unsaved.present || unsaved.frozen) unsaved_text old new
+
+-- a run reads a line whole, or nothing of it
+abbrev pub IsPieceOf : List ℕ → Piece → Type 0
+IsPieceOf line (piece.Bytes count) = count ≡ length line
+IsPieceOf line _ = Unit {0}

@@ -1,0 +1,135 @@
+// What a shell says of its commands.
+use script::write_fully;
+use std::io::Write;
+
+// A word, and what is said of it.
+struct Topic {
+    word: &'static [u8],
+    text: &'static [u8],
+}
+
+const COMMANDS: &[u8] = b"\
+call P R W0 W1 W2 W3 C0 C1 C2 C3    process P invokes the capability in register R, and gets the reply
+return, send                        the same, without a reply
+load P A, store P A V               reads or writes the word at address A of process P
+show O, evict O                     prints object O; lets it leave memory
+checkpoint, stabilize N, commit     freezes the machine, writes N objects to the log, saves
+migrate N, journal O                copies N saved objects home; saves page O alone
+restart, cut                        opens the image again; cuts the power first
+quit                                ends the shell
+help WORD                           explains a command, or the orders of number, page, node, space,
+                                    discrim, process or bank
+";
+
+const UNKNOWN: &[u8] = b"There is no help on this. Type help for the commands.\n";
+
+const TOPICS: &[Topic] = &[
+    Topic {
+        word: b"call",
+        text: b"call P R W0 W1 W2 W3 C0 C1 C2 C3: process P invokes the capability in its register R, and
+gets the reply. It sends four words and the capabilities in four registers; register 0 is void. Through a
+start or resume capability it waits for the answer. A kernel object carries out order W0 at once. The
+answer is done; show P prints the result code, the first of its words.\n",
+    },
+    Topic {
+        word: b"return",
+        text: b"return P R W0 W1 W2 W3 C0 C1 C2 C3: as call, but process P becomes available, and gets no reply.\n",
+    },
+    Topic {
+        word: b"send",
+        text: b"send P R W0 W1 W2 W3 C0 C1 C2 C3: as call, but process P keeps running, and gets no reply.\n",
+    },
+    Topic {
+        word: b"load",
+        text: b"load P A: reads the word at address A of the address space of process P.\n",
+    },
+    Topic {
+        word: b"store",
+        text: b"store P A V: writes V to the word at address A of the address space of process P.\n",
+    },
+    Topic {
+        word: b"show",
+        text: b"show O: prints object O; the last line is end.\n",
+    },
+    Topic {
+        word: b"evict",
+        text: b"evict O: lets object O leave memory; its content stays.\n",
+    },
+    Topic {
+        word: b"checkpoint",
+        text: b"checkpoint: freezes the machine. Then stabilize and commit save it.\n",
+    },
+    Topic {
+        word: b"stabilize",
+        text: b"stabilize N: writes up to N frozen objects to the log; the answer says how many are left.\n",
+    },
+    Topic {
+        word: b"commit",
+        text: b"commit: makes the frozen state the saved one. Each frozen object must be in the log.\n",
+    },
+    Topic {
+        word: b"migrate",
+        text: b"migrate N: copies up to N saved objects from the log to their home places.\n",
+    },
+    Topic {
+        word: b"journal",
+        text: b"journal O: saves page O as it is now, without a checkpoint.\n",
+    },
+    Topic {
+        word: b"restart",
+        text: b"restart: opens the image again, at the last commit.\n",
+    },
+    Topic {
+        word: b"cut",
+        text: b"cut: cuts the power, then opens the image again, at the last commit.\n",
+    },
+    Topic {
+        word: b"number",
+        text: b"Orders of a number: 1 value.\n",
+    },
+    Topic {
+        word: b"page",
+        text: b"Orders of a page: 1 read (W1 index), 2 write (W1 index, W2 word), 3 reduce (W1 is 1 or 3).\n",
+    },
+    Topic {
+        word: b"node",
+        text: b"Orders of a node: 1 fetch (W1 slot), 2 store (W1 slot, C0), 3 reduce (W1 is 1 or 3), 4 space (W1\nheight), 5 put number (W1 slot, W2 number).\n",
+    },
+    Topic {
+        word: b"space",
+        text: b"Orders of a space: 3 reduce (W1 is 1 or 3).\n",
+    },
+    Topic {
+        word: b"discrim",
+        text: b"Orders of discrim: 1 classify (C0).\n",
+    },
+    Topic {
+        word: b"process",
+        text: b"Orders of a process: 1 get register (W1), 2 put register (W1, C0), 3 get word (W1), 4 put word (W1, W2),\n5 make start (W1 key), 6 get state, 7 set state (W1 is 0 or 1), 8 get space, 9 set space (C0).\n",
+    },
+    Topic {
+        word: b"bank",
+        text: b"Orders of a bank: 1 page, 2 node, 3 process, 4 sub-bank (W1 limit), 5 free (C0), 6 destroy,\n7 return to parent, 8 remaining.\n",
+    },
+];
+
+// What is said of a word.
+fn text_on(word: &[u8]) -> &'static [u8] {
+    for topic in TOPICS {
+        if topic.word == word {
+            return topic.text;
+        }
+    }
+    UNKNOWN
+}
+
+/// Writes what is said of a word, or of all commands where the word is empty. A text that can't be
+/// written is left out.
+pub(crate) fn help_on<V: Write>(word: &[u8], notes: &mut V) {
+    let text = if word.is_empty() {
+        COMMANDS
+    } else {
+        text_on(word)
+    };
+    let _told = write_fully(notes, text);
+}

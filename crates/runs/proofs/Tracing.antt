@@ -1,0 +1,126 @@
+-- What a tracer makes of a turn.
+use Rattle.std.proofs.Common.{◌≡◌, ℕ, ◌+◌, ◌-◌, ◌^◌, min, Bool, true, false, not, Option, None, Some, List, [], ◌∷◌, ◌++◌, codes, refl, sym, ap, ◌∙◌, subst}
+use Rattle.std.specs.Prelude.{IfNone, IfSome}
+use Rattle.model.specs.declared.answer.Answer.{Answer}
+use Rattle.model.specs.declared.command.Command.{Command}
+use Rattle.model.specs.declared.geometry.Geometry.{Geometry}
+use Rattle.model.specs.declared.line.Line.TheVariants as line
+use Rattle.model.specs.declared.order.ResultCode.{ResultCode}
+use Rattle.model.specs.Run.{Reply, Nothing, BadLine, Told, Turn}
+use Rattle.model.specs.Text.{Says, line_of, spaced}
+use Rattle.model_laws.proofs.Spelling.{says_one}
+use Rattle.script.specs.declared.line_fault.LineFault.{LineFault}
+use Rattle.script.specs.Keywords.{command_name}
+use Rattle.script.specs.LineFaults.{IsFaultOf}
+use Rattle.runs.specs.declared.cause.Cause.{Cause}
+use Rattle.runs.specs.declared.cause.Cause.TheVariants as cause
+use Rattle.runs.specs.declared.cause.Stop.{Stop}
+use Rattle.runs.specs.declared.tracer.Tracer.{Tracer}
+use Rattle.kernel.specs.Standing.{told_code}
+use Rattle.runs.specs.Tracing.{Ends, EndsIf, IsCauseIn, IsCauseOf, IsOutcome, IsTrace, IsTraced, Notes, Sees, cause_text, place_text}
+use Rattle.runs.proofs.TurnLists.{appends_none}
+
+-- ---- where a strict run ends
+
+pub ends_if : (strict : Bool) (why : Cause) (place : ℕ) (on : Bool) (stop : Option Stop) → on ≡ not strict → (strict ≡ true → stop ≡ Some (record { line = place; cause = why })) →
+    EndsIf strict (Some why) place on stop
+ends_if false why place on stop is ended = is
+ends_if true why place on stop is ended = (is, ended refl)
+
+pub ends_none : (strict : Bool) (place : ℕ) (stop : Option Stop) → EndsIf strict None place true stop
+ends_none false place stop = refl
+ends_none true place stop = refl
+
+ended : (g : Geometry) (t : Turn) (strict : Bool) (why : Option Cause) (place : ℕ) (on : Bool) (stop : Option Stop) → EndsIf strict why place on stop →
+    IfSome why (IsCauseOf g t) → IfNone why ((w : Cause) → IsCauseOf g t w → ⊥) → Ends g place t strict on stop
+ended g t false why place on stop ends some none = fine why ends
+  where
+    fine : (w : Option Cause) → EndsIf false w place on stop → on ≡ true
+    fine None is = is
+    fine (Some w) is = is
+ended g t true None place on stop ends some none = subst (λ (o : Bool). Ends g place t true o stop) (sym ends) none
+ended g t true (Some w) place on stop ends some none =
+    subst (λ (o : Bool). Ends g place t true o stop) (sym ends.0) (subst (λ (s : Option Stop). Ends g place t true false s) (sym ends.1) (refl, some))
+
+-- ---- what is seen of a turn
+
+module _ {V : Type 0} (contents : V → Option (List ℕ)) (g : Geometry) (t : Turn) (old new : Tracer V) (on : Bool) where
+  module _ (place : ℕ) (text : List ℕ) (why : Option Cause) (noted : Notes contents place text why old new on) (next : place ≡ min (old.line + 1) (2 ^ 64 - 1)) where
+    seen : IsTrace g place t t.reply (line_of text) → IfSome why (IsCauseOf g t) → IfNone why ((w : Cause) → IsCauseOf g t w → ⊥) → Sees contents g t old new on
+    seen trace some none = record {
+      options = noted.options;
+      place = noted.place ∙ next;
+      text = line_of text;
+      trace = subst (λ (p : ℕ). IsTrace g p t t.reply (line_of text)) (sym noted.place) trace;
+      written = noted.written;
+      ends = subst (λ (p : ℕ). Ends g p t old.options.strict on new.stop) (sym noted.place) (ended g t old.options.strict why place on new.stop noted.ends some none);
+    }
+
+    -- a command
+    module _ (c : Command) (a : Answer) (told : Option ResultCode) (says : Says t.line (line.Command c)) (reply : t.reply ≡ Told a) (coded : told_code g t.before c a ≡ told) where
+      causes : (w : Cause) → IsCauseIn a told w → IsCauseOf g t w
+      causes (cause.BadLine fault) is = absurd is
+      causes (cause.Refused r) is = (c, says, a, reply, is)
+      causes (cause.Code k) is = (c, says, a, reply, (coded ∙ is.0, is.1))
+
+      some_causes : (w : Option Cause) → IfSome w (IsCauseIn a told) → IfSome w (IsCauseOf g t)
+      some_causes None is = tt
+      some_causes (Some w) is = causes w is
+
+      same_command : (d : Command) → Says t.line (line.Command d) → d ≡ c
+      same_command d said = let is = says_one t.line (line.Command d) (line.Command c) said says in cc
+
+      same_answer : (b : Answer) → t.reply ≡ Told b → b ≡ a
+      same_answer b is = let same : Told b ≡ Told a = sym is ∙ reply in cc
+
+      is_cause_in : (w : Cause) → IsCauseOf g t w → IsCauseIn a told w
+      is_cause_in (cause.BadLine fault) is = let never : Told a ≡ BadLine = sym reply ∙ is.0 in absurd cc
+      is_cause_in (cause.Refused r) is = sym (same_answer is.2 is.3) ∙ is.4
+      is_cause_in (cause.Code k) is = (
+        sym coded ∙ subst (λ (d : Command). told_code g t.before d a ≡ Some k) (same_command is.0 is.1)
+            (subst (λ (b : Answer). told_code g t.before is.0 b ≡ Some k) (same_answer is.2 is.3) is.4.0),
+        is.4.1,
+      )
+
+      no_causes : (w : Option Cause) → IfNone w ((v : Cause) → IsCauseIn a told v → ⊥) → IfNone w ((v : Cause) → IsCauseOf g t v → ⊥)
+      no_causes None none = λ v is. none v (is_cause_in v is)
+      no_causes (Some w) none = tt
+
+      pub answer_seen : (outcome : List ℕ) → IsOutcome told a outcome → text ≡ spaced (place_text place ∷ (command_name c ++ codes ":") ∷ outcome ∷ []) →
+          IfSome why (IsCauseIn a told) → IfNone why ((w : Cause) → IsCauseIn a told w → ⊥) → Sees contents g t old new on
+      answer_seen outcome is spelt some none =
+          seen (subst (λ (r : Reply). IsTrace g place t r (line_of text)) (sym reply)
+          (c, says, outcome, subst (λ (k : Option ResultCode). IsOutcome k a outcome) (sym coded) is, ap line_of spelt)) (some_causes why some) (no_causes why none)
+
+  -- a bad line
+  pub bad_seen : (place : ℕ) (text : List ℕ) (fault : LineFault) → Notes contents place text (Some (cause.BadLine fault)) old new on → place ≡ min (old.line + 1) (2 ^ 64 - 1) →
+      t.reply ≡ BadLine → IsFaultOf t.line fault → text ≡ spaced (place_text place ∷ cause_text (cause.BadLine fault) ∷ []) → Sees contents g t old new on
+  bad_seen place text fault noted next reply is spelt =
+      seen place text (Some (cause.BadLine fault)) noted next (subst (λ (r : Reply). IsTrace g place t r (line_of text)) (sym reply) (fault, is, ap line_of spelt)) (reply, is) tt
+
+  -- a skipped line
+  pub skip_seen : new.options ≡ old.options → new.line ≡ min (old.line + 1) (2 ^ 64 - 1) → new.is_lost ≡ old.is_lost → new.errors ≡ old.errors → on ≡ true → t.reply ≡ Nothing →
+      Sees contents g t old new on
+  skip_seen options next lost errors goes reply = record {
+    options = options;
+    place = next;
+    text = [];
+    trace = subst (λ (r : Reply). IsTrace g new.line t r []) (sym reply) refl;
+    written = subst (λ (l : Bool). IsTraced old.options.trace old.is_lost l (contents old.errors) (contents new.errors) []) (sym lost)
+        (subst (λ (v : V). IsTraced old.options.trace old.is_lost old.is_lost (contents old.errors) (contents v) []) (sym errors) (none_traced old.options.trace old.is_lost (contents old.errors)));
+    ends = subst (λ (o : Bool). Ends g new.line t old.options.strict o new.stop) (sym goes) (never_ends old.options.strict);
+  }
+    where
+      none_traced : (trace is_lost : Bool) (old : Option (List ℕ)) → IsTraced trace is_lost is_lost old old []
+      none_traced true true old = refl
+      none_traced true false old = appends_none old
+      none_traced false is_lost old = (refl, refl)
+
+      no_cause : (w : Cause) → IsCauseOf g t w → ⊥
+      no_cause (cause.BadLine fault) is = let never : Nothing ≡ BadLine = sym reply ∙ is.0 in absurd cc
+      no_cause (cause.Refused r) is = let never : Nothing ≡ Told is.2 = sym reply ∙ is.3 in absurd cc
+      no_cause (cause.Code k) is = let never : Nothing ≡ Told is.2 = sym reply ∙ is.3 in absurd cc
+
+      never_ends : (strict : Bool) → Ends g new.line t strict true new.stop
+      never_ends false = refl
+      never_ends true = no_cause

@@ -1,0 +1,137 @@
+-- What a trace says of a run, and where a strict run ends.
+use Rattle.std.specs.Prelude.{◌≡◌, ◌≢◌, ℕ, ◌+◌, ◌-◌, ◌^◌, min, Bool, true, false, Option, None, Some, List, [], ◌∷◌, ◌++◌, codes, decimal}
+use Rattle.std.specs.Io.KnownBytes.{Appends}
+use Rattle.model.specs.declared.answer.Answer.{Answer}
+use Rattle.model.specs.declared.answer.Answer.TheVariants as answer
+use Rattle.model.specs.declared.command.Command.{Command}
+use Rattle.model.specs.declared.geometry.Geometry.{Geometry}
+use Rattle.model.specs.declared.line.Line.TheVariants as line
+use Rattle.model.specs.declared.order.ResultCode.{ResultCode}
+use Rattle.model.specs.declared.order.ResultCode.TheVariants as code
+use Rattle.model.specs.OrderOutcome.{code_number}
+use Rattle.model.specs.Run.{Reply, Nothing, BadLine, Told, Turn}
+use Rattle.model.specs.Text.{Says, line_of, refusal_text, spaced}
+use Rattle.script.specs.declared.line_fault.LineFault.{LineFault}
+use Rattle.script.specs.Answers.{IsAnswerText}
+use Rattle.script.specs.Keywords.{command_name}
+use Rattle.script.specs.LineFaults.{IsFaultOf, line_fault_text}
+use Rattle.script.specs.Writing.{AppendsFront}
+use Rattle.runs.specs.declared.cause.Cause.{Cause}
+use Rattle.runs.specs.declared.cause.Cause.TheVariants as cause
+use Rattle.runs.specs.declared.cause.Stop.{Stop}
+use Rattle.runs.specs.declared.tracer.TraceOptions.{TraceOptions}
+use Rattle.runs.specs.declared.tracer.Tracer.{Tracer}
+use Rattle.kernel.specs.Standing.{told_code}
+
+-- Texts
+
+abbrev pub code_word : ResultCode → List ℕ
+code_word code.Done = codes "success"
+code_word code.NoOrder = codes "no order"
+code_word code.NoAccess = codes "no access"
+code_word code.BadIndex = codes "bad index"
+code_word code.BadCapability = codes "bad capability"
+code_word code.Limit = codes "limit"
+code_word code.NoFrame = codes "no free number"
+code_word code.TooDeep = codes "too deep"
+code_word code.VoidCapability = codes "void capability"
+code_word code.NotFromThisBank = codes "not from this bank"
+code_word code.PrimeBank = codes "prime bank"
+
+-- a result code in words, with its number
+abbrev pub code_text : ResultCode → List ℕ
+code_text c = code_word c ++ codes " (" ++ decimal (code_number c) ++ codes ")"
+
+-- why a strict run ends at a line
+abbrev pub cause_text : Cause → List ℕ
+cause_text (cause.BadLine why) = spaced (codes "bad line:" ∷ line_fault_text why ∷ [])
+cause_text (cause.Refused why) = refusal_text why
+cause_text (cause.Code c) = code_text c
+
+-- what became of a command: the result code of its order, or else its answer
+abbrev pub IsOutcome : Option ResultCode → Answer → List ℕ → Type 0
+IsOutcome (Some c) a text = text ≡ code_text c
+IsOutcome None a text = IsAnswerText a text
+
+-- the number of a line, which its trace begins with
+abbrev pub place_text : ℕ → List ℕ
+place_text place = decimal place ++ codes ":"
+
+-- the trace of a turn with this number
+abbrev pub IsTrace : Geometry → ℕ → Turn → Reply → List ℕ → Type 0
+IsTrace g place t Nothing text = text ≡ []
+IsTrace g place t BadLine text =
+    (why : LineFault) × IsFaultOf t.line why × (text ≡ line_of (spaced (place_text place ∷ cause_text (cause.BadLine why) ∷ [])))
+IsTrace g place t (Told a) text =
+    (c : Command) × Says t.line (line.Command c) × (outcome : List ℕ) × IsOutcome (told_code g t.before c a) a outcome
+    × (text ≡ line_of (spaced (place_text place ∷ (command_name c ++ codes ":") ∷ outcome ∷ [])))
+
+-- Where a strict run ends
+
+-- an answer, with its result code, is such a cause
+abbrev pub IsCauseIn : Answer → Option ResultCode → Cause → Type 0
+IsCauseIn a told (cause.BadLine why) = ⊥
+IsCauseIn a told (cause.Refused why) = a ≡ answer.Refused why
+IsCauseIn a told (cause.Code c) = (told ≡ Some c) × (c ≢ code.Done)
+
+-- and a turn is one
+abbrev pub IsCauseOf : Geometry → Turn → Cause → Type 0
+IsCauseOf g t (cause.BadLine why) = (t.reply ≡ BadLine) × IsFaultOf t.line why
+IsCauseOf g t why =
+    (c : Command) × Says t.line (line.Command c) × (a : Answer) × (t.reply ≡ Told a) × IsCauseIn a (told_code g t.before c a) why
+
+-- the run ends at this turn with this number exactly where it is strict and the turn is a cause
+abbrev pub Ends : Geometry → ℕ → Turn → Bool → Bool → Option Stop → Type 0
+Ends g place t false on stop = on ≡ true
+Ends g place t true true stop = (why : Cause) → IsCauseOf g t why → ⊥
+Ends g place t true false None = ⊥
+Ends g place t true false (Some stop) = (stop.line ≡ place) × IsCauseOf g t stop.cause
+
+-- A text was written; or writing it failed, and then it is lost with all that follow. If none are wanted, none is.
+abbrev pub IsTraced : Bool → Bool → Bool → Option (List ℕ) → Option (List ℕ) → List ℕ → Type 0
+IsTraced true false false old new text = Appends old new text
+IsTraced true false true old new text = AppendsFront old new text
+IsTraced true true true old new text = new ≡ old
+IsTraced false was_lost is_lost old new text = (new ≡ old) × (is_lost ≡ was_lost)
+IsTraced true true false old new text = ⊥
+
+-- what a tracer makes of a turn: the number of the line rises by 1, up to the greatest of 64 bits
+pub record Sees {V : Type 0} (contents : V → Option (List ℕ)) (g : Geometry) (t : Turn) (old new : Tracer V) (on : Bool) : Type 0 where
+  pub options : new.options ≡ old.options
+  pub place : new.line ≡ min (old.line + 1) (2 ^ 64 - 1)
+  pub text : List ℕ
+  pub trace : IsTrace g new.line t t.reply text
+  pub written : IsTraced old.options.trace old.is_lost new.is_lost (contents old.errors) (contents new.errors) text
+  pub ends : Ends g new.line t old.options.strict on new.stop
+
+-- a tracer that saw no line
+pub record IsNewTracer {V : Type 0} (writer : V) (chosen : TraceOptions) (new : Tracer V) : Type 0 where
+  pub errors : new.errors ≡ writer
+  pub options : new.options ≡ chosen
+  pub place : new.line ≡ 0
+  pub none_lost : new.is_lost ≡ false
+  pub none_stopped : new.stop ≡ None
+
+-- only what was written changed
+pub record IsSame {V : Type 0} (old new : Tracer V) : Type 0 where
+  pub options : new.options ≡ old.options
+  pub place : new.line ≡ old.line
+  pub stop : new.stop ≡ old.stop
+
+-- a line with a cause ends a strict run, at its place
+abbrev pub EndsIf : Bool → Option Cause → ℕ → Bool → Option Stop → Type 0
+EndsIf true (Some why) place on stop = (on ≡ false) × (stop ≡ Some (record { line = place; cause = why }))
+EndsIf true None place on stop = on ≡ true
+EndsIf false None place on stop = on ≡ true
+EndsIf false (Some why) place on stop = on ≡ true
+
+-- a line was counted, and its trace written
+pub record Notes {V : Type 0} (contents : V → Option (List ℕ)) (at : ℕ) (text : List ℕ) (why : Option Cause) (old new : Tracer V) (on : Bool) : Type 0 where
+  pub options : new.options ≡ old.options
+  pub place : new.line ≡ at
+  pub written : IsTraced old.options.trace old.is_lost new.is_lost (contents old.errors) (contents new.errors) (line_of text)
+  pub ends : EndsIf old.options.strict why at on new.stop
+
+-- where a tracer ended the run
+abbrev pub stop_of : {V : Type 0} → Tracer V → Option Stop
+stop_of tracer = tracer.stop

@@ -1,0 +1,33 @@
+-- What a run did that isn't committed.
+use Rattle.std.specs.Prelude.{◌≡◌, Bool, true, false}
+use Rattle.model.specs.declared.answer.Answer.{Answer}
+use Rattle.model.specs.declared.answer.Answer.TheVariants as answer
+use Rattle.model.specs.declared.command.Command.{Command}
+use Rattle.model.specs.declared.command.Command.TheVariants as command
+use Rattle.model.specs.declared.geometry.Geometry.{Geometry}
+use Rattle.model.specs.declared.line.Line.TheVariants as line
+use Rattle.model.specs.Run.{Reply, Told, Turn}
+use Rattle.model.specs.Text.{Says}
+use Rattle.runs.specs.declared.unsaved.Unsaved.{Unsaved}
+
+abbrev pub nothing_unsaved : Unsaved
+nothing_unsaved = record { present = false; frozen = false }
+
+-- Each invocation and store that is carried out isn't committed. A checkpoint freezes what isn't, a commit saves what is
+-- frozen, and a restart loses both.
+abbrev pub unsaved_after : Command → Answer → Unsaved → Unsaved
+unsaved_after (command.Evict n) answer.Done old = old
+unsaved_after c answer.Done old = record { present = true; frozen = old.frozen }
+unsaved_after c (answer.Frozen n) old = record { present = false; frozen = old.present }
+unsaved_after c (answer.Committed g) old = record { present = old.present; frozen = false }
+unsaved_after c (answer.At g age) old = nothing_unsaved
+unsaved_after c a old = old
+
+-- a line that is no command changes nothing
+abbrev pub NotesReply : Turn → Reply → Unsaved → Unsaved → Type 0
+NotesReply t (Told a) old new = (c : Command) × Says t.line (line.Command c) × (new ≡ unsaved_after c a old)
+NotesReply t reply old new = new ≡ old
+
+-- what is noted of a turn; the run goes on
+abbrev pub Notes : Geometry → Turn → Unsaved → Unsaved → Bool → Type 0
+Notes g t old new on = (on ≡ true) × NotesReply t t.reply old new

@@ -1,0 +1,63 @@
+// What watches a run.
+ghost use Rattle.std.specs.Prelude.{◌≡◌, Bool, true, false, IfSome, option_map};
+ghost use Rattle.model.specs.declared.geometry.Geometry.{Geometry};
+ghost use Rattle.model.specs.Run.{BadLine, Nothing, Told, Turn};
+ghost use Rattle.model.specs.Text.{Says};
+ghost use Rattle.kernel.specs.Standing.{told_code};
+ghost use Rattle.script.specs.Lines.{IsTextOf};
+
+use model::{Answer, Command, Line, ResultCode};
+
+/// Watches a run. It is shown each turn before the answer is written, and says whether the run
+/// goes on after it.
+pub trait Observer {
+    // What it makes of a turn over a machine of a geometry, and whether the run goes on.
+    ghost sees: { Geometry → Turn → Self → Self → Bool → Type 0 };
+
+    // Whether it may end a run.
+    ghost may_end: { Bool };
+
+    /// Sees a line that was skipped.
+    fn skip(&mut self) -> bool
+        ensures seen { (g : Geometry) (t : Turn) → t.reply ≡ Nothing → sees g t self.old self.new result }
+        ensures goes_on { may_end ≡ false → result ≡ true };
+
+    /// Sees a bad line. The text is the line, or `None` where that has more than 256 bytes.
+    fn bad(&mut self, text: Option<&[u8]>) -> bool
+        requires { IfSome text (λ t. Says t.now Line.Bad) }
+        ensures seen { (g : Geometry) (t : Turn) → IsTextOf (option_map (λ x. x.now) text.entry) t.line
+            → t.reply ≡ BadLine → sees g t self.old self.new result }
+        ensures goes_on { may_end ≡ false → result ≡ true };
+
+    /// Sees a command, its answer, and the result code of the order that an invocation gave.
+    fn answer(&mut self, command: &Command, answer: &Answer, code: Option<ResultCode>) -> bool
+        ensures seen { (g : Geometry) (t : Turn) → Says t.line (Line.Command command.now)
+            → t.reply ≡ Told answer.now → told_code g t.before command.now answer.now ≡ code
+            → sees g t self.old self.new result }
+        ensures goes_on { may_end ≡ false → result ≡ true };
+}
+
+/// Sees nothing, and lets each run go on.
+#[derive(Clone, Copy)]
+pub struct Silent;
+
+impl Observer for Silent {
+    ghost sees = { λ g t old new on. on ≡ true };
+
+    ghost may_end = { false };
+
+    #[inline(always)]
+    fn skip(&mut self) -> bool {
+        true
+    }
+
+    #[inline(always)]
+    fn bad(&mut self, _text: Option<&[u8]>) -> bool {
+        true
+    }
+
+    #[inline(always)]
+    fn answer(&mut self, _command: &Command, _answer: &Answer, _code: Option<ResultCode>) -> bool {
+        true
+    }
+}

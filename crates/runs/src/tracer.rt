@@ -1,0 +1,207 @@
+// What becomes of each line of a run, on standard error.
+ghost use Rattle.std.specs.Prelude.{◌≡◌, ◌+◌, ◌-◌, ◌<◌, ◌≤◌, ◌^◌, ◌∷◌, [], ◌++◌, List, ℕ, IfNone, IfSome, Some, codes, length, min, option_map, true};
+ghost use Rattle.model.specs.Text.{Says, line_of, spaced};
+ghost use Rattle.script.specs.Keywords.{command_name};
+ghost use Rattle.script.specs.LineFaults.{IsFaultOf};
+ghost use Rattle.script.specs.Lines.{IsTextOf};
+ghost use Rattle.runs.specs.Tracing.{EndsIf, IsCauseIn, IsNewTracer, IsOutcome, IsSame, IsTraced, Notes, Sees, cause_text, place_text};
+
+use crate::cause::{Cause, Stop, add_code};
+use crate::observer::Observer;
+use model::{Answer, Command, Line, ResultCode};
+use script::{LineFault, LineText, answer_line, command_word, why_bad};
+use std::io::Write;
+
+/// What a run does beside writing the answers.
+#[derive(Clone, Copy, PartialEq, Eq, Debug)]
+pub struct TraceOptions {
+    /// It writes what became of each line.
+    pub trace: bool,
+    /// It ends at the first line that is bad or refused, or whose order has a result code other
+    /// than 0.
+    pub strict: bool,
+}
+
+/// Traces a run: writes a line for each line of the script that isn't skipped, with its number, its
+/// command and what became of it. A trace that can't be written doesn't end the run.
+#[derive(Drop)]
+pub struct Tracer<V> {
+    errors: V,
+    options: TraceOptions,
+    // How many lines it saw.
+    line: u64,
+    // A line of the trace couldn't be written. No line follows it.
+    is_lost: bool,
+    // Where it ended the run.
+    stop: Option<Stop>,
+}
+
+impl<V: Write> Tracer<V> {
+    /// A tracer that saw no line, and writes to `errors`.
+    pub fn new(errors: V, options: TraceOptions) -> Tracer<V>
+        ensures { IsNewTracer errors options result }
+    {
+        Tracer {
+            errors,
+            options,
+            line: 0,
+            is_lost: false,
+            stop: None,
+        }
+    }
+
+    /// Where it ended the run, if it did.
+    pub fn stop(&self) -> Option<Stop>
+        ensures { result ≡ self.now.stop }
+    {
+        self.stop
+    }
+
+    // Writes a line of the trace, unless none are wanted, or one before is lost.
+    fn write(&mut self, line: LineText)
+        requires { length line < 320 }
+        ensures traced { IsTraced self.old.options.trace self.old.is_lost self.new.is_lost
+            (V.contents self.old.errors) (V.contents self.new.errors) (line_of line) }
+        ensures same { IsSame self.old self.new }
+    {
+        if !self.options.trace {
+            return;
+        }
+        if self.is_lost {
+            return;
+        }
+        match line.write_to(&mut self.errors) {
+            Ok(()) => {}
+            Err(_) => self.is_lost = true,
+        }
+    }
+
+    // The number of the next line.
+    fn next(&self) -> u64
+        ensures { result ≡ min (self.now.line + 1) (2 ^ 64 - 1) }
+    {
+        self.line.saturating_add(1)
+    }
+
+    // Counts a line, writes its trace, and ends a strict run there if it has a cause. It returns
+    // whether the run goes on.
+    fn note(&mut self, place: u64, text: LineText, cause: Option<Cause>) -> bool
+        requires { length text < 320 }
+        ensures { Notes V.contents place text cause self.old self.new result }
+    {
+        self.line = place;
+        self.write(text);
+        match cause {
+            Some(cause) => self.end_at(cause),
+            None => true,
+        }
+    }
+
+    // Ends the run at this line, if it is strict. It returns whether the run goes on.
+    fn end_at(&mut self, cause: Cause) -> bool
+        ensures ends { EndsIf self.old.options.strict (Some cause) self.old.line result self.new.stop }
+        ensures options { self.new.options ≡ self.old.options }
+        ensures place { self.new.line ≡ self.old.line }
+        ensures is_lost { self.new.is_lost ≡ self.old.is_lost }
+        ensures errors { self.new.errors ≡ self.old.errors }
+    {
+        if !self.options.strict {
+            return true;
+        }
+        self.stop = Some(Stop {
+            line: self.line,
+            cause,
+        });
+        false
+    }
+}
+
+// The number of a line, which its trace begins with.
+fn begin(place: u64) -> LineText
+    ensures text { result ≡ place_text place }
+    ensures short { length result ≤ 21 }
+{
+    let mut line = LineText::empty();
+    line.digits(place);
+    line.push(b":");
+    line
+}
+
+// The trace of a bad line.
+fn bad_trace(place: u64, fault: LineFault) -> LineText
+    ensures text { result ≡ spaced (place_text place ∷ cause_text (Cause.BadLine fault) ∷ []) }
+    ensures short { length result ≤ 92 }
+{
+    let mut line = begin(place);
+    Cause::BadLine(fault).add_to(&mut line);
+    line
+}
+
+// The trace of a command.
+fn answer_trace(
+    place: u64,
+    command: &Command,
+    answer: &Answer,
+    code: Option<ResultCode>,
+) -> LineText
+    ensures text { (outcome : List ℕ) × IsOutcome code answer.now outcome
+        × (result ≡ spaced (place_text place ∷ (command_name command.now ++ codes ":") ∷ outcome ∷ [])) }
+    ensures short { length result ≤ 92 }
+{
+    let mut line = begin(place);
+    line.word(command_word(command));
+    line.push(b":");
+    match code {
+        Some(code) => add_code(&mut line, code),
+        None => line.word(answer_line(answer).as_bytes()),
+    }
+    line
+}
+
+// Why a line is bad, of which this is the text, or which is too long.
+fn fault_of(text: Option<&[u8]>) -> LineFault
+    requires { IfSome text (λ t. Says t.now Line.Bad) }
+    ensures { (line : List ℕ) → IsTextOf (option_map (λ t. t.now) text.entry) line → IsFaultOf line result }
+{
+    match text {
+        Some(text) => why_bad(text),
+        None => LineFault::Long,
+    }
+}
+
+// Why a strict run ends at a command, if it does.
+fn cause_of(answer: &Answer, code: Option<ResultCode>) -> Option<Cause>
+    ensures some { IfSome result (IsCauseIn answer.now code) }
+    ensures none { IfNone result ((why : Cause) → IsCauseIn answer.now code why → ⊥) }
+{
+    if let Answer::Refused(refusal) = answer {
+        return Some(Cause::Refused(*refusal));
+    }
+    match code {
+        Some(ResultCode::Done) | None => None,
+        Some(code) => Some(Cause::Code(code)),
+    }
+}
+
+impl<V: Write> Observer for Tracer<V> {
+    ghost sees = { λ g t old new on. Sees V.contents g t old new on };
+
+    ghost may_end = { true };
+
+    fn skip(&mut self) -> bool {
+        self.line = self.next();
+        true
+    }
+
+    fn bad(&mut self, text: Option<&[u8]>) -> bool {
+        let place = self.next();
+        let fault = fault_of(text);
+        self.note(place, bad_trace(place, fault), Some(Cause::BadLine(fault)))
+    }
+
+    fn answer(&mut self, command: &Command, answer: &Answer, code: Option<ResultCode>) -> bool {
+        let place = self.next();
+        let cause = cause_of(answer, code);
+        self.note(place, answer_trace(place, command, answer, code), cause)
+    }
+}

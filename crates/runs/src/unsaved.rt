@@ -1,0 +1,66 @@
+// What a run did that isn't committed.
+ghost use Rattle.std.specs.Prelude.{◌≡◌, ◌||◌, false};
+ghost use Rattle.runs.specs.Unsaved.{Notes, nothing_unsaved};
+
+use crate::observer::Observer;
+use model::{Answer, Command, ResultCode};
+
+/// Watches for invocations and stores that aren't committed, and lets each run go on.
+#[derive(Clone, Copy, PartialEq, Eq, Debug)]
+pub struct Unsaved {
+    // Some came after the last checkpoint or restart.
+    present: bool,
+    // Some came before the last checkpoint, which isn't committed.
+    frozen: bool,
+}
+
+impl Unsaved {
+    /// Nothing was done.
+    pub fn new() -> Unsaved
+        ensures { result ≡ nothing_unsaved }
+    {
+        Unsaved {
+            present: false,
+            frozen: false,
+        }
+    }
+
+    /// Whether something isn't committed.
+    pub fn is_some(&self) -> bool
+        ensures { result ≡ self.now.present || self.now.frozen }
+    {
+        self.present || self.frozen
+    }
+}
+
+impl Observer for Unsaved {
+    ghost sees = { Notes };
+
+    ghost may_end = { false };
+
+    fn skip(&mut self) -> bool {
+        true
+    }
+
+    fn bad(&mut self, _text: Option<&[u8]>) -> bool {
+        true
+    }
+
+    fn answer(&mut self, command: &Command, answer: &Answer, _code: Option<ResultCode>) -> bool {
+        match answer {
+            Answer::Done => {
+                if !matches!(command, Command::Evict { .. }) {
+                    self.present = true;
+                }
+            }
+            Answer::Frozen(_) => {
+                self.frozen = self.present;
+                self.present = false;
+            }
+            Answer::Committed(_) => self.frozen = false,
+            Answer::At { .. } => *self = Unsaved::new(),
+            _ => {}
+        }
+        true
+    }
+}

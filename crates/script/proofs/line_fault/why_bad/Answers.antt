@@ -1,0 +1,17 @@
+use Rattle.std.proofs.Common.{List, ℕ, [], ◌∷◌, ap, arith, refl, sym, ◌∙◌}
+use Rattle.script.proofs.LineFaults.{empty_list, not_bad}
+use Rattle.script.proofs.line_fault.why_bad.Goals as goal
+
+pub returns-then-is_empty : goal.returns-then-is_empty
+returns-then-is_empty c = (
+  [],
+  c.next.new.self,
+  sym c.new-words.ensures ∙ c.in-Some.ensures ∙ ap (λ (w : List ℕ). w ∷ c.next.new.self) (empty_list c.in-Some.word.now (sym c.is_empty.ensures ∙ c.if-is_empty.true)),
+  refl,
+)
+
+pub unreachable-requires-in-None-operands_fault : goal.unreachable-requires-in-None-operands_fault
+unreachable-requires-in-None-operands_fault c =
+    not_bad c.args.line.now c.in-Some-keyword_of.keyword c.next.new.self
+    (sym c.new-words.ensures ∙ c.in-Some.ensures ∙ ap (λ (w : List ℕ). w ∷ c.next.new.self) c.in-Some-keyword_of.ensures.found)
+    c.in-None-operands_fault.ensures.none (omega (arith, c.if-line-gt-LONGEST_LINE.false)) c.requires
