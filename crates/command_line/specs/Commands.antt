@@ -63,6 +63,10 @@ shell_app = with_rule (reading_app (codes "shell")) cache_rule
 abbrev pub check_app : App
 check_app = reading_app (codes "check")
 
+-- eros explain FILE
+abbrev pub explain_app : App
+explain_app = with_rule (new_app (codes "explain")) (file_rule (codes "FILE"))
+
 -- eros info IMAGE
 abbrev pub info_app : App
 info_app = reading_app (codes "info")
@@ -93,7 +97,7 @@ changing_app = with_subcommand (with_subcommand (with_subcommand bare_app build_
 
 -- and those that check images
 abbrev pub checking_app : App
-checking_app = with_subcommand (with_subcommand (with_subcommand changing_app check_app.top) info_app.top) reach_app.top
+checking_app = with_subcommand (with_subcommand (with_subcommand (with_subcommand changing_app check_app.top) explain_app.top) info_app.top) reach_app.top
 
 -- all subcommands, one of which has to be named
 abbrev pub eros_app : App

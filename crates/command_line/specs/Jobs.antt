@@ -26,6 +26,7 @@ IsJob name rows (job.Run image script cache trace strict stop_after) = (name ≡
     × IsGiven rows (codes "IMAGE") image.now × (word : Text) × IsGiven rows (codes "SCRIPT") word × IsScript word script
 IsJob name rows (job.Shell image cache) = (name ≡ codes "shell") × IsCache rows cache × IsGiven rows (codes "IMAGE") image.now
 IsJob name rows (job.Check image) = (name ≡ codes "check") × IsGiven rows (codes "IMAGE") image.now
+IsJob name rows (job.Explain file) = (name ≡ codes "explain") × IsGiven rows (codes "FILE") file.now
 IsJob name rows (job.Info image) = (name ≡ codes "info") × IsGiven rows (codes "IMAGE") image.now
 IsJob name rows (job.Reach image processes shows) = (name ≡ codes "reach") × IsGiven rows (codes "IMAGE") image.now
     × AreNumbers rows (codes "P") processes.items × IsNumberOption rows (codes "shows") shows

@@ -9,8 +9,8 @@ ghost use Rattle.command_line.specs.Refusals.{Explains};
 
 use crate::arguments::{flag_of, numbers_in, option_of};
 use crate::subcommands::{
-    CACHE, DESCRIPTION, GREATEST_CAPACITY, IMAGE, LEAST_CAPACITY, NEW, OLD, PROCESS, SCRIPT, SHOWS,
-    STOP_AFTER, STRICT, TRACE,
+    CACHE, DESCRIPTION, FILE, GREATEST_CAPACITY, IMAGE, LEAST_CAPACITY, NEW, OLD, PROCESS, SCRIPT,
+    SHOWS, STOP_AFTER, STRICT, TRACE,
 };
 use clap::error::ErrorKind;
 use clap::{ArgMatches, Command, Error};
@@ -56,6 +56,10 @@ pub enum Job<'a> {
     /// Checks an image.
     Check {
         image: &'a str,
+    },
+    /// Says why a description or an image is refused.
+    Explain {
+        file: &'a str,
     },
     /// Prints the sizes of an image and the state of its checkpoint.
     Info {
@@ -163,6 +167,15 @@ fn check_of<'a>(inner: &ArgMatches<'a>) -> Option<Job<'a>>
     Some(Job::Check { image })
 }
 
+// The explanation that the matches name, or `None` where the file is missing.
+fn explain_of<'a>(inner: &ArgMatches<'a>) -> Option<Job<'a>>
+    ensures named { IfSome result (IsJob (codes "explain") (rows_of (found_of inner.now))) }
+    ensures none { IsNone result → IsNoJob (codes "explain") (rows_of (found_of inner.now)) }
+{
+    let file = inner.get_str(FILE)?;
+    Some(Job::Explain { file })
+}
+
 // The account of an image that the matches name, or `None` where the image is missing.
 fn info_of<'a>(inner: &ArgMatches<'a>) -> Option<Job<'a>>
     ensures named { IfSome result (IsJob (codes "info") (rows_of (found_of inner.now))) }
@@ -245,6 +258,8 @@ fn plain_job_of<'a>(name: &str, inner: &ArgMatches<'a>) -> Option<Job<'a>>
         shell_of(inner)
     } else if name == "check" {
         check_of(inner)
+    } else if name == "explain" {
+        explain_of(inner)
     } else if name == "info" {
         info_of(inner)
     } else if name == "upgrade" {

@@ -4,7 +4,7 @@ ghost use Rattle.clap.specs.Words.{App, app_of, rule_of, with_subcommand};
 ghost use Rattle.command_line.specs.Commands.{IsCommand, bare_app, build_app, cache_rule, changing_app, check_app, checking_app};
 ghost use Rattle.command_line.specs.Commands.{describe_app, draw_app, eros_app, file_rule, reading_app, run_app, run_files_app, upgrade_app};
 ghost use Rattle.command_line.specs.Commands.{number_rule, processes_rule, reach_app};
-ghost use Rattle.command_line.specs.Commands.{info_app};
+ghost use Rattle.command_line.specs.Commands.{explain_app, info_app};
 ghost use Rattle.command_line.specs.Commands.{flag_rule, shell_app};
 
 use clap::builder::ValueParser;
@@ -26,6 +26,8 @@ pub(crate) const CACHE: &str = "cache";
 pub(crate) const PROCESS: &str = "P";
 
 pub(crate) const SHOWS: &str = "shows";
+
+pub(crate) const FILE: &str = "FILE";
 
 pub(crate) const TRACE: &str = "trace";
 
@@ -200,6 +202,18 @@ fn check<'a>(alloc: Global) -> Result<Command<'a>, AllocError>
     )
 }
 
+fn explain<'a>(alloc: Global) -> Result<Command<'a>, AllocError>
+    ensures { IfOk result (IsCommand explain_app) }
+{
+    Command::new(alloc, "explain")
+        .about("Says why a description or an image is refused, and where, or prints ok")
+        .arg(file(
+            alloc,
+            FILE,
+            "The description or the image, which isn't changed",
+        ))
+}
+
 fn info<'a>(alloc: Global) -> Result<Command<'a>, AllocError>
     ensures { IfOk result (IsCommand info_app) }
 {
@@ -260,6 +274,7 @@ fn bare<'a>(alloc: Global) -> Result<Command<'a>, AllocError>
              eros run first.image examples/first-steps.eros      prints the answers, a line or more each\n  \
              eros check first.image                              prints: ok generation 1 age 3 entries 0\n  \
              eros reach first.image 3                            prints what process 3 can ever change\n  \
+             eros explain examples/first-steps.toml              prints: ok, or what is wrong and where\n  \
              eros info first.image                               prints its sizes and its checkpoint\n  \
              eros run --trace first.image first.eros             says too what became of each line\n  \
              eros shell first.image                              reads commands from the terminal\n  \
@@ -298,6 +313,7 @@ fn checking<'a>(alloc: Global) -> Result<Command<'a>, AllocError>
     ensures { IfOk result (IsCommand checking_app) }
 {
     let command = with(changing(alloc), check(alloc));
+    let command = with(command, explain(alloc));
     let command = with(command, info(alloc));
     with(command, reach(alloc))
 }
