@@ -34,7 +34,10 @@ fn toml_line(alloc: Global, text: &str, error: &Error) -> Result<String, AllocEr
         None => return Err(AllocError),
     };
     let (line, column) = position(text, start);
-    format!(in alloc; "line {line}, column {column}: {} (bad description)\n", error.message())
+    format!(in alloc;
+        "line {line}, column {column}: {} (bad description)\n",
+        error.message()
+    )
 }
 
 // What is told of the description in a text, and whether it is accepted.
@@ -44,6 +47,9 @@ fn explained(alloc: Global, text: &str) -> Result<(String, bool), AllocError>
     let table = match toml::table_from_str(alloc, text) {
         Ok(table) => table,
         Err(error) => {
+            if error.is_memory() {
+                return Err(AllocError);
+            }
             let line = toml_line(alloc, text, &error)?;
             return Ok((line, false));
         }
