@@ -130,30 +130,32 @@ row_holds s (line ∷ lines) e =
       ap₂ (λ text rest. text ∷ rest) ((bytes_eq-Decides (line_of (codes line.1)) written).0 texts.1) others.3,
     )
 
-rows_hold : (rows : List Row) → map (λ r. wrong r.begins r.lines) rows ≡ map (λ r. []) rows → All IsRow rows
-rows_hold [] e = All-nil IsRow
-rows_hold (r ∷ rows) e =
-    All-cons IsRow r rows (row_holds r.begins r.lines (ap (λ all. slice_index_or all 0 []) e)) (rows_hold rows (ap (drop 1) e))
+-- no line of a row is wrong
+abbrev IsRight : Row → Type 0
+IsRight r = wrong r.begins r.lines ≡ []
+
+rows_hold : (rows : List Row) → All IsRight rows → All IsRow rows
+rows_hold rows right = All-weaker IsRight IsRow (λ r. row_holds r.begins r.lines) rows right
 
 pub objects_hold : All IsRow objects
 unfolding machine objects
-objects_hold = rows_hold objects refl
+objects_hold = rows_hold objects (All-from_recursion IsRight objects (refl, (refl, (refl, (refl, (refl, (refl, (refl, (refl, tt)))))))))
 
 pub processes_hold : All IsRow processes
 unfolding machine processes
-processes_hold = rows_hold processes refl
+processes_hold = rows_hold processes (All-from_recursion IsRight processes (refl, (refl, (refl, (refl, (refl, (refl, (refl, (refl, (refl, tt))))))))))
 
 pub references_hold : All IsRow references
 unfolding machine references
-references_hold = rows_hold references refl
+references_hold = rows_hold references (All-from_recursion IsRight references (refl, (refl, (refl, (refl, (refl, tt))))))
 
 pub saving_hold : All IsRow saving
 unfolding machine saving
-saving_hold = rows_hold saving refl
+saving_hold = rows_hold saving (All-from_recursion IsRight saving (refl, (refl, (refl, (refl, (refl, (refl, (refl, tt))))))))
 
 pub refusals_hold : All IsRow refusals
 unfolding machine refusals
-refusals_hold = rows_hold refusals refl
+refusals_hold = rows_hold refusals (All-from_recursion IsRight refusals (refl, (refl, (refl, (refl, (refl, (refl, (refl, tt))))))))
 
 -- the answer that a refusal or an outcome gives is that of a step
 abbrev comes_to : Machine → Outcome → Option Refusal → Outcome
