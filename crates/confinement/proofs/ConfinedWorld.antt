@@ -1,26 +1,19 @@
 -- The world with a confined process.
 use Rattle.std.proofs.Common.{◌≡◌, ℕ, zero, suc, false, List, [], ◌∷◌, ◌++◌, refl, sym, ◌∙◌, inl, inr, ⊎_elim, arith}
-use Rattle.std.specs.Fmt.{digits}
-use Rattle.std.specs.Prelude.{IsTrue, replicate, slice_index_or, slice_set}
+use Rattle.std.proofs.lemmas.List.Elements.{All-from_recursion}
+use Rattle.std.specs.Prelude.{All, IsTrue, replicate, slice_index_or, slice_set}
 use Rattle.model.specs.declared.access.Access.{Access}
 use Rattle.model.specs.declared.capability.Capability.TheVariants.{Void, Node, Bank}
 use Rattle.model.specs.declared.object.Content.TheVariants as content
 use Rattle.model.specs.declared.object.Object.{Object}
-use Rattle.model.specs.Bank.{chain, usage}
-use Rattle.model.specs.Banking.{on_bank, has_room, free_pages, with_new, under}
 use Rattle.model.specs.Capability.{full, weak}
 use Rattle.model.specs.Closed.{StaysInside}
-use Rattle.model.specs.Invoke.{deliver, through_gate, on_kernel_object, invoke}
-use Rattle.model.specs.Machine.{untouched}
 use Rattle.model.specs.Object.{all_slots, free, is_bank, is_free, zero_words}
-use Rattle.model.specs.Order.{on_page, on_node, on_process, order}
-use Rattle.model.specs.Revoke.{rescind, consume}
-use Rattle.model.specs.Step.{refusal_of, carried_out}
-use Rattle.model.specs.Text.{command_words, spelling, capability_text, word_lines, capability_lines, object_text, printed, bad_line}
-use Rattle.model.specs.Walk.{walk}
-use Rattle.model.specs.World.{annex_at, content_at, is_process, owner_at, root_at, slot_at, with_content, with_root, with_slot, with_state, with_word}
+use Rattle.model.specs.World.{annex_at, content_at, is_process, owner_at, root_at, slot_at, with_content, with_slot}
 use Rattle.model.specs.Worlds.{of_prime_bank}
-use Rattle.confinement.specs.Worked.{c0, confined, ConfinedIsClosed, ConfinedMakesPages, ConfinedOnlyReads, OutwardIsNotClosed, ReadOnlyEscapes}
+use Rattle.confinement.specs.Worked.{c0, confined, rows, ConfinedIsClosed, OutwardIsNotClosed}
+use Rattle.model_laws.proofs.Rows.{IsRight, machine, rows_hold}
+use Rattle.model_laws.specs.Worked.{IsRow}
 
 -- what holds of each member
 members : (P : ℕ → Type 0) → P 3 → P 4 → P 6 → (n : ℕ) → IsTrue (confined n) → P n
@@ -120,19 +113,6 @@ outward_not_closed = (
   λ closed. outward (record { 0 = 1 }) (λ is. cc) (closed.slots 4 1 refl),
 )
 
--- `unfolding machine` lets `refl` compute what a command comes to
-unfoldable machine : Unit {0}
-unfolding digits all_slots zero_words with_content with_word with_slot with_root with_state chain usage rescind consume walk on_bank has_room free_pages with_new under on_page on_node on_process order deliver through_gate on_kernel_object invoke untouched refusal_of carried_out command_words spelling capability_text word_lines capability_lines object_text printed bad_line c0
-machine = tt
-
-pub only_reads : ConfinedOnlyReads
-unfolding machine
-only_reads = (refl, refl)
-
-pub makes_pages : ConfinedMakesPages
-unfolding machine
-makes_pages = (refl, refl)
-
-pub escapes : ReadOnlyEscapes
-unfolding machine
-escapes = (refl, refl)
+pub rows_right : All IsRow rows
+unfolding machine c0 rows
+rows_right = rows_hold rows (All-from_recursion IsRight rows (refl, (refl, (refl, tt))))

@@ -20,4 +20,5 @@ pub mod GivenUp
 pub mod Revoking
 mod Touching
 pub mod Usage
+pub mod Rows
 mod WorkedRows

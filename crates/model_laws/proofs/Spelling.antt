@@ -159,13 +159,13 @@ length-spelling c fits =
 -- From the words to the command
 
 -- the k-th word as a number
-abbrev number_at : List (List ℕ) → ℕ → ℕ
+abbrev pub number_at : List (List ℕ) → ℕ → ℕ
 number_at words k = digits_value 10 (slice_index_or words k [])
 
-abbrev numbers : List (List ℕ) → List ℕ
+abbrev pub numbers : List (List ℕ) → List ℕ
 numbers words = map (digits_value 10) words
 
-abbrev invocation_of : Operation → List (List ℕ) → Command
+abbrev pub invocation_of : Operation → List (List ℕ) → Command
 invocation_of o words = command.Invoke (record {
   operation = o;
   process = number_at words 1;
