@@ -1,9 +1,9 @@
 -- A worked row is proved by computing it: where it is wrong, the error shows the line.
-use Rattle.std.proofs.Common.{◌≡◌, ◌≢◌, ℕ, ◌<◌, ◌^◌, Bool, true, false, ◌&&◌, Option, None, Some, List, [], ◌∷◌, ◌++◌, nat_eq, nat_lt, length, map, drop, slice_index_or, codes, All, bytes_eq, inl, inr, refl, sym, ap, ap₂, ◌∙◌, subst, arith}
+use Rattle.std.proofs.Common.{◌≡◌, ℕ, ◌<◌, ◌^◌, Bool, true, false, ◌&&◌, List, [], ◌∷◌, nat_eq, nat_lt, length, codes, All, bytes_eq, refl, ap₂, arith}
 use Rattle.std.specs.Fmt.{digits}
 use Rattle.std.specs.List.{list_all}
 use Rattle.std.proofs.lemmas.Bool.{and_parts, eqb-true, ltb-true}
-use Rattle.std.proofs.lemmas.List.Elements.{All-nil, All-cons, All-from_recursion, All-weaker}
+use Rattle.std.proofs.lemmas.List.Elements.{All-nil, All-cons, All-weaker}
 use Rattle.std.proofs.lemmas.List.Sums.{AllPass-from_list_all}
 use Rattle.std.proofs.lemmas.Slice.Eq.{bytes_eq-Decides}
 use Rattle.model.specs.Object.{all_slots, zero_words}
@@ -14,26 +14,15 @@ use Rattle.model.specs.Revoke.{rescind, consume}
 use Rattle.model.specs.Walk.{walk}
 use Rattle.model.specs.Order.{on_page, on_node, on_process, order}
 use Rattle.model.specs.Invoke.{deliver, through_gate, on_kernel_object, invoke}
-use Rattle.model.specs.Machine.{Running as Machine, Machine as UpOrDown, Up, renewing, untouched}
-use Rattle.model.specs.declared.answer.Answer.{Answer}
-use Rattle.model.specs.declared.answer.Answer.TheVariants as answer
-use Rattle.model.specs.Step.{Outcome, outcome, refusal_of, carried_out, shown}
-use Rattle.model.specs.Worlds.{small, f0, i0}
-use Rattle.model.specs.declared.answer.Refusal.{Refusal}
+use Rattle.model.specs.Machine.{Running as Machine, renewing, untouched}
+use Rattle.model.specs.Step.{refusal_of, carried_out}
+use Rattle.model.specs.Worlds.{f0, i0}
 use Rattle.model.specs.declared.command.Command.{Command}
 use Rattle.model.specs.declared.command.Command.TheVariants as command
-use Rattle.model.specs.declared.line.Line.TheVariants as line
-use Rattle.model_laws.proofs.Spelling.{split, command_of, reads_spelling}
+use Rattle.model_laws.proofs.Spelling.{split, command_of}
 use Rattle.model.specs.Text.{Fits, command_words, spelling, capability_text, word_lines, capability_lines, object_text, printed, bad_line, line_of}
 use Rattle.model_laws.specs.Worked.{Row, IsRow, answered, row, s0, b0}
 use Prim.Native.String.{String}
-use Rattle.model_laws.specs.WorkedMemory.{references}
-use Rattle.model_laws.specs.WorkedObjects.{objects}
-use Rattle.model_laws.specs.WorkedProcesses.{processes}
-use Rattle.model_laws.specs.WorkedRefusals.{refusals}
-use Rattle.model_laws.specs.WorkedSaves.{saving}
-use Rattle.model_laws.specs.WorkedSteps.{AnswersBySteps, FailsBetween, OpensAgain, WantsMemory, RescindsProcess, ChainsBanks, RevokesOnly}
-use Rattle.model_laws.specs.WorkedTexts.{SaysCommands, SaysNothing, SaysBad, CutsLines, RunsScript, PrintsRefusals}
 
 -- `unfolding machine` lets `refl` compute what the machine answers
 unfoldable pub machine : Unit {0}

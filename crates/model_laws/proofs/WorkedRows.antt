@@ -1,33 +1,20 @@
 -- Proofs of the worked rows: the definitions are computed.
-use Rattle.std.proofs.Common.{◌≡◌, ◌≢◌, ℕ, ◌<◌, ◌^◌, Bool, true, false, ◌&&◌, Option, None, Some, List, [], ◌∷◌, ◌++◌, nat_eq, nat_lt, length, map, drop, slice_index_or, codes, All, bytes_eq, inl, inr, refl, sym, ap, ap₂, ◌∙◌, subst, arith}
-use Rattle.std.specs.Fmt.{digits}
-use Rattle.std.specs.List.{list_all}
-use Rattle.std.proofs.lemmas.Bool.{and_parts, eqb-true, ltb-true}
-use Rattle.std.proofs.lemmas.List.Elements.{All-nil, All-cons, All-from_recursion, All-weaker}
-use Rattle.std.proofs.lemmas.List.Sums.{AllPass-from_list_all}
+use Rattle.std.proofs.Common.{◌≡◌, ◌≢◌, ℕ, ◌<◌, ◌^◌, true, false, Option, None, Some, List, [], ◌∷◌, ◌++◌, codes, All, bytes_eq, inl, inr, refl, sym, ap, ◌∙◌, subst, arith}
+use Rattle.std.proofs.lemmas.List.Elements.{All-from_recursion}
 use Rattle.std.proofs.lemmas.Slice.Eq.{bytes_eq-Decides}
-use Rattle.model.specs.Object.{all_slots, zero_words}
-use Rattle.model.specs.World.{with_content, with_word, with_slot, with_root, with_state}
-use Rattle.model.specs.Bank.{chain, usage}
-use Rattle.model.specs.Banking.{on_bank, has_room, free_nodes, free_pages, with_new, owned_by, inherited}
-use Rattle.model.specs.Revoke.{rescind, consume}
-use Rattle.model.specs.Walk.{walk}
-use Rattle.model.specs.Order.{on_page, on_node, on_process, order}
-use Rattle.model.specs.Invoke.{deliver, through_gate, on_kernel_object, invoke}
-use Rattle.model.specs.Machine.{Running as Machine, Machine as UpOrDown, Up, renewing, untouched}
+use Rattle.model.specs.Machine.{Running as Machine, Machine as UpOrDown, Up}
 use Rattle.model.specs.declared.answer.Answer.{Answer}
 use Rattle.model.specs.declared.answer.Answer.TheVariants as answer
 use Rattle.model.specs.Step.{Outcome, outcome, refusal_of, carried_out, shown}
-use Rattle.model.specs.Worlds.{small, f0, i0}
+use Rattle.model.specs.Worlds.{small, i0}
 use Rattle.model.specs.declared.answer.Refusal.{Refusal}
 use Rattle.model.specs.declared.command.Command.{Command}
 use Rattle.model.specs.declared.command.Command.TheVariants as command
 use Rattle.model.specs.declared.line.Line.TheVariants as line
 use Rattle.model_laws.proofs.Spelling.{split, command_of, reads_spelling}
-use Rattle.model.specs.Text.{Fits, command_words, spelling, capability_text, word_lines, capability_lines, object_text, printed, bad_line, line_of}
-use Rattle.model_laws.proofs.Rows.{IsRight, fits_holds, machine, rows_hold}
-use Rattle.model_laws.specs.Worked.{Row, IsRow, answered, row, s0, b0}
-use Prim.Native.String.{String}
+use Rattle.model.specs.Text.{Fits, spelling}
+use Rattle.model_laws.proofs.Rows.{IsRight, machine, rows_hold}
+use Rattle.model_laws.specs.Worked.{IsRow}
 use Rattle.model_laws.specs.WorkedMemory.{references}
 use Rattle.model_laws.specs.WorkedObjects.{objects}
 use Rattle.model_laws.specs.WorkedProcesses.{processes}

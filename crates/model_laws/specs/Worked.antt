@@ -12,7 +12,7 @@ use Rattle.model.specs.World.{World}
 use Rattle.model.specs.Machine.{Running as Machine, opened}
 use Rattle.model.specs.Step.{Outcome, outcome, refusal_of, carried_out}
 use Rattle.model.specs.Text.{Fits, spelling, printed, line_of}
-use Rattle.model.specs.Worlds.{small, of_prime_bank, fresh_root, prime_bank, f0, i0}
+use Rattle.model.specs.Worlds.{small, of_prime_bank, fresh_root, prime_bank, i0}
 use Prim.Native.String.{String}
 
 -- a machine that was just opened at a world, and one where all nodes were written since
