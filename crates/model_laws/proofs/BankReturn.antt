@@ -21,7 +21,8 @@ use Rattle.model.specs.Revoke.{is_member, rescind}
 use Rattle.model.specs.Sound.{IsOfKind}
 use Rattle.model_laws.proofs.SoundParts.{IsHeld, IsFilled, IsFramed, Waits, held_to, held_void}
 use Rattle.model_laws.proofs.Mapped.{at_map}
-use Rattle.model_laws.proofs.SoundOrders.{IsNow, IsOutcome, AreArguments, three_words, refused_keeps, either}
+use Rattle.model_laws.proofs.SoundOrders.{IsNow, IsOutcome, AreArguments, three_words, refused_keeps}
+use Rattle.model_laws.proofs.Cases.{chosen}
 use Rattle.model_laws.proofs.BankTree.{IsTree, tree_of, member_tail, chain_prime, chain_unfolds, chain_longer, chain_once, chain_itself, chain_nonempty, chain_length, chain_owner_length, owner_bank}
 use Rattle.model_laws.proofs.NumberLists.{AllDiffer, no_member, only_member}
 use Rattle.model_laws.proofs.BankRescind.{count_both, count_none, held_as_before, rescinded_now, used_owner, used_where}
@@ -318,7 +319,7 @@ module _ (g : Geometry) (os : List Object) (b : ℕ) (args : Arguments) (h : IsN
       go : (ns : List ℕ) → freed_by os args.capability ≡ ns → IsOutcome g (freed os b ns)
       go [] e = refused_keeps g os _ h
       go (n ∷ ns) e =
-          either g (owner_at os n == b) _ _
+          chosen (IsOutcome g) (owner_at os n == b) _ _
           (λ own. void_keeps g _ _
           (rescinded_now g os (n ∷ ns) h (freed_set g os h.frame args.capability n ns (held_to os args.capability fits.held).1 e).given_up.closed))
           (λ other. refused_keeps g os _ h)
@@ -327,11 +328,11 @@ module _ (g : Geometry) (os : List Object) (b : ℕ) (args : Arguments) (h : IsN
   pub destroyed_keeps : IsOutcome g (on_bank g os b bank.Destroy args)
   unfolding on_bank
   destroyed_keeps =
-      either g (b == 0) _ _ (λ prime. refused_keeps g os _ h)
+      chosen (IsOutcome g) (b == 0) _ _ (λ prime. refused_keeps g os _ h)
       (λ on. void_keeps g _ _ (rescinded_now g os (under os b) h (under_given_up g os h.frame b is (eqb-false b 0 on)).closed))
 
   -- and a bank's return to its parent
   pub returned_keeps : IsOutcome g (on_bank g os b bank.ReturnToParent args)
   unfolding on_bank
   returned_keeps =
-      either g (b == 0) _ _ (λ prime. refused_keeps g os _ h) (λ on. void_keeps g _ _ (returned_now g os b h is (eqb-false b 0 on)))
+      chosen (IsOutcome g) (b == 0) _ _ (λ prime. refused_keeps g os _ h) (λ on. void_keeps g _ _ (returned_now g os b h is (eqb-false b 0 on)))

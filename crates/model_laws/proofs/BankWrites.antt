@@ -19,6 +19,7 @@ use Rattle.model.specs.OrderOutcome.{OrderOutcome}
 use Rattle.model.specs.Revoke.{is_member, names_member, rescind, without}
 use Rattle.model.specs.Sound.{NamesItsKind}
 use Rattle.model.specs.World.{annex_at, content_at, is_process, object_at, owner_at}
+use Rattle.model_laws.proofs.Cases.{one_of}
 use Rattle.model_laws.proofs.BankFreed.{freed_within, owned_within, under_within, used_within}
 use Rattle.model_laws.proofs.BankReturn.{handed_content}
 use Rattle.model_laws.proofs.BankTree.{at_other}
@@ -29,12 +30,6 @@ use Rattle.model_laws.proofs.SoundOrders.{IsNow}
 -- what is a process before and after has the same annex
 abbrev KeepsAnnexes : List Object → List Object → Type 0
 KeepsAnnexes os us = (p : ℕ) → is_process os p ≡ true → is_process us p ≡ true → annex_at us p ≡ annex_at os p
-
--- what holds of both outcomes holds of either
-module _ (P : OrderOutcome → Type 0) where
-  pub one_of : (b : Bool) (x y : OrderOutcome) → P x → P y → P (if b then x else y)
-  one_of true x y p q = p
-  one_of false x y p q = q
 
 root_not_free : (c : Content Capability) → is_root c ≡ true → is_free c ≡ true → ⊥
 root_not_free content.Free r f = cc

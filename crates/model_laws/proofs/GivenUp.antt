@@ -29,7 +29,7 @@ use Rattle.model_laws.proofs.BankFreed.{freed_set, under_given_up, used_within}
 use Rattle.model_laws.proofs.BankRescind.{kept_tests, used_where}
 use Rattle.model_laws.proofs.BankReturn.{inherited_content}
 use Rattle.model_laws.proofs.BankTree.{tree_of}
-use Rattle.model_laws.proofs.BankWrites.{one_of}
+use Rattle.model_laws.proofs.Cases.{one_of}
 use Rattle.model_laws.proofs.InvocationFrame.{invocation_frame}
 use Rattle.model_laws.proofs.NumberLists.{only_member}
 use Rattle.model_laws.proofs.Revoking.{rescinds_all}

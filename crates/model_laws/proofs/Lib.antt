@@ -1,3 +1,4 @@
+pub mod Cases
 pub mod InvocationFrame
 pub mod Journaling
 pub mod Mapped

@@ -25,7 +25,8 @@ use Rattle.model.specs.Banking.{are_free, free_nodes, free_pages, has_room, with
 use Rattle.model.specs.Revoke.{is_member}
 use Rattle.model.specs.Sound.{IsOfKind, HasShape}
 use Rattle.model_laws.proofs.SoundParts.{IsHeld, IsFilled, Waits, held_void}
-use Rattle.model_laws.proofs.SoundOrders.{IsNow, IsOutcome, AreArguments, three_words, refused_keeps, given_keeps, either}
+use Rattle.model_laws.proofs.SoundOrders.{IsNow, IsOutcome, AreArguments, three_words, refused_keeps, given_keeps}
+use Rattle.model_laws.proofs.Cases.{chosen}
 use Rattle.model_laws.proofs.SoundWorlds.{holds_void, zero_words_fit, zero_words_length, all_slots_length}
 use Rattle.model_laws.proofs.BankTree.{IsTree, tree_of, member_tail, at_new, at_other, length_new, chain_new, new_bank_kept, tree_new}
 use Rattle.model_laws.proofs.BankUsage.{usage_new, usage_new_bank}
@@ -387,7 +388,7 @@ module _ (g : Geometry) (os : List Object) (b : ℕ) (args : Arguments) (h : IsN
   pub page_allocated_keeps : IsOutcome g (on_bank g os b bank.NewPage args)
   unfolding on_bank free_pages
   page_allocated_keeps =
-      either g (has_room os b 1) _ _ (λ room. go room (free_pages g os) refl) (λ _. refused_keeps g os code.Limit h)
+      chosen (IsOutcome g) (has_room os b 1) _ _ (λ room. go room (free_pages g os) refl) (λ _. refused_keeps g os code.Limit h)
     where
       go : has_room os b 1 ≡ true → (ns : List ℕ) → are_free os (range_with_len g.nodes g.pages) ≡ ns → IsOutcome g (allocated os b ns new_page (λ n. Page n full))
       go room [] e = refused_keeps g os code.NoFrame h
@@ -402,7 +403,7 @@ module _ (g : Geometry) (os : List Object) (b : ℕ) (args : Arguments) (h : IsN
   pub node_allocated_keeps : IsOutcome g (on_bank g os b bank.NewNode args)
   unfolding on_bank free_nodes
   node_allocated_keeps =
-      either g (has_room os b 1) _ _ (λ room. go room (free_nodes g os) refl) (λ _. refused_keeps g os code.Limit h)
+      chosen (IsOutcome g) (has_room os b 1) _ _ (λ room. go room (free_nodes g os) refl) (λ _. refused_keeps g os code.Limit h)
     where
       go : has_room os b 1 ≡ true → (ns : List ℕ) → are_free os (range_with_len 0 g.nodes) ≡ ns → IsOutcome g (allocated os b ns new_node (λ n. Node n full))
       go room [] e = refused_keeps g os code.NoFrame h
@@ -417,14 +418,14 @@ module _ (g : Geometry) (os : List Object) (b : ℕ) (args : Arguments) (h : IsN
   pub bank_allocated_keeps : IsOutcome g (on_bank g os b bank.NewBank args)
   unfolding on_bank free_nodes
   bank_allocated_keeps =
-      either g (has_room os b 1) _ _ (λ room. go room (free_nodes g os) refl) (λ _. refused_keeps g os code.Limit h)
+      chosen (IsOutcome g) (has_room os b 1) _ _ (λ room. go room (free_nodes g os) refl) (λ _. refused_keeps g os code.Limit h)
     where
       go : has_room os b 1 ≡ true → (ns : List ℕ) → are_free os (range_with_len 0 g.nodes) ≡ ns → IsOutcome g (bank_allocated os b ns args.first)
       go room [] e = refused_keeps g os code.NoFrame h
       go room (n ∷ ns) e =
           let found = free_first os 0 g.nodes n ns e in
           let inside = node_within n found.1 in
-          either g (nat_lt (length (chain os b)) 16) _ _
+          chosen (IsOutcome g) (nat_lt (length (chain os b)) 16) _ _
           (λ short. made_keeps (with_new os n b (content.Bank args.first)) (n ∷ []) (Bank n)
           (one_now g os n b (content.Bank args.first) h is inside found.2 refl (λ _. ltb-true (length (chain os b)) 16 short) room (omega (arith, found.1)) (filled_bank _ _ args.first fits.first) refl refl)
           (record { well_formed = tt; names = ap (λ (o : Object). is_bank o.content) (at_new os n b (content.Bank args.first) inside) }))
@@ -434,7 +435,7 @@ module _ (g : Geometry) (os : List Object) (b : ℕ) (args : Arguments) (h : IsN
   pub process_allocated_keeps : IsOutcome g (on_bank g os b bank.NewProcess args)
   unfolding on_bank free_nodes
   process_allocated_keeps =
-      either g (has_room os b 2) _ _ (λ room. go room (free_nodes g os) refl) (λ _. refused_keeps g os code.Limit h)
+      chosen (IsOutcome g) (has_room os b 2) _ _ (λ room. go room (free_nodes g os) refl) (λ _. refused_keeps g os code.Limit h)
     where
       go : has_room os b 2 ≡ true → (ns : List ℕ) → are_free os (range_with_len 0 g.nodes) ≡ ns → IsOutcome g (process_allocated os b ns)
       go room [] e = refused_keeps g os code.NoFrame h

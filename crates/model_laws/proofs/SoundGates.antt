@@ -24,6 +24,7 @@ use Rattle.model.specs.declared.command.Message.{Message}
 use Rattle.model.specs.Invoke.{Effect, deliver, sent_by, is_return, sent_to_gate, after_gate, after_order, through_gate, reply_of, replied, ordered, on_kernel_object, can_start, invoke}
 use Rattle.model.specs.Text.{Fits}
 use Rattle.model_laws.specs.Laws.{InvocationKeepsSound}
+use Rattle.model_laws.proofs.Cases.{after_gate_by, after_order_by, invoked_by, replied_by}
 use Rattle.model_laws.proofs.Usage.{SameFrame, frame_refl, tests_at}
 use Rattle.model_laws.proofs.SoundParts.{IsHeld, IsNearlySound, Waits, state_at, held_on, held_void, nearly_weaken, nearly_from, nearly_to}
 use Rattle.model_laws.proofs.SoundEdits.{IsEdited, IsRootOf, But, at_set, edited_slot, edited_trans, frame_root, nearly_root, nearly_consume, root_same, root_other, state_consume}
@@ -78,20 +79,10 @@ after_none : (g : Geometry) (os : List Object) → IsNow g os → IsAfter g os o
 after_none g os h = record { frame = frame_refl os; now = h; waits = λ x w. w }
 
 after_gate_keeps : (g : Geometry) (os : List Object) (i : Invocation) → IsNow g os → IsTrue (is_running_process os i.process) → IsAfter g os (after_gate os i)
-after_gate_keeps g os i h runs = go i.operation
-  where
-    go : (o : Operation) → IsAfter g os (elim o [ Call ↦ with_state os i.process Waiting | Return ↦ with_state os i.process Available | Send ↦ os ])
-    go Call = after_state g os i.process Waiting h runs
-    go Return = after_state g os i.process Available h runs
-    go Send = after_none g os h
+after_gate_keeps g os i h runs = after_gate_by (IsAfter g os) os i (after_none g os h) (λ s. after_state g os i.process s h runs)
 
 after_order_keeps : (g : Geometry) (os : List Object) (i : Invocation) → IsNow g os → IsTrue (is_running_process os i.process) → IsAfter g os (after_order os i)
-after_order_keeps g os i h runs = go i.operation
-  where
-    go : (o : Operation) → IsAfter g os (elim o [ Return ↦ with_state os i.process Available | _ ↦ os ])
-    go Return = after_state g os i.process Available h runs
-    go Call = after_none g os h
-    go Send = after_none g os h
+after_order_keeps g os i h runs = after_order_by (IsAfter g os) os i (after_none g os h) (λ s. after_state g os i.process s h runs)
 
 held_after : (g : Geometry) (os us : List Object) (c : Capability) → IsAfter g os us → IsHeld os (Waits os) c → IsHeld us (Waits us) c
 held_after g os us c a h = held_on os us (Waits os) (Waits us) c a.frame a.waits h
@@ -268,20 +259,11 @@ reply_message g o h = record {
 }
 
 replied_keeps : (g : Geometry) (i : Invocation) (o : OrderOutcome) → IsOutcome g o → IsNow g (replied o.objects i o)
-replied_keeps g i o h = go i.operation
-  where
-    branch : (b : Bool) → is_running_process o.objects i.process ≡ b → IsNow g (if b then deliver o.objects i.process (reply_of o) else o.objects)
-    branch false e = h.now
-    branch true e =
-        let parts = and_parts (is_process o.objects i.process) (is_running (state_at o.objects i.process)) e in
-        started_now g o.objects i.process (deliver o.objects i.process (reply_of o))
-        (deliver_keeps g (Waits o.objects) o.objects i.process (reply_of o) h.now parts.0 (reply_message g o h))
-        (running_is_not_waiting (state_at o.objects i.process) parts.1)
-
-    go : (p : Operation) → IsNow g (elim p [ Call ↦ if is_running_process o.objects i.process then deliver o.objects i.process (reply_of o) else o.objects | _ ↦ o.objects ])
-    go Call = branch (is_running_process o.objects i.process) refl
-    go Return = h.now
-    go Send = h.now
+replied_keeps g i o h = replied_by (IsNow g) o.objects i o h.now (λ runs.
+    let parts = and_parts (is_process o.objects i.process) (is_running (state_at o.objects i.process)) runs in
+    started_now g o.objects i.process (deliver o.objects i.process (reply_of o))
+    (deliver_keeps g (Waits o.objects) o.objects i.process (reply_of o) h.now parts.0 (reply_message g o h))
+    (running_is_not_waiting (state_at o.objects i.process) parts.1))
 
 pub ordered_keeps : (g : Geometry) (os : List Object) (i : Invocation) → IsNow g os → Fits (command.Invoke i) → IsTrue (is_running_process os i.process)
     → IsOutcome g (ordered g os i)
@@ -305,25 +287,10 @@ kernel_keeps g os i h fits runs = replied_keeps g i (ordered g os i) (ordered_ke
 
 invoked_now : (g : Geometry) (os : List Object) (i : Invocation) (e : Effect) → IsNow g os → Fits (command.Invoke i) → IsTrue (is_running_process os i.process)
     → invoke g os i ≡ Some e → IsNow g e.objects
-unfolding invoke
-invoked_now g os i e h fits runs done = go (register_at os i.process i.register) ((h.filled (annex_at os i.process)).slots i.register) done
-  where
-    from : (f : Effect) → IsNow g f.objects → Some f ≡ Some e → IsNow g e.objects
-    from f now same = let equal : f ≡ e = cc in subst (λ (x : Effect). IsNow g x.objects) equal now
-
-    start : (q key : ℕ) (b : Bool) → can_start os i q ≡ b → IsHeld os (Waits os) (Start q key) → (if b then Some (through_gate os i q key) else None) ≡ Some e → IsNow g e.objects
-    start q key true can held same = from (through_gate os i q key) (start_keeps g os i q key h fits runs held.names held.well_formed can) same
-    start q key false can held same = cc
-
-    go : (c : Capability) → IsHeld os (Waits os) c
-        → (elim c [
-          | Start q key ↦ if can_start os i q then Some (through_gate os i q key) else None
-          | Resume q ↦ let effect = through_gate os i q 0 in Some (record { objects = consume q effect.objects; written = effect.written })
-          | _ ↦ Some (on_kernel_object g os i)
-        ]) ≡ Some e → IsNow g e.objects
-    go (Start q key) held same = start q key (can_start os i q) refl held same
-    go (Resume q) held same = from _ (resume_keeps g os i q h fits runs held.names.0) same
-    go c held same = from (on_kernel_object g os i) (kernel_keeps g os i h fits runs) same
+invoked_now g os i e h fits runs =
+    invoked_by (IsNow g) os i (IsHeld os (Waits os)) g e ((h.filled (annex_at os i.process)).slots i.register)
+    (λ q key held can. start_keeps g os i q key h fits runs held.names held.well_formed can) (λ q held. resume_keeps g os i q h fits runs held.names.0)
+    (kernel_keeps g os i h fits runs)
 
 pub invocation_keeps : InvocationKeepsSound
 invocation_keeps g w i e sound fits runs young done =

@@ -27,6 +27,7 @@ use Rattle.model.specs.Sound.{HasShape, IsSpace}
 use Rattle.model.specs.declared.order.Arguments.{Arguments}
 use Rattle.model.specs.OrderOutcome.{OrderOutcome, refused, told, given, wrote}
 use Rattle.model.specs.Order.{reduces, fetched, stored, is_space, with_root_word, with_space, on_page, on_node, on_process}
+use Rattle.model_laws.proofs.Cases.{chosen}
 use Rattle.model_laws.proofs.SoundParts.{IsHeld, IsNearlySound, Waits, state_at, held_void, nearly_weaken}
 use Rattle.model_laws.proofs.SoundEdits.{IsEdited, IsRootOf, But, at_set, edited_slot, edited_word, edited_root, nearly_root, nearly_consume, root_other, state_consume}
 
@@ -67,10 +68,6 @@ wrote_keeps g os n h = record { now = h; count = refl; words = three_words 0 0 0
 
 pub edited_now : (g : Geometry) (os us : List Object) → IsEdited g (Waits os) os us → IsNow g us
 edited_now g os us e = nearly_weaken g (Waits os) (Waits us) us (λ p w. ap is_waiting (e.states p) ∙ w) e.sound
-
-pub either : (g : Geometry) (b : Bool) (x y : OrderOutcome) → (b ≡ true → IsOutcome g x) → (b ≡ false → IsOutcome g y) → IsOutcome g (if b then x else y)
-either g true x y p q = p refl
-either g false x y p q = q refl
 
 -- accesses
 
@@ -115,14 +112,14 @@ pub on_page_keeps : (g : Geometry) (os : List Object) (o : ℕ) (a : Access) (as
     → IsHeld os (Waits os) (Page o a) → AreArguments os args → IsOutcome g (on_page os o a asked args)
 unfolding on_page
 on_page_keeps g os o a page.Read args h held fits =
-    either g (nat_lt args.first 512) _ _ (λ _. told_keeps g os (word_at os o args.first) 0 h ((h.filled o).words args.first) (omega arith)) (λ _. refused_keeps g os _ h)
+    chosen (IsOutcome g) (nat_lt args.first 512) _ _ (λ _. told_keeps g os (word_at os o args.first) 0 h ((h.filled o).words args.first) (omega arith)) (λ _. refused_keeps g os _ h)
 on_page_keeps g os o a page.Write args h held fits =
-    either g (not (a.0 == 0)) _ _ (λ _. refused_keeps g os _ h) (λ _.
-    either g (nat_lt args.first 512) _ _
+    chosen (IsOutcome g) (not (a.0 == 0)) _ _ (λ _. refused_keeps g os _ h) (λ _.
+    chosen (IsOutcome g) (nat_lt args.first 512) _ _
     (λ _. wrote_keeps g _ o (edited_now g os _ (edited_word g (Waits os) os o args.first args.second h fits.second)))
     (λ _. refused_keeps g os _ h))
 on_page_keeps g os o a page.Reduce args h held fits =
-    either g (reduces args.first) _ _
+    chosen (IsOutcome g) (reduces args.first) _ _
     (λ e. given_keeps g os (Page o (union a args.first)) h (record { well_formed = access_union a args.first held.well_formed e; names = held.names }))
     (λ _. refused_keeps g os _ h)
 
@@ -135,8 +132,8 @@ node_is_no_annex c p q = cc
 stored_keeps : (g : Geometry) (os : List Object) (o : ℕ) (a : Access) (slot : ℕ) (c : Capability) → IsNow g os
     → IsTrue (is_node (content_at os o)) → IsHeld os (Waits os) c → IsOutcome g (stored os o a slot c)
 stored_keeps g os o a slot c h is held =
-    either g (not (a.0 == 0)) _ _ (λ _. refused_keeps g os _ h) (λ _.
-    either g (nat_lt slot 32) _ _
+    chosen (IsOutcome g) (not (a.0 == 0)) _ _ (λ _. refused_keeps g os _ h) (λ _.
+    chosen (IsOutcome g) (nat_lt slot 32) _ _
     (λ _. wrote_keeps g _ o (edited_now g os _ (edited_slot g (Waits os) os o slot c h held (λ annex. absurd (node_is_no_annex (content_at os o) is annex)))))
     (λ _. refused_keeps g os _ h))
 
@@ -151,16 +148,16 @@ pub on_node_keeps : (g : Geometry) (os : List Object) (o : ℕ) (a : Access) (as
     → IsHeld os (Waits os) (Node o a) → AreArguments os args → IsOutcome g (on_node os o a asked args)
 unfolding on_node
 on_node_keeps g os o a node.Fetch args h held fits =
-    either g (nat_lt args.first 32) _ _
+    chosen (IsOutcome g) (nat_lt args.first 32) _ _
     (λ _. given_keeps g os _ h (held_fetched os (Waits os) a (slot_at os o args.first) ((h.filled o).slots args.first)))
     (λ _. refused_keeps g os _ h)
 on_node_keeps g os o a node.Store args h held fits = stored_keeps g os o a args.first args.capability h held.names fits.held
 on_node_keeps g os o a node.Reduce args h held fits =
-    either g (reduces args.first) _ _
+    chosen (IsOutcome g) (reduces args.first) _ _
     (λ e. given_keeps g os (Node o (union a args.first)) h (record { well_formed = access_union a args.first held.well_formed e; names = held.names }))
     (λ _. refused_keeps g os _ h)
 on_node_keeps g os o a node.MakeSpace args h held fits =
-    either g ((args.first == 0) || not (nat_lt args.first 5)) _ _ (λ _. refused_keeps g os _ h)
+    chosen (IsOutcome g) ((args.first == 0) || not (nat_lt args.first 5)) _ _ (λ _. refused_keeps g os _ h)
     (λ e. given_keeps g os (Space o args.first a) h (record {
       well_formed = ((height_fits args.first e).0, (height_fits args.first e).1, held.well_formed);
       names = held.names;
@@ -214,19 +211,19 @@ pub on_process_keeps : (g : Geometry) (os : List Object) (p : ℕ) (asked : Proc
     → IsTrue (is_process os p) → AreArguments os args → IsOutcome g (on_process os p asked args)
 unfolding on_process
 on_process_keeps g os p process.GetRegister args h is fits =
-    either g (nat_lt args.first 32) _ _ (λ _. given_keeps g os (register_at os p args.first) h ((h.filled (annex_at os p)).slots args.first)) (λ _. refused_keeps g os _ h)
+    chosen (IsOutcome g) (nat_lt args.first 32) _ _ (λ _. given_keeps g os (register_at os p args.first) h ((h.filled (annex_at os p)).slots args.first)) (λ _. refused_keeps g os _ h)
 on_process_keeps g os p process.PutRegister args h is fits =
-    either g ((args.first == 0) || not (nat_lt args.first 32)) _ _ (λ _. refused_keeps g os _ h)
+    chosen (IsOutcome g) ((args.first == 0) || not (nat_lt args.first 32)) _ _ (λ _. refused_keeps g os _ h)
     (λ e. wrote_keeps g _ (annex_at os p) (edited_now g os _
     (edited_slot g (Waits os) os (annex_at os p) args.first args.capability h fits.held
     (λ _. eqb-false args.first 0 (or_parts (args.first == 0) (not (nat_lt args.first 32)) e).0))))
 on_process_keeps g os p process.GetWord args h is fits =
-    either g (nat_lt args.first 4) _ _
+    chosen (IsOutcome g) (nat_lt args.first 4) _ _
     (λ _. told_keeps g os (slice_index (root_at os p).words args.first) 0 h ((root_now g (Waits os) os p h is).words args.first) (omega arith))
     (λ _. refused_keeps g os _ h)
 on_process_keeps g os p process.PutWord args h is fits =
     let r = root_now g (Waits os) os p h is in
-    either g (nat_lt args.first 4) _ _
+    chosen (IsOutcome g) (nat_lt args.first 4) _ _
     (λ _. wrote_keeps g _ p (edited_now g os _ (edited_root g (Waits os) os p (with_root_word (root_at os p) args.first args.second) h
     (record {
       is_process = is;
@@ -239,19 +236,19 @@ on_process_keeps g os p process.PutWord args h is fits =
     }) refl)))
     (λ _. refused_keeps g os _ h)
 on_process_keeps g os p process.MakeStart args h is fits =
-    either g (nat_lt args.first 65536) _ _
+    chosen (IsOutcome g) (nat_lt args.first 65536) _ _
     (λ e. given_keeps g os (Start p args.first) h (record { well_formed = ltb-true args.first 65536 e; names = is }))
     (λ _. refused_keeps g os _ h)
 on_process_keeps g os p process.GetState args h is fits =
     let r = root_now g (Waits os) os p h is in
     told_keeps g os (state_number (root_at os p).state) (root_at os p).key h (state_fits (root_at os p).state) (omega (arith, r.key))
 on_process_keeps g os p process.SetState args h is fits =
-    either g (args.first == 0) _ _ (λ _. wrote_keeps g _ p (consumed_now g os p Available h is)) (λ _.
-    either g (args.first == 1) _ _ (λ _. wrote_keeps g _ p (consumed_now g os p Running h is)) (λ _. refused_keeps g os _ h))
+    chosen (IsOutcome g) (args.first == 0) _ _ (λ _. wrote_keeps g _ p (consumed_now g os p Available h is)) (λ _.
+    chosen (IsOutcome g) (args.first == 1) _ _ (λ _. wrote_keeps g _ p (consumed_now g os p Running h is)) (λ _. refused_keeps g os _ h))
 on_process_keeps g os p process.GetSpace args h is fits = given_keeps g os (root_at os p).space h (h.filled p).space
 on_process_keeps g os p process.SetSpace args h is fits =
     let r = root_now g (Waits os) os p h is in
-    either g (is_space args.capability) _ _
+    chosen (IsOutcome g) (is_space args.capability) _ _
     (λ e. wrote_keeps g _ p (edited_now g os _ (edited_root g (Waits os) os p (with_space (root_at os p) args.capability) h
     (record {
       is_process = is;
