@@ -4,7 +4,7 @@ use Rattle.std.specs.Prelude.{IsTrue, slice_index_or}
 use Rattle.std.specs.List.{range_with_len}
 use Rattle.std.proofs.lemmas.Bool.{false≢true, cases_eq, and_parts, or_cases, or_right, not-true, eqb-true, eqb-false}
 use Rattle.model.specs.declared.capability.Capability.{Capability}
-use Rattle.model.specs.declared.capability.Capability.TheVariants.{Void, Page, Node, Process}
+use Rattle.model.specs.declared.capability.Capability.TheVariants.{Void, Page, Node, Process, Bank}
 use Rattle.model.specs.declared.geometry.Geometry.{Geometry}
 use Rattle.model.specs.declared.object.Content.{Content}
 use Rattle.model.specs.declared.object.Content.TheVariants as content
@@ -23,6 +23,7 @@ use Rattle.model.specs.OrderOutcome.{OrderOutcome, refused}
 use Rattle.model.specs.Revoke.{is_member, rescind}
 use Rattle.model.specs.Sound.{NamesItsKind}
 use Rattle.model.specs.World.{annex_at, content_at, object_at, owner_at}
+use Rattle.model_laws.proofs.Cases.{chosen}
 use Rattle.model_laws.proofs.BankFreed.{tree_induction, under_found}
 use Rattle.model_laws.proofs.BankRescind.{used_where}
 use Rattle.model_laws.proofs.BankReturn.{inherited_content, inherited_object}
@@ -33,8 +34,8 @@ use Rattle.model_laws.proofs.SoundWorlds.{holds_void}
 use Rattle.confinement.specs.Confinement.{Encloses, IsKept, StaysWithin}
 use Rattle.confinement.proofs.Kept.{kept_refl, stays_refl, stays_rescind, stays_trans}
 
--- an outcome that stays in a set
-abbrev OutcomeStays : (ℕ → Bool) → List Object → OrderOutcome → Type 0
+-- an outcome whose objects, and the capability that it gives, stay in a set
+abbrev pub OutcomeStays : (ℕ → Bool) → List Object → OrderOutcome → Type 0
 OutcomeStays inside os o = StaysWithin inside os o.objects × StaysInside inside o.capability
 
 -- the content of a new object, which has authority over members alone
@@ -65,11 +66,6 @@ module _ (g : Geometry) (inside : ℕ → Bool) (os : List Object) (h : IsNow g 
 
   refused_stays : (why : ResultCode) → OutcomeStays inside os (refused os why)
   refused_stays why = (stays_refl inside os k, inl tt)
-
-  either_stays : (t : Bool) (x y : OrderOutcome) → (t ≡ true → OutcomeStays inside os x) → (t ≡ false → OutcomeStays inside os y)
-      → OutcomeStays inside os (if t then x else y)
-  either_stays true x y p q = p refl
-  either_stays false x y p q = q refl
 
   -- what a bank inside owns is inside
   owner_inside : (n : ℕ) → is_free (content_at os n) ≡ false → IsTrue (inside (owner_at os n)) → IsTrue (inside n)
@@ -132,6 +128,14 @@ module _ (g : Geometry) (inside : ℕ → Bool) (os : List Object) (h : IsNow g 
     | inr differ ↦ inl (at_other os n b c x differ)
   ])
 
+  allocated_stays : (from count : ℕ) → from + count ≤ length os → (b : ℕ) (c : Content Capability) (named : ℕ → Capability) → IsFresh inside c
+      → ((n : ℕ) → IsTrue (inside n) → StaysInside inside (named n)) → (ns : List ℕ) → are_free os (range_with_len from count) ≡ ns
+      → OutcomeStays inside os (allocated os b ns c named)
+  allocated_stays from count fits b c named fresh stays [] e = refused_stays code.NoFrame
+  allocated_stays from count fits b c named fresh stays (n ∷ ns) e =
+      let unused : IsUnused n = unused_at from count fits (n ∷ ns) e n (member_head n n ns refl) in
+      (new_stays n b c unused fresh, stays n (k.free n unused.1))
+
   -- a new process: a root and its annex
   process_stays : (p a b : ℕ) → p ≢ a → IsUnused p → IsUnused a → StaysWithin inside os (with_new (with_new os p b (new_root a)) a b new_annex)
   process_stays p a b apart root annex =
@@ -159,7 +163,7 @@ module _ (g : Geometry) (inside : ℕ → Bool) (os : List Object) (h : IsNow g 
 
   freed_stays : (b : ℕ) (ns : List ℕ) → ((n : ℕ) → is_member ns n ≡ true → IsTrue (inside n)) → OutcomeStays inside os (freed os b ns)
   freed_stays b [] within = refused_stays code.BadCapability
-  freed_stays b (n ∷ ns) within = either_stays (owner_at os n == b) _ _ (λ _. (gone_stays (n ∷ ns) within, inl tt)) (λ _. refused_stays code.NotFromThisBank)
+  freed_stays b (n ∷ ns) within = chosen (OutcomeStays inside os) (owner_at os n == b) _ _ (λ _. (gone_stays (n ∷ ns) within, inl tt)) (λ _. refused_stays code.NotFromThisBank)
 
   -- what a capability with full access names that stays inside is inside
   full_inside : (a o n : ℕ) → (a ≡ 3) ⊎ IsTrue (inside o) → is_member (if a == 0 then o ∷ [] else []) n ≡ true → IsTrue (inside n)
@@ -247,38 +251,29 @@ module _ (g : Geometry) (inside : ℕ → Bool) (os : List Object) (h : IsNow g 
   module _ (b : ℕ) (args : Arguments) (kind : IsTrue (is_bank (content_at os b))) (is : IsTrue (inside b)) where
     page_made_stays : OutcomeStays inside os (on_bank g os b bank.NewPage args)
     unfolding on_bank free_pages
-    page_made_stays = either_stays (has_room os b 1) _ _ (λ _. go (free_pages g os) refl) (λ _. refused_stays code.Limit)
-      where
-        go : (ns : List ℕ) → are_free os (range_with_len g.nodes g.pages) ≡ ns → OutcomeStays inside os (allocated os b ns new_page (λ n. Page n full))
-        go [] e = refused_stays code.NoFrame
-        go (n ∷ ns) e =
-            let unused : IsUnused n = unused_at g.nodes g.pages (omega (arith, h.frame.size)) (n ∷ ns) e n (member_head n n ns refl) in
-            (new_stays n b new_page unused (fresh_page inside), inr (k.free n unused.1))
+    page_made_stays = chosen (OutcomeStays inside os) (has_room os b 1) _ _
+        (λ _. allocated_stays g.nodes g.pages (omega (arith, h.frame.size)) b new_page _ (fresh_page inside) (λ n is. inr is) (free_pages g os) refl)
+        (λ _. refused_stays code.Limit)
 
     node_made_stays : OutcomeStays inside os (on_bank g os b bank.NewNode args)
     unfolding on_bank free_nodes
-    node_made_stays = either_stays (has_room os b 1) _ _ (λ _. go (free_nodes g os) refl) (λ _. refused_stays code.Limit)
-      where
-        go : (ns : List ℕ) → are_free os (range_with_len 0 g.nodes) ≡ ns → OutcomeStays inside os (allocated os b ns new_node (λ n. Node n full))
-        go [] e = refused_stays code.NoFrame
-        go (n ∷ ns) e =
-            let unused : IsUnused n = unused_at 0 g.nodes (omega (arith, h.frame.size)) (n ∷ ns) e n (member_head n n ns refl) in
-            (new_stays n b new_node unused (fresh_node inside), inr (k.free n unused.1))
+    node_made_stays = chosen (OutcomeStays inside os) (has_room os b 1) _ _
+        (λ _. allocated_stays 0 g.nodes (omega (arith, h.frame.size)) b new_node _ (fresh_node inside) (λ n is. inr is) (free_nodes g os) refl)
+        (λ _. refused_stays code.Limit)
 
     bank_made_stays : OutcomeStays inside os (on_bank g os b bank.NewBank args)
     unfolding on_bank free_nodes
-    bank_made_stays = either_stays (has_room os b 1) _ _ (λ _. go (free_nodes g os) refl) (λ _. refused_stays code.Limit)
+    bank_made_stays = chosen (OutcomeStays inside os) (has_room os b 1) _ _ (λ _. go (free_nodes g os) refl) (λ _. refused_stays code.Limit)
       where
         go : (ns : List ℕ) → are_free os (range_with_len 0 g.nodes) ≡ ns → OutcomeStays inside os (bank_allocated os b ns args.first)
         go [] e = refused_stays code.NoFrame
-        go (n ∷ ns) e =
-            let unused : IsUnused n = unused_at 0 g.nodes (omega (arith, h.frame.size)) (n ∷ ns) e n (member_head n n ns refl) in
-            either_stays (nat_lt (length (chain os b)) 16) _ _
-            (λ _. (new_stays n b (content.Bank args.first) unused (fresh_bank inside args.first), inr (k.free n unused.1))) (λ _. refused_stays code.TooDeep)
+        go (n ∷ ns) e = chosen (OutcomeStays inside os) (nat_lt (length (chain os b)) 16) _ _
+            (λ _. allocated_stays 0 g.nodes (omega (arith, h.frame.size)) b (content.Bank args.first) Bank (fresh_bank inside args.first) (λ n is. inr is) (n ∷ ns) e)
+            (λ _. refused_stays code.TooDeep)
 
     process_made_stays : OutcomeStays inside os (on_bank g os b bank.NewProcess args)
     unfolding on_bank free_nodes
-    process_made_stays = either_stays (has_room os b 2) _ _ (λ _. go (free_nodes g os) refl) (λ _. refused_stays code.Limit)
+    process_made_stays = chosen (OutcomeStays inside os) (has_room os b 2) _ _ (λ _. go (free_nodes g os) refl) (λ _. refused_stays code.Limit)
       where
         go : (ns : List ℕ) → are_free os (range_with_len 0 g.nodes) ≡ ns → OutcomeStays inside os (process_allocated os b ns)
         go [] e = refused_stays code.NoFrame
@@ -294,11 +289,11 @@ module _ (g : Geometry) (inside : ℕ → Bool) (os : List Object) (h : IsNow g 
 
     destroyed_stays : OutcomeStays inside os (on_bank g os b bank.Destroy args)
     unfolding on_bank
-    destroyed_stays = either_stays (b == 0) _ _ (λ _. refused_stays code.PrimeBank) (λ _. (gone_stays (under os b) (under_inside b is), inl tt))
+    destroyed_stays = chosen (OutcomeStays inside os) (b == 0) _ _ (λ _. refused_stays code.PrimeBank) (λ _. (gone_stays (under os b) (under_inside b is), inl tt))
 
     returned_stays : OutcomeStays inside os (on_bank g os b bank.ReturnToParent args)
     unfolding on_bank
-    returned_stays = either_stays (b == 0) _ _ (λ _. refused_stays code.PrimeBank) (λ e.
+    returned_stays = chosen (OutcomeStays inside os) (b == 0) _ _ (λ _. refused_stays code.PrimeBank) (λ e.
         let handed = inherited_stays b kind (eqb-false b 0 e) is in (
           stays_trans inside os (inherited os b) (rescind (b ∷ []) (inherited os b)) handed
               (stays_rescind inside (inherited os b) (b ∷ []) handed.encloses
