@@ -34,6 +34,7 @@ use Rattle.model.specs.Text.{Fits, Says}
 use Rattle.model.specs.Walk.{below, path, restricted, walk, walk_along}
 use Rattle.model.specs.World.{content_at, is_running_process, object_at, owner_at, root_at, slot_at, with_word, word_at}
 use Rattle.model_laws.proofs.BankRescind.{used_where}
+use Rattle.model_laws.proofs.Journaling.{unless_passes}
 use Rattle.model_laws.proofs.SoundEdits.{edited_word}
 use Rattle.model_laws.proofs.SoundGates.{invocation_keeps}
 use Rattle.model_laws.proofs.SoundParts.{Waits, nearly_from, nearly_to, nearly_weaken}
@@ -245,10 +246,6 @@ record IsWithin (g : Geometry) (inside : ℕ → Bool) (os : List Object) (s : R
 abbrev MachineWithin : Geometry → (ℕ → Bool) → List Object → Machine → Type 0
 MachineWithin g inside os (Up s) = IsWithin g inside os s
 MachineWithin g inside os (Down saved) = Unit {0}
-
-unless_passes : (b : Bool) (why : Refusal) (next : Option Refusal) → unless b why next ≡ None → (b ≡ true) × (next ≡ None)
-unless_passes true why next e = (refl, e)
-unless_passes false why next e = cc
 
 -- what an invocation comes to
 abbrev invoked : Running → Option Effect → Outcome

@@ -73,13 +73,10 @@ fits_holds (command.Store p address value) e =
     (all 0 p (omega arith), all 1 p (omega arith), all 2 p (omega arith))
 fits_holds (command.Show n) e = one_below (2 ^ 64) n e
 fits_holds (command.Evict n) e = one_below (2 ^ 64) n e
-fits_holds command.Checkpoint e = tt
 fits_holds (command.Stabilize n) e = one_below (2 ^ 64) n e
-fits_holds command.Commit e = tt
 fits_holds (command.Migrate n) e = one_below (2 ^ 64) n e
 fits_holds (command.Journal n) e = one_below (2 ^ 64) n e
-fits_holds command.Restart e = tt
-fits_holds command.Cut e = tt
+fits_holds c e = tt
 
 -- the command that the words of a line tell, and whether it is spelled and answered so
 abbrev pub said : String × String → Command

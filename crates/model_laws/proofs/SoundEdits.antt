@@ -64,12 +64,10 @@ edited_trans g W os us vs a b = record {
 
 pub alike_slot : (b i : ℕ) (k : Capability) (c : Content Capability) → AreAlike (record { owner = b; content = c }) (record { owner = b; content = with_slot_in c i k })
 alike_slot b i k (content.Node slots) = record { owner = refl; role = refl; annex = refl; limit = refl }
-alike_slot b i k (content.Annex slots) = record { owner = refl; role = refl; annex = refl; limit = refl }
 alike_slot b i k c = record { owner = refl; role = refl; annex = refl; limit = refl }
 
 root_slot : (i : ℕ) (k : Capability) (c : Content Capability) → root_in (with_slot_in c i k) ≡ root_in c
 root_slot i k (content.Node slots) = refl
-root_slot i k (content.Annex slots) = refl
 root_slot i k c = refl
 
 filled_slot : (os : List Object) (W : ℕ → Type 0) (i : ℕ) (k : Capability) (c : Content Capability) → IsFilled os W c → IsHeld os W k

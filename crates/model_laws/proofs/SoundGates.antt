@@ -28,6 +28,7 @@ use Rattle.model_laws.proofs.Cases.{after_gate_by, after_order_by, invoked_by, r
 use Rattle.model_laws.proofs.Usage.{SameFrame, frame_refl, tests_at}
 use Rattle.model_laws.proofs.SoundParts.{IsHeld, IsNearlySound, Waits, state_at, held_on, held_void, nearly_weaken, nearly_from, nearly_to}
 use Rattle.model_laws.proofs.SoundEdits.{IsEdited, IsRootOf, But, at_set, edited_slot, edited_trans, frame_root, nearly_root, nearly_consume, root_same, root_other, state_consume}
+use Rattle.model_laws.proofs.SoundWorlds.{holds_replicate}
 use Rattle.model_laws.proofs.SoundObjects.{order_keeps}
 use Rattle.model_laws.proofs.SoundOrders.{IsNow, IsOutcome, root_now, nearly_state, state_other}
 
@@ -245,17 +246,11 @@ code_fits code.Done = omega arith
 code_fits c = omega arith
 
 reply_message : (g : Geometry) (o : OrderOutcome) → IsOutcome g o → IsMessage o.objects (Waits o.objects) (reply_of o)
-reply_message g o h = record {
+reply_message g o h = let none = held_void o.objects (Waits o.objects) in record {
   count = ap suc h.count;
   words = elim [ zero ↦ code_fits o.code | suc i ↦ h.words i ];
   key = omega arith;
-  held = elim [
-    | zero ↦ h.held
-    | suc zero ↦ held_void o.objects (Waits o.objects)
-    | suc (suc zero) ↦ held_void o.objects (Waits o.objects)
-    | suc (suc (suc zero)) ↦ held_void o.objects (Waits o.objects)
-    | suc (suc (suc (suc j))) ↦ held_void o.objects (Waits o.objects)
-  ];
+  held = elim [ zero ↦ h.held | suc j ↦ holds_replicate (IsHeld o.objects (Waits o.objects)) 3 Void Void none none j ];
 }
 
 replied_keeps : (g : Geometry) (i : Invocation) (o : OrderOutcome) → IsOutcome g o → IsNow g (replied o.objects i o)

@@ -198,8 +198,7 @@ consumed_now g os p s h is =
 
 state_fits : (s : State) → state_number s < 2 ^ 64
 state_fits Available = omega arith
-state_fits Running = omega arith
-state_fits Waiting = omega arith
+state_fits s = omega arith
 
 space_fits : (c : Capability) → is_space c ≡ true → IsSpace c
 space_fits Void e = tt

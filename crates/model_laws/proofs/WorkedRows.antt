@@ -10,17 +10,18 @@ use Rattle.model.specs.Worlds.{small, i0}
 use Rattle.model.specs.declared.answer.Refusal.{Refusal}
 use Rattle.model.specs.declared.command.Command.{Command}
 use Rattle.model.specs.declared.command.Command.TheVariants as command
+use Rattle.model.specs.declared.command.Operation.TheVariants.{Return}
 use Rattle.model.specs.declared.line.Line.TheVariants as line
 use Rattle.model_laws.proofs.Spelling.{split, command_of, reads_spelling}
 use Rattle.model.specs.Text.{Fits, spelling}
-use Rattle.model_laws.proofs.Rows.{IsRight, machine, rows_hold}
+use Rattle.model_laws.proofs.Rows.{IsRight, fits_holds, machine, rows_hold}
 use Rattle.model_laws.specs.Worked.{IsRow}
 use Rattle.model_laws.specs.WorkedMemory.{references}
 use Rattle.model_laws.specs.WorkedObjects.{objects}
 use Rattle.model_laws.specs.WorkedProcesses.{processes}
 use Rattle.model_laws.specs.WorkedRefusals.{refusals}
 use Rattle.model_laws.specs.WorkedSaves.{saving}
-use Rattle.model_laws.specs.WorkedSteps.{AnswersBySteps, FailsBetween, OpensAgain, WantsMemory, RescindsProcess, ChainsBanks, RevokesOnly}
+use Rattle.model_laws.specs.WorkedSteps.{invokes, AnswersBySteps, FailsBetween, OpensAgain, WantsMemory, RescindsProcess, ChainsBanks, RevokesOnly}
 use Rattle.model_laws.specs.WorkedTexts.{SaysCommands, SaysNothing, SaysBad, CutsLines, RunsScript, PrintsRefusals}
 
 pub objects_hold : All IsRow objects
@@ -75,10 +76,6 @@ pub chains_banks : ChainsBanks
 unfolding machine
 chains_banks = (refl, refl)
 
--- the numbers of four and the registers are within their bounds
-fit : (a b c d limit : ℕ) → a < limit → b < limit → c < limit → d < limit → All (λ n. n < limit) (a ∷ b ∷ c ∷ d ∷ [])
-fit a b c d limit p q r s = All-from_recursion (λ n. n < limit) (a ∷ b ∷ c ∷ d ∷ []) (p, (q, (r, (s, tt))))
-
 pub says_commands : SaysCommands
 unfolding machine
 says_commands = (
@@ -86,17 +83,7 @@ says_commands = (
   (omega arith, refl),
   (omega arith, refl),
   (omega arith, refl),
-  (
-    (
-      omega arith,
-      omega arith,
-      refl,
-      fit 9 0 0 0 (2 ^ 64) (omega arith) (omega arith) (omega arith) (omega arith),
-      refl,
-      fit 5 0 0 31 32 (omega arith) (omega arith) (omega arith) (omega arith),
-    ),
-    refl,
-  ),
+  (fits_holds (invokes Return 3 31 (9 ∷ 0 ∷ 0 ∷ 0 ∷ []) (5 ∷ 0 ∷ 0 ∷ 31 ∷ [])) refl, refl),
 )
 
 pub says_nothing : SaysNothing
