@@ -23,9 +23,10 @@ use Rattle.model_laws.proofs.SoundParts.{IsHeld, IsFilled, IsFramed, Waits, held
 use Rattle.model_laws.proofs.Mapped.{at_map}
 use Rattle.model_laws.proofs.SoundOrders.{IsNow, IsOutcome, AreArguments, three_words, refused_keeps}
 use Rattle.model_laws.proofs.Cases.{chosen}
+use Rattle.model_laws.proofs.Counts.{count_alike, count_none}
 use Rattle.model_laws.proofs.BankTree.{IsTree, tree_of, member_tail, chain_prime, chain_unfolds, chain_longer, chain_once, chain_itself, chain_nonempty, chain_length, chain_owner_length, owner_bank}
 use Rattle.model_laws.proofs.NumberLists.{AllDiffer, no_member, only_member}
-use Rattle.model_laws.proofs.BankRescind.{count_both, count_none, held_as_before, rescinded_now, used_owner, used_where}
+use Rattle.model_laws.proofs.BankRescind.{held_as_before, rescinded_now, used_owner, used_where}
 use Rattle.model_laws.proofs.BankFreed.{IsGivenUp, differ_where, freed_set, owned_found, owned_once, tree_induction, under_given_up, under_owner, usage_given_up}
 
 -- who owns what a bank owned
@@ -168,12 +169,8 @@ module _ (os : List Object) (t : IsTree os) (b : ℕ) (is : IsTrue (is_bank (con
   pub usage_inherited : (x : ℕ) → x ≢ b → usage (inherited os b) x ≡ usage os x
   unfolding usage
   usage_inherited x differ =
-      omega (
-        arith,
-        count_none (λ p. false) os free (λ i. refl),
-        count_both (λ p. not (p.0 == x) && is_under (inherited os b) x p.1) (λ p. false) (λ p. not (p.0 == x) && is_under os x p.1) 0 os (inherited os b) free length_inherited
-            (λ i j e. let same : i ≡ j = omega (arith, e) in rw (same, under_heir x j differ) (add-zero _)),
-      )
+      count_alike (λ p. not (p.0 == x) && is_under (inherited os b) x p.1) (λ p. not (p.0 == x) && is_under os x p.1) os (inherited os b) free length_inherited
+      (λ i. ap (λ (u : Bool). not (i == x) && u) (under_heir x i differ))
 
   usage_none : usage (inherited os b) b ≡ 0
   unfolding usage

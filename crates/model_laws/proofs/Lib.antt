@@ -1,4 +1,5 @@
 pub mod Cases
+pub mod Counts
 pub mod InvocationFrame
 pub mod Journaling
 pub mod Mapped
