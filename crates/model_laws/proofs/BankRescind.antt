@@ -18,9 +18,10 @@ use Rattle.model.specs.World.{object_at, content_at, owner_at, annex_at, is_proc
 use Rattle.model.specs.Bank.{chain, chain_within, is_under, usage}
 use Rattle.model.specs.Revoke.{void_where, without, is_member, names_member, rescind}
 use Rattle.model.specs.Sound.{IsOfKind, IsSpace}
+use Rattle.model_laws.proofs.Cases.{chosen, one_of}
 use Rattle.model_laws.proofs.Counts.{count_alike, count_both, count_none, one_within}
 use Rattle.model_laws.proofs.Usage.{AreAlike, SameTests, same_tests}
-use Rattle.model_laws.proofs.SoundParts.{IsHeld, IsFilled, IsFramed, Waits, state_at, held_void}
+use Rattle.model_laws.proofs.SoundParts.{IsHeld, IsFilled, IsFramed, Waits, state_at, held_alike, held_void}
 use Rattle.model_laws.proofs.Mapped.{alike_without, mapped, void_void}
 use Rattle.model_laws.proofs.SoundEdits.{filled_map}
 use Rattle.model_laws.proofs.SoundOrders.{IsNow}
@@ -181,19 +182,8 @@ pub record IsAsBefore (os us : List Object) (n : ℕ) : Type 0 where
 
 -- a capability may be held still where what it names is as before
 pub held_as_before : (os us : List Object) (c : Capability) → ((n : ℕ) → named c ≡ Some n → IsAsBefore os us n) → IsHeld os (Waits os) c → IsHeld us (Waits us) c
-held_as_before os us Void f h = record { well_formed = h.well_formed; names = h.names }
-held_as_before os us (Number n) f h = record { well_formed = h.well_formed; names = h.names }
-held_as_before os us (Page o a) f h = record { well_formed = h.well_formed; names = rw (same_tests (content_at os o) (content_at us o) (f o refl).role).page h.names }
-held_as_before os us (Node o a) f h = record { well_formed = h.well_formed; names = rw (same_tests (content_at os o) (content_at us o) (f o refl).role).node h.names }
-held_as_before os us (Space o k a) f h = record { well_formed = h.well_formed; names = rw (same_tests (content_at os o) (content_at us o) (f o refl).role).node h.names }
-held_as_before os us (Process p) f h = record { well_formed = h.well_formed; names = rw (same_tests (content_at os p) (content_at us p) (f p refl).role).root h.names }
-held_as_before os us (Start p key) f h = record { well_formed = h.well_formed; names = rw (same_tests (content_at os p) (content_at us p) (f p refl).role).root h.names }
-held_as_before os us (Resume p) f h = record {
-  well_formed = h.well_formed;
-  names = (rw (same_tests (content_at os p) (content_at us p) (f p refl).role).root h.names.0, ap is_waiting (f p refl).state ∙ h.names.1);
-}
-held_as_before os us (Bank b) f h = record { well_formed = h.well_formed; names = rw (same_tests (content_at os b) (content_at us b) (f b refl).role).bank h.names }
-held_as_before os us Discrim f h = record { well_formed = h.well_formed; names = h.names }
+held_as_before os us c f =
+    held_alike os us (Waits os) (Waits us) c (λ n e. (f n e).role) (λ p e waits. ap is_waiting (f p e).state ∙ waits)
 
 module _ (os : List Object) (set : List ℕ) where
   kept_as_before : (n : ℕ) → is_member set n ≡ false → IsAsBefore os (rescind set os) n
@@ -209,20 +199,12 @@ module _ (os : List Object) (set : List ℕ) where
   cleared = void_where (names_member set)
 
   held_rescind : (c : Capability) → IsHeld os (Waits os) c → Holds (cleared c)
-  held_rescind c h = go (names_member set c) refl
-    where
-      go : (b : Bool) → names_member set c ≡ b → Holds (if b then Void else c)
-      go true e = held_void (rescind set os) (Waits (rescind set os))
-      go false e =
-          held_as_before os (rescind set os) c
-          (λ n is. kept_as_before n (sym (ap (λ (o : Option ℕ). elim o [ None ↦ false | Some m ↦ is_member set m ]) is) ∙ e)) h
+  held_rescind c h = chosen Holds (names_member set c) Void c (λ _. held_void (rescind set os) (Waits (rescind set os))) (λ e.
+      held_as_before os (rescind set os) c
+      (λ n is. kept_as_before n (sym (ap (λ (o : Option ℕ). elim o [ None ↦ false | Some m ↦ is_member set m ]) is) ∙ e)) h)
 
   space_rescind : (c : Capability) → IsSpace c → IsSpace (cleared c)
-  space_rescind c h = go (names_member set c)
-    where
-      go : (b : Bool) → IsSpace (if b then Void else c)
-      go true = tt
-      go false = h
+  space_rescind c h = one_of IsSpace (names_member set c) Void c tt h
 
   filled_cleared : (c : Content Capability) → IsFilled os (Waits os) c → IsFilled (rescind set os) (Waits (rescind set os)) (map_content cleared c)
   filled_cleared = filled_map os (rescind set os) (Waits os) (Waits (rescind set os)) cleared (void_void (names_member set)) held_rescind space_rescind

@@ -22,7 +22,7 @@ use Rattle.model.specs.Sound.{IsOfKind}
 use Rattle.model_laws.proofs.SoundParts.{IsHeld, IsFilled, IsFramed, Waits, held_to, held_void}
 use Rattle.model_laws.proofs.Mapped.{at_map}
 use Rattle.model_laws.proofs.SoundOrders.{IsNow, IsOutcome, AreArguments, three_words, refused_keeps}
-use Rattle.model_laws.proofs.Cases.{chosen}
+use Rattle.model_laws.proofs.Cases.{chosen, one_of}
 use Rattle.model_laws.proofs.Counts.{count_alike, count_none}
 use Rattle.model_laws.proofs.BankTree.{IsTree, tree_of, member_tail, chain_prime, chain_unfolds, chain_longer, chain_once, chain_itself, chain_nonempty, chain_length, chain_owner_length, owner_bank}
 use Rattle.model_laws.proofs.NumberLists.{AllDiffer, no_member, only_member}
@@ -40,11 +40,7 @@ heir_other : (b parent n : ℕ) → n ≢ b → heir b parent n ≡ n
 heir_other b parent n e = rw (ne_eqb n b e) refl
 
 pub handed_content : (b parent : ℕ) (o : Object) → (handed_on b parent o).content ≡ o.content
-handed_content b parent o = go (not (is_free o.content) && (o.owner == b))
-  where
-    go : (t : Bool) → (if t then record { owner = parent; content = o.content } else o).content ≡ o.content
-    go true = refl
-    go false = refl
+handed_content b parent o = one_of (λ x. x.content ≡ o.content) (not (is_free o.content) && (o.owner == b)) _ o refl refl
 
 handed_owner : (b parent : ℕ) (o : Object) → b ≢ 0 → (is_free o.content ≡ true → o.owner ≡ 0) → (handed_on b parent o).owner ≡ heir b parent o.owner
 handed_owner b parent o on unowned = go (is_free o.content) refl

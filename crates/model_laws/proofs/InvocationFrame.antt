@@ -36,7 +36,8 @@ use Rattle.model.specs.Text.{Fits}
 use Rattle.model_laws.proofs.Cases.{after_gate_by, after_order_by, found_or, invoked_by, one_of, replied_by}
 use Rattle.model_laws.proofs.Usage.{SameFrame, frame_refl, frame_trans, tests_at}
 use Rattle.model_laws.proofs.SoundParts.{IsHeld, Waits, state_at, held_on, nearly_from, nearly_to}
-use Rattle.model_laws.proofs.SoundEdits.{alike_slot, alike_word, alike_root, frame_content, frame_consume}
+use Rattle.model_laws.proofs.SoundEdits.{alike_slot, alike_word, frame_content, frame_consume}
+pub use Rattle.model_laws.proofs.SoundEdits.{root_frame, state_frame}
 use Rattle.model_laws.proofs.SoundOrders.{IsNow}
 use Rattle.model_laws.proofs.SoundGates.{after_state}
 
@@ -54,15 +55,6 @@ slots_frame : (os : List Object) (n i : ℕ) (cs : List Capability) → SameFram
 slots_frame os n i [] = frame_refl os
 slots_frame os n i (c ∷ cs) =
     frame_trans os (with_slot os n i c) (with_slots_from (with_slot os n i c) n (i + 1) cs) (slot_frame os n i c) (slots_frame (with_slot os n i c) n (i + 1) cs)
-
-pub root_frame : (os : List Object) (p : ℕ) (r : Root Capability) → IsTrue (is_process os p) → r.annex ≡ annex_at os p → SameFrame os (with_root os p r)
-unfolding with_root
-root_frame os p r is same = frame_content os p _ (alike_root (owner_at os p) r (content_at os p) is same)
-
--- a process goes into another state: the frame stays
-pub state_frame : (os : List Object) (p : ℕ) (s : State) → IsTrue (is_process os p) → SameFrame os (with_state os p s)
-unfolding with_state
-state_frame os p s is = root_frame os p _ is refl
 
 -- a message is delivered: the frame stays
 pub deliver_frame : (os : List Object) (p : ℕ) (m : Message) → IsTrue (is_process os p) → SameFrame os (deliver os p m)

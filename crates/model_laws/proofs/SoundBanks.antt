@@ -27,7 +27,7 @@ use Rattle.model.specs.Sound.{IsOfKind, HasShape}
 use Rattle.model_laws.proofs.SoundParts.{IsHeld, IsFilled, Waits, held_void}
 use Rattle.model_laws.proofs.SoundOrders.{IsNow, IsOutcome, AreArguments, three_words, refused_keeps, given_keeps}
 use Rattle.model_laws.proofs.Cases.{chosen}
-use Rattle.model_laws.proofs.SoundWorlds.{holds_void, zero_words_fit, zero_words_length, all_slots_length}
+use Rattle.model_laws.proofs.SoundWorlds.{holds_replicate, holds_void, zero_words_fit, zero_words_length, all_slots_length}
 use Rattle.model_laws.proofs.BankTree.{IsTree, tree_of, member_tail, at_new, at_other, length_new, chain_new, new_bank_kept, tree_new}
 use Rattle.model_laws.proofs.BankUsage.{usage_new, usage_new_bank}
 use Rattle.model_laws.proofs.BankRescind.{IsAsBefore, held_as_before, used_where}
@@ -167,14 +167,7 @@ filled_annex : (us : List Object) (W : ℕ → Type 0) → IsFilled us W new_ann
 filled_annex us W = filled_void us W new_annex all_slots_length (λ i. omega arith) (holds_void (λ c. c ≡ Void) refl) refl
 
 filled_root : (us : List Object) (W : ℕ → Type 0) (a : ℕ) → IsFilled us W (new_root a)
-filled_root us W a = filled_void us W (new_root a) (refl, zeros, omega arith) (λ i. omega arith) (λ i. refl) refl
-  where
-    zeros : (i : ℕ) → slice_index (replicate 4 0) i < 2 ^ 64
-    zeros zero = omega arith
-    zeros (suc zero) = omega arith
-    zeros (suc (suc zero)) = omega arith
-    zeros (suc (suc (suc zero))) = omega arith
-    zeros (suc (suc (suc (suc i)))) = omega arith
+filled_root us W a = filled_void us W (new_root a) (refl, λ i. holds_replicate (λ n. n < 2 ^ 64) 4 0 0 (omega arith) (omega arith) i, omega arith) (λ i. omega arith) (λ i. refl) refl
 
 filled_bank : (us : List Object) (W : ℕ → Type 0) (limit : ℕ) → limit < 2 ^ 64 → IsFilled us W (content.Bank limit)
 filled_bank us W limit fits = filled_void us W (content.Bank limit) fits (λ i. omega arith) (λ i. refl) refl

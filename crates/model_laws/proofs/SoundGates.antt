@@ -27,7 +27,7 @@ use Rattle.model_laws.specs.Laws.{InvocationKeepsSound}
 use Rattle.model_laws.proofs.Cases.{after_gate_by, after_order_by, invoked_by, replied_by}
 use Rattle.model_laws.proofs.Usage.{SameFrame, frame_refl, tests_at}
 use Rattle.model_laws.proofs.SoundParts.{IsHeld, IsNearlySound, Waits, state_at, held_on, held_void, nearly_weaken, nearly_from, nearly_to}
-use Rattle.model_laws.proofs.SoundEdits.{IsEdited, IsRootOf, But, at_set, edited_slot, edited_trans, frame_root, nearly_root, nearly_consume, root_same, root_other, state_consume}
+use Rattle.model_laws.proofs.SoundEdits.{IsEdited, IsRootOf, But, at_set, edited_slot, edited_trans, nearly_root, nearly_consume, root_frame, root_same, root_other, state_consume, state_frame}
 use Rattle.model_laws.proofs.SoundWorlds.{holds_replicate}
 use Rattle.model_laws.proofs.SoundObjects.{order_keeps}
 use Rattle.model_laws.proofs.SoundOrders.{IsNow, IsOutcome, root_now, nearly_state, state_other}
@@ -56,12 +56,6 @@ pub record IsAfter (g : Geometry) (os us : List Object) : Type 0 where
   pub now : IsNow g us
   pub waits : (x : ℕ) → Waits os x → Waits us x
 
-frame_state : (g : Geometry) (os : List Object) (p : ℕ) (s : State) → IsNow g os → IsTrue (is_process os p) → SameFrame os (with_state os p s)
-unfolding with_state
-frame_state g os p s h is =
-    let r = root_now g (Waits os) os p h is in
-    frame_root os (Waits os) p _ (record { is_process = is; annex = refl; count = r.count; words = r.words; key = r.key; space = r.space; is_space = r.is_space })
-
 state_same : (os : List Object) (p : ℕ) (s : State) → IsTrue (is_process os p) → state_at (with_state os p s) p ≡ s
 unfolding with_state
 state_same os p s is = ap (λ (r : Root Capability). r.state) (root_same os p _ is)
@@ -71,7 +65,7 @@ after_state g os p s h runs =
     let parts = and_parts (is_process os p) (is_running (state_at os p)) runs in
     let kept = λ (x : ℕ) (w : Waits os x). ap is_waiting (state_other os p x s (other_than_running os p x parts.1 w)) ∙ w in
     record {
-      frame = frame_state g os p s h parts.0;
+      frame = state_frame os p s parts.0;
       now = nearly_weaken g (Waits os) (Waits (with_state os p s)) (with_state os p s) kept (nearly_state g (Waits os) os p s h parts.0);
       waits = kept;
     }
@@ -122,7 +116,7 @@ deliver_keeps g W os p m h is fits =
     let new : Root Capability = record { state = Running; words = m.words; key = m.key; annex = old.annex; space = old.space } in
     let root : IsRootOf os W p new = record { is_process = is; annex = refl; count = fits.count; words = fits.words; key = fits.key; space = r.space; is_space = r.is_space } in
     let us = with_root os p new in
-    let frame = frame_root os W p new root in
+    let frame = root_frame os p new is refl in
     let e = slots_from g W us old.annex 28 m.capabilities (nearly_root g W os p new h root) (omega arith)
     (λ j. held_on os us W W (get_or m.capabilities j Void) frame (λ p w. w) (fits.held j)) in
     record {

@@ -27,7 +27,7 @@ use Rattle.model.specs.Sound.{HasShape, IsSpace}
 use Rattle.model.specs.declared.order.Arguments.{Arguments}
 use Rattle.model.specs.OrderOutcome.{OrderOutcome, refused, told, given, wrote}
 use Rattle.model.specs.Order.{reduces, fetched, stored, is_space, with_root_word, with_space, on_page, on_node, on_process}
-use Rattle.model_laws.proofs.Cases.{chosen}
+use Rattle.model_laws.proofs.Cases.{chosen, one_of}
 use Rattle.model_laws.proofs.SoundParts.{IsHeld, IsNearlySound, Waits, state_at, held_void, nearly_weaken}
 use Rattle.model_laws.proofs.SoundEdits.{IsEdited, IsRootOf, But, at_set, edited_slot, edited_word, edited_root, nearly_root, nearly_consume, root_other, state_consume}
 
@@ -92,7 +92,6 @@ weak_is_access : IsAccess weak
 weak_is_access = inr (inr refl)
 
 held_diminished : (os : List Object) (W : ℕ → Type 0) (c : Capability) → IsHeld os W c → IsHeld os W (diminished c)
-held_diminished os W Void h = h
 held_diminished os W (Number n) h = h
 held_diminished os W (Page o a) h = record { well_formed = weak_is_access; names = h.names }
 held_diminished os W (Node o a) h = record { well_formed = weak_is_access; names = h.names }
@@ -100,11 +99,7 @@ held_diminished os W (Space o k a) h = record { well_formed = (h.well_formed.0, 
 held_diminished os W c h = held_void os W
 
 held_fetched : (os : List Object) (W : ℕ → Type 0) (a : Access) (c : Capability) → IsHeld os W c → IsHeld os W (fetched a c)
-held_fetched os W a c h = go (a.0 == 3)
-  where
-    go : (b : Bool) → IsHeld os W (if b then diminished c else c)
-    go true = held_diminished os W c h
-    go false = h
+held_fetched os W a c h = one_of (IsHeld os W) (a.0 == 3) (diminished c) c (held_diminished os W c h) h
 
 -- pages
 
