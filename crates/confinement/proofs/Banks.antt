@@ -38,7 +38,7 @@ use Rattle.confinement.proofs.Kept.{kept_refl, stays_refl, stays_rescind, stays_
 abbrev pub OutcomeStays : (ℕ → Bool) → List Object → OrderOutcome → Type 0
 OutcomeStays inside os o = StaysWithin inside os o.objects × StaysInside inside o.capability
 
--- the content of a new object, which has authority over members alone
+-- a content that has authority over members alone
 record IsFresh (inside : ℕ → Bool) (c : Content Capability) : Type 0 where
   annex : is_root c ≡ true → IsTrue (inside (root_in c).annex)
   slots : (i : ℕ) → StaysInside inside (slice_index_or (slots_in c) i Void)
@@ -73,10 +73,10 @@ module _ (g : Geometry) (inside : ℕ → Bool) (os : List Object) (h : IsNow g 
 
   -- new objects
 
-  -- each object is as it was, or new where none was
-  grown_stays : (us : List Object) → ((n : ℕ) → (object_at us n ≡ object_at os n) ⊎ (IsTrue (is_free (content_at os n)) × IsFresh inside (content_at us n)))
+  -- each object is as it was, or a member whose content has authority over members alone
+  changed_stays : (us : List Object) → ((n : ℕ) → (object_at us n ≡ object_at os n) ⊎ (IsTrue (inside n) × IsFresh inside (content_at us n)))
       → StaysWithin inside os us
-  grown_stays us each = record {
+  changed_stays us each = record {
     encloses = record {
       closed = record {
         annexes = λ p is process. elim (each p) [
@@ -89,7 +89,7 @@ module _ (g : Geometry) (inside : ℕ → Bool) (os : List Object) (h : IsNow g 
           | inl same ↦
               owner_inside n (ap (λ (o : Object). is_free o.content) (sym same) ∙ used)
               (ap inside (ap (λ (o : Object). o.owner) (sym same) ∙ owner) ∙ is)
-          | inr new ↦ k.free n new.0
+          | inr new ↦ new.0
         ];
         slots = λ n i is. elim (each n) [
           | inl same ↦ subst (λ (o : Object). StaysInside inside (slice_index_or (slots_in o.content) i Void)) (sym same) (k.closed.slots n i is)
@@ -100,14 +100,11 @@ module _ (g : Geometry) (inside : ℕ → Bool) (os : List Object) (h : IsNow g 
           | inr new ↦ new.1.space
         ];
       };
-      free = λ n gone. elim (each n) [
-        | inl same ↦ k.free n (ap (λ (o : Object). is_free o.content) (sym same) ∙ gone)
-        | inr new ↦ k.free n new.0
-      ];
+      free = λ n gone. elim (each n) [ inl same ↦ k.free n (ap (λ (o : Object). is_free o.content) (sym same) ∙ gone) | inr new ↦ new.0 ];
     };
     kept = λ n out. elim (each n) [
       | inl same ↦ subst (λ o. IsKept inside (object_at os n) o) (sym same) (kept_refl inside (object_at os n))
-      | inr new ↦ absurd (false≢true (sym out ∙ k.free n new.0))
+      | inr new ↦ absurd (false≢true (sym out ∙ new.0))
     ];
   }
 
@@ -123,8 +120,8 @@ module _ (g : Geometry) (inside : ℕ → Bool) (os : List Object) (h : IsNow g 
 
   -- one new object
   new_stays : (n b : ℕ) (c : Content Capability) → IsUnused n → IsFresh inside c → StaysWithin inside os (with_new os n b c)
-  new_stays n b c unused fresh = grown_stays (with_new os n b c) (λ x. elim (cases_eq x n) [
-    | inl e ↦ rw e (inr (unused.1, subst (λ (o : Object). IsFresh inside o.content) (sym (at_new os n b c unused.0)) fresh))
+  new_stays n b c unused fresh = changed_stays (with_new os n b c) (λ x. elim (cases_eq x n) [
+    | inl e ↦ rw e (inr (k.free n unused.1, subst (λ (o : Object). IsFresh inside o.content) (sym (at_new os n b c unused.0)) fresh))
     | inr differ ↦ inl (at_other os n b c x differ)
   ])
 
@@ -147,10 +144,10 @@ module _ (g : Geometry) (inside : ℕ → Bool) (os : List Object) (h : IsNow g 
       let annex_there : object_at whole a ≡ record { owner = b; content = new_annex } =
       at_new rooted a b new_annex (omega (arith, length_new os p b (new_root a), annex.0))
       in
-      grown_stays whole (λ x. elim (cases_eq x a) [
-        | inl e ↦ rw e (inr (annex.1, subst (λ (o : Object). IsFresh inside o.content) (sym annex_there) (fresh_annex inside)))
+      changed_stays whole (λ x. elim (cases_eq x a) [
+        | inl e ↦ rw e (inr (k.free a annex.1, subst (λ (o : Object). IsFresh inside o.content) (sym annex_there) (fresh_annex inside)))
         | inr no_annex ↦ elim (cases_eq x p) [
-          | inl e ↦ rw e (inr (root.1, subst (λ (o : Object). IsFresh inside o.content) (sym root_there) (fresh_root inside a (k.free a annex.1))))
+          | inl e ↦ rw e (inr (k.free p root.1, subst (λ (o : Object). IsFresh inside o.content) (sym root_there) (fresh_root inside a (k.free a annex.1))))
           | inr no_root ↦ inl (at_other rooted a b new_annex x no_annex ∙ at_other os p b (new_root a) x no_root)
         ]
       ])
@@ -222,29 +219,17 @@ module _ (g : Geometry) (inside : ℕ → Bool) (os : List Object) (h : IsNow g 
         go false e stands = inl stands
 
     inherited_stays : StaysWithin inside os (inherited os b)
-    inherited_stays =
-        let same = inherited_content os tree b kind on in
-        record {
-          encloses = record {
-            closed = record {
-              annexes = λ p member process.
-                  subst (λ c. IsTrue (inside (root_in c).annex)) (sym (same p)) (k.closed.annexes p member (ap is_root (sym (same p)) ∙ process));
-              owned = λ c n member banks used owner. elim (handed n) [
-                | inl kept ↦
-                    owner_inside n (ap (λ (o : Object). is_free o.content) (sym kept) ∙ used)
-                    (ap inside (ap (λ (o : Object). o.owner) (sym kept) ∙ owner) ∙ member)
-                | inr own ↦ own
-              ];
-              slots = λ n i member. subst (λ c. StaysInside inside (slice_index_or (slots_in c) i Void)) (sym (same n)) (k.closed.slots n i member);
-              spaces = λ p member. subst (λ c. StaysInside inside (root_in c).space) (sym (same p)) (k.closed.spaces p member);
-            };
-            free = λ n gone. k.free n (ap is_free (sym (same n)) ∙ gone);
-          };
-          kept = λ n out. elim (handed n) [
-            | inl kept ↦ subst (λ o. IsKept inside (object_at os n) o) (sym kept) (kept_refl inside (object_at os n))
-            | inr own ↦ absurd (false≢true (sym out ∙ own))
-          ];
-        }
+    inherited_stays = changed_stays (inherited os b) (λ n. elim (handed n) [
+      | inl kept ↦ inl kept
+      | inr member ↦ inr (
+        member,
+        subst (IsFresh inside) (sym (inherited_content os tree b kind on n)) (record {
+          annex = k.closed.annexes n member;
+          slots = λ i. k.closed.slots n i member;
+          space = k.closed.spaces n member;
+        }),
+      )
+    ])
 
   -- what a bank is asked
 

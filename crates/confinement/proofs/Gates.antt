@@ -76,8 +76,7 @@ gate_sent_stays inside os i j by = go i.operation
   where
     go : (o : Operation) → StaysInside inside (slice_index_or (elim o [ Call ↦ slice_set (sent_by os i) 3 (Resume i.process) | _ ↦ sent_by os i ]) j Void)
     go Call = at_set (λ m c. StaysInside inside c) (sent_by os i) 3 j (Resume i.process) Void (inr by.member) (sent_stays inside os i j by)
-    go Return = sent_stays inside os i j by
-    go Send = sent_stays inside os i j by
+    go o = sent_stays inside os i j by
 
 -- the invoker's state
 

@@ -60,8 +60,6 @@ reduced_stays inside o a w (inl weak) e = inl (weak_union a.0 w weak e)
 reduced_stays inside o a w (inr is) e = inr is
 
 weak_diminished : (c : Capability) → IsWeak (diminished c)
-weak_diminished Void = tt
-weak_diminished (Number n) = tt
 weak_diminished (Page o a) = refl
 weak_diminished (Node o a) = refl
 weak_diminished (Space o k a) = refl
@@ -69,11 +67,8 @@ weak_diminished c = tt
 
 fetched_stays : (inside : ℕ → Bool) (o : ℕ) (a : Access) (c : Capability) → (a.0 ≡ 3) ⊎ IsTrue (inside o) → (IsTrue (inside o) → StaysInside inside c)
     → StaysInside inside (fetched a c)
-fetched_stays inside o a c named held = go (a.0 == 3) refl
-  where
-    go : (b : Bool) → (a.0 == 3) ≡ b → StaysInside inside (if b then diminished c else c)
-    go true e = inl (weak_diminished c)
-    go false e = elim named [ inl weak ↦ absurd (eqb-false a.0 3 e weak) | inr is ↦ held is ]
+fetched_stays inside o a c named held = chosen (StaysInside inside) (a.0 == 3) (diminished c) c (λ _. inl (weak_diminished c))
+    (λ e. elim named [ inl weak ↦ absurd (eqb-false a.0 3 e weak) | inr is ↦ held is ])
 
 -- orders
 

@@ -121,13 +121,11 @@ map_alike f k (c ∷ cs) same = rw (same 0, map_alike f k cs (λ i. same (suc i)
 content_alike : (f k : Capability → Capability) (c : Content Capability)
     → ((i : ℕ) → f (slice_index_or (slots_in c) i Void) ≡ k (slice_index_or (slots_in c) i Void)) → f (root_in c).space ≡ k (root_in c).space
     → map_content f c ≡ map_content k c
-content_alike f k content.Free slots space = refl
-content_alike f k (content.Page words) slots space = refl
 content_alike f k (content.Node cs) slots space = ap content.Node (map_alike f k cs slots)
 content_alike f k (content.Root r) slots space =
     ap (λ s. content.Root (record { state = r.state; words = r.words; key = r.key; annex = r.annex; space = s })) space
 content_alike f k (content.Annex cs) slots space = ap content.Annex (map_alike f k cs slots)
-content_alike f k (content.Bank limit) slots space = refl
+content_alike f k c slots space = refl
 
 -- in a sound world no capability that goes names what was free
 kept_inside : (g : Geometry) (os : List Object) (age : ℕ) (inside : ℕ → Bool) (n : ℕ) (new : Object) → IsSound g (record { objects = os; age = age })
