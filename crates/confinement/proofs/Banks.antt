@@ -16,7 +16,6 @@ use Rattle.model.specs.declared.order.ResultCode.{ResultCode}
 use Rattle.model.specs.declared.order.ResultCode.TheVariants as code
 use Rattle.model.specs.Bank.{chain, is_under}
 use Rattle.model.specs.Banking.{allocated, are_free, bank_allocated, free_nodes, free_pages, freed, freed_by, has_room, inherited, new_annex, new_node, new_page, new_root, on_bank, process_allocated, under, with_new}
-use Rattle.model.specs.Capability.{full}
 use Rattle.model.specs.Closed.{StaysInside}
 use Rattle.model.specs.Object.{is_bank, is_free, is_root, root_in, slots_in}
 use Rattle.model.specs.OrderOutcome.{OrderOutcome, refused}

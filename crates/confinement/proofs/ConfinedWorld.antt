@@ -1,7 +1,7 @@
 -- The world with a confined process.
 use Rattle.std.proofs.Common.{◌≡◌, ℕ, zero, suc, false, List, [], ◌∷◌, ◌++◌, refl, sym, ◌∙◌, inl, inr, ⊎_elim, arith}
 use Rattle.std.proofs.lemmas.List.Elements.{All-from_recursion}
-use Rattle.std.specs.Prelude.{All, IsTrue, replicate, slice_index_or, slice_set}
+use Rattle.std.specs.Prelude.{All, IsTrue, replicate, slice_set}
 use Rattle.model.specs.declared.access.Access.{Access}
 use Rattle.model.specs.declared.capability.Capability.TheVariants.{Void, Node, Bank}
 use Rattle.model.specs.declared.object.Content.TheVariants as content

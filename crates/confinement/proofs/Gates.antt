@@ -1,20 +1,20 @@
 -- Invocations by a process of a set that encloses its members.
-use Rattle.std.proofs.Common.{◌≡◌, inl, inr, ℕ, zero, suc, Bool, true, false, None, Some, List, [], ◌∷◌, map, refl, subst, ◌∙◌}
-use Rattle.std.specs.Prelude.{if◌then◌else◌, IsTrue, slice_index, slice_index_or, slice_set}
+use Rattle.std.proofs.Common.{◌≡◌, inl, inr, ℕ, zero, suc, Bool, Some, List, [], ◌∷◌, map, ◌∙◌}
+use Rattle.std.specs.Prelude.{IsTrue, slice_index, slice_index_or, slice_set}
 use Rattle.std.proofs.lemmas.Bool.{and_parts}
 use Rattle.model.specs.declared.capability.Capability.{Capability}
-use Rattle.model.specs.declared.capability.Capability.TheVariants.{Void, Start, Resume}
+use Rattle.model.specs.declared.capability.Capability.TheVariants.{Void, Resume}
 use Rattle.model.specs.declared.command.Invocation.{Invocation}
 use Rattle.model.specs.declared.command.Message.{Message}
 use Rattle.model.specs.declared.command.Operation.{Operation}
-use Rattle.model.specs.declared.command.Operation.TheVariants.{Call, Return, Send}
+use Rattle.model.specs.declared.command.Operation.TheVariants.{Call}
 use Rattle.model.specs.declared.geometry.Geometry.{Geometry}
 use Rattle.model.specs.declared.object.Object.{Object}
 use Rattle.model.specs.declared.object.Root.{Root}
 use Rattle.model.specs.declared.object.State.{State}
-use Rattle.model.specs.declared.object.State.TheVariants.{Available, Running, Waiting}
+use Rattle.model.specs.declared.object.State.TheVariants.{Running}
 use Rattle.model.specs.Closed.{StaysInside}
-use Rattle.model.specs.Invoke.{Effect, after_gate, after_order, can_start, deliver, invoke, on_kernel_object, ordered, replied, reply_of, sent_by, sent_to_gate, through_gate}
+use Rattle.model.specs.Invoke.{Effect, after_gate, after_order, deliver, invoke, on_kernel_object, ordered, replied, reply_of, sent_by, sent_to_gate, through_gate}
 use Rattle.model.specs.Object.{is_running}
 use Rattle.model.specs.OrderOutcome.{OrderOutcome}
 use Rattle.model.specs.Revoke.{consume}

@@ -1,6 +1,6 @@
 -- Orders on what stays inside a set that encloses its members.
-use Rattle.std.proofs.Common.{◌≡◌, ◌⊎◌, inl, inr, ℕ, ◌==◌, Bool, true, false, not, ◌||◌, Option, None, Some, List, refl, arith}
-use Rattle.std.specs.Prelude.{if◌then◌else◌, IsTrue, nat_lt, bit_or}
+use Rattle.std.proofs.Common.{◌≡◌, ◌⊎◌, inl, inr, ℕ, ◌==◌, Bool, true, false, not, ◌||◌, List, refl, arith}
+use Rattle.std.specs.Prelude.{IsTrue, nat_lt, bit_or}
 use Rattle.std.proofs.lemmas.Bool.{eqb-true, eqb-false, or_cases, not-false}
 use Rattle.model.specs.declared.access.Access.{Access}
 use Rattle.model.specs.declared.capability.Capability.{Capability}
@@ -20,7 +20,6 @@ use Rattle.model.specs.Banking.{on_bank}
 use Rattle.model.specs.Capability.{IsWeak, diminished, union}
 use Rattle.model.specs.Closed.{StaysInside}
 use Rattle.model.specs.Order.{bank_order, fetched, is_space, node_order, on_node, on_page, on_process, order, page_order, process_order, reduces, stored, with_root_word, with_space}
-use Rattle.model.specs.OrderOutcome.{OrderOutcome}
 use Rattle.model.specs.Revoke.{consume}
 use Rattle.model.specs.Sound.{NamesItsKind}
 use Rattle.model.specs.World.{annex_at, is_process, root_at, slot_at, with_state}

@@ -29,7 +29,7 @@ use Rattle.model.specs.Object.{is_bank, is_free, is_node, is_page, is_root, is_w
 use Rattle.model.specs.Revoke.{void_where}
 use Rattle.model.specs.Run.{IsRun, IsTurn, Replies, Turn}
 use Rattle.model.specs.Sound.{IsSound, NamesItsKind}
-use Rattle.model.specs.Step.{Answers, Outcome, Step, carried_out, outcome, reached, refusal_of, opens, unless, without_memory, writable, writing}
+use Rattle.model.specs.Step.{Answers, Outcome, Step, carried_out, outcome, reached, refusal_of, opens, without_memory, writable, writing}
 use Rattle.model.specs.Text.{Fits, Says}
 use Rattle.model.specs.Walk.{below, path, restricted, walk, walk_along}
 use Rattle.model.specs.World.{content_at, is_running_process, object_at, owner_at, root_at, slot_at, with_word, word_at}

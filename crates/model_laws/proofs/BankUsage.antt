@@ -1,7 +1,7 @@
 -- Usage after a new object, and what a bank is asked where the frame is the same.
-use Rattle.std.proofs.Common.{◌≡◌, ◌≢◌, inl, inr, ℕ, suc, ◌+◌, ◌==◌, ◌<◌, ◌≤◌, Bool, true, false, not, ◌&&◌, ◌||◌, add-zero, zero-add, cond, List, [], ◌∷◌, length, map, get_or, refl, sym, ap, subst, arith, ◌∙◌}
+use Rattle.std.proofs.Common.{◌≡◌, ◌≢◌, inl, inr, ℕ, ◌+◌, ◌==◌, ◌<◌, Bool, true, false, not, ◌&&◌, ◌||◌, add-zero, zero-add, List, [], ◌∷◌, length, map, refl, sym, ap, subst, arith, ◌∙◌}
 use Rattle.std.specs.Prelude.{IsTrue, if◌then◌else◌, nat_eq, nat_le, nat_lt}
-use Rattle.std.specs.List.{fold, enumerate_from, filter, list_any, list_all, range_with_len}
+use Rattle.std.specs.List.{filter, list_any, list_all, range_with_len}
 use Rattle.std.proofs.lemmas.Bool.{cases_eq, eq-eqb, ne_eqb, and_right, false_from_ne_true}
 use Rattle.model.specs.declared.capability.Capability.{Capability}
 use Rattle.model.specs.declared.capability.Capability.TheVariants.{Void, Page, Node, Process, Bank}
@@ -15,7 +15,7 @@ use Rattle.model.specs.declared.order.BankOrder.TheVariants as bank
 use Rattle.model.specs.declared.order.ResultCode.{ResultCode}
 use Rattle.model.specs.declared.order.ResultCode.TheVariants as code
 use Rattle.model.specs.Capability.{full}
-use Rattle.model.specs.Object.{free, is_bank, is_free, limit_in}
+use Rattle.model.specs.Object.{free, is_bank, is_free}
 use Rattle.model.specs.World.{object_at, content_at, owner_at}
 use Rattle.model.specs.Bank.{chain, is_under, usage}
 use Rattle.model.specs.OrderOutcome.{OrderOutcome, refused, made}

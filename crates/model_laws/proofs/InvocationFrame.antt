@@ -1,20 +1,18 @@
 -- What invocations leave as it is: owners, roles, annexes, limits, and with them chains and usages.
-use Rattle.std.proofs.Common.{◌≡◌, ℕ, ◌+◌, ◌==◌, Bool, true, false, not, ◌||◌, Option, None, Some, List, [], ◌∷◌, refl, sym, ap, subst, ◌∙◌}
-use Rattle.std.specs.Prelude.{if◌then◌else◌, IsTrue, nat_lt, slice_index, slice_index_or}
+use Rattle.std.proofs.Common.{◌≡◌, ℕ, ◌+◌, ◌==◌, not, ◌||◌, Option, None, Some, List, [], ◌∷◌, refl, sym, ap, subst, ◌∙◌}
+use Rattle.std.specs.Prelude.{IsTrue, nat_lt, slice_index, slice_index_or}
 use Rattle.std.proofs.lemmas.Bool.{and_parts}
 use Rattle.model.specs.declared.access.Access.{Access}
 use Rattle.model.specs.declared.capability.Capability.{Capability}
-use Rattle.model.specs.declared.capability.Capability.TheVariants.{Void, Number, Page, Node, Space, Process, Start, Resume, Bank, Discrim}
+use Rattle.model.specs.declared.capability.Capability.TheVariants.{Void, Number, Page, Node, Space, Process, Bank, Discrim}
 use Rattle.model.specs.declared.command.Command.TheVariants as command
 use Rattle.model.specs.declared.command.Invocation.{Invocation}
 use Rattle.model.specs.declared.command.Message.{Message}
-use Rattle.model.specs.declared.command.Operation.{Operation}
-use Rattle.model.specs.declared.command.Operation.TheVariants.{Call, Return, Send}
 use Rattle.model.specs.declared.geometry.Geometry.{Geometry}
 use Rattle.model.specs.declared.object.Object.{Object}
 use Rattle.model.specs.declared.object.Root.{Root}
 use Rattle.model.specs.declared.object.State.{State}
-use Rattle.model.specs.declared.object.State.TheVariants.{Available, Running, Waiting}
+use Rattle.model.specs.declared.object.State.TheVariants.{Available, Running}
 use Rattle.model.specs.declared.order.Arguments.{Arguments}
 use Rattle.model.specs.declared.order.BankOrder.{BankOrder}
 use Rattle.model.specs.declared.order.NodeOrder.{NodeOrder}
@@ -30,7 +28,7 @@ use Rattle.model.specs.Revoke.{consume}
 use Rattle.model.specs.Banking.{on_bank}
 use Rattle.model.specs.OrderOutcome.{OrderOutcome, refused}
 use Rattle.model.specs.Order.{IsNoBankOrder, bank_order, page_order, node_order, process_order, reduces, is_space, stored, on_page, on_node, on_process, order}
-use Rattle.model.specs.Invoke.{Effect, deliver, sent_by, sent_to_gate, after_gate, after_order, through_gate, reply_of, replied, ordered, on_kernel_object, can_start, invoke}
+use Rattle.model.specs.Invoke.{Effect, deliver, sent_by, sent_to_gate, after_gate, after_order, through_gate, reply_of, replied, ordered, on_kernel_object, invoke}
 use Rattle.model.specs.Sound.{IsSound}
 use Rattle.model.specs.Text.{Fits}
 use Rattle.model_laws.proofs.Cases.{after_gate_by, after_order_by, found_or, invoked_by, one_of, replied_by}
