@@ -15,8 +15,9 @@ pub fn outward_is_not_closed()
     ensures { OutwardIsNotClosed }
 {}
 
-/// What such a process holds weakly it reads, and can't write. What its bank makes it writes, and gives up. A weak fetch
-/// that gave what is read-only, but not weak, would let it change a page outside.
+/// Such a process reads what it holds weakly, and can't write it. It writes what its bank makes, and
+/// gives it up. A weak fetch that gave what is read-only, but not weak, would let it change a page
+/// outside.
 #[tactic(auto, using(crate::proofs::ConfinedWorld::rows_right))]
 pub fn confined_is_answered()
     ensures { All IsRow rows }

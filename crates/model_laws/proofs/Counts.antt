@@ -13,8 +13,11 @@ pub count_both : {X : Type 0} (p q r : ℕ × X → Bool) (k : ℕ) (xs ys : Lis
 count_both p q r k [] [] d e each = omega arith
 count_both p q r k (x ∷ xs) (y ∷ ys) d e each =
     let rest = count_both p q r (k + 1) xs ys d (omega arith) (λ i j is. each (suc i) j (omega arith)) in
-    rw (sum_by-cons (λ z. cond (p z) 1 0) (k, y) (enumerate_from (k + 1) ys), sum_by-cons (λ z. cond (q z) 1 0) (k, x) (enumerate_from (k + 1) xs), sum_by-cons (λ z. cond (r z) 1 0) (k, x) (enumerate_from (k + 1) xs))
-    (omega (arith, rest, each 0 k (omega arith)))
+    rw (
+      sum_by-cons (λ z. cond (p z) 1 0) (k, y) (enumerate_from (k + 1) ys),
+      sum_by-cons (λ z. cond (q z) 1 0) (k, x) (enumerate_from (k + 1) xs),
+      sum_by-cons (λ z. cond (r z) 1 0) (k, x) (enumerate_from (k + 1) xs),
+    ) (omega (arith, rest, each 0 k (omega arith)))
 count_both p q r k xs ys d e each = absurd (omega arith)
 
 -- a test that fails at each number
@@ -49,7 +52,8 @@ one_within {X} m k (x ∷ xs) from below =
     ])
 
 -- one number, where something holds
-pub count_where : {X : Type 0} (m : ℕ) (b : Bool) (xs : List X) (d : X) → m < length xs → count_by (λ p. (p.0 == m) && b) (enumerate_from 0 xs) ≡ (if b then 1 else 0)
+pub count_where : {X : Type 0} (m : ℕ) (b : Bool) (xs : List X) (d : X) → m < length xs
+    → count_by (λ p. (p.0 == m) && b) (enumerate_from 0 xs) ≡ (if b then 1 else 0)
 count_where {X} m true xs d below =
     (λ k. count_by (λ (p : ℕ × X). and-true (p.0 == m) k) (enumerate_from 0 xs)) ∙ one_within m 0 xs (omega arith) (omega (arith, below))
 count_where {X} m false xs d below = count_none (λ (p : ℕ × X). (p.0 == m) && false) xs d (λ i. and-false (i == m))

@@ -74,4 +74,5 @@ rescinds_all set os = (frees, λ n. stays n, λ n i. clears_slot n i, λ p. clea
     clears_space : (p : ℕ) → names_member set (root_in (object_at (rescind set os) p).content).space ≡ false
     clears_space p =
         subst (λ o. names_member set (root_in o.content).space ≡ false) (sym (at_rescind set os p))
-        (one_of (λ o. names_member set (root_in o.content).space ≡ false) (is_member set p) free _ refl (gone_from_space (names_member set) refl (object_at os p)))
+        (one_of (λ o. names_member set (root_in o.content).space ≡ false) (is_member set p) free _ refl
+        (gone_from_space (names_member set) refl (object_at os p)))

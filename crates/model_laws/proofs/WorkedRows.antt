@@ -158,3 +158,10 @@ prints_refusals = refl
 pub revokes_only : RevokesOnly
 unfolding machine
 revokes_only = (refl, refl)
+
+-- what each function of `worked` is proved by
+pub ruleset steps = (answers_by_steps, fails_between, opens_again, wants_memory)
+
+pub ruleset revoking = (rescinds_process, revokes_only, chains_banks)
+
+pub ruleset lines = (says_commands, says_nothing, says_bad, cuts_lines, runs_script, prints_refusals)

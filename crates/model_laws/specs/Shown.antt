@@ -17,7 +17,8 @@ i0_registers = "register 1 process 1\nregister 2 bank 0\nregister 3 start 3 7\nr
 
 abbrev pub s0_with : String → String
 s0_with weak =
-    "register 1 process 1\nregister 3 start 1 7\nregister 8 discrim\nregister 10 node 5\n" ++ weak ++ "register 12 node 6\nregister 13 page 16\n"
+    "register 1 process 1\nregister 3 start 1 7\nregister 8 discrim\nregister 10 node 5\n"
+    ++ weak ++ "register 12 node 6\nregister 13 page 16\n"
 
 abbrev pub s0_registers : String
 s0_registers = s0_with ""

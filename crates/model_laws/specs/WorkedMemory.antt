@@ -30,7 +30,8 @@ finds_pages = row (at_world s0) (
     ("load 1 512", "memory fault 2") ∷
     ("call 1 1 8 0 0 0 0 0 0 0", "done") ∷ (
       "show 1",
-      "process 1 owner 0 annex 2 running key 0 words 0 0 0 0 space page 16\n" ++ s0_registers ++ "register 28 page 16\nend",
+      "process 1 owner 0 annex 2 running key 0 words 0 0 0 0 space page 16\n"
+          ++ s0_registers ++ "register 28 page 16\nend",
     ) ∷
     [])
 

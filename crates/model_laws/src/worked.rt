@@ -39,10 +39,10 @@ pub fn refusals_are_answered()
     ensures { All IsRow refusals }
 {}
 
-/// The answers are steps of the machine: what a failing device leaves, what a machine that is down takes, and where want
-/// of memory may stand.
-#[tactic(auto, using(crate::proofs::WorkedRows::answers_by_steps, crate::proofs::WorkedRows::fails_between, crate::proofs::WorkedRows::opens_again, crate::proofs::WorkedRows::wants_memory))]
-pub fn steps()
+/// The answers in the rows are steps of the machine. If the device fails, one of two saved parts is
+/// possible. A machine that is down opens at a saved part. Memory may run out in place of some answers.
+#[tactic(auto, using(crate::proofs::WorkedRows::steps))]
+pub fn steps_are_taken()
     ensures answers { AnswersBySteps }
     ensures fails { FailsBetween }
     ensures opens { OpensAgain }
@@ -50,16 +50,16 @@ pub fn steps()
 {}
 
 /// What stays after a consume or a rescind, and the chain of a bank.
-#[tactic(auto, using(crate::proofs::WorkedRows::rescinds_process, crate::proofs::WorkedRows::revokes_only, crate::proofs::WorkedRows::chains_banks))]
-pub fn revoking()
+#[tactic(auto, using(crate::proofs::WorkedRows::revoking))]
+pub fn objects_are_revoked()
     ensures rescinds { RescindsProcess }
     ensures only { RevokesOnly }
     ensures chains { ChainsBanks }
 {}
 
 /// What lines say, how a text is cut into lines, and what a run and each refusal write.
-#[tactic(auto, using(crate::proofs::WorkedRows::says_commands, crate::proofs::WorkedRows::says_nothing, crate::proofs::WorkedRows::says_bad, crate::proofs::WorkedRows::cuts_lines, crate::proofs::WorkedRows::runs_script, crate::proofs::WorkedRows::prints_refusals))]
-pub fn texts()
+#[tactic(auto, using(crate::proofs::WorkedRows::lines))]
+pub fn lines_are_read()
     ensures commands { SaysCommands }
     ensures nothing { SaysNothing }
     ensures bad { SaysBad }
