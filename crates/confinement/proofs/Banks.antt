@@ -4,7 +4,7 @@ use Rattle.std.specs.Prelude.{IsTrue, slice_index_or}
 use Rattle.std.specs.List.{range_with_len}
 use Rattle.std.proofs.lemmas.Bool.{false≢true, cases_eq, and_parts, or_cases, or_right, not-true, eqb-true, eqb-false}
 use Rattle.model.specs.declared.capability.Capability.{Capability}
-use Rattle.model.specs.declared.capability.Capability.TheVariants.{Void, Page, Node, Process}
+use Rattle.model.specs.declared.capability.Capability.TheVariants.{Void, Page, Node, Process, Bank}
 use Rattle.model.specs.declared.geometry.Geometry.{Geometry}
 use Rattle.model.specs.declared.object.Content.{Content}
 use Rattle.model.specs.declared.object.Content.TheVariants as content
@@ -16,13 +16,13 @@ use Rattle.model.specs.declared.order.ResultCode.{ResultCode}
 use Rattle.model.specs.declared.order.ResultCode.TheVariants as code
 use Rattle.model.specs.Bank.{chain, is_under}
 use Rattle.model.specs.Banking.{allocated, are_free, bank_allocated, free_nodes, free_pages, freed, freed_by, has_room, inherited, new_annex, new_node, new_page, new_root, on_bank, process_allocated, under, with_new}
-use Rattle.model.specs.Capability.{full}
 use Rattle.model.specs.Closed.{StaysInside}
 use Rattle.model.specs.Object.{is_bank, is_free, is_root, root_in, slots_in}
 use Rattle.model.specs.OrderOutcome.{OrderOutcome, refused}
 use Rattle.model.specs.Revoke.{is_member, rescind}
 use Rattle.model.specs.Sound.{NamesItsKind}
 use Rattle.model.specs.World.{annex_at, content_at, object_at, owner_at}
+use Rattle.model_laws.proofs.Cases.{chosen}
 use Rattle.model_laws.proofs.BankFreed.{tree_induction, under_found}
 use Rattle.model_laws.proofs.BankRescind.{used_where}
 use Rattle.model_laws.proofs.BankReturn.{inherited_content, inherited_object}
@@ -33,11 +33,11 @@ use Rattle.model_laws.proofs.SoundWorlds.{holds_void}
 use Rattle.confinement.specs.Confinement.{Encloses, IsKept, StaysWithin}
 use Rattle.confinement.proofs.Kept.{kept_refl, stays_refl, stays_rescind, stays_trans}
 
--- an outcome that stays in a set
-abbrev OutcomeStays : (ℕ → Bool) → List Object → OrderOutcome → Type 0
+-- an outcome whose objects, and the capability that it gives, stay in a set
+abbrev pub OutcomeStays : (ℕ → Bool) → List Object → OrderOutcome → Type 0
 OutcomeStays inside os o = StaysWithin inside os o.objects × StaysInside inside o.capability
 
--- the content of a new object, which has authority over members alone
+-- a content that has authority over members alone
 record IsFresh (inside : ℕ → Bool) (c : Content Capability) : Type 0 where
   annex : is_root c ≡ true → IsTrue (inside (root_in c).annex)
   slots : (i : ℕ) → StaysInside inside (slice_index_or (slots_in c) i Void)
@@ -66,21 +66,16 @@ module _ (g : Geometry) (inside : ℕ → Bool) (os : List Object) (h : IsNow g 
   refused_stays : (why : ResultCode) → OutcomeStays inside os (refused os why)
   refused_stays why = (stays_refl inside os k, inl tt)
 
-  either_stays : (t : Bool) (x y : OrderOutcome) → (t ≡ true → OutcomeStays inside os x) → (t ≡ false → OutcomeStays inside os y)
-      → OutcomeStays inside os (if t then x else y)
-  either_stays true x y p q = p refl
-  either_stays false x y p q = q refl
-
   -- what a bank inside owns is inside
   owner_inside : (n : ℕ) → is_free (content_at os n) ≡ false → IsTrue (inside (owner_at os n)) → IsTrue (inside n)
   owner_inside n used is = k.closed.owned (owner_at os n) n is (tree.owners n (λ gone. false≢true (sym used ∙ gone))) used refl
 
   -- new objects
 
-  -- each object is as it was, or new where none was
-  grown_stays : (us : List Object) → ((n : ℕ) → (object_at us n ≡ object_at os n) ⊎ (IsTrue (is_free (content_at os n)) × IsFresh inside (content_at us n)))
+  -- each object is as it was, or a member whose content has authority over members alone
+  changed_stays : (us : List Object) → ((n : ℕ) → (object_at us n ≡ object_at os n) ⊎ (IsTrue (inside n) × IsFresh inside (content_at us n)))
       → StaysWithin inside os us
-  grown_stays us each = record {
+  changed_stays us each = record {
     encloses = record {
       closed = record {
         annexes = λ p is process. elim (each p) [
@@ -93,7 +88,7 @@ module _ (g : Geometry) (inside : ℕ → Bool) (os : List Object) (h : IsNow g 
           | inl same ↦
               owner_inside n (ap (λ (o : Object). is_free o.content) (sym same) ∙ used)
               (ap inside (ap (λ (o : Object). o.owner) (sym same) ∙ owner) ∙ is)
-          | inr new ↦ k.free n new.0
+          | inr new ↦ new.0
         ];
         slots = λ n i is. elim (each n) [
           | inl same ↦ subst (λ (o : Object). StaysInside inside (slice_index_or (slots_in o.content) i Void)) (sym same) (k.closed.slots n i is)
@@ -104,14 +99,11 @@ module _ (g : Geometry) (inside : ℕ → Bool) (os : List Object) (h : IsNow g 
           | inr new ↦ new.1.space
         ];
       };
-      free = λ n gone. elim (each n) [
-        | inl same ↦ k.free n (ap (λ (o : Object). is_free o.content) (sym same) ∙ gone)
-        | inr new ↦ k.free n new.0
-      ];
+      free = λ n gone. elim (each n) [ inl same ↦ k.free n (ap (λ (o : Object). is_free o.content) (sym same) ∙ gone) | inr new ↦ new.0 ];
     };
     kept = λ n out. elim (each n) [
       | inl same ↦ subst (λ o. IsKept inside (object_at os n) o) (sym same) (kept_refl inside (object_at os n))
-      | inr new ↦ absurd (false≢true (sym out ∙ k.free n new.0))
+      | inr new ↦ absurd (false≢true (sym out ∙ new.0))
     ];
   }
 
@@ -127,10 +119,18 @@ module _ (g : Geometry) (inside : ℕ → Bool) (os : List Object) (h : IsNow g 
 
   -- one new object
   new_stays : (n b : ℕ) (c : Content Capability) → IsUnused n → IsFresh inside c → StaysWithin inside os (with_new os n b c)
-  new_stays n b c unused fresh = grown_stays (with_new os n b c) (λ x. elim (cases_eq x n) [
-    | inl e ↦ rw e (inr (unused.1, subst (λ (o : Object). IsFresh inside o.content) (sym (at_new os n b c unused.0)) fresh))
+  new_stays n b c unused fresh = changed_stays (with_new os n b c) (λ x. elim (cases_eq x n) [
+    | inl e ↦ rw e (inr (k.free n unused.1, subst (λ (o : Object). IsFresh inside o.content) (sym (at_new os n b c unused.0)) fresh))
     | inr differ ↦ inl (at_other os n b c x differ)
   ])
+
+  allocated_stays : (from count : ℕ) → from + count ≤ length os → (b : ℕ) (c : Content Capability) (named : ℕ → Capability) → IsFresh inside c
+      → ((n : ℕ) → IsTrue (inside n) → StaysInside inside (named n)) → (ns : List ℕ) → are_free os (range_with_len from count) ≡ ns
+      → OutcomeStays inside os (allocated os b ns c named)
+  allocated_stays from count fits b c named fresh stays [] e = refused_stays code.NoFrame
+  allocated_stays from count fits b c named fresh stays (n ∷ ns) e =
+      let unused : IsUnused n = unused_at from count fits (n ∷ ns) e n (member_head n n ns refl) in
+      (new_stays n b c unused fresh, stays n (k.free n unused.1))
 
   -- a new process: a root and its annex
   process_stays : (p a b : ℕ) → p ≢ a → IsUnused p → IsUnused a → StaysWithin inside os (with_new (with_new os p b (new_root a)) a b new_annex)
@@ -143,10 +143,10 @@ module _ (g : Geometry) (inside : ℕ → Bool) (os : List Object) (h : IsNow g 
       let annex_there : object_at whole a ≡ record { owner = b; content = new_annex } =
       at_new rooted a b new_annex (omega (arith, length_new os p b (new_root a), annex.0))
       in
-      grown_stays whole (λ x. elim (cases_eq x a) [
-        | inl e ↦ rw e (inr (annex.1, subst (λ (o : Object). IsFresh inside o.content) (sym annex_there) (fresh_annex inside)))
+      changed_stays whole (λ x. elim (cases_eq x a) [
+        | inl e ↦ rw e (inr (k.free a annex.1, subst (λ (o : Object). IsFresh inside o.content) (sym annex_there) (fresh_annex inside)))
         | inr no_annex ↦ elim (cases_eq x p) [
-          | inl e ↦ rw e (inr (root.1, subst (λ (o : Object). IsFresh inside o.content) (sym root_there) (fresh_root inside a (k.free a annex.1))))
+          | inl e ↦ rw e (inr (k.free p root.1, subst (λ (o : Object). IsFresh inside o.content) (sym root_there) (fresh_root inside a (k.free a annex.1))))
           | inr no_root ↦ inl (at_other rooted a b new_annex x no_annex ∙ at_other os p b (new_root a) x no_root)
         ]
       ])
@@ -159,7 +159,7 @@ module _ (g : Geometry) (inside : ℕ → Bool) (os : List Object) (h : IsNow g 
 
   freed_stays : (b : ℕ) (ns : List ℕ) → ((n : ℕ) → is_member ns n ≡ true → IsTrue (inside n)) → OutcomeStays inside os (freed os b ns)
   freed_stays b [] within = refused_stays code.BadCapability
-  freed_stays b (n ∷ ns) within = either_stays (owner_at os n == b) _ _ (λ _. (gone_stays (n ∷ ns) within, inl tt)) (λ _. refused_stays code.NotFromThisBank)
+  freed_stays b (n ∷ ns) within = chosen (OutcomeStays inside os) (owner_at os n == b) _ _ (λ _. (gone_stays (n ∷ ns) within, inl tt)) (λ _. refused_stays code.NotFromThisBank)
 
   -- what a capability with full access names that stays inside is inside
   full_inside : (a o n : ℕ) → (a ≡ 3) ⊎ IsTrue (inside o) → is_member (if a == 0 then o ∷ [] else []) n ≡ true → IsTrue (inside n)
@@ -218,67 +218,46 @@ module _ (g : Geometry) (inside : ℕ → Bool) (os : List Object) (h : IsNow g 
         go false e stands = inl stands
 
     inherited_stays : StaysWithin inside os (inherited os b)
-    inherited_stays =
-        let same = inherited_content os tree b kind on in
-        record {
-          encloses = record {
-            closed = record {
-              annexes = λ p member process.
-                  subst (λ c. IsTrue (inside (root_in c).annex)) (sym (same p)) (k.closed.annexes p member (ap is_root (sym (same p)) ∙ process));
-              owned = λ c n member banks used owner. elim (handed n) [
-                | inl kept ↦
-                    owner_inside n (ap (λ (o : Object). is_free o.content) (sym kept) ∙ used)
-                    (ap inside (ap (λ (o : Object). o.owner) (sym kept) ∙ owner) ∙ member)
-                | inr own ↦ own
-              ];
-              slots = λ n i member. subst (λ c. StaysInside inside (slice_index_or (slots_in c) i Void)) (sym (same n)) (k.closed.slots n i member);
-              spaces = λ p member. subst (λ c. StaysInside inside (root_in c).space) (sym (same p)) (k.closed.spaces p member);
-            };
-            free = λ n gone. k.free n (ap is_free (sym (same n)) ∙ gone);
-          };
-          kept = λ n out. elim (handed n) [
-            | inl kept ↦ subst (λ o. IsKept inside (object_at os n) o) (sym kept) (kept_refl inside (object_at os n))
-            | inr own ↦ absurd (false≢true (sym out ∙ own))
-          ];
-        }
+    inherited_stays = changed_stays (inherited os b) (λ n. elim (handed n) [
+      | inl kept ↦ inl kept
+      | inr member ↦ inr (
+        member,
+        subst (IsFresh inside) (sym (inherited_content os tree b kind on n)) (record {
+          annex = k.closed.annexes n member;
+          slots = λ i. k.closed.slots n i member;
+          space = k.closed.spaces n member;
+        }),
+      )
+    ])
 
   -- what a bank is asked
 
   module _ (b : ℕ) (args : Arguments) (kind : IsTrue (is_bank (content_at os b))) (is : IsTrue (inside b)) where
     page_made_stays : OutcomeStays inside os (on_bank g os b bank.NewPage args)
     unfolding on_bank free_pages
-    page_made_stays = either_stays (has_room os b 1) _ _ (λ _. go (free_pages g os) refl) (λ _. refused_stays code.Limit)
-      where
-        go : (ns : List ℕ) → are_free os (range_with_len g.nodes g.pages) ≡ ns → OutcomeStays inside os (allocated os b ns new_page (λ n. Page n full))
-        go [] e = refused_stays code.NoFrame
-        go (n ∷ ns) e =
-            let unused : IsUnused n = unused_at g.nodes g.pages (omega (arith, h.frame.size)) (n ∷ ns) e n (member_head n n ns refl) in
-            (new_stays n b new_page unused (fresh_page inside), inr (k.free n unused.1))
+    page_made_stays = chosen (OutcomeStays inside os) (has_room os b 1) _ _
+        (λ _. allocated_stays g.nodes g.pages (omega (arith, h.frame.size)) b new_page _ (fresh_page inside) (λ n is. inr is) (free_pages g os) refl)
+        (λ _. refused_stays code.Limit)
 
     node_made_stays : OutcomeStays inside os (on_bank g os b bank.NewNode args)
     unfolding on_bank free_nodes
-    node_made_stays = either_stays (has_room os b 1) _ _ (λ _. go (free_nodes g os) refl) (λ _. refused_stays code.Limit)
-      where
-        go : (ns : List ℕ) → are_free os (range_with_len 0 g.nodes) ≡ ns → OutcomeStays inside os (allocated os b ns new_node (λ n. Node n full))
-        go [] e = refused_stays code.NoFrame
-        go (n ∷ ns) e =
-            let unused : IsUnused n = unused_at 0 g.nodes (omega (arith, h.frame.size)) (n ∷ ns) e n (member_head n n ns refl) in
-            (new_stays n b new_node unused (fresh_node inside), inr (k.free n unused.1))
+    node_made_stays = chosen (OutcomeStays inside os) (has_room os b 1) _ _
+        (λ _. allocated_stays 0 g.nodes (omega (arith, h.frame.size)) b new_node _ (fresh_node inside) (λ n is. inr is) (free_nodes g os) refl)
+        (λ _. refused_stays code.Limit)
 
     bank_made_stays : OutcomeStays inside os (on_bank g os b bank.NewBank args)
     unfolding on_bank free_nodes
-    bank_made_stays = either_stays (has_room os b 1) _ _ (λ _. go (free_nodes g os) refl) (λ _. refused_stays code.Limit)
+    bank_made_stays = chosen (OutcomeStays inside os) (has_room os b 1) _ _ (λ _. go (free_nodes g os) refl) (λ _. refused_stays code.Limit)
       where
         go : (ns : List ℕ) → are_free os (range_with_len 0 g.nodes) ≡ ns → OutcomeStays inside os (bank_allocated os b ns args.first)
         go [] e = refused_stays code.NoFrame
-        go (n ∷ ns) e =
-            let unused : IsUnused n = unused_at 0 g.nodes (omega (arith, h.frame.size)) (n ∷ ns) e n (member_head n n ns refl) in
-            either_stays (nat_lt (length (chain os b)) 16) _ _
-            (λ _. (new_stays n b (content.Bank args.first) unused (fresh_bank inside args.first), inr (k.free n unused.1))) (λ _. refused_stays code.TooDeep)
+        go (n ∷ ns) e = chosen (OutcomeStays inside os) (nat_lt (length (chain os b)) 16) _ _
+            (λ _. allocated_stays 0 g.nodes (omega (arith, h.frame.size)) b (content.Bank args.first) Bank (fresh_bank inside args.first) (λ n is. inr is) (n ∷ ns) e)
+            (λ _. refused_stays code.TooDeep)
 
     process_made_stays : OutcomeStays inside os (on_bank g os b bank.NewProcess args)
     unfolding on_bank free_nodes
-    process_made_stays = either_stays (has_room os b 2) _ _ (λ _. go (free_nodes g os) refl) (λ _. refused_stays code.Limit)
+    process_made_stays = chosen (OutcomeStays inside os) (has_room os b 2) _ _ (λ _. go (free_nodes g os) refl) (λ _. refused_stays code.Limit)
       where
         go : (ns : List ℕ) → are_free os (range_with_len 0 g.nodes) ≡ ns → OutcomeStays inside os (process_allocated os b ns)
         go [] e = refused_stays code.NoFrame
@@ -294,11 +273,11 @@ module _ (g : Geometry) (inside : ℕ → Bool) (os : List Object) (h : IsNow g 
 
     destroyed_stays : OutcomeStays inside os (on_bank g os b bank.Destroy args)
     unfolding on_bank
-    destroyed_stays = either_stays (b == 0) _ _ (λ _. refused_stays code.PrimeBank) (λ _. (gone_stays (under os b) (under_inside b is), inl tt))
+    destroyed_stays = chosen (OutcomeStays inside os) (b == 0) _ _ (λ _. refused_stays code.PrimeBank) (λ _. (gone_stays (under os b) (under_inside b is), inl tt))
 
     returned_stays : OutcomeStays inside os (on_bank g os b bank.ReturnToParent args)
     unfolding on_bank
-    returned_stays = either_stays (b == 0) _ _ (λ _. refused_stays code.PrimeBank) (λ e.
+    returned_stays = chosen (OutcomeStays inside os) (b == 0) _ _ (λ _. refused_stays code.PrimeBank) (λ e.
         let handed = inherited_stays b kind (eqb-false b 0 e) is in (
           stays_trans inside os (inherited os b) (rescind (b ∷ []) (inherited os b)) handed
               (stays_rescind inside (inherited os b) (b ∷ []) handed.encloses

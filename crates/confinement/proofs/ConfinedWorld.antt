@@ -1,26 +1,20 @@
 -- The world with a confined process.
 use Rattle.std.proofs.Common.{◌≡◌, ℕ, zero, suc, false, List, [], ◌∷◌, ◌++◌, refl, sym, ◌∙◌, inl, inr, ⊎_elim, arith}
-use Rattle.std.specs.Fmt.{digits}
-use Rattle.std.specs.Prelude.{IsTrue, replicate, slice_index_or, slice_set}
+use Rattle.std.proofs.lemmas.List.Elements.{All-from_recursion}
+use Rattle.std.specs.Prelude.{All, IsTrue, replicate, slice_set}
 use Rattle.model.specs.declared.access.Access.{Access}
 use Rattle.model.specs.declared.capability.Capability.TheVariants.{Void, Node, Bank}
 use Rattle.model.specs.declared.object.Content.TheVariants as content
 use Rattle.model.specs.declared.object.Object.{Object}
-use Rattle.model.specs.Bank.{chain, usage}
-use Rattle.model.specs.Banking.{on_bank, has_room, free_pages, with_new, under}
 use Rattle.model.specs.Capability.{full, weak}
 use Rattle.model.specs.Closed.{StaysInside}
-use Rattle.model.specs.Invoke.{deliver, through_gate, on_kernel_object, invoke}
-use Rattle.model.specs.Machine.{untouched}
 use Rattle.model.specs.Object.{all_slots, free, is_bank, is_free, zero_words}
-use Rattle.model.specs.Order.{on_page, on_node, on_process, order}
-use Rattle.model.specs.Revoke.{rescind, consume}
-use Rattle.model.specs.Step.{refusal_of, carried_out}
-use Rattle.model.specs.Text.{command_words, spelling, capability_text, word_lines, capability_lines, object_text, printed, bad_line}
-use Rattle.model.specs.Walk.{walk}
-use Rattle.model.specs.World.{annex_at, content_at, is_process, owner_at, root_at, slot_at, with_content, with_root, with_slot, with_state, with_word}
+use Rattle.model.specs.World.{annex_at, content_at, is_process, owner_at, root_at, slot_at, with_content, with_slot}
 use Rattle.model.specs.Worlds.{of_prime_bank}
-use Rattle.confinement.specs.Worked.{c0, confined, ConfinedIsClosed, ConfinedMakesPages, ConfinedOnlyReads, OutwardIsNotClosed, ReadOnlyEscapes}
+use Rattle.confinement.specs.Worked.{c0, confined, rows, ConfinedIsClosed, OutwardIsNotClosed}
+use Rattle.model_laws.proofs.SoundWorlds.{Each, each_after, each_at, holds_set, holds_void}
+use Rattle.model_laws.proofs.Rows.{IsRight, machine, rows_hold}
+use Rattle.model_laws.specs.Worked.{IsRow}
 
 -- what holds of each member
 members : (P : ℕ → Type 0) → P 3 → P 4 → P 6 → (n : ℕ) → IsTrue (confined n) → P n
@@ -33,71 +27,22 @@ members P root annex bank (suc (suc (suc (suc (suc zero))))) inside = cc
 members P root annex bank (suc (suc (suc (suc (suc (suc zero)))))) inside = bank
 members P root annex bank (suc (suc (suc (suc (suc (suc (suc n))))))) inside = let never : ⊥ = grind arith in absurd never
 
--- what holds of each of a list, and of what stands for all others
-abbrev Each : {X : Type 0} → (X → Type 0) → List X → Type 0
-Each P [] = Unit {0}
-Each P (x ∷ xs) = P x × Each P xs
-
-stands_at : {X : Type 0} (P : X → Type 0) (d : X) (xs : List X) → P d → Each P xs → (i : ℕ) → P (slice_index_or xs i d)
-stands_at P d [] beyond each i = beyond
-stands_at P d (x ∷ xs) beyond each zero = each.0
-stands_at P d (x ∷ xs) beyond each (suc i) = stands_at P d xs beyond each.1 i
-
--- with one of them put in
-put_in : {X : Type 0} (P : X → Type 0) (d x : X) (xs : List X) → P x → ((i : ℕ) → P (slice_index_or xs i d)) → (k i : ℕ) → P (slice_index_or (slice_set xs k x) i d)
-put_in P d x [] has each k i = each i
-put_in P d x (y ∷ ys) has each zero zero = has
-put_in P d x (y ∷ ys) has each zero (suc i) = each (suc i)
-put_in P d x (y ∷ ys) has each (suc k) zero = each zero
-put_in P d x (y ∷ ys) has each (suc k) (suc i) = put_in P d x ys has (λ j. each (suc j)) k i
-
-each_of_some : {X : Type 0} (P : X → Type 0) (x : X) (n : ℕ) → P x → Each P (replicate n x)
-each_of_some P x zero has = tt
-each_of_some P x (suc n) has = (has, each_of_some P x n has)
-
-each_joined : {X : Type 0} (P : X → Type 0) (xs ys : List X) → Each P xs → Each P ys → Each P (xs ++ ys)
-each_joined P [] ys first second = second
-each_joined P (x ∷ xs) ys first second = (first.0, each_joined P xs ys first.1 second)
-
-void_inside : (i : ℕ) → StaysInside confined (slice_index_or (all_slots Void) i Void)
-unfolding all_slots
-void_inside i = stands_at (StaysInside confined) Void (all_slots Void) (inl tt) (each_of_some (StaysInside confined) Void 32 (inl tt)) i
-
 -- the prime bank owns all that isn't free
-abbrev OfPrime : Object → Type 0
-OfPrime o = o.owner ≡ 0
-
 of_prime : (n : ℕ) → owner_at c0.objects n ≡ 0
 unfolding c0
-of_prime n = stands_at OfPrime free c0.objects refl (
-  refl,
-  (
-    refl,
-    (
-      refl,
-      (
-        refl,
-        (
-          refl,
-          (
-            refl,
-            (
-              refl,
-              each_joined OfPrime (replicate 9 free) (of_prime_bank (content.Page (slice_set zero_words 0 1)) ∷ replicate 7 free)
-                  (each_of_some OfPrime free 9 refl) (refl, each_of_some OfPrime free 7 refl),
-            ),
-          ),
-        ),
-      ),
-    ),
-  ),
-) n
+of_prime n =
+    let P : ℕ → Object → Type 0 = λ k o. o.owner ≡ 0 in
+    let page : List Object = of_prime_bank (content.Page (slice_set zero_words 0 1)) ∷ replicate 7 free in
+    let later : Each P 7 (replicate 9 free ++ page) =
+    each_after P 9 7 16 page (λ k. refl) refl (refl, each_after P 7 17 24 [] (λ k. refl) refl tt)
+    in
+    each_at P 0 c0.objects (refl, (refl, (refl, (refl, (refl, (refl, (refl, later))))))) (λ m. refl) n n (omega arith)
 
 annex_inside : (i : ℕ) → StaysInside confined (slot_at c0.objects 4 i)
 unfolding c0
 annex_inside i =
-    put_in (StaysInside confined) Void (Bank 6) (slice_set (all_slots Void) 1 (Node 5 weak)) (inr refl)
-    (put_in (StaysInside confined) Void (Node 5 weak) (all_slots Void) (inl refl) void_inside 1) 2 i
+    holds_set (StaysInside confined) (slice_set (all_slots Void) 1 (Node 5 weak)) 2 (Bank 6) Void (inr refl)
+    (holds_set (StaysInside confined) (all_slots Void) 1 (Node 5 weak) Void (inl refl) (holds_void (StaysInside confined) (inl tt))) i
 
 pub confined_closed : ConfinedIsClosed
 unfolding c0
@@ -120,19 +65,6 @@ outward_not_closed = (
   λ closed. outward (record { 0 = 1 }) (λ is. cc) (closed.slots 4 1 refl),
 )
 
--- `unfolding machine` lets `refl` compute what a command comes to
-unfoldable machine : Unit {0}
-unfolding digits all_slots zero_words with_content with_word with_slot with_root with_state chain usage rescind consume walk on_bank has_room free_pages with_new under on_page on_node on_process order deliver through_gate on_kernel_object invoke untouched refusal_of carried_out command_words spelling capability_text word_lines capability_lines object_text printed bad_line c0
-machine = tt
-
-pub only_reads : ConfinedOnlyReads
-unfolding machine
-only_reads = (refl, refl)
-
-pub makes_pages : ConfinedMakesPages
-unfolding machine
-makes_pages = (refl, refl)
-
-pub escapes : ReadOnlyEscapes
-unfolding machine
-escapes = (refl, refl)
+pub rows_right : All IsRow rows
+unfolding machine c0 rows
+rows_right = rows_hold rows (All-from_recursion IsRight rows (refl, (refl, (refl, tt))))

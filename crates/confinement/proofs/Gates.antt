@@ -1,24 +1,26 @@
 -- Invocations by a process of a set that encloses its members.
-use Rattle.std.proofs.Common.{◌≡◌, inl, inr, ℕ, zero, suc, Bool, true, false, None, Some, List, [], ◌∷◌, map, refl, subst, ◌∙◌}
-use Rattle.std.specs.Prelude.{if◌then◌else◌, IsTrue, slice_index, slice_index_or, slice_set}
+use Rattle.std.proofs.Common.{◌≡◌, inl, inr, ℕ, zero, suc, Bool, Some, List, [], ◌∷◌, map, ◌∙◌}
+use Rattle.std.specs.Prelude.{IsTrue, slice_index, slice_index_or, slice_set}
 use Rattle.std.proofs.lemmas.Bool.{and_parts}
 use Rattle.model.specs.declared.capability.Capability.{Capability}
-use Rattle.model.specs.declared.capability.Capability.TheVariants.{Void, Start, Resume}
+use Rattle.model.specs.declared.capability.Capability.TheVariants.{Void, Resume}
 use Rattle.model.specs.declared.command.Invocation.{Invocation}
 use Rattle.model.specs.declared.command.Message.{Message}
 use Rattle.model.specs.declared.command.Operation.{Operation}
-use Rattle.model.specs.declared.command.Operation.TheVariants.{Call, Return, Send}
+use Rattle.model.specs.declared.command.Operation.TheVariants.{Call}
 use Rattle.model.specs.declared.geometry.Geometry.{Geometry}
 use Rattle.model.specs.declared.object.Object.{Object}
 use Rattle.model.specs.declared.object.Root.{Root}
 use Rattle.model.specs.declared.object.State.{State}
-use Rattle.model.specs.declared.object.State.TheVariants.{Available, Running, Waiting}
+use Rattle.model.specs.declared.object.State.TheVariants.{Running}
 use Rattle.model.specs.Closed.{StaysInside}
-use Rattle.model.specs.Invoke.{Effect, after_gate, after_order, can_start, deliver, invoke, on_kernel_object, ordered, replied, reply_of, sent_by, sent_to_gate, through_gate}
+use Rattle.model.specs.Invoke.{Effect, after_gate, after_order, deliver, invoke, on_kernel_object, ordered, replied, reply_of, sent_by, sent_to_gate, through_gate}
 use Rattle.model.specs.Object.{is_running}
 use Rattle.model.specs.OrderOutcome.{OrderOutcome}
 use Rattle.model.specs.Revoke.{consume}
 use Rattle.model.specs.World.{annex_at, is_process, is_running_process, register_at, root_at, with_root, with_slots_from, with_state}
+use Rattle.model_laws.proofs.Cases.{after_gate_by, after_order_by, invoked_by, replied_by}
+use Rattle.model_laws.proofs.SoundWorlds.{holds_replicate}
 use Rattle.model_laws.proofs.SoundEdits.{at_set}
 use Rattle.model_laws.proofs.SoundGates.{IsAfter, after_state, held_sent}
 use Rattle.model_laws.proofs.SoundOrders.{IsNow}
@@ -26,7 +28,8 @@ use Rattle.model_laws.proofs.SoundParts.{IsHeld, Waits, held_on, held_to, nearly
 use Rattle.model_laws.proofs.Usage.{frame_refl, tests_at}
 use Rattle.confinement.specs.Confinement.{Encloses, InvocationIsConfined, StaysWithin}
 use Rattle.confinement.proofs.Kept.{stays_consume, stays_refl, stays_root, stays_slots, stays_state, stays_trans}
-use Rattle.confinement.proofs.Orders.{OutcomeStays, order_stays, strong}
+use Rattle.confinement.proofs.Banks.{OutcomeStays}
+use Rattle.confinement.proofs.Orders.{order_stays, strong}
 
 -- delivery
 
@@ -73,8 +76,7 @@ gate_sent_stays inside os i j by = go i.operation
   where
     go : (o : Operation) → StaysInside inside (slice_index_or (elim o [ Call ↦ slice_set (sent_by os i) 3 (Resume i.process) | _ ↦ sent_by os i ]) j Void)
     go Call = at_set (λ m c. StaysInside inside c) (sent_by os i) 3 j (Resume i.process) Void (inr by.member) (sent_stays inside os i j by)
-    go Return = sent_stays inside os i j by
-    go Send = sent_stays inside os i j by
+    go o = sent_stays inside os i j by
 
 -- the invoker's state
 
@@ -98,21 +100,13 @@ none_ready g inside os p h by = record {
 
 gate_ready : (g : Geometry) (inside : ℕ → Bool) (os : List Object) (i : Invocation) → IsNow g os → IsInvoker inside os i.process
     → IsReady g inside os (after_gate os i)
-gate_ready g inside os i h by = go i.operation
-  where
-    go : (o : Operation) → IsReady g inside os (elim o [ Call ↦ with_state os i.process Waiting | Return ↦ with_state os i.process Available | Send ↦ os ])
-    go Call = state_ready g inside os i.process Waiting h by
-    go Return = state_ready g inside os i.process Available h by
-    go Send = none_ready g inside os i.process h by
+gate_ready g inside os i h by =
+    after_gate_by (IsReady g inside os) os i (none_ready g inside os i.process h by) (λ s. state_ready g inside os i.process s h by)
 
 order_ready : (g : Geometry) (inside : ℕ → Bool) (os : List Object) (i : Invocation) → IsNow g os → IsInvoker inside os i.process
     → IsReady g inside os (after_order os i)
-order_ready g inside os i h by = go i.operation
-  where
-    go : (o : Operation) → IsReady g inside os (elim o [ Return ↦ with_state os i.process Available | _ ↦ os ])
-    go Return = state_ready g inside os i.process Available h by
-    go Call = none_ready g inside os i.process h by
-    go Send = none_ready g inside os i.process h by
+order_ready g inside os i h by =
+    after_order_by (IsReady g inside os) os i (none_ready g inside os i.process h by) (λ s. state_ready g inside os i.process s h by)
 
 -- gates
 
@@ -137,29 +131,14 @@ resume_stays g inside os i q h by is root =
 
 reply_stays : (inside : ℕ → Bool) (o : OrderOutcome) (j : ℕ) → StaysInside inside o.capability → StaysInside inside (slice_index_or (reply_of o).capabilities j Void)
 reply_stays inside o zero h = h
-reply_stays inside o (suc zero) h = inl tt
-reply_stays inside o (suc (suc zero)) h = inl tt
-reply_stays inside o (suc (suc (suc zero))) h = inl tt
-reply_stays inside o (suc (suc (suc (suc j)))) h = inl tt
+reply_stays inside o (suc j) h = holds_replicate (StaysInside inside) 3 Void Void (inl tt) (inl tt) j
 
 replied_stays : (inside : ℕ → Bool) (i : Invocation) (o : OrderOutcome) → Encloses inside o.objects → IsTrue (inside i.process)
     → StaysInside inside o.capability → StaysWithin inside o.objects (replied o.objects i o)
-replied_stays inside i o h is given = go i.operation
-  where
-    branch : (b : Bool) → is_running_process o.objects i.process ≡ b
-        → StaysWithin inside o.objects (if b then deliver o.objects i.process (reply_of o) else o.objects)
-    branch false e = stays_refl inside o.objects h
-    branch true e =
-        deliver_stays inside o.objects i.process (reply_of o) h is
-        (and_parts (is_process o.objects i.process) (is_running (state_at o.objects i.process)) e).0 (λ j. reply_stays inside o j given)
-
-    go : (p : Operation) → StaysWithin inside o.objects (elim p [
-      | Call ↦ if is_running_process o.objects i.process then deliver o.objects i.process (reply_of o) else o.objects
-      | _ ↦ o.objects
-    ])
-    go Call = branch (is_running_process o.objects i.process) refl
-    go Return = stays_refl inside o.objects h
-    go Send = stays_refl inside o.objects h
+replied_stays inside i o h is given =
+    replied_by (StaysWithin inside o.objects) o.objects i o (stays_refl inside o.objects h) (λ runs.
+    deliver_stays inside o.objects i.process (reply_of o) h is
+    (and_parts (is_process o.objects i.process) (is_running (state_at o.objects i.process)) runs).0 (λ j. reply_stays inside o j given))
 
 -- what is held before the invoker's state changes is held after it
 held_ready : (g : Geometry) (inside : ℕ → Bool) (os us : List Object) (c : Capability) → IsReady g inside os us → IsHeld os (Waits os) c → IsHeld us (Waits us) c
@@ -193,27 +172,12 @@ kernel_stays g inside os i h by =
 
 invoked_stays : (g : Geometry) (inside : ℕ → Bool) (os : List Object) (i : Invocation) (e : Effect) → IsNow g os → IsInvoker inside os i.process
     → invoke g os i ≡ Some e → StaysWithin inside os e.objects
-unfolding invoke
-invoked_stays g inside os i e h by done =
-    go (register_at os i.process i.register) ((h.filled (annex_at os i.process)).slots i.register) (register_stays inside os i.process i.register by) done
-  where
-    from : (f : Effect) → StaysWithin inside os f.objects → Some f ≡ Some e → StaysWithin inside os e.objects
-    from f stays same = let equal : f ≡ e = cc in subst (λ (x : Effect). StaysWithin inside os x.objects) equal stays
-
-    start : (q key : ℕ) (b : Bool) → IsHeld os (Waits os) (Start q key) → IsTrue (inside q)
-        → (if b then Some (through_gate os i q key) else None) ≡ Some e → StaysWithin inside os e.objects
-    start q key true held is same = from (through_gate os i q key) (through_stays g inside os i q key h by is held.names) same
-    start q key false held is same = cc
-
-    go : (c : Capability) → IsHeld os (Waits os) c → StaysInside inside c
-        → (elim c [
-          | Start q key ↦ if can_start os i q then Some (through_gate os i q key) else None
-          | Resume q ↦ let effect = through_gate os i q 0 in Some (record { objects = consume q effect.objects; written = effect.written })
-          | _ ↦ Some (on_kernel_object g os i)
-        ]) ≡ Some e → StaysWithin inside os e.objects
-    go (Start q key) held stays same = start q key (can_start os i q) held (strong inside q stays) same
-    go (Resume q) held stays same = from _ (resume_stays g inside os i q h by (strong inside q stays) held.names.0) same
-    go c held stays same = from (on_kernel_object g os i) (kernel_stays g inside os i h by) same
+invoked_stays g inside os i e h by =
+    invoked_by (StaysWithin inside os) os i (λ c. IsHeld os (Waits os) c × StaysInside inside c) g e
+    ((h.filled (annex_at os i.process)).slots i.register, register_stays inside os i.process i.register by)
+    (λ q key has can. through_stays g inside os i q key h by (strong inside q has.1) has.0.names)
+    (λ q has. resume_stays g inside os i q h by (strong inside q has.1) has.0.names.0)
+    (kernel_stays g inside os i h by)
 
 -- an invocation by a process of a set that encloses its members stays in it
 pub invocation_confined : InvocationIsConfined

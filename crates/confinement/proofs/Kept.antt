@@ -14,6 +14,7 @@ use Rattle.model.specs.Closed.{StaysInside}
 use Rattle.model.specs.Object.{free, is_bank, is_free, is_root, map_content, root_in, slots_in, with_slot_in, with_word_in}
 use Rattle.model.specs.Revoke.{consume, is_member, names_member, rescind, resumes, void_where, without}
 use Rattle.model.specs.World.{content_at, is_process, object_at, owner_at, root_at, with_content, with_root, with_slot, with_slots_from, with_state, with_word}
+use Rattle.model_laws.proofs.Cases.{chosen, one_of}
 use Rattle.model_laws.proofs.Revoking.{at_rescind}
 use Rattle.model_laws.proofs.Mapped.{void_void, without_mapped}
 use Rattle.model_laws.proofs.SoundEdits.{at_content, at_set, object_consume}
@@ -33,23 +34,20 @@ map_same [] = refl
 map_same (c ∷ cs) = ap (λ ds. c ∷ ds) (map_same cs)
 
 content_same : (c : Content Capability) → c ≡ map_content (void_where (λ c. false)) c
-content_same content.Free = refl
-content_same (content.Page words) = refl
 content_same (content.Node slots) = ap content.Node (map_same slots)
-content_same (content.Root r) = refl
 content_same (content.Annex slots) = ap content.Annex (map_same slots)
-content_same (content.Bank limit) = refl
+content_same c = refl
 
 -- what goes first or second
 abbrev either : (Capability → Bool) → (Capability → Bool) → Capability → Bool
 either first second c = first c || second c
 
 twice : (first second : Capability → Bool) (c : Capability) → void_where second (void_where first c) ≡ void_where (either first second) c
-twice first second c = cases (first c)
+twice first second c = go (first c)
   where
-    cases : (b : Bool) → void_where second (if b then Void else c) ≡ (if b || second c then Void else c)
-    cases true = void_void second
-    cases false = refl
+    go : (b : Bool) → void_where second (if b then Void else c) ≡ (if b || second c then Void else c)
+    go true = void_void second
+    go false = refl
 
 map_twice : (first second : Capability → Bool) (cs : List Capability)
     → map (void_where second) (map (void_where first) cs) ≡ map (void_where (either first second)) cs
@@ -58,13 +56,11 @@ map_twice first second (c ∷ cs) = rw (twice first second c, map_twice first se
 
 content_twice : (first second : Capability → Bool) (c : Content Capability)
     → map_content (void_where second) (map_content (void_where first) c) ≡ map_content (void_where (either first second)) c
-content_twice first second content.Free = refl
-content_twice first second (content.Page words) = refl
 content_twice first second (content.Node slots) = ap content.Node (map_twice first second slots)
 content_twice first second (content.Root r) =
     ap (λ s. content.Root (record { state = r.state; words = r.words; key = r.key; annex = r.annex; space = s })) (twice first second r.space)
 content_twice first second (content.Annex slots) = ap content.Annex (map_twice first second slots)
-content_twice first second (content.Bank limit) = refl
+content_twice first second c = refl
 
 -- an object is kept as it is
 pub kept_refl : (inside : ℕ → Bool) (o : Object) → IsKept inside o o
@@ -202,11 +198,7 @@ stays_state inside os p s h in_p is =
 -- what is put void
 
 stays_void : (inside : ℕ → Bool) (goes : Capability → Bool) (c : Capability) → StaysInside inside c → StaysInside inside (void_where goes c)
-stays_void inside goes c stays = cases (goes c)
-  where
-    cases : (b : Bool) → StaysInside inside (if b then Void else c)
-    cases true = inl tt
-    cases false = stays
+stays_void inside goes c stays = one_of (StaysInside inside) (goes c) Void c (inl tt) stays
 
 annex_without : (inside : ℕ → Bool) (goes : Capability → Bool) (o : Object) → (IsTrue (is_root o.content) → IsTrue (inside (root_in o.content).annex))
     → IsTrue (is_root (without goes o).content) → IsTrue (inside (root_in (without goes o).content).annex)
@@ -243,11 +235,7 @@ stays_without inside os us goes set h members names at = record {
 }
   where
     at_us : (P : Object → Type 0) (n : ℕ) → (is_member set n ≡ true → P free) → P (without goes (object_at os n)) → P (object_at us n)
-    at_us P n on_member old = subst P (sym (at n)) (cases (is_member set n) refl)
-      where
-        cases : (b : Bool) → is_member set n ≡ b → P (if b then free else without goes (object_at os n))
-        cases true e = on_member e
-        cases false e = old
+    at_us P n on_member old = subst P (sym (at n)) (chosen P (is_member set n) free _ on_member (λ _. old))
 
     was_bank : (b : ℕ) → IsTrue (is_bank (content_at us b)) → IsTrue (is_bank (content_at os b))
     was_bank b =

@@ -1,6 +1,6 @@
 -- Orders on what stays inside a set that encloses its members.
-use Rattle.std.proofs.Common.{◌≡◌, ◌⊎◌, inl, inr, ℕ, ◌==◌, Bool, true, false, not, ◌||◌, Option, None, Some, List, refl, arith}
-use Rattle.std.specs.Prelude.{if◌then◌else◌, IsTrue, nat_lt, bit_or}
+use Rattle.std.proofs.Common.{◌≡◌, ◌⊎◌, inl, inr, ℕ, ◌==◌, Bool, true, false, not, ◌||◌, List, refl, arith}
+use Rattle.std.specs.Prelude.{IsTrue, nat_lt, bit_or}
 use Rattle.std.proofs.lemmas.Bool.{eqb-true, eqb-false, or_cases, not-false}
 use Rattle.model.specs.declared.access.Access.{Access}
 use Rattle.model.specs.declared.capability.Capability.{Capability}
@@ -20,29 +20,15 @@ use Rattle.model.specs.Banking.{on_bank}
 use Rattle.model.specs.Capability.{IsWeak, diminished, union}
 use Rattle.model.specs.Closed.{StaysInside}
 use Rattle.model.specs.Order.{bank_order, fetched, is_space, node_order, on_node, on_page, on_process, order, page_order, process_order, reduces, stored, with_root_word, with_space}
-use Rattle.model.specs.OrderOutcome.{OrderOutcome}
 use Rattle.model.specs.Revoke.{consume}
 use Rattle.model.specs.Sound.{NamesItsKind}
 use Rattle.model.specs.World.{annex_at, is_process, root_at, slot_at, with_state}
+use Rattle.model_laws.proofs.Cases.{chosen, found_or}
 use Rattle.model_laws.proofs.SoundOrders.{IsNow}
 use Rattle.model_laws.proofs.SoundParts.{IsHeld, Waits}
 use Rattle.confinement.specs.Confinement.{Encloses, StaysWithin}
-use Rattle.confinement.proofs.Banks.{bank_stays}
+use Rattle.confinement.proofs.Banks.{OutcomeStays, bank_stays}
 use Rattle.confinement.proofs.Kept.{stays_consume, stays_refl, stays_root, stays_slot, stays_state, stays_trans, stays_word}
-
--- an outcome whose objects, and the capability that it gives, stay in a set
-abbrev pub OutcomeStays : (ℕ → Bool) → List Object → OrderOutcome → Type 0
-OutcomeStays inside os o = StaysWithin inside os o.objects × StaysInside inside o.capability
-
-either_stays : (inside : ℕ → Bool) (os : List Object) (b : Bool) (x y : OrderOutcome) → (b ≡ true → OutcomeStays inside os x)
-    → (b ≡ false → OutcomeStays inside os y) → OutcomeStays inside os (if b then x else y)
-either_stays inside os true x y p q = p refl
-either_stays inside os false x y p q = q refl
-
-asked_stays : {A : Type 0} (inside : ℕ → Bool) (os : List Object) (found : Option A) (x : OrderOutcome) (f : A → OrderOutcome)
-    → OutcomeStays inside os x → ((a : A) → OutcomeStays inside os (f a)) → OutcomeStays inside os (elim found [ None ↦ x | Some a ↦ f a ])
-asked_stays inside os None x f p q = p
-asked_stays inside os (Some a) x f p q = q a
 
 -- objects that nothing is done to, and a capability that stays
 still : (inside : ℕ → Bool) (os : List Object) (c : Capability) → Encloses inside os → StaysInside inside c
@@ -73,8 +59,6 @@ reduced_stays inside o a w (inl weak) e = inl (weak_union a.0 w weak e)
 reduced_stays inside o a w (inr is) e = inr is
 
 weak_diminished : (c : Capability) → IsWeak (diminished c)
-weak_diminished Void = tt
-weak_diminished (Number n) = tt
 weak_diminished (Page o a) = refl
 weak_diminished (Node o a) = refl
 weak_diminished (Space o k a) = refl
@@ -82,32 +66,29 @@ weak_diminished c = tt
 
 fetched_stays : (inside : ℕ → Bool) (o : ℕ) (a : Access) (c : Capability) → (a.0 ≡ 3) ⊎ IsTrue (inside o) → (IsTrue (inside o) → StaysInside inside c)
     → StaysInside inside (fetched a c)
-fetched_stays inside o a c named held = go (a.0 == 3) refl
-  where
-    go : (b : Bool) → (a.0 == 3) ≡ b → StaysInside inside (if b then diminished c else c)
-    go true e = inl (weak_diminished c)
-    go false e = elim named [ inl weak ↦ absurd (eqb-false a.0 3 e weak) | inr is ↦ held is ]
+fetched_stays inside o a c named held = chosen (StaysInside inside) (a.0 == 3) (diminished c) c (λ _. inl (weak_diminished c))
+    (λ e. elim named [ inl weak ↦ absurd (eqb-false a.0 3 e weak) | inr is ↦ held is ])
 
 -- orders
 
 page_stays : (inside : ℕ → Bool) (os : List Object) (o : ℕ) (a : Access) (asked : PageOrder) (args : Arguments) → Encloses inside os
     → StaysInside inside (Page o a) → OutcomeStays inside os (on_page os o a asked args)
 unfolding on_page
-page_stays inside os o a page.Read args h c = either_stays inside os (nat_lt args.first 512) _ _ (λ _. refused_stays inside os h) (λ _. refused_stays inside os h)
+page_stays inside os o a page.Read args h c = chosen (OutcomeStays inside os) (nat_lt args.first 512) _ _ (λ _. refused_stays inside os h) (λ _. refused_stays inside os h)
 page_stays inside os o a page.Write args h c =
-    either_stays inside os (not (a.0 == 0)) _ _ (λ _. refused_stays inside os h) (λ e.
-    either_stays inside os (nat_lt args.first 512) _ _
+    chosen (OutcomeStays inside os) (not (a.0 == 0)) _ _ (λ _. refused_stays inside os h) (λ e.
+    chosen (OutcomeStays inside os) (nat_lt args.first 512) _ _
     (λ _. (stays_word inside os o args.first args.second h (writes inside o a c e), void_stays inside))
     (λ _. refused_stays inside os h))
 page_stays inside os o a page.Reduce args h c =
-    either_stays inside os (reduces args.first) _ _
+    chosen (OutcomeStays inside os) (reduces args.first) _ _
     (λ e. still inside os (Page o (union a args.first)) h (reduced_stays inside o a args.first c e)) (λ _. refused_stays inside os h)
 
 stored_stays : (inside : ℕ → Bool) (os : List Object) (o : ℕ) (a : Access) (slot : ℕ) (c : Capability) → Encloses inside os
     → StaysInside inside (Node o a) → StaysInside inside c → OutcomeStays inside os (stored os o a slot c)
 stored_stays inside os o a slot c h n stays =
-    either_stays inside os (not (a.0 == 0)) _ _ (λ _. refused_stays inside os h) (λ e.
-    either_stays inside os (nat_lt slot 32) _ _
+    chosen (OutcomeStays inside os) (not (a.0 == 0)) _ _ (λ _. refused_stays inside os h) (λ e.
+    chosen (OutcomeStays inside os) (nat_lt slot 32) _ _
     (λ _. (stays_slot inside os o slot c h (writes inside o a n e) stays, void_stays inside))
     (λ _. refused_stays inside os h))
 
@@ -115,16 +96,16 @@ node_stays : (inside : ℕ → Bool) (os : List Object) (o : ℕ) (a : Access) (
     → StaysInside inside (Node o a) → StaysInside inside args.capability → OutcomeStays inside os (on_node os o a asked args)
 unfolding on_node
 node_stays inside os o a node.Fetch args h c sent =
-    either_stays inside os (nat_lt args.first 32) _ _
+    chosen (OutcomeStays inside os) (nat_lt args.first 32) _ _
     (λ _. still inside os (fetched a (slot_at os o args.first)) h
     (fetched_stays inside o a (slot_at os o args.first) c (λ is. h.closed.slots o args.first is)))
     (λ _. refused_stays inside os h)
 node_stays inside os o a node.Store args h c sent = stored_stays inside os o a args.first args.capability h c sent
 node_stays inside os o a node.Reduce args h c sent =
-    either_stays inside os (reduces args.first) _ _
+    chosen (OutcomeStays inside os) (reduces args.first) _ _
     (λ e. still inside os (Node o (union a args.first)) h (reduced_stays inside o a args.first c e)) (λ _. refused_stays inside os h)
 node_stays inside os o a node.MakeSpace args h c sent =
-    either_stays inside os ((args.first == 0) || not (nat_lt args.first 5)) _ _ (λ _. refused_stays inside os h)
+    chosen (OutcomeStays inside os) ((args.first == 0) || not (nat_lt args.first 5)) _ _ (λ _. refused_stays inside os h)
     (λ _. still inside os (Space o args.first a) h c)
 node_stays inside os o a node.PutNumber args h c sent = stored_stays inside os o a args.first (Number args.second) h c (inl tt)
 
@@ -139,27 +120,27 @@ process_stays : (inside : ℕ → Bool) (os : List Object) (p : ℕ) (asked : Pr
     → IsTrue (inside p) → IsTrue (is_process os p) → StaysInside inside args.capability → OutcomeStays inside os (on_process os p asked args)
 unfolding on_process
 process_stays inside os p process.GetRegister args h is root sent =
-    either_stays inside os (nat_lt args.first 32) _ _
+    chosen (OutcomeStays inside os) (nat_lt args.first 32) _ _
     (λ _. still inside os (slot_at os (annex_at os p) args.first) h (h.closed.slots (annex_at os p) args.first (h.closed.annexes p is root)))
     (λ _. refused_stays inside os h)
 process_stays inside os p process.PutRegister args h is root sent =
-    either_stays inside os ((args.first == 0) || not (nat_lt args.first 32)) _ _ (λ _. refused_stays inside os h)
+    chosen (OutcomeStays inside os) ((args.first == 0) || not (nat_lt args.first 32)) _ _ (λ _. refused_stays inside os h)
     (λ _. (stays_slot inside os (annex_at os p) args.first args.capability h (h.closed.annexes p is root) sent, void_stays inside))
 process_stays inside os p process.GetWord args h is root sent =
-    either_stays inside os (nat_lt args.first 4) _ _ (λ _. refused_stays inside os h) (λ _. refused_stays inside os h)
+    chosen (OutcomeStays inside os) (nat_lt args.first 4) _ _ (λ _. refused_stays inside os h) (λ _. refused_stays inside os h)
 process_stays inside os p process.PutWord args h is root sent =
-    either_stays inside os (nat_lt args.first 4) _ _
+    chosen (OutcomeStays inside os) (nat_lt args.first 4) _ _
     (λ _. (stays_root inside os p (with_root_word (root_at os p) args.first args.second) h is (h.closed.annexes p is root) (h.closed.spaces p is), void_stays inside))
     (λ _. refused_stays inside os h)
 process_stays inside os p process.MakeStart args h is root sent =
-    either_stays inside os (nat_lt args.first 65536) _ _ (λ _. still inside os (Start p args.first) h (inr is)) (λ _. refused_stays inside os h)
+    chosen (OutcomeStays inside os) (nat_lt args.first 65536) _ _ (λ _. still inside os (Start p args.first) h (inr is)) (λ _. refused_stays inside os h)
 process_stays inside os p process.GetState args h is root sent = refused_stays inside os h
 process_stays inside os p process.SetState args h is root sent =
-    either_stays inside os (args.first == 0) _ _ (λ _. (set_stays inside os p Available h is root, void_stays inside)) (λ _.
-    either_stays inside os (args.first == 1) _ _ (λ _. (set_stays inside os p Running h is root, void_stays inside)) (λ _. refused_stays inside os h))
+    chosen (OutcomeStays inside os) (args.first == 0) _ _ (λ _. (set_stays inside os p Available h is root, void_stays inside)) (λ _.
+    chosen (OutcomeStays inside os) (args.first == 1) _ _ (λ _. (set_stays inside os p Running h is root, void_stays inside)) (λ _. refused_stays inside os h))
 process_stays inside os p process.GetSpace args h is root sent = still inside os (root_at os p).space h (h.closed.spaces p is)
 process_stays inside os p process.SetSpace args h is root sent =
-    either_stays inside os (is_space args.capability) _ _
+    chosen (OutcomeStays inside os) (is_space args.capability) _ _
     (λ _. (stays_root inside os p (with_space (root_at os p) args.capability) h is (h.closed.annexes p is root) sent, void_stays inside))
     (λ _. refused_stays inside os h)
 
@@ -174,25 +155,25 @@ pub order_stays : (g : Geometry) (inside : ℕ → Bool) (os : List Object) (c :
     → OutcomeStays inside os (order g os c w args)
 unfolding order
 order_stays g inside os (Number n) w args now h held stays kind sent =
-    either_stays inside os (w == 1) _ _ (λ _. refused_stays inside os h) (λ _. refused_stays inside os h)
+    chosen (OutcomeStays inside os) (w == 1) _ _ (λ _. refused_stays inside os h) (λ _. refused_stays inside os h)
 order_stays g inside os (Page o a) w args now h held stays kind sent =
-    asked_stays inside os (page_order w) _ (λ asked. on_page os o a asked args) (refused_stays inside os h)
+    found_or (OutcomeStays inside os) (page_order w) _ (λ asked. on_page os o a asked args) (refused_stays inside os h)
     (λ asked. page_stays inside os o a asked args h stays)
 order_stays g inside os (Node o a) w args now h held stays kind sent =
-    asked_stays inside os (node_order w) _ (λ asked. on_node os o a asked args) (refused_stays inside os h)
+    found_or (OutcomeStays inside os) (node_order w) _ (λ asked. on_node os o a asked args) (refused_stays inside os h)
     (λ asked. node_stays inside os o a asked args h stays sent)
 order_stays g inside os (Space o k a) w args now h held stays kind sent =
-    either_stays inside os (w == 3) _ _
-    (λ _. either_stays inside os (reduces args.first) _ _
+    chosen (OutcomeStays inside os) (w == 3) _ _
+    (λ _. chosen (OutcomeStays inside os) (reduces args.first) _ _
     (λ e. still inside os (Space o k (union a args.first)) h (reduced_stays inside o a args.first stays e))
     (λ _. refused_stays inside os h))
     (λ _. refused_stays inside os h)
 order_stays g inside os (Process p) w args now h held stays kind sent =
-    asked_stays inside os (process_order w) _ (λ asked. on_process os p asked args) (refused_stays inside os h)
+    found_or (OutcomeStays inside os) (process_order w) _ (λ asked. on_process os p asked args) (refused_stays inside os h)
     (λ asked. process_stays inside os p asked args h (strong inside p stays) held.names sent)
 order_stays g inside os (Bank b) w args now h held stays kind sent =
-    asked_stays inside os (bank_order w) _ (λ asked. on_bank g os b asked args) (refused_stays inside os h)
+    found_or (OutcomeStays inside os) (bank_order w) _ (λ asked. on_bank g os b asked args) (refused_stays inside os h)
     (λ asked. bank_stays g inside os b asked args now held.names (strong inside b stays) kind sent h)
 order_stays g inside os Discrim w args now h held stays kind sent =
-    either_stays inside os (w == 1) _ _ (λ _. refused_stays inside os h) (λ _. refused_stays inside os h)
+    chosen (OutcomeStays inside os) (w == 1) _ _ (λ _. refused_stays inside os h) (λ _. refused_stays inside os h)
 order_stays g inside os c w args now h held stays kind sent = refused_stays inside os h

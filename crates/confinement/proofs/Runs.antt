@@ -29,11 +29,12 @@ use Rattle.model.specs.Object.{is_bank, is_free, is_node, is_page, is_root, is_w
 use Rattle.model.specs.Revoke.{void_where}
 use Rattle.model.specs.Run.{IsRun, IsTurn, Replies, Turn}
 use Rattle.model.specs.Sound.{IsSound, NamesItsKind}
-use Rattle.model.specs.Step.{Answers, Outcome, Step, carried_out, outcome, reached, refusal_of, opens, unless, without_memory, writable, writing}
+use Rattle.model.specs.Step.{Answers, Outcome, Step, carried_out, outcome, reached, refusal_of, opens, without_memory, writable, writing}
 use Rattle.model.specs.Text.{Fits, Says}
 use Rattle.model.specs.Walk.{below, path, restricted, walk, walk_along}
 use Rattle.model.specs.World.{content_at, is_running_process, object_at, owner_at, root_at, slot_at, with_word, word_at}
 use Rattle.model_laws.proofs.BankRescind.{used_where}
+use Rattle.model_laws.proofs.Journaling.{unless_passes}
 use Rattle.model_laws.proofs.SoundEdits.{edited_word}
 use Rattle.model_laws.proofs.SoundGates.{invocation_keeps}
 use Rattle.model_laws.proofs.SoundParts.{Waits, nearly_from, nearly_to, nearly_weaken}
@@ -120,13 +121,11 @@ map_alike f k (c ∷ cs) same = rw (same 0, map_alike f k cs (λ i. same (suc i)
 content_alike : (f k : Capability → Capability) (c : Content Capability)
     → ((i : ℕ) → f (slice_index_or (slots_in c) i Void) ≡ k (slice_index_or (slots_in c) i Void)) → f (root_in c).space ≡ k (root_in c).space
     → map_content f c ≡ map_content k c
-content_alike f k content.Free slots space = refl
-content_alike f k (content.Page words) slots space = refl
 content_alike f k (content.Node cs) slots space = ap content.Node (map_alike f k cs slots)
 content_alike f k (content.Root r) slots space =
     ap (λ s. content.Root (record { state = r.state; words = r.words; key = r.key; annex = r.annex; space = s })) space
 content_alike f k (content.Annex cs) slots space = ap content.Annex (map_alike f k cs slots)
-content_alike f k (content.Bank limit) slots space = refl
+content_alike f k c slots space = refl
 
 -- in a sound world no capability that goes names what was free
 kept_inside : (g : Geometry) (os : List Object) (age : ℕ) (inside : ℕ → Bool) (n : ℕ) (new : Object) → IsSound g (record { objects = os; age = age })
@@ -245,10 +244,6 @@ record IsWithin (g : Geometry) (inside : ℕ → Bool) (os : List Object) (s : R
 abbrev MachineWithin : Geometry → (ℕ → Bool) → List Object → Machine → Type 0
 MachineWithin g inside os (Up s) = IsWithin g inside os s
 MachineWithin g inside os (Down saved) = Unit {0}
-
-unless_passes : (b : Bool) (why : Refusal) (next : Option Refusal) → unless b why next ≡ None → (b ≡ true) × (next ≡ None)
-unless_passes true why next e = (refl, e)
-unless_passes false why next e = cc
 
 -- what an invocation comes to
 abbrev invoked : Running → Option Effect → Outcome

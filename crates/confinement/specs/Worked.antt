@@ -1,8 +1,6 @@
 -- A world with a confined process, worked: its set of numbers is closed, and what the bound forbids.
-use Rattle.std.specs.Prelude.{ℕ, ◌==◌, Bool, ◌||◌, [], ◌∷◌, ◌++◌, replicate, slice_set, codes}
+use Rattle.std.specs.Prelude.{ℕ, ◌==◌, Bool, ◌||◌, List, [], ◌∷◌, ◌++◌, replicate, slice_set}
 use Rattle.model.specs.declared.capability.Capability.TheVariants.{Void, Page, Node, Process, Start, Bank}
-use Rattle.model.specs.declared.command.Command.TheVariants as command
-use Rattle.model.specs.declared.command.Operation.TheVariants.{Call}
 use Rattle.model.specs.declared.object.Content.TheVariants as content
 use Rattle.model.specs.declared.object.State.TheVariants.{Running}
 use Rattle.model.specs.Capability.{full, weak}
@@ -10,7 +8,8 @@ use Rattle.model.specs.Closed.{IsClosed}
 use Rattle.model.specs.Object.{free, all_slots, zero_words}
 use Rattle.model.specs.World.{World, with_slot}
 use Rattle.model.specs.Worlds.{of_prime_bank, fresh_root, prime_bank}
-use Rattle.model_laws.specs.Worked.{IsRow, at_world, does}
+use Rattle.model_laws.specs.Worked.{Row, at_world, row}
+use Prim.Native.String.{String}
 
 -- World C0: process 1 with annex 2 runs, and holds itself, the prime bank and process 3. Process 3 with annex 4 runs, and
 -- holds node 5 weakly, and bank 6, which may own 4 objects and owns none. Node 5 holds page 16.
@@ -42,40 +41,36 @@ OutwardIsNotClosed =
     (IsClosed (with_slot c0.objects 4 1 (Node 5 full)) confined → ⊥)
     × (IsClosed (with_slot c0.objects 4 1 (Node 5 (record { 0 = 1 }))) confined → ⊥)
 
+-- how process 3 is shown once an order was refused as without access
+abbrev pub refused : String
+refused =
+    "process 3 owner 0 annex 4 running key 0 words 2 0 0 0 space void\nregister 1 node 5 weak\nregister 2 bank 6\nend"
+
 -- what process 3 tries to write by what it holds weakly is refused: code 2 is no access
-abbrev pub ConfinedOnlyReads : Type 0
-ConfinedOnlyReads = IsRow (at_world c0) (
-    (codes "call 3 1 1 0 0 0 0 0 0 0", does Call 3 1 (1 ∷ 0 ∷ 0 ∷ 0 ∷ []) 0, codes "done" ∷ []) ∷
-    (codes "call 3 28 2 0 9 0 0 0 0 0", does Call 3 28 (2 ∷ 0 ∷ 9 ∷ 0 ∷ []) 0, codes "done" ∷ []) ∷ (
-      codes "show 3",
-      command.Show 3,
-      codes "process 3 owner 0 annex 4 running key 0 words 2 0 0 0 space void" ∷ codes "register 1 node 5 weak" ∷ codes "register 2 bank 6" ∷ codes "end" ∷ [],
-    ) ∷
-    (codes "call 3 1 2 0 0 0 2 0 0 0", does Call 3 1 (2 ∷ 0 ∷ 0 ∷ 0 ∷ []) 2, codes "done" ∷ []) ∷ (
-      codes "show 3",
-      command.Show 3,
-      codes "process 3 owner 0 annex 4 running key 0 words 2 0 0 0 space void" ∷ codes "register 1 node 5 weak" ∷ codes "register 2 bank 6" ∷ codes "end" ∷ [],
-    ) ∷
-    (codes "show 16", command.Show 16, codes "page 16 owner 0" ∷ codes "word 0 1" ∷ codes "end" ∷ []) ∷
-    (codes "show 5", command.Show 5, codes "node 5 owner 0" ∷ codes "slot 0 page 16" ∷ codes "end" ∷ []) ∷
+abbrev pub only_reads : Row
+only_reads = row (at_world c0) (
+    ("call 3 1 1 0 0 0 0 0 0 0", "done") ∷
+    ("call 3 28 2 0 9 0 0 0 0 0", "done") ∷ ("show 3", refused) ∷
+    ("call 3 1 2 0 0 0 2 0 0 0", "done") ∷ ("show 3", refused) ∷
+    ("show 16", "page 16 owner 0\nword 0 1\nend") ∷ ("show 5", "node 5 owner 0\nslot 0 page 16\nend") ∷
     [])
 
 -- what its bank makes it writes, and gives up with the bank
-abbrev pub ConfinedMakesPages : Type 0
-ConfinedMakesPages = IsRow (at_world c0) (
-    (codes "call 3 2 1 0 0 0 0 0 0 0", does Call 3 2 (1 ∷ 0 ∷ 0 ∷ 0 ∷ []) 0, codes "done" ∷ []) ∷
-    (codes "call 3 28 2 0 9 0 0 0 0 0", does Call 3 28 (2 ∷ 0 ∷ 9 ∷ 0 ∷ []) 0, codes "done" ∷ []) ∷
-    (codes "show 17", command.Show 17, codes "page 17 owner 6" ∷ codes "word 0 9" ∷ codes "end" ∷ []) ∷
-    (codes "call 3 2 6 0 0 0 0 0 0 0", does Call 3 2 (6 ∷ 0 ∷ 0 ∷ 0 ∷ []) 0, codes "done" ∷ []) ∷
-    (codes "show 17", command.Show 17, codes "free 17" ∷ codes "end" ∷ []) ∷
-    (codes "show 6", command.Show 6, codes "free 6" ∷ codes "end" ∷ []) ∷
+abbrev pub makes_pages : Row
+makes_pages = row (at_world c0) (
+    ("call 3 2 1 0 0 0 0 0 0 0", "done") ∷
+    ("call 3 28 2 0 9 0 0 0 0 0", "done") ∷ ("show 17", "page 17 owner 6\nword 0 9\nend") ∷
+    ("call 3 2 6 0 0 0 0 0 0 0", "done") ∷ ("show 17", "free 17\nend") ∷ ("show 6", "free 6\nend") ∷
     [])
 
 -- If a weak fetch gave what is read-only and not weak, process 3 could come by node 5 so. From there it would write page
 -- 16, which no process of a closed set may change: what is fetched has to be weak too.
-abbrev pub ReadOnlyEscapes : Type 0
-ReadOnlyEscapes = IsRow (at_world (record { objects = with_slot c0.objects 4 28 (Node 5 (record { 0 = 1 })); age = 0 })) (
-    (codes "call 3 28 1 0 0 0 0 0 0 0", does Call 3 28 (1 ∷ 0 ∷ 0 ∷ 0 ∷ []) 0, codes "done" ∷ []) ∷
-    (codes "call 3 28 2 0 9 0 0 0 0 0", does Call 3 28 (2 ∷ 0 ∷ 9 ∷ 0 ∷ []) 0, codes "done" ∷ []) ∷
-    (codes "show 16", command.Show 16, codes "page 16 owner 0" ∷ codes "word 0 9" ∷ codes "end" ∷ []) ∷
+abbrev pub escapes : Row
+escapes = row (at_world (record { objects = with_slot c0.objects 4 28 (Node 5 (record { 0 = 1 })); age = 0 })) (
+    ("call 3 28 1 0 0 0 0 0 0 0", "done") ∷
+    ("call 3 28 2 0 9 0 0 0 0 0", "done") ∷ ("show 16", "page 16 owner 0\nword 0 9\nend") ∷
     [])
+
+-- these rows
+unfoldable pub rows : List Row
+rows = only_reads ∷ makes_pages ∷ escapes ∷ []

@@ -12,6 +12,7 @@ pub fn invocation_is_confined()
 /// they make of what was free, each object outside that wasn't free is as it was, its owner too, but
 /// that capabilities in it that name a member of the set may be void. So what is held only weakly
 /// is never written (EROS: confinement).
+#[tactic(auto, using(crate::proofs::Runs::run_confined))]
 pub fn run_is_confined()
     ensures { RunIsConfined }
 {}

@@ -141,22 +141,19 @@ module _ (g : Geometry) (os : List Object) (h : IsFramed g os) where
             (λ e. differ_where is_annex os (annex_at os p) q (h.annexes p is).0 (root_no_annex (content_at os q) iq) (sym e)) refl))
       ]
 
+  -- it is the one that is freed, where one is
+  one_set : (o n : ℕ) (ns : List ℕ) (t : Bool) → IsFreedSet os (owner_at os o) (o ∷ []) → (if t then o ∷ [] else []) ≡ n ∷ ns → IsFreedSet os (owner_at os n) (n ∷ ns)
+  one_set o n ns false freed e = cc
+  one_set o n ns true freed e = subst (λ xs. IsFreedSet os (owner_at os (get_or xs 0 0)) xs) e freed
+
   -- what a capability frees is given up together
   pub freed_set : (c : Capability) (n : ℕ) (ns : List ℕ) → NamesItsKind os c → freed_by os c ≡ n ∷ ns → IsFreedSet os (owner_at os n) (n ∷ ns)
-  freed_set (Page o a) n ns names e = go (a.0 == 0) e
-    where
-      go : (t : Bool) → (if t then o ∷ [] else []) ≡ n ∷ ns → IsFreedSet os (owner_at os n) (n ∷ ns)
-      go false e = cc
-      go true e =
-          let others = page_no_other (content_at os o) names in
-          subst (λ xs. IsFreedSet os (owner_at os (get_or xs 0 0)) xs) e (single_freed o (used_where is_page refl (content_at os o) names) others.0 others.1 others.2)
-  freed_set (Node o a) n ns names e = go (a.0 == 0) e
-    where
-      go : (t : Bool) → (if t then o ∷ [] else []) ≡ n ∷ ns → IsFreedSet os (owner_at os n) (n ∷ ns)
-      go false e = cc
-      go true e =
-          let others = node_no_other (content_at os o) names in
-          subst (λ xs. IsFreedSet os (owner_at os (get_or xs 0 0)) xs) e (single_freed o (used_where is_node refl (content_at os o) names) others.0 others.1 others.2)
+  freed_set (Page o a) n ns names e =
+      let others = page_no_other (content_at os o) names in
+      one_set o n ns (a.0 == 0) (single_freed o (used_where is_page refl (content_at os o) names) others.0 others.1 others.2) e
+  freed_set (Node o a) n ns names e =
+      let others = node_no_other (content_at os o) names in
+      one_set o n ns (a.0 == 0) (single_freed o (used_where is_node refl (content_at os o) names) others.0 others.1 others.2) e
   freed_set (Process p) n ns names e = subst (λ xs. IsFreedSet os (owner_at os (get_or xs 0 0)) xs) e (process_freed p names)
   freed_set c n ns names e = cc
 

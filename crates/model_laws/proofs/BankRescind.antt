@@ -1,13 +1,12 @@
 -- What banks give up: sets of objects that can go together, and the usage that goes with them.
-use Rattle.std.proofs.Common.{◌≡◌, ◌≢◌, ◌⊎◌, inl, inr, ℕ, zero, suc, ◌+◌, ◌==◌, ◌<◌, ◌≤◌, nat_eq, Bool, true, false, not, ◌&&◌, cond, Option, None, Some, List, [], ◌∷◌, length, get_or, refl, sym, ap, subst, arith, zero-add, add-zero, ◌∙◌}
+use Rattle.std.proofs.Common.{◌≡◌, ◌≢◌, ◌⊎◌, inl, inr, ℕ, zero, suc, ◌+◌, ◌==◌, ◌<◌, ◌≤◌, nat_eq, Bool, true, false, not, ◌&&◌, cond, Option, None, Some, List, [], ◌∷◌, length, refl, sym, ap, subst, arith, zero-add, add-zero, ◌∙◌}
 use Rattle.std.specs.Prelude.{if◌then◌else◌, IsTrue}
 use Rattle.std.specs.List.{count_by, enumerate_from}
 use Rattle.std.proofs.lemmas.Bool.{false≢true, cases_Bool, cases_eq, false_from_ne_true, eq-eqb, ne_eqb, not_from_false, or_left, or_right}
 use Rattle.std.proofs.lemmas.List.{length-map}
 use Rattle.std.proofs.lemmas.List.FromFn.{length-enumerate_from}
-use Rattle.std.proofs.lemmas.List.Sums.{sum_by-cons}
 use Rattle.model.specs.declared.capability.Capability.{Capability}
-use Rattle.model.specs.declared.capability.Capability.TheVariants.{Void, Number, Page, Node, Space, Process, Start, Resume, Bank, Discrim}
+use Rattle.model.specs.declared.capability.Capability.TheVariants.{Void}
 use Rattle.model.specs.declared.geometry.Geometry.{Geometry}
 use Rattle.model.specs.declared.object.Content.{Content}
 use Rattle.model.specs.declared.object.Content.TheVariants as content
@@ -18,8 +17,10 @@ use Rattle.model.specs.World.{object_at, content_at, owner_at, annex_at, is_proc
 use Rattle.model.specs.Bank.{chain, chain_within, is_under, usage}
 use Rattle.model.specs.Revoke.{void_where, without, is_member, names_member, rescind}
 use Rattle.model.specs.Sound.{IsOfKind, IsSpace}
+use Rattle.model_laws.proofs.Cases.{chosen, one_of}
+use Rattle.model_laws.proofs.Counts.{count_alike, count_both, count_none, one_within}
 use Rattle.model_laws.proofs.Usage.{AreAlike, SameTests, same_tests}
-use Rattle.model_laws.proofs.SoundParts.{IsHeld, IsFilled, IsFramed, Waits, state_at, held_void}
+use Rattle.model_laws.proofs.SoundParts.{IsHeld, IsFilled, IsFramed, Waits, state_at, held_alike, held_void}
 use Rattle.model_laws.proofs.Mapped.{alike_without, mapped, void_void}
 use Rattle.model_laws.proofs.SoundEdits.{filled_map}
 use Rattle.model_laws.proofs.SoundOrders.{IsNow}
@@ -41,34 +42,6 @@ used_where test fails c is = refl
 -- what isn't free is owned by a bank
 pub used_owner : (os : List Object) → IsTree os → (n : ℕ) → is_free (content_at os n) ≡ false → IsTrue (is_bank (content_at os (owner_at os n)))
 used_owner os tree n used = tree.owners n (λ gone. false≢true (sym used ∙ gone))
-
--- counts over numbered objects
-
--- two counts come to a third where they do at each number
-pub count_both : {X : Type 0} (p q r : ℕ × X → Bool) (k : ℕ) (xs ys : List X) (d : X) → length ys ≡ length xs
-    → ((i j : ℕ) → j ≡ k + i → cond (p (j, get_or ys i d)) 1 0 + cond (q (j, get_or xs i d)) 1 0 ≡ cond (r (j, get_or xs i d)) 1 0)
-    → count_by p (enumerate_from k ys) + count_by q (enumerate_from k xs) ≡ count_by r (enumerate_from k xs)
-count_both p q r k [] [] d e each = omega arith
-count_both p q r k (x ∷ xs) (y ∷ ys) d e each =
-    let rest = count_both p q r (k + 1) xs ys d (omega arith) (λ i j is. each (suc i) j (omega arith)) in
-    rw (sum_by-cons (λ z. cond (p z) 1 0) (k, y) (enumerate_from (k + 1) ys), sum_by-cons (λ z. cond (q z) 1 0) (k, x) (enumerate_from (k + 1) xs), sum_by-cons (λ z. cond (r z) 1 0) (k, x) (enumerate_from (k + 1) xs))
-    (omega (arith, rest, each 0 k (omega arith)))
-count_both p q r k xs ys d e each = absurd (omega arith)
-
--- a test that fails at each number
-pub count_none : {X : Type 0} (p : ℕ × X → Bool) (xs : List X) (d : X) → ((i : ℕ) → p (i, get_or xs i d) ≡ false) → count_by p (enumerate_from 0 xs) ≡ 0
-count_none p xs d fails =
-    omega (arith, count_both p p p 0 xs xs d refl (λ i j e. let same : i ≡ j = omega (arith, e) in rw (same, fails j) refl))
-
--- two tests that agree at each number
-pub count_same : {X : Type 0} (p q : ℕ × X → Bool) (xs : List X) (d : X) → ((i : ℕ) → p (i, get_or xs i d) ≡ q (i, get_or xs i d))
-    → count_by p (enumerate_from 0 xs) ≡ count_by q (enumerate_from 0 xs)
-count_same p q xs d agree =
-    omega (
-      arith,
-      count_none (λ z. false) xs d (λ i. refl),
-      count_both (λ z. false) p q 0 xs xs d refl (λ i j e. let same : i ≡ j = omega (arith, e) in rw (same, agree j) (zero-add _)),
-    )
 
 -- what stays and what goes
 
@@ -208,19 +181,8 @@ pub record IsAsBefore (os us : List Object) (n : ℕ) : Type 0 where
 
 -- a capability may be held still where what it names is as before
 pub held_as_before : (os us : List Object) (c : Capability) → ((n : ℕ) → named c ≡ Some n → IsAsBefore os us n) → IsHeld os (Waits os) c → IsHeld us (Waits us) c
-held_as_before os us Void f h = record { well_formed = h.well_formed; names = h.names }
-held_as_before os us (Number n) f h = record { well_formed = h.well_formed; names = h.names }
-held_as_before os us (Page o a) f h = record { well_formed = h.well_formed; names = rw (same_tests (content_at os o) (content_at us o) (f o refl).role).page h.names }
-held_as_before os us (Node o a) f h = record { well_formed = h.well_formed; names = rw (same_tests (content_at os o) (content_at us o) (f o refl).role).node h.names }
-held_as_before os us (Space o k a) f h = record { well_formed = h.well_formed; names = rw (same_tests (content_at os o) (content_at us o) (f o refl).role).node h.names }
-held_as_before os us (Process p) f h = record { well_formed = h.well_formed; names = rw (same_tests (content_at os p) (content_at us p) (f p refl).role).root h.names }
-held_as_before os us (Start p key) f h = record { well_formed = h.well_formed; names = rw (same_tests (content_at os p) (content_at us p) (f p refl).role).root h.names }
-held_as_before os us (Resume p) f h = record {
-  well_formed = h.well_formed;
-  names = (rw (same_tests (content_at os p) (content_at us p) (f p refl).role).root h.names.0, ap is_waiting (f p refl).state ∙ h.names.1);
-}
-held_as_before os us (Bank b) f h = record { well_formed = h.well_formed; names = rw (same_tests (content_at os b) (content_at us b) (f b refl).role).bank h.names }
-held_as_before os us Discrim f h = record { well_formed = h.well_formed; names = h.names }
+held_as_before os us c f =
+    held_alike os us (Waits os) (Waits us) c (λ n e. (f n e).role) (λ p e waits. ap is_waiting (f p e).state ∙ waits)
 
 module _ (os : List Object) (set : List ℕ) where
   kept_as_before : (n : ℕ) → is_member set n ≡ false → IsAsBefore os (rescind set os) n
@@ -236,20 +198,12 @@ module _ (os : List Object) (set : List ℕ) where
   cleared = void_where (names_member set)
 
   held_rescind : (c : Capability) → IsHeld os (Waits os) c → Holds (cleared c)
-  held_rescind c h = go (names_member set c) refl
-    where
-      go : (b : Bool) → names_member set c ≡ b → Holds (if b then Void else c)
-      go true e = held_void (rescind set os) (Waits (rescind set os))
-      go false e =
-          held_as_before os (rescind set os) c
-          (λ n is. kept_as_before n (sym (ap (λ (o : Option ℕ). elim o [ None ↦ false | Some m ↦ is_member set m ]) is) ∙ e)) h
+  held_rescind c h = chosen Holds (names_member set c) Void c (λ _. held_void (rescind set os) (Waits (rescind set os))) (λ e.
+      held_as_before os (rescind set os) c
+      (λ n is. kept_as_before n (sym (ap (λ (o : Option ℕ). elim o [ None ↦ false | Some m ↦ is_member set m ]) is) ∙ e)) h)
 
   space_rescind : (c : Capability) → IsSpace c → IsSpace (cleared c)
-  space_rescind c h = go (names_member set c)
-    where
-      go : (b : Bool) → IsSpace (if b then Void else c)
-      go true = tt
-      go false = h
+  space_rescind c h = one_of IsSpace (names_member set c) Void c tt h
 
   filled_cleared : (c : Content Capability) → IsFilled os (Waits os) c → IsFilled (rescind set os) (Waits (rescind set os)) (map_content cleared c)
   filled_cleared = filled_map os (rescind set os) (Waits os) (Waits (rescind set os)) cleared (void_void (names_member set)) held_rescind space_rescind
@@ -272,21 +226,6 @@ rescinded_now g os set h closed = record {
 
 -- how much goes with a set
 
-none_before : (m k : ℕ) (xs : List Object) → m < k → count_by (λ p. p.0 == m) (enumerate_from k xs) ≡ 0
-none_before m k [] e = refl
-none_before m k (x ∷ xs) e =
-    rw (sum_by-cons (λ (z : ℕ × Object). cond (z.0 == m) 1 0) (k, x) (enumerate_from (k + 1) xs), ne_eqb k m (λ same. omega (arith, e, same)))
-    (zero-add _ ∙ none_before m (k + 1) xs (omega (arith, e)))
-
-one_within : (m k : ℕ) (xs : List Object) → k ≤ m → m < k + length xs → count_by (λ p. p.0 == m) (enumerate_from k xs) ≡ 1
-one_within m k [] from below = absurd (omega (arith, from, below))
-one_within m k (x ∷ xs) from below =
-    rw (sum_by-cons (λ (z : ℕ × Object). cond (z.0 == m) 1 0) (k, x) (enumerate_from (k + 1) xs))
-    (elim (cases_eq k m) [
-      | inl same ↦ rw (eq-eqb k m same, none_before m (k + 1) xs (omega (arith, same))) refl
-      | inr other ↦ rw (ne_eqb k m other) (zero-add _ ∙ one_within m (k + 1) xs (grind (arith, from, other)) (omega (arith, below)))
-    ])
-
 -- a list of numbers of objects, each once, has as many as there are
 pub count_members : (os : List Object) (set : List ℕ) → AllDiffer set → ((n : ℕ) → is_member set n ≡ true → n < length os)
     → count_by (λ p. is_member set p.0) (enumerate_from 0 os) ≡ length set
@@ -306,7 +245,7 @@ pub lost_together : (os : List Object) (set : List ℕ) (x : ℕ) (above : Bool)
     → ((n : ℕ) → is_member set n ≡ true → is_under os x (object_at os n) ≡ above) → lost os set x ≡ (if above then length set else 0)
 unfolding lost
 lost_together os set x true once below each =
-    count_same (λ p. is_member set p.0 && is_under os x p.1) (λ p. is_member set p.0) os free (λ i. go i (is_member set i) refl) ∙ count_members os set once below
+    count_alike (λ p. is_member set p.0 && is_under os x p.1) (λ p. is_member set p.0) os os free refl (λ i. go i (is_member set i) refl) ∙ count_members os set once below
   where
     go : (i : ℕ) (b : Bool) → is_member set i ≡ b → (b && is_under os x (object_at os i)) ≡ b
     go i true e = each i e

@@ -1,5 +1,5 @@
 -- A bank that is returned to its parent, and that what banks give up leaves objects sound.
-use Rattle.std.proofs.Common.{◌≡◌, ◌≢◌, inl, inr, ℕ, zero, suc, ◌+◌, ◌-◌, ◌==◌, ◌≤◌, nat_eq, Bool, true, false, not, ◌&&◌, ◌||◌, List, [], ◌∷◌, length, refl, sym, ap, subst, arith, add-zero, ◌∙◌}
+use Rattle.std.proofs.Common.{◌≡◌, ◌≢◌, inl, inr, ℕ, zero, suc, ◌+◌, ◌-◌, ◌==◌, ◌≤◌, nat_eq, Bool, true, false, not, ◌&&◌, ◌||◌, List, [], ◌∷◌, length, refl, sym, ap, subst, arith, ◌∙◌}
 use Rattle.std.specs.Prelude.{if◌then◌else◌, IsTrue}
 use Rattle.std.proofs.lemmas.Bool.{false≢true, cases_Bool, cases_eq, and_right, or_right, false_from_ne_true, eq-eqb, ne_eqb, eqb-true, eqb-false}
 use Rattle.std.proofs.lemmas.List.{length-map}
@@ -21,10 +21,12 @@ use Rattle.model.specs.Revoke.{is_member, rescind}
 use Rattle.model.specs.Sound.{IsOfKind}
 use Rattle.model_laws.proofs.SoundParts.{IsHeld, IsFilled, IsFramed, Waits, held_to, held_void}
 use Rattle.model_laws.proofs.Mapped.{at_map}
-use Rattle.model_laws.proofs.SoundOrders.{IsNow, IsOutcome, AreArguments, three_words, refused_keeps, either}
+use Rattle.model_laws.proofs.SoundOrders.{IsNow, IsOutcome, AreArguments, three_words, refused_keeps}
+use Rattle.model_laws.proofs.Cases.{chosen, one_of}
+use Rattle.model_laws.proofs.Counts.{count_alike, count_none}
 use Rattle.model_laws.proofs.BankTree.{IsTree, tree_of, member_tail, chain_prime, chain_unfolds, chain_longer, chain_once, chain_itself, chain_nonempty, chain_length, chain_owner_length, owner_bank}
 use Rattle.model_laws.proofs.NumberLists.{AllDiffer, no_member, only_member}
-use Rattle.model_laws.proofs.BankRescind.{count_both, count_none, held_as_before, rescinded_now, used_owner, used_where}
+use Rattle.model_laws.proofs.BankRescind.{held_as_before, rescinded_now, used_owner, used_where}
 use Rattle.model_laws.proofs.BankFreed.{IsGivenUp, differ_where, freed_set, owned_found, owned_once, tree_induction, under_given_up, under_owner, usage_given_up}
 
 -- who owns what a bank owned
@@ -38,11 +40,7 @@ heir_other : (b parent n : ℕ) → n ≢ b → heir b parent n ≡ n
 heir_other b parent n e = rw (ne_eqb n b e) refl
 
 pub handed_content : (b parent : ℕ) (o : Object) → (handed_on b parent o).content ≡ o.content
-handed_content b parent o = go (not (is_free o.content) && (o.owner == b))
-  where
-    go : (t : Bool) → (if t then record { owner = parent; content = o.content } else o).content ≡ o.content
-    go true = refl
-    go false = refl
+handed_content b parent o = one_of (λ x. x.content ≡ o.content) (not (is_free o.content) && (o.owner == b)) _ o refl refl
 
 handed_owner : (b parent : ℕ) (o : Object) → b ≢ 0 → (is_free o.content ≡ true → o.owner ≡ 0) → (handed_on b parent o).owner ≡ heir b parent o.owner
 handed_owner b parent o on unowned = go (is_free o.content) refl
@@ -167,12 +165,8 @@ module _ (os : List Object) (t : IsTree os) (b : ℕ) (is : IsTrue (is_bank (con
   pub usage_inherited : (x : ℕ) → x ≢ b → usage (inherited os b) x ≡ usage os x
   unfolding usage
   usage_inherited x differ =
-      omega (
-        arith,
-        count_none (λ p. false) os free (λ i. refl),
-        count_both (λ p. not (p.0 == x) && is_under (inherited os b) x p.1) (λ p. false) (λ p. not (p.0 == x) && is_under os x p.1) 0 os (inherited os b) free length_inherited
-            (λ i j e. let same : i ≡ j = omega (arith, e) in rw (same, under_heir x j differ) (add-zero _)),
-      )
+      count_alike (λ p. not (p.0 == x) && is_under (inherited os b) x p.1) (λ p. not (p.0 == x) && is_under os x p.1) os (inherited os b) free length_inherited
+      (λ i. ap (λ (u : Bool). not (i == x) && u) (under_heir x i differ))
 
   usage_none : usage (inherited os b) b ≡ 0
   unfolding usage
@@ -318,7 +312,7 @@ module _ (g : Geometry) (os : List Object) (b : ℕ) (args : Arguments) (h : IsN
       go : (ns : List ℕ) → freed_by os args.capability ≡ ns → IsOutcome g (freed os b ns)
       go [] e = refused_keeps g os _ h
       go (n ∷ ns) e =
-          either g (owner_at os n == b) _ _
+          chosen (IsOutcome g) (owner_at os n == b) _ _
           (λ own. void_keeps g _ _
           (rescinded_now g os (n ∷ ns) h (freed_set g os h.frame args.capability n ns (held_to os args.capability fits.held).1 e).given_up.closed))
           (λ other. refused_keeps g os _ h)
@@ -327,11 +321,11 @@ module _ (g : Geometry) (os : List Object) (b : ℕ) (args : Arguments) (h : IsN
   pub destroyed_keeps : IsOutcome g (on_bank g os b bank.Destroy args)
   unfolding on_bank
   destroyed_keeps =
-      either g (b == 0) _ _ (λ prime. refused_keeps g os _ h)
+      chosen (IsOutcome g) (b == 0) _ _ (λ prime. refused_keeps g os _ h)
       (λ on. void_keeps g _ _ (rescinded_now g os (under os b) h (under_given_up g os h.frame b is (eqb-false b 0 on)).closed))
 
   -- and a bank's return to its parent
   pub returned_keeps : IsOutcome g (on_bank g os b bank.ReturnToParent args)
   unfolding on_bank
   returned_keeps =
-      either g (b == 0) _ _ (λ prime. refused_keeps g os _ h) (λ on. void_keeps g _ _ (returned_now g os b h is (eqb-false b 0 on)))
+      chosen (IsOutcome g) (b == 0) _ _ (λ prime. refused_keeps g os _ h) (λ on. void_keeps g _ _ (returned_now g os b h is (eqb-false b 0 on)))

@@ -1,7 +1,7 @@
 -- Usage after a new object, and what a bank is asked where the frame is the same.
-use Rattle.std.proofs.Common.{◌≡◌, ◌≢◌, inl, inr, ℕ, suc, ◌+◌, ◌==◌, ◌<◌, ◌≤◌, Bool, true, false, not, ◌&&◌, ◌||◌, cond, List, [], ◌∷◌, length, map, get_or, refl, sym, ap, subst, arith, ◌∙◌}
+use Rattle.std.proofs.Common.{◌≡◌, ◌≢◌, inl, inr, ℕ, ◌+◌, ◌==◌, ◌<◌, Bool, true, false, not, ◌&&◌, ◌||◌, add-zero, zero-add, List, [], ◌∷◌, length, map, refl, sym, ap, subst, arith, ◌∙◌}
 use Rattle.std.specs.Prelude.{IsTrue, if◌then◌else◌, nat_eq, nat_le, nat_lt}
-use Rattle.std.specs.List.{fold, enumerate_from, filter, list_any, list_all, range_with_len}
+use Rattle.std.specs.List.{filter, list_any, list_all, range_with_len}
 use Rattle.std.proofs.lemmas.Bool.{cases_eq, eq-eqb, ne_eqb, and_right, false_from_ne_true}
 use Rattle.model.specs.declared.capability.Capability.{Capability}
 use Rattle.model.specs.declared.capability.Capability.TheVariants.{Void, Page, Node, Process, Bank}
@@ -15,44 +15,15 @@ use Rattle.model.specs.declared.order.BankOrder.TheVariants as bank
 use Rattle.model.specs.declared.order.ResultCode.{ResultCode}
 use Rattle.model.specs.declared.order.ResultCode.TheVariants as code
 use Rattle.model.specs.Capability.{full}
-use Rattle.model.specs.Object.{free, is_bank, is_free, limit_in}
+use Rattle.model.specs.Object.{free, is_bank, is_free}
 use Rattle.model.specs.World.{object_at, content_at, owner_at}
 use Rattle.model.specs.Bank.{chain, is_under, usage}
 use Rattle.model.specs.OrderOutcome.{OrderOutcome, refused, made}
 use Rattle.model.specs.Banking.{are_free, free_nodes, free_pages, has_room, with_new, new_page, new_node, allocated, process_allocated, bank_allocated, freed_by, freed, under, owned_by, left_of, least, remaining, on_bank}
 use Rattle.model.specs.Revoke.{is_member, rescind}
+use Rattle.model_laws.proofs.Counts.{count_both, count_none, count_where}
 use Rattle.model_laws.proofs.Usage.{SameFrame, tests_at, chain_same, under_same, usage_same}
 use Rattle.model_laws.proofs.BankTree.{IsTree, bank_not_free, chain_banks, chain_new, at_new, at_other, length_new}
-
-abbrev one_if : Bool → ℕ
-one_if b = cond b 1 0
-
--- Two lists that are counted alike but at one number: there the second counts so many more.
-fold_one : {X : Type 0} (p q : ℕ × X → Bool) (n more a e k : ℕ) (xs ys : List X) (d : X) → (n < k → e ≡ a + more) → (k ≤ n → e ≡ a)
-    → length ys ≡ length xs → n < k + length xs
-    → ((i j : ℕ) → j ≡ k + i → j ≢ n → p (j, get_or ys i d) ≡ q (j, get_or xs i d))
-    → ((i j : ℕ) → j ≡ k + i → j ≡ n → cond (p (j, get_or ys i d)) 1 0 ≡ cond (q (j, get_or xs i d)) 1 0 + more)
-    → fold (λ s x. s + cond (p x) 1 0) e (enumerate_from k ys) ≡ fold (λ s x. s + cond (q x) 1 0) a (enumerate_from k xs) + more
-fold_one p q n more a e k [] [] d past before size inside same one = past (omega arith)
-fold_one p q n more a e k (x ∷ xs) (y ∷ ys) d past before size inside same one =
-    fold_one p q n more (a + cond (q (k, x)) 1 0) (e + cond (p (k, y)) 1 0) (k + 1) xs ys d
-    (λ lt. elim (cases_eq k n) [
-      | inl at ↦ omega (arith, one 0 k (omega arith) at, before (omega arith))
-      | inr differ ↦ omega (arith, ap one_if (same 0 k (omega arith) differ), past (omega arith))
-    ])
-    (λ le. omega (arith, ap one_if (same 0 k (omega arith) (λ at. omega arith)), before (omega arith)))
-    (omega arith) (omega arith)
-    (λ i j at differ. same (suc i) j (omega arith) differ)
-    (λ i j at is. one (suc i) j (omega arith) is)
-fold_one p q n more a e k xs ys d past before size inside same one = absurd (omega arith)
-
--- a list in which nothing is counted
-fold_none : {X : Type 0} (p : ℕ × X → Bool) (a k : ℕ) (xs : List X) (d : X) → ((i j : ℕ) → j ≡ k + i → p (j, get_or xs i d) ≡ false)
-    → fold (λ s x. s + cond (p x) 1 0) a (enumerate_from k xs) ≡ a
-fold_none p a k [] d none = refl
-fold_none p a k (x ∷ xs) d none =
-    let head : one_if (p (k, x)) ≡ 0 = ap one_if (none 0 k (omega arith)) in
-    fold_none p (a + cond (p (k, x)) 1 0) (k + 1) xs d (λ i j at. none (suc i) j (omega arith)) ∙ omega (arith, head)
 
 -- an object of a bank at a number that is free
 module _ (os : List Object) (n b : ℕ) (c : Content Capability) (t : IsTree os) (bank : IsTrue (is_bank (content_at os b))) (inside : n < length os)
@@ -90,24 +61,25 @@ module _ (os : List Object) (n b : ℕ) (c : Content Capability) (t : IsTree os)
   pub usage_new : (x : ℕ) → IsTrue (is_bank (content_at os x)) → usage (with_new os n b c) x ≡ usage os x + (if is_member (chain os b) x then 1 else 0)
   unfolding usage
   usage_new x is =
-      fold_one (λ p. not (p.0 == x) && is_under (with_new os n b c) x p.1) (λ p. not (p.0 == x) && is_under os x p.1)
-      n (if is_member (chain os b) x then 1 else 0) 0 0 0 os (with_new os n b c) free
-      (λ lt. absurd (omega arith)) (λ le. refl) (length_new os n b c) (omega arith)
-      (λ i j at differ. ap (λ u. not (j == x) && u) (under_kept x i (λ e. differ (omega arith))))
-      (λ i j at here.
-      let in_list : get_or (with_new os n b c) i free ≡ object_at (with_new os n b c) n = ap (λ (m : ℕ). object_at (with_new os n b c) m) (omega arith) in
-      let in_old : get_or os i free ≡ object_at os n = ap (λ (m : ℕ). object_at os m) (omega arith) in
-      let apart : (n == x) ≡ false = ne_eqb n x (λ e. bank_not_free os x n is unused (sym e)) in
-      rw (here, in_list, in_old, apart, under_new x, unused) (omega arith))
+      let us = with_new os n b c in
+      let gains = is_member (chain os b) x in
+      omega (
+        arith,
+        count_where n gains us free (omega (arith, length_new os n b c)),
+        count_both (λ p. not (p.0 == x) && is_under os x p.1) (λ p. (p.0 == n) && gains) (λ p. not (p.0 == x) && is_under us x p.1) 0 us os free
+            (sym (length_new os n b c)) (λ i j at. let same : i ≡ j = omega (arith, at) in rw same (elim (cases_eq j n) [
+              | inl here ↦ rw (here, ne_eqb n x (λ e. bank_not_free os x n is unused (sym e)), eq-eqb n n refl, under_new x, unused) (zero-add _)
+              | inr differ ↦ rw (ne_eqb j n differ, under_kept x j differ) (add-zero _)
+            ])),
+      )
 
   -- a new bank has used nothing
   pub usage_new_bank : IsTrue (is_bank c) → usage (with_new os n b c) n ≡ 0
   unfolding usage
   usage_new_bank is =
-      fold_none (λ p. not (p.0 == n) && is_under (with_new os n b c) n p.1) 0 0 (with_new os n b c) free
-      (λ i j at. elim (cases_eq i n) [
-        | inl e ↦ let here : (j == n) ≡ true = eq-eqb j n (omega arith) in rw here refl
-        | inr differ ↦ and_right (not (j == n)) (is_under (with_new os n b c) n (object_at (with_new os n b c) i)) (under_kept n i differ ∙ under_none i)
+      count_none (λ p. not (p.0 == n) && is_under (with_new os n b c) n p.1) (with_new os n b c) free (λ i. elim (cases_eq i n) [
+        | inl e ↦ rw (eq-eqb i n e) refl
+        | inr differ ↦ and_right (not (i == n)) (is_under (with_new os n b c) n (object_at (with_new os n b c) i)) (under_kept n i differ ∙ under_none i)
       ])
 
 -- Where the frame is the same, a bank is asked alike.
@@ -119,21 +91,9 @@ pub record SameOutcome (x y : OrderOutcome) : Type 0 where
   pub capability : y.capability ≡ x.capability
   pub written : y.written ≡ x.written
 
-filter_alike : {X : Type 0} (p q : X → Bool) (xs : List X) → ((x : X) → q x ≡ p x) → filter q xs ≡ filter p xs
-filter_alike p q [] same = refl
-filter_alike p q (x ∷ xs) same = rw (same x, filter_alike p q xs same) refl
-
-all_alike : {X : Type 0} (p q : X → Bool) (xs : List X) → ((x : X) → q x ≡ p x) → list_all q xs ≡ list_all p xs
-all_alike p q [] same = refl
-all_alike p q (x ∷ xs) same = rw (same x, all_alike p q xs same) refl
-
-map_alike : {X Y : Type 0} (f h : X → Y) (xs : List X) → ((x : X) → h x ≡ f x) → map h xs ≡ map f xs
-map_alike f h [] same = refl
-map_alike f h (x ∷ xs) same = rw (same x, map_alike f h xs same) refl
-
 module _ (os us : List Object) (s : SameFrame os us) where
   free_alike : (ns : List ℕ) → are_free us ns ≡ are_free os ns
-  free_alike ns = filter_alike (λ n. is_free (content_at os n)) (λ n. is_free (content_at us n)) ns (λ n. (tests_at os us s n).free)
+  free_alike ns = λ k. filter (λ n. (tests_at os us s n).free k) ns
 
   pub nodes_alike : (g : Geometry) → free_nodes g us ≡ free_nodes g os
   unfolding free_nodes
@@ -145,10 +105,7 @@ module _ (os us : List Object) (s : SameFrame os us) where
 
   pub room_alike : (b count : ℕ) → has_room us b count ≡ has_room os b count
   unfolding has_room
-  room_alike b count =
-      ap (λ xs. list_all (λ c. nat_le (usage us c + count) (limit_in (content_at us c))) xs) (chain_same os us s b)
-      ∙ all_alike (λ c. nat_le (usage os c + count) (limit_in (content_at os c))) (λ c. nat_le (usage us c + count) (limit_in (content_at us c))) (chain os b)
-      (λ c. rw (usage_same os us s c, (s.alike c).limit) refl)
+  room_alike b count = λ k. list_all (λ c. nat_le (usage_same os us s c k + count) ((s.alike c).limit k)) (chain_same os us s b k)
 
   pub freed_alike : (c : Capability) → freed_by us c ≡ freed_by os c
   freed_alike (Process p) = rw (s.alike p).annex refl
@@ -157,24 +114,18 @@ module _ (os us : List Object) (s : SameFrame os us) where
   pub under_alike : (b : ℕ) → under us b ≡ under os b
   unfolding under
   under_alike b =
-      ap (λ k. filter (λ n. (n == b) || is_under us b (object_at us n)) (range_with_len 0 k)) s.size
-      ∙ filter_alike (λ n. (n == b) || is_under os b (object_at os n)) (λ n. (n == b) || is_under us b (object_at us n)) (range_with_len 0 (length os))
-      (λ n. ap (λ u. (n == b) || u) (under_same os us s b (object_at os n) (object_at us n) (s.alike n)))
+      λ k. filter (λ n. (n == b) || under_same os us s b (object_at os n) (object_at us n) (s.alike n) k) (range_with_len 0 (s.size k))
 
   pub owned_alike : (b : ℕ) → owned_by us b ≡ owned_by os b
   unfolding owned_by
-  owned_alike b =
-      ap (λ k. filter (λ n. not (is_free (content_at us n)) && (owner_at us n == b)) (range_with_len 0 k)) s.size
-      ∙ filter_alike (λ n. not (is_free (content_at os n)) && (owner_at os n == b)) (λ n. not (is_free (content_at us n)) && (owner_at us n == b))
-      (range_with_len 0 (length os)) (λ n. rw ((tests_at os us s n).free, (s.alike n).owner) refl)
+  owned_alike b = λ k. filter (λ n. not ((tests_at os us s n).free k) && ((s.alike n).owner k == b)) (range_with_len 0 (s.size k))
 
   left_alike : (b : ℕ) → left_of us b ≡ left_of os b
   left_alike b = rw ((s.alike b).limit, usage_same os us s b) refl
 
   pub remaining_alike : (b : ℕ) → remaining us b ≡ remaining os b
   unfolding remaining
-  remaining_alike b =
-      rw (left_alike b, chain_same os us s b) (ap (least (left_of os b)) (map_alike (left_of os) (left_of us) (chain os b) left_alike))
+  remaining_alike b = λ k. least (left_alike b k) (map (λ c. left_alike c k) (chain_same os us s b k))
 
   same_refused : (why : ResultCode) → SameOutcome (refused os why) (refused us why)
   same_refused why = record { code = refl; words = refl; capability = refl; written = refl }

@@ -1,8 +1,8 @@
 -- What is written by what a bank is asked, and the annex of a process that outlives it.
-use Rattle.std.proofs.Common.{◌≡◌, ◌≢◌, ℕ, zero, suc, ◌+◌, ◌<◌, ◌≤◌, ◌==◌, Bool, true, false, List, [], ◌∷◌, refl, sym, ap, subst, arith, ◌∙◌, if◌then◌else◌}
+use Rattle.std.proofs.Common.{◌≡◌, ◌≢◌, ℕ, ◌+◌, ◌<◌, ◌≤◌, ◌==◌, Bool, true, false, List, [], ◌∷◌, refl, sym, ap, subst, arith, ◌∙◌, if◌then◌else◌}
 use Rattle.std.specs.Prelude.{IsTrue, nat_lt, length}
 use Rattle.std.specs.List.{range_with_len, All}
-use Rattle.std.proofs.lemmas.List.Elements.{All-filter, filter_passes}
+use Rattle.std.proofs.lemmas.List.Elements.{All-cons, All-filter, All-nil, filter_passes}
 use Rattle.std.proofs.lemmas.List.FromFn.{get_or-range_with_len, length-range_with_len}
 use Rattle.model.specs.declared.capability.Capability.{Capability}
 use Rattle.model.specs.declared.geometry.Geometry.{Geometry}
@@ -19,6 +19,7 @@ use Rattle.model.specs.OrderOutcome.{OrderOutcome}
 use Rattle.model.specs.Revoke.{is_member, names_member, rescind, without}
 use Rattle.model.specs.Sound.{NamesItsKind}
 use Rattle.model.specs.World.{annex_at, content_at, is_process, object_at, owner_at}
+use Rattle.model_laws.proofs.Cases.{one_of}
 use Rattle.model_laws.proofs.BankFreed.{freed_within, owned_within, under_within, used_within}
 use Rattle.model_laws.proofs.BankReturn.{handed_content}
 use Rattle.model_laws.proofs.BankTree.{at_other}
@@ -30,19 +31,9 @@ use Rattle.model_laws.proofs.SoundOrders.{IsNow}
 abbrev KeepsAnnexes : List Object → List Object → Type 0
 KeepsAnnexes os us = (p : ℕ) → is_process os p ≡ true → is_process us p ≡ true → annex_at us p ≡ annex_at os p
 
--- what holds of both outcomes holds of either
-module _ (P : OrderOutcome → Type 0) where
-  pub one_of : (b : Bool) (x y : OrderOutcome) → P x → P y → P (if b then x else y)
-  one_of true x y p q = p
-  one_of false x y p q = q
-
 root_not_free : (c : Content Capability) → is_root c ≡ true → is_free c ≡ true → ⊥
-root_not_free content.Free r f = cc
-root_not_free (content.Page words) r f = cc
-root_not_free (content.Node slots) r f = cc
 root_not_free (content.Root root) r f = cc
-root_not_free (content.Annex registers) r f = cc
-root_not_free (content.Bank limit) r f = cc
+root_not_free c r f = cc
 
 after : (set : List ℕ) (b : Bool) (o : Object) → is_root (if b then free else without (names_member set) o).content ≡ true →
     (root_in (if b then free else without (names_member set) o).content).annex ≡ (root_in o.content).annex
@@ -128,20 +119,10 @@ abbrev Within : List Object → OrderOutcome → Type 0
 Within os o = All (λ n. n < length os) o.written
 
 none_within : (os : List Object) → All (λ n. n < length os) []
-none_within os k d inside = absurd (omega arith)
+none_within os = All-nil (λ n. n < length os)
 
 one_within : (os : List Object) (n : ℕ) → n < length os → All (λ n. n < length os) (n ∷ [])
-one_within os n inside zero d e = inside
-one_within os n inside (suc k) d e = absurd (omega arith)
-
-two_within : (os : List Object) (n m : ℕ) → n < length os → m < length os → All (λ n. n < length os) (n ∷ m ∷ [])
-two_within os n m first second zero d e = first
-two_within os n m first second (suc zero) d e = second
-two_within os n m first second (suc (suc k)) d e = absurd (omega arith)
-
-more_within : (os : List Object) (n : ℕ) (ns : List ℕ) → n < length os → All (λ n. n < length os) ns → All (λ n. n < length os) (n ∷ ns)
-more_within os n ns first rest zero d e = first
-more_within os n ns first rest (suc k) d e = rest k d (omega arith)
+one_within os n inside = All-cons (λ n. n < length os) n [] inside (none_within os)
 
 allocated_within : (os : List Object) (b : ℕ) (ns : List ℕ) (c : Content Capability) (named : ℕ → Capability) → All (λ n. n < length os) ns → Within os (allocated os b ns c named)
 allocated_within os b [] c named inside = none_within os
@@ -150,7 +131,7 @@ allocated_within os b (n ∷ ns) c named inside = one_within os n (inside 0 0 (o
 process_within : (os : List Object) (b : ℕ) (ns : List ℕ) → All (λ n. n < length os) ns → Within os (process_allocated os b ns)
 process_within os b [] inside = none_within os
 process_within os b (p ∷ []) inside = none_within os
-process_within os b (p ∷ a ∷ ns) inside = two_within os p a (inside 0 0 (omega arith)) (inside 1 0 (omega arith))
+process_within os b (p ∷ a ∷ ns) inside = All-cons (λ n. n < length os) p (a ∷ []) (inside 0 0 (omega arith)) (one_within os a (inside 1 0 (omega arith)))
 
 bank_within : (os : List Object) (b : ℕ) (ns : List ℕ) (limit : ℕ) → All (λ n. n < length os) ns → Within os (bank_allocated os b ns limit)
 bank_within os b [] limit inside = none_within os
@@ -175,5 +156,5 @@ written_within g os b bank.NewBank args h is kind = one_of (Within os) (has_room
 written_within g os b bank.Free args h is kind = freed_inside g os b args.capability (freed_by os args.capability) h kind refl
 written_within g os b bank.Destroy args h is kind = one_of (Within os) (b == 0) _ _ (none_within os) (under_within os b)
 written_within g os b bank.ReturnToParent args h is kind =
-    one_of (Within os) (b == 0) _ _ (none_within os) (more_within os b (owned_by os b) (used_within os b (bank_is_used (content_at os b) is)) (owned_within os b))
+    one_of (Within os) (b == 0) _ _ (none_within os) (All-cons (λ n. n < length os) b (owned_by os b) (used_within os b (bank_is_used (content_at os b) is)) (owned_within os b))
 written_within g os b bank.Remaining args h is kind = none_within os

@@ -29,7 +29,8 @@ use Rattle.model_laws.proofs.BankFreed.{freed_set, under_given_up, used_within}
 use Rattle.model_laws.proofs.BankRescind.{kept_tests, used_where}
 use Rattle.model_laws.proofs.BankReturn.{inherited_content}
 use Rattle.model_laws.proofs.BankTree.{tree_of}
-use Rattle.model_laws.proofs.BankWrites.{one_of}
+use Rattle.model_laws.proofs.Cases.{chosen, one_of}
+use Rattle.std.proofs.Math.Bool.{or-false}
 use Rattle.model_laws.proofs.InvocationFrame.{invocation_frame}
 use Rattle.model_laws.proofs.NumberLists.{only_member}
 use Rattle.model_laws.proofs.Revoking.{rescinds_all}
@@ -123,11 +124,8 @@ module _ (os : List Object) (n : ℕ) where
   ended_gives : (b : ℕ) (vs : List Object) (set written : List ℕ) → (b ≢ 0 → (m : ℕ) → content_at vs m ≡ content_at os m)
       → (b ≢ 0 → (m : ℕ) → is_member set m ≡ true → is_free (content_at os m) ≡ false)
       → GivesUp os n set (if b == 0 then refused os code.PrimeBank else made (rescind set vs) written Void)
-  ended_gives b vs set written same used = go (b == 0) refl
-    where
-      go : (t : Bool) → (b == 0) ≡ t → GivesUp os n set (if t then refused os code.PrimeBank else made (rescind set vs) written Void)
-      go true e = by_none set code.PrimeBank (λ done. cc)
-      go false e = by_rescind vs set written (same (eqb-false b 0 e)) (used (eqb-false b 0 e))
+  ended_gives b vs set written same used = chosen (GivesUp os n set) (b == 0) _ _ (λ e. by_none set code.PrimeBank (λ done. cc))
+      (λ e. by_rescind vs set written (same (eqb-false b 0 e)) (used (eqb-false b 0 e)))
 
 -- what a capability frees was there
 freed_used : (g : Geometry) (os : List Object) (c : Capability) → IsNow g os → NamesItsKind os c → (list : List ℕ) → freed_by os c ≡ list
@@ -172,8 +170,4 @@ renewing_none renewed os us none =
     (λ n inside.
     let known : n < length renewed = omega (arith, inside, count) in
     get_or-map-range_with_len test 0 (length renewed) n n false known (omega arith)
-    ∙ (ap (λ (b : Bool). slice_index_or renewed n false || b) (none n) ∙ either (slice_index_or renewed n false)))
-  where
-    either : (b : Bool) → (b || false) ≡ b
-    either true = refl
-    either false = refl
+    ∙ (ap (λ (b : Bool). slice_index_or renewed n false || b) (none n) ∙ or-false (slice_index_or renewed n false)))

@@ -1,20 +1,18 @@
 -- What invocations leave as it is: owners, roles, annexes, limits, and with them chains and usages.
-use Rattle.std.proofs.Common.{◌≡◌, ℕ, ◌+◌, ◌==◌, Bool, true, false, not, ◌||◌, Option, None, Some, List, [], ◌∷◌, refl, sym, ap, subst, ◌∙◌}
-use Rattle.std.specs.Prelude.{if◌then◌else◌, IsTrue, nat_lt, slice_index, slice_index_or}
+use Rattle.std.proofs.Common.{◌≡◌, ℕ, ◌+◌, ◌==◌, not, ◌||◌, Option, None, Some, List, [], ◌∷◌, refl, sym, ap, subst, ◌∙◌}
+use Rattle.std.specs.Prelude.{IsTrue, nat_lt, slice_index, slice_index_or}
 use Rattle.std.proofs.lemmas.Bool.{and_parts}
 use Rattle.model.specs.declared.access.Access.{Access}
 use Rattle.model.specs.declared.capability.Capability.{Capability}
-use Rattle.model.specs.declared.capability.Capability.TheVariants.{Void, Number, Page, Node, Space, Process, Start, Resume, Bank, Discrim}
+use Rattle.model.specs.declared.capability.Capability.TheVariants.{Void, Number, Page, Node, Space, Process, Bank, Discrim}
 use Rattle.model.specs.declared.command.Command.TheVariants as command
 use Rattle.model.specs.declared.command.Invocation.{Invocation}
 use Rattle.model.specs.declared.command.Message.{Message}
-use Rattle.model.specs.declared.command.Operation.{Operation}
-use Rattle.model.specs.declared.command.Operation.TheVariants.{Call, Return, Send}
 use Rattle.model.specs.declared.geometry.Geometry.{Geometry}
 use Rattle.model.specs.declared.object.Object.{Object}
 use Rattle.model.specs.declared.object.Root.{Root}
 use Rattle.model.specs.declared.object.State.{State}
-use Rattle.model.specs.declared.object.State.TheVariants.{Available, Running, Waiting}
+use Rattle.model.specs.declared.object.State.TheVariants.{Available, Running}
 use Rattle.model.specs.declared.order.Arguments.{Arguments}
 use Rattle.model.specs.declared.order.BankOrder.{BankOrder}
 use Rattle.model.specs.declared.order.NodeOrder.{NodeOrder}
@@ -30,12 +28,14 @@ use Rattle.model.specs.Revoke.{consume}
 use Rattle.model.specs.Banking.{on_bank}
 use Rattle.model.specs.OrderOutcome.{OrderOutcome, refused}
 use Rattle.model.specs.Order.{IsNoBankOrder, bank_order, page_order, node_order, process_order, reduces, is_space, stored, on_page, on_node, on_process, order}
-use Rattle.model.specs.Invoke.{Effect, deliver, sent_by, sent_to_gate, after_gate, after_order, through_gate, reply_of, replied, ordered, on_kernel_object, can_start, invoke}
+use Rattle.model.specs.Invoke.{Effect, deliver, sent_by, sent_to_gate, after_gate, after_order, through_gate, reply_of, replied, ordered, on_kernel_object, invoke}
 use Rattle.model.specs.Sound.{IsSound}
 use Rattle.model.specs.Text.{Fits}
+use Rattle.model_laws.proofs.Cases.{after_gate_by, after_order_by, found_or, invoked_by, one_of, replied_by}
 use Rattle.model_laws.proofs.Usage.{SameFrame, frame_refl, frame_trans, tests_at}
 use Rattle.model_laws.proofs.SoundParts.{IsHeld, Waits, state_at, held_on, nearly_from, nearly_to}
-use Rattle.model_laws.proofs.SoundEdits.{alike_slot, alike_word, alike_root, frame_content, frame_consume}
+use Rattle.model_laws.proofs.SoundEdits.{alike_slot, alike_word, frame_content, frame_consume}
+pub use Rattle.model_laws.proofs.SoundEdits.{root_frame, state_frame}
 use Rattle.model_laws.proofs.SoundOrders.{IsNow}
 use Rattle.model_laws.proofs.SoundGates.{after_state}
 
@@ -54,15 +54,6 @@ slots_frame os n i [] = frame_refl os
 slots_frame os n i (c ∷ cs) =
     frame_trans os (with_slot os n i c) (with_slots_from (with_slot os n i c) n (i + 1) cs) (slot_frame os n i c) (slots_frame (with_slot os n i c) n (i + 1) cs)
 
-pub root_frame : (os : List Object) (p : ℕ) (r : Root Capability) → IsTrue (is_process os p) → r.annex ≡ annex_at os p → SameFrame os (with_root os p r)
-unfolding with_root
-root_frame os p r is same = frame_content os p _ (alike_root (owner_at os p) r (content_at os p) is same)
-
--- a process goes into another state: the frame stays
-pub state_frame : (os : List Object) (p : ℕ) (s : State) → IsTrue (is_process os p) → SameFrame os (with_state os p s)
-unfolding with_state
-state_frame os p s is = root_frame os p _ is refl
-
 -- a message is delivered: the frame stays
 pub deliver_frame : (os : List Object) (p : ℕ) (m : Message) → IsTrue (is_process os p) → SameFrame os (deliver os p m)
 unfolding deliver
@@ -78,33 +69,24 @@ deliver_frame os p m is =
 abbrev LeavesFrame : List Object → OrderOutcome → Type 0
 LeavesFrame os o = SameFrame os o.objects
 
-either_frame : (os : List Object) (b : Bool) (x y : OrderOutcome) → LeavesFrame os x → LeavesFrame os y → LeavesFrame os (if b then x else y)
-either_frame os true x y p q = p
-either_frame os false x y p q = q
-
-asked_frame : {A : Type 0} (os : List Object) (found : Option A) (x : OrderOutcome) (f : A → OrderOutcome) → LeavesFrame os x
-    → ((a : A) → LeavesFrame os (f a)) → LeavesFrame os (elim found [ None ↦ x | Some a ↦ f a ])
-asked_frame os None x f p q = p
-asked_frame os (Some a) x f p q = q a
-
 page_frame : (os : List Object) (o : ℕ) (a : Access) (asked : PageOrder) (args : Arguments) → LeavesFrame os (on_page os o a asked args)
 unfolding on_page
-page_frame os o a page.Read args = either_frame os (nat_lt args.first 512) _ _ (frame_refl os) (frame_refl os)
+page_frame os o a page.Read args = one_of (LeavesFrame os) (nat_lt args.first 512) _ _ (frame_refl os) (frame_refl os)
 page_frame os o a page.Write args =
-    either_frame os (not (a.0 == 0)) _ _ (frame_refl os)
-    (either_frame os (nat_lt args.first 512) _ _ (word_frame os o args.first args.second) (frame_refl os))
-page_frame os o a page.Reduce args = either_frame os (reduces args.first) _ _ (frame_refl os) (frame_refl os)
+    one_of (LeavesFrame os) (not (a.0 == 0)) _ _ (frame_refl os)
+    (one_of (LeavesFrame os) (nat_lt args.first 512) _ _ (word_frame os o args.first args.second) (frame_refl os))
+page_frame os o a page.Reduce args = one_of (LeavesFrame os) (reduces args.first) _ _ (frame_refl os) (frame_refl os)
 
 stored_frame : (os : List Object) (o : ℕ) (a : Access) (slot : ℕ) (c : Capability) → LeavesFrame os (stored os o a slot c)
 stored_frame os o a slot c =
-    either_frame os (not (a.0 == 0)) _ _ (frame_refl os) (either_frame os (nat_lt slot 32) _ _ (slot_frame os o slot c) (frame_refl os))
+    one_of (LeavesFrame os) (not (a.0 == 0)) _ _ (frame_refl os) (one_of (LeavesFrame os) (nat_lt slot 32) _ _ (slot_frame os o slot c) (frame_refl os))
 
 node_frame : (os : List Object) (o : ℕ) (a : Access) (asked : NodeOrder) (args : Arguments) → LeavesFrame os (on_node os o a asked args)
 unfolding on_node
-node_frame os o a node.Fetch args = either_frame os (nat_lt args.first 32) _ _ (frame_refl os) (frame_refl os)
+node_frame os o a node.Fetch args = one_of (LeavesFrame os) (nat_lt args.first 32) _ _ (frame_refl os) (frame_refl os)
 node_frame os o a node.Store args = stored_frame os o a args.first args.capability
-node_frame os o a node.Reduce args = either_frame os (reduces args.first) _ _ (frame_refl os) (frame_refl os)
-node_frame os o a node.MakeSpace args = either_frame os ((args.first == 0) || not (nat_lt args.first 5)) _ _ (frame_refl os) (frame_refl os)
+node_frame os o a node.Reduce args = one_of (LeavesFrame os) (reduces args.first) _ _ (frame_refl os) (frame_refl os)
+node_frame os o a node.MakeSpace args = one_of (LeavesFrame os) ((args.first == 0) || not (nat_lt args.first 5)) _ _ (frame_refl os) (frame_refl os)
 node_frame os o a node.PutNumber args = stored_frame os o a args.first (Number args.second)
 
 pub set_frame : (os : List Object) (p : ℕ) (s : State) → IsTrue (is_process os p) → SameFrame os (consume p (with_state os p s))
@@ -112,18 +94,18 @@ set_frame os p s is = frame_trans os (with_state os p s) (consume p (with_state 
 
 process_frame : (os : List Object) (p : ℕ) (asked : ProcessOrder) (args : Arguments) → IsTrue (is_process os p) → LeavesFrame os (on_process os p asked args)
 unfolding on_process
-process_frame os p process.GetRegister args is = either_frame os (nat_lt args.first 32) _ _ (frame_refl os) (frame_refl os)
+process_frame os p process.GetRegister args is = one_of (LeavesFrame os) (nat_lt args.first 32) _ _ (frame_refl os) (frame_refl os)
 process_frame os p process.PutRegister args is =
-    either_frame os ((args.first == 0) || not (nat_lt args.first 32)) _ _ (frame_refl os) (slot_frame os (annex_at os p) args.first args.capability)
-process_frame os p process.GetWord args is = either_frame os (nat_lt args.first 4) _ _ (frame_refl os) (frame_refl os)
-process_frame os p process.PutWord args is = either_frame os (nat_lt args.first 4) _ _ (root_frame os p _ is refl) (frame_refl os)
-process_frame os p process.MakeStart args is = either_frame os (nat_lt args.first 65536) _ _ (frame_refl os) (frame_refl os)
+    one_of (LeavesFrame os) ((args.first == 0) || not (nat_lt args.first 32)) _ _ (frame_refl os) (slot_frame os (annex_at os p) args.first args.capability)
+process_frame os p process.GetWord args is = one_of (LeavesFrame os) (nat_lt args.first 4) _ _ (frame_refl os) (frame_refl os)
+process_frame os p process.PutWord args is = one_of (LeavesFrame os) (nat_lt args.first 4) _ _ (root_frame os p _ is refl) (frame_refl os)
+process_frame os p process.MakeStart args is = one_of (LeavesFrame os) (nat_lt args.first 65536) _ _ (frame_refl os) (frame_refl os)
 process_frame os p process.GetState args is = frame_refl os
 process_frame os p process.SetState args is =
-    either_frame os (args.first == 0) _ _ (set_frame os p Available is)
-    (either_frame os (args.first == 1) _ _ (set_frame os p Running is) (frame_refl os))
+    one_of (LeavesFrame os) (args.first == 0) _ _ (set_frame os p Available is)
+    (one_of (LeavesFrame os) (args.first == 1) _ _ (set_frame os p Running is) (frame_refl os))
 process_frame os p process.GetSpace args is = frame_refl os
-process_frame os p process.SetSpace args is = either_frame os (is_space args.capability) _ _ (root_frame os p _ is refl) (frame_refl os)
+process_frame os p process.SetSpace args is = one_of (LeavesFrame os) (is_space args.capability) _ _ (root_frame os p _ is refl) (frame_refl os)
 
 bank_refused : (g : Geometry) (os : List Object) (b w : ℕ) (args : Arguments) → bank_order w ≡ None → order g os (Bank b) w args ≡ refused os code.NoOrder
 unfolding order
@@ -133,54 +115,31 @@ bank_refused g os b w args is = ap (λ (found : Option BankOrder). elim found [ 
 pub order_frame : (g : Geometry) (W : ℕ → Type 0) (os : List Object) (c : Capability) (w : ℕ) (args : Arguments) → IsHeld os W c → IsNoBankOrder c w
     → SameFrame os (order g os c w args).objects
 unfolding order
-order_frame g W os (Number n) w args held other = either_frame os (w == 1) _ _ (frame_refl os) (frame_refl os)
+order_frame g W os (Number n) w args held other = one_of (LeavesFrame os) (w == 1) _ _ (frame_refl os) (frame_refl os)
 order_frame g W os (Page o a) w args held other =
-    asked_frame os (page_order w) _ (λ asked. on_page os o a asked args) (frame_refl os) (λ asked. page_frame os o a asked args)
+    found_or (LeavesFrame os) (page_order w) _ (λ asked. on_page os o a asked args) (frame_refl os) (λ asked. page_frame os o a asked args)
 order_frame g W os (Node o a) w args held other =
-    asked_frame os (node_order w) _ (λ asked. on_node os o a asked args) (frame_refl os) (λ asked. node_frame os o a asked args)
+    found_or (LeavesFrame os) (node_order w) _ (λ asked. on_node os o a asked args) (frame_refl os) (λ asked. node_frame os o a asked args)
 order_frame g W os (Space o k a) w args held other =
-    either_frame os (w == 3) _ _ (either_frame os (reduces args.first) _ _ (frame_refl os) (frame_refl os)) (frame_refl os)
+    one_of (LeavesFrame os) (w == 3) _ _ (one_of (LeavesFrame os) (reduces args.first) _ _ (frame_refl os) (frame_refl os)) (frame_refl os)
 order_frame g W os (Process p) w args held other =
-    asked_frame os (process_order w) _ (λ asked. on_process os p asked args) (frame_refl os) (λ asked. process_frame os p asked args held.names)
+    found_or (LeavesFrame os) (process_order w) _ (λ asked. on_process os p asked args) (frame_refl os) (λ asked. process_frame os p asked args held.names)
 order_frame g W os (Bank b) w args held other = subst (λ (o : OrderOutcome). SameFrame os o.objects) (sym (bank_refused g os b w args other)) (frame_refl os)
-order_frame g W os Discrim w args held other = either_frame os (w == 1) _ _ (frame_refl os) (frame_refl os)
+order_frame g W os Discrim w args held other = one_of (LeavesFrame os) (w == 1) _ _ (frame_refl os) (frame_refl os)
 order_frame g W os c w args held other = frame_refl os
 
 -- a reply is delivered or dropped: the frame stays
 pub replied_frame : (i : Invocation) (o : OrderOutcome) → SameFrame o.objects (replied o.objects i o)
-replied_frame i o = go i.operation
-  where
-    branch : (b : Bool) → is_running_process o.objects i.process ≡ b
-        → SameFrame o.objects (if b then deliver o.objects i.process (reply_of o) else o.objects)
-    branch false e = frame_refl o.objects
-    branch true e =
-        deliver_frame o.objects i.process (reply_of o) (and_parts (is_process o.objects i.process) (is_running (state_at o.objects i.process)) e).0
-
-    go : (p : Operation) → SameFrame o.objects (elim p [
-      | Call ↦ if is_running_process o.objects i.process then deliver o.objects i.process (reply_of o) else o.objects
-      | _ ↦ o.objects
-    ])
-    go Call = branch (is_running_process o.objects i.process) refl
-    go Return = frame_refl o.objects
-    go Send = frame_refl o.objects
+replied_frame i o = replied_by (SameFrame o.objects) o.objects i o (frame_refl o.objects) (λ runs.
+    deliver_frame o.objects i.process (reply_of o) (and_parts (is_process o.objects i.process) (is_running (state_at o.objects i.process)) runs).0)
 
 -- invocations
 
 after_gate_frame : (os : List Object) (i : Invocation) → IsTrue (is_process os i.process) → SameFrame os (after_gate os i)
-after_gate_frame os i is = go i.operation
-  where
-    go : (o : Operation) → SameFrame os (elim o [ Call ↦ with_state os i.process Waiting | Return ↦ with_state os i.process Available | Send ↦ os ])
-    go Call = state_frame os i.process Waiting is
-    go Return = state_frame os i.process Available is
-    go Send = frame_refl os
+after_gate_frame os i is = after_gate_by (SameFrame os) os i (frame_refl os) (λ s. state_frame os i.process s is)
 
 after_order_frame : (os : List Object) (i : Invocation) → IsTrue (is_process os i.process) → SameFrame os (after_order os i)
-after_order_frame os i is = go i.operation
-  where
-    go : (o : Operation) → SameFrame os (elim o [ Return ↦ with_state os i.process Available | _ ↦ os ])
-    go Return = state_frame os i.process Available is
-    go Call = frame_refl os
-    go Send = frame_refl os
+after_order_frame os i is = after_order_by (SameFrame os) os i (frame_refl os) (λ s. state_frame os i.process s is)
 
 gate_frame : (os : List Object) (i : Invocation) (q key : ℕ) → IsTrue (is_process os i.process) → IsTrue (is_process os q)
     → SameFrame os (through_gate os i q key).objects
@@ -207,37 +166,12 @@ kernel_frame g W os i is held other =
 -- an invocation that asks no bank: the frame stays
 pub invocation_frame : (g : Geometry) (os : List Object) (i : Invocation) (e : Effect) → IsNow g os → Fits (command.Invoke i) → IsTrue (is_running_process os i.process)
     → IsNoBankOrder (register_at os i.process i.register) (slice_index i.words 0) → invoke g os i ≡ Some e → SameFrame os e.objects
-unfolding invoke
-invocation_frame g os i e h fits runs other done =
-    go (register_at os i.process i.register) ((h.filled (annex_at os i.process)).slots i.register) done
-  where
-    is : IsTrue (is_process os i.process)
-    is = (and_parts (is_process os i.process) (is_running (state_at os i.process)) runs).0
-
-    kernel : SameFrame os (on_kernel_object g os i).objects
-    kernel = kernel_frame g (Waits os) os i is ((h.filled (annex_at os i.process)).slots i.register) other
-
-    from : (f : Effect) → SameFrame os f.objects → Some f ≡ Some e → SameFrame os e.objects
-    from f frame same = let equal : f ≡ e = cc in subst (λ (x : Effect). SameFrame os x.objects) equal frame
-
-    start : (q key : ℕ) (b : Bool) → IsHeld os (Waits os) (Start q key) → (if b then Some (through_gate os i q key) else None) ≡ Some e → SameFrame os e.objects
-    start q key true held same = from (through_gate os i q key) (gate_frame os i q key is held.names) same
-    start q key false held same = cc
-
-    resume : (q : ℕ) → IsTrue (is_process os q) → SameFrame os (consume q (through_gate os i q 0).objects)
-    resume q iq =
-        let us = (through_gate os i q 0).objects in
-        frame_trans os us (consume q us) (gate_frame os i q 0 is iq) (frame_consume q us)
-
-    go : (c : Capability) → IsHeld os (Waits os) c
-        → (elim c [
-          | Start q key ↦ if can_start os i q then Some (through_gate os i q key) else None
-          | Resume q ↦ let effect = through_gate os i q 0 in Some (record { objects = consume q effect.objects; written = effect.written })
-          | _ ↦ Some (on_kernel_object g os i)
-        ]) ≡ Some e → SameFrame os e.objects
-    go (Start q key) held same = start q key (can_start os i q) held same
-    go (Resume q) held same = from _ (resume q held.names.0) same
-    go c held same = from (on_kernel_object g os i) kernel same
+invocation_frame g os i e h fits runs other =
+    let is = (and_parts (is_process os i.process) (is_running (state_at os i.process)) runs).0 in
+    let held = (h.filled (annex_at os i.process)).slots i.register in
+    invoked_by (SameFrame os) os i (IsHeld os (Waits os)) g e held (λ q key by can. gate_frame os i q key is by.names) (λ q by.
+    let us = (through_gate os i q 0).objects in
+    frame_trans os us (consume q us) (gate_frame os i q 0 is by.names.0) (frame_consume q us)) (kernel_frame g (Waits os) os i is held other)
 
 -- a running process becomes available: sound objects stay sound
 pub state_now : (g : Geometry) (os : List Object) (p : ℕ) → IsNow g os → IsTrue (is_process os p) → IsTrue (is_running (state_at os p))

@@ -1,5 +1,6 @@
 -- A saved world stays sound where a page of it has other words.
-use Rattle.std.proofs.Common.{◌≡◌, ℕ, ◌+◌, ◌^◌, ◌<◌, ◌≤◌, Bool, true, false, not, ◌&&◌, Option, None, List, length, refl, sym, ap, ◌∙◌, subst, arith}
+use Rattle.std.proofs.Common.{◌≡◌, ℕ, ◌+◌, ◌^◌, ◌<◌, ◌≤◌, Bool, true, false, Option, None, List, length, refl, sym, ap, ◌∙◌, subst, arith}
+use Rattle.std.proofs.lemmas.Bool.{and_parts, not-true}
 use Rattle.std.specs.Prelude.{slice_index, slice_index_or}
 use Rattle.model.specs.declared.answer.Refusal.{Refusal}
 use Rattle.model.specs.declared.capability.Capability.{Capability}
@@ -65,26 +66,19 @@ world_with_page g w n age words sound is count fit most =
     (nearly_weaken g (Waits w.objects) (Waits us) us (λ p waits. ap is_waiting (edited.states p) ∙ waits) edited.sound)
     most
 
+-- a check that does not refuse is passed, and so is the next
+pub unless_passes : (b : Bool) (why : Refusal) (next : Option Refusal) → unless b why next ≡ None → (b ≡ true) × (next ≡ None)
+unless_passes true why next e = (refl, e)
+unless_passes false why next e = cc
+
 -- where nothing refuses it, both are pages
 pub both_pages : (s : Running) (n : ℕ) → unjournaled s n ≡ None →
     (is_page (content_at s.now.objects n) ≡ true) × (is_page (content_at s.saved.world.objects n) ≡ true)
     × (slice_index_or s.renewed n false ≡ false)
 both_pages s n none =
-    let saved = passes _ _ _ (passes _ _ _ none).1 in
-    let parts = both _ _ saved.0 in
-    ((passes _ _ _ none).0, parts.0, not_true _ parts.1)
-  where
-    passes : (b : Bool) (why : Refusal) (next : Option Refusal) → unless b why next ≡ None → (b ≡ true) × (next ≡ None)
-    passes true why next e = (refl, e)
-    passes false why next e = cc
-
-    both : (b c : Bool) → (b && c) ≡ true → (b ≡ true) × (c ≡ true)
-    both true c e = (refl, e)
-    both false c e = cc
-
-    not_true : (b : Bool) → not b ≡ true → b ≡ false
-    not_true true e = cc
-    not_true false e = refl
+    let first = unless_passes _ _ _ none in
+    let saved = and_parts _ _ (unless_passes _ _ _ first.1).0 in
+    (first.0, saved.0, not-true _ saved.1)
 
 page_shape : (c : Content Capability) → is_page c ≡ true → HasShape c → length (words_in c) ≡ 512
 page_shape (content.Page words) is shape = shape

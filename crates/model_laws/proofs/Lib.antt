@@ -1,3 +1,5 @@
+pub mod Cases
+pub mod Counts
 pub mod InvocationFrame
 pub mod Journaling
 pub mod Mapped
@@ -20,4 +22,5 @@ pub mod GivenUp
 pub mod Revoking
 mod Touching
 pub mod Usage
+pub mod Rows
 mod WorkedRows

@@ -1,5 +1,5 @@
 -- A content with each capability in it changed is as it was in all else.
-use Rattle.std.proofs.Common.{◌≡◌, ℕ, zero, suc, Bool, true, false, List, [], ◌∷◌, map, get_or, if◌then◌else◌, refl, sym}
+use Rattle.std.proofs.Common.{◌≡◌, ℕ, zero, suc, Bool, List, [], ◌∷◌, map, get_or, refl, sym}
 use Rattle.model.specs.declared.capability.Capability.{Capability}
 use Rattle.model.specs.declared.capability.Capability.TheVariants.{Void}
 use Rattle.model.specs.declared.object.Content.{Content}
@@ -7,6 +7,7 @@ use Rattle.model.specs.declared.object.Content.TheVariants as content
 use Rattle.model.specs.declared.object.Object.{Object}
 use Rattle.model.specs.Object.{is_bank, is_free, is_root, limit_in, map_content, role_of, root_in, slots_in}
 use Rattle.model.specs.Revoke.{void_where, without}
+use Rattle.model_laws.proofs.Cases.{one_of}
 use Rattle.model_laws.proofs.Usage.{AreAlike}
 
 pub at_map : {X : Type 0} (f : X → X) (xs : List X) (i : ℕ) (d : X) → f d ≡ d → get_or (map f xs) i d ≡ f (get_or xs i d)
@@ -15,11 +16,7 @@ at_map f (x ∷ xs) zero d e = refl
 at_map f (x ∷ xs) (suc i) d e = at_map f xs i d e
 
 pub void_void : (goes : Capability → Bool) → void_where goes Void ≡ Void
-void_void goes = cases (goes Void)
-  where
-    cases : (b : Bool) → (if b then Void else Void) ≡ Void
-    cases true = refl
-    cases false = refl
+void_void goes = one_of (λ c. c ≡ Void) (goes Void) Void Void refl refl
 
 pub record IsMapped (f : Capability → Capability) (c d : Content Capability) : Type 0 where
   pub role : role_of d ≡ role_of c
@@ -33,18 +30,13 @@ pub record IsMapped (f : Capability → Capability) (c d : Content Capability) :
   pub slot : f Void ≡ Void → (i : ℕ) → get_or (slots_in d) i Void ≡ f (get_or (slots_in c) i Void)
 
 pub mapped : (f : Capability → Capability) (c : Content Capability) → IsMapped f c (map_content f c)
-mapped f content.Free =
-    record { role = refl; free = refl; root = refl; bank = refl; limit = refl; state = refl; annex = refl; space = λ e. sym e; slot = λ e i. sym e }
-mapped f (content.Page words) =
-    record { role = refl; free = refl; root = refl; bank = refl; limit = refl; state = refl; annex = refl; space = λ e. sym e; slot = λ e i. sym e }
 mapped f (content.Node slots) =
     record { role = refl; free = refl; root = refl; bank = refl; limit = refl; state = refl; annex = refl; space = λ e. sym e; slot = λ e i. at_map f slots i Void e }
 mapped f (content.Root r) =
     record { role = refl; free = refl; root = refl; bank = refl; limit = refl; state = refl; annex = refl; space = λ e. refl; slot = λ e i. sym e }
 mapped f (content.Annex registers) =
     record { role = refl; free = refl; root = refl; bank = refl; limit = refl; state = refl; annex = refl; space = λ e. sym e; slot = λ e i. at_map f registers i Void e }
-mapped f (content.Bank limit) =
-    record { role = refl; free = refl; root = refl; bank = refl; limit = refl; state = refl; annex = refl; space = λ e. sym e; slot = λ e i. sym e }
+mapped f c = record { role = refl; free = refl; root = refl; bank = refl; limit = refl; state = refl; annex = refl; space = λ e. sym e; slot = λ e i. sym e }
 
 -- so is an object with some capabilities put void
 pub without_mapped : (goes : Capability → Bool) (o : Object) → IsMapped (void_where goes) o.content (without goes o).content

@@ -9,16 +9,13 @@ use Rattle.model.specs.World.{object_at}
 use Rattle.model.specs.Revoke.{void_where, without, is_member, names_member, resumes, rescind}
 use Rattle.model_laws.specs.Laws.{RescindsAll, ConsumesAll}
 use Rattle.model_laws.proofs.Mapped.{void_void, without_mapped}
+use Rattle.model_laws.proofs.Cases.{chosen, one_of}
 use Rattle.model_laws.proofs.SoundEdits.{object_consume}
 
 module _ (goes : Capability → Bool) (void_stays : goes Void ≡ false) where
   -- a capability that goes is put void
   gone : (c : Capability) → goes (void_where goes c) ≡ false
-  gone c = cases (goes c) refl
-    where
-      cases : (b : Bool) → goes c ≡ b → goes (if b then Void else c) ≡ false
-      cases true e = void_stays
-      cases false e = e
+  gone c = chosen (λ k. goes k ≡ false) (goes c) Void c (λ _. void_stays) (λ e. e)
 
   -- no slot and no address space of an object without them holds one that goes
   pub gone_from_slot : (o : Object) (i : ℕ) → goes (slice_index_or (slots_in (without goes o).content) i Void) ≡ false
@@ -41,11 +38,7 @@ after_rescind set p = if is_member set p.0 then free else without (names_member 
 
 -- what is free stays so
 free_stays : (set : List ℕ) (n : ℕ) → free ≡ after_rescind set (n, free)
-free_stays set n = cases (is_member set n)
-  where
-    cases : (b : Bool) → free ≡ (if b then free else without (names_member set) free)
-    cases true = refl
-    cases false = refl
+free_stays set n = one_of (λ o. free ≡ o) (is_member set n) free _ refl refl
 
 at_rescind_from : (set : List ℕ) (os : List Object) (k n : ℕ) →
     object_at (map (after_rescind set) (enumerate_from k os)) n ≡ after_rescind set (k + n, object_at os n)
@@ -73,15 +66,13 @@ rescinds_all set os = (frees, λ n. stays n, λ n i. clears_slot n i, λ p. clea
     stays n other = at_rescind set os n ∙ ap (λ b. if b then free else without (names_member set) (object_at os n)) other
 
     clears_slot : (n i : ℕ) → names_member set (slice_index_or (slots_in (object_at (rescind set os) n).content) i Void) ≡ false
-    clears_slot n i = subst (λ o. names_member set (slice_index_or (slots_in o.content) i Void) ≡ false) (sym (at_rescind set os n)) (cases (is_member set n))
-      where
-        cases : (b : Bool) → names_member set (slice_index_or (slots_in (if b then free else without (names_member set) (object_at os n)).content) i Void) ≡ false
-        cases true = refl
-        cases false = gone_from_slot (names_member set) refl (object_at os n) i
+    clears_slot n i =
+        subst (λ o. names_member set (slice_index_or (slots_in o.content) i Void) ≡ false) (sym (at_rescind set os n))
+        (one_of (λ o. names_member set (slice_index_or (slots_in o.content) i Void) ≡ false) (is_member set n) free _ refl
+        (gone_from_slot (names_member set) refl (object_at os n) i))
 
     clears_space : (p : ℕ) → names_member set (root_in (object_at (rescind set os) p).content).space ≡ false
-    clears_space p = subst (λ o. names_member set (root_in o.content).space ≡ false) (sym (at_rescind set os p)) (cases (is_member set p))
-      where
-        cases : (b : Bool) → names_member set (root_in (if b then free else without (names_member set) (object_at os p)).content).space ≡ false
-        cases true = refl
-        cases false = gone_from_space (names_member set) refl (object_at os p)
+    clears_space p =
+        subst (λ o. names_member set (root_in o.content).space ≡ false) (sym (at_rescind set os p))
+        (one_of (λ o. names_member set (root_in o.content).space ≡ false) (is_member set p) free _ refl
+        (gone_from_space (names_member set) refl (object_at os p)))

@@ -1,5 +1,5 @@
 -- What a bank is asked keeps sound objects sound.
-use Rattle.std.proofs.Common.{◌≡◌, ◌≢◌, inl, inr, ℕ, zero, suc, ◌+◌, ◌^◌, ◌<◌, ◌≤◌, Bool, true, false, Some, List, [], ◌∷◌, length, map, replicate, min, refl, sym, ap, subst, arith, ◌∙◌}
+use Rattle.std.proofs.Common.{◌≡◌, ◌≢◌, inl, inr, ℕ, ◌+◌, ◌^◌, ◌<◌, ◌≤◌, Bool, true, false, Some, List, [], ◌∷◌, length, map, min, refl, sym, ap, subst, arith, ◌∙◌}
 use Rattle.std.specs.Prelude.{IsTrue, if◌then◌else◌, nat_le, nat_lt, slice_index, slice_index_or}
 use Rattle.std.specs.List.{All, AllPairs, list_all, range_with_len}
 use Rattle.std.proofs.lemmas.Bool.{cases_eq, cases_Bool, and_parts, leb-true, ltb-true}
@@ -25,8 +25,9 @@ use Rattle.model.specs.Banking.{are_free, free_nodes, free_pages, has_room, with
 use Rattle.model.specs.Revoke.{is_member}
 use Rattle.model.specs.Sound.{IsOfKind, HasShape}
 use Rattle.model_laws.proofs.SoundParts.{IsHeld, IsFilled, Waits, held_void}
-use Rattle.model_laws.proofs.SoundOrders.{IsNow, IsOutcome, AreArguments, three_words, refused_keeps, given_keeps, either}
-use Rattle.model_laws.proofs.SoundWorlds.{holds_void, zero_words_fit, zero_words_length, all_slots_length}
+use Rattle.model_laws.proofs.SoundOrders.{IsNow, IsOutcome, AreArguments, three_words, refused_keeps, given_keeps}
+use Rattle.model_laws.proofs.Cases.{chosen}
+use Rattle.model_laws.proofs.SoundWorlds.{holds_replicate, holds_void, zero_words_fit, zero_words_length, all_slots_length}
 use Rattle.model_laws.proofs.BankTree.{IsTree, tree_of, member_tail, at_new, at_other, length_new, chain_new, new_bank_kept, tree_new}
 use Rattle.model_laws.proofs.BankUsage.{usage_new, usage_new_bank}
 use Rattle.model_laws.proofs.BankRescind.{IsAsBefore, held_as_before, used_where}
@@ -166,14 +167,7 @@ filled_annex : (us : List Object) (W : ℕ → Type 0) → IsFilled us W new_ann
 filled_annex us W = filled_void us W new_annex all_slots_length (λ i. omega arith) (holds_void (λ c. c ≡ Void) refl) refl
 
 filled_root : (us : List Object) (W : ℕ → Type 0) (a : ℕ) → IsFilled us W (new_root a)
-filled_root us W a = filled_void us W (new_root a) (refl, zeros, omega arith) (λ i. omega arith) (λ i. refl) refl
-  where
-    zeros : (i : ℕ) → slice_index (replicate 4 0) i < 2 ^ 64
-    zeros zero = omega arith
-    zeros (suc zero) = omega arith
-    zeros (suc (suc zero)) = omega arith
-    zeros (suc (suc (suc zero))) = omega arith
-    zeros (suc (suc (suc (suc i)))) = omega arith
+filled_root us W a = filled_void us W (new_root a) (refl, λ i. holds_replicate (λ n. n < 2 ^ 64) 4 0 0 (omega arith) (omega arith) i, omega arith) (λ i. omega arith) (λ i. refl) refl
 
 filled_bank : (us : List Object) (W : ℕ → Type 0) (limit : ℕ) → limit < 2 ^ 64 → IsFilled us W (content.Bank limit)
 filled_bank us W limit fits = filled_void us W (content.Bank limit) fits (λ i. omega arith) (λ i. refl) refl
@@ -387,7 +381,7 @@ module _ (g : Geometry) (os : List Object) (b : ℕ) (args : Arguments) (h : IsN
   pub page_allocated_keeps : IsOutcome g (on_bank g os b bank.NewPage args)
   unfolding on_bank free_pages
   page_allocated_keeps =
-      either g (has_room os b 1) _ _ (λ room. go room (free_pages g os) refl) (λ _. refused_keeps g os code.Limit h)
+      chosen (IsOutcome g) (has_room os b 1) _ _ (λ room. go room (free_pages g os) refl) (λ _. refused_keeps g os code.Limit h)
     where
       go : has_room os b 1 ≡ true → (ns : List ℕ) → are_free os (range_with_len g.nodes g.pages) ≡ ns → IsOutcome g (allocated os b ns new_page (λ n. Page n full))
       go room [] e = refused_keeps g os code.NoFrame h
@@ -402,7 +396,7 @@ module _ (g : Geometry) (os : List Object) (b : ℕ) (args : Arguments) (h : IsN
   pub node_allocated_keeps : IsOutcome g (on_bank g os b bank.NewNode args)
   unfolding on_bank free_nodes
   node_allocated_keeps =
-      either g (has_room os b 1) _ _ (λ room. go room (free_nodes g os) refl) (λ _. refused_keeps g os code.Limit h)
+      chosen (IsOutcome g) (has_room os b 1) _ _ (λ room. go room (free_nodes g os) refl) (λ _. refused_keeps g os code.Limit h)
     where
       go : has_room os b 1 ≡ true → (ns : List ℕ) → are_free os (range_with_len 0 g.nodes) ≡ ns → IsOutcome g (allocated os b ns new_node (λ n. Node n full))
       go room [] e = refused_keeps g os code.NoFrame h
@@ -417,14 +411,14 @@ module _ (g : Geometry) (os : List Object) (b : ℕ) (args : Arguments) (h : IsN
   pub bank_allocated_keeps : IsOutcome g (on_bank g os b bank.NewBank args)
   unfolding on_bank free_nodes
   bank_allocated_keeps =
-      either g (has_room os b 1) _ _ (λ room. go room (free_nodes g os) refl) (λ _. refused_keeps g os code.Limit h)
+      chosen (IsOutcome g) (has_room os b 1) _ _ (λ room. go room (free_nodes g os) refl) (λ _. refused_keeps g os code.Limit h)
     where
       go : has_room os b 1 ≡ true → (ns : List ℕ) → are_free os (range_with_len 0 g.nodes) ≡ ns → IsOutcome g (bank_allocated os b ns args.first)
       go room [] e = refused_keeps g os code.NoFrame h
       go room (n ∷ ns) e =
           let found = free_first os 0 g.nodes n ns e in
           let inside = node_within n found.1 in
-          either g (nat_lt (length (chain os b)) 16) _ _
+          chosen (IsOutcome g) (nat_lt (length (chain os b)) 16) _ _
           (λ short. made_keeps (with_new os n b (content.Bank args.first)) (n ∷ []) (Bank n)
           (one_now g os n b (content.Bank args.first) h is inside found.2 refl (λ _. ltb-true (length (chain os b)) 16 short) room (omega (arith, found.1)) (filled_bank _ _ args.first fits.first) refl refl)
           (record { well_formed = tt; names = ap (λ (o : Object). is_bank o.content) (at_new os n b (content.Bank args.first) inside) }))
@@ -434,7 +428,7 @@ module _ (g : Geometry) (os : List Object) (b : ℕ) (args : Arguments) (h : IsN
   pub process_allocated_keeps : IsOutcome g (on_bank g os b bank.NewProcess args)
   unfolding on_bank free_nodes
   process_allocated_keeps =
-      either g (has_room os b 2) _ _ (λ room. go room (free_nodes g os) refl) (λ _. refused_keeps g os code.Limit h)
+      chosen (IsOutcome g) (has_room os b 2) _ _ (λ room. go room (free_nodes g os) refl) (λ _. refused_keeps g os code.Limit h)
     where
       go : has_room os b 2 ≡ true → (ns : List ℕ) → are_free os (range_with_len 0 g.nodes) ≡ ns → IsOutcome g (process_allocated os b ns)
       go room [] e = refused_keeps g os code.NoFrame h

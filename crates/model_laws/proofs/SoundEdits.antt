@@ -1,5 +1,5 @@
-use Rattle.std.proofs.Common.{◌≡◌, ◌≢◌, inl, inr, ℕ, ◌^◌, ◌==◌, ◌<◌, Bool, true, false, List, map, length, get_or, set, refl, sym, ap, subst, arith, ◌∙◌}
-use Rattle.std.specs.Prelude.{if◌then◌else◌, IsTrue, slice_index}
+use Rattle.std.proofs.Common.{◌≡◌, ◌≢◌, inl, inr, ℕ, ◌^◌, ◌==◌, ◌<◌, true, false, List, map, length, get_or, set, refl, sym, ap, subst, arith, ◌∙◌}
+use Rattle.std.specs.Prelude.{IsTrue, slice_index}
 use Rattle.std.proofs.lemmas.Bool.{cases_eq, cases_lt, eqb-false}
 use Rattle.std.proofs.lemmas.List.{get_or-set_same, get_or-set_other, set_past, length-set, length-map, get_or_past}
 use Rattle.model.specs.declared.capability.Capability.{Capability}
@@ -9,10 +9,12 @@ use Rattle.model.specs.declared.object.Content.{Content}
 use Rattle.model.specs.declared.object.Content.TheVariants as content
 use Rattle.model.specs.declared.object.Object.{Object}
 use Rattle.model.specs.declared.object.Root.{Root}
+use Rattle.model.specs.declared.object.State.{State}
 use Rattle.model.specs.Object.{free, is_root, is_annex, root_in, with_word_in, with_slot_in, map_content}
-use Rattle.model.specs.World.{object_at, content_at, owner_at, root_at, annex_at, is_process, with_content, with_word, with_slot, with_root}
+use Rattle.model.specs.World.{object_at, content_at, owner_at, root_at, annex_at, is_process, with_content, with_word, with_slot, with_root, with_state}
 use Rattle.model.specs.Revoke.{void_where, without, resumes, consume}
 use Rattle.model.specs.Sound.{IsSpace}
+use Rattle.model_laws.proofs.Cases.{chosen}
 use Rattle.model_laws.proofs.Usage.{AreAlike, SameFrame, alike_refl, frame_trans}
 use Rattle.model_laws.proofs.Mapped.{alike_without, at_map, mapped}
 use Rattle.model_laws.proofs.SoundParts.{IsHeld, IsFilled, IsNearlySound, state_at, nearly_on, held_void}
@@ -64,12 +66,10 @@ edited_trans g W os us vs a b = record {
 
 pub alike_slot : (b i : ℕ) (k : Capability) (c : Content Capability) → AreAlike (record { owner = b; content = c }) (record { owner = b; content = with_slot_in c i k })
 alike_slot b i k (content.Node slots) = record { owner = refl; role = refl; annex = refl; limit = refl }
-alike_slot b i k (content.Annex slots) = record { owner = refl; role = refl; annex = refl; limit = refl }
 alike_slot b i k c = record { owner = refl; role = refl; annex = refl; limit = refl }
 
 root_slot : (i : ℕ) (k : Capability) (c : Content Capability) → root_in (with_slot_in c i k) ≡ root_in c
 root_slot i k (content.Node slots) = refl
-root_slot i k (content.Annex slots) = refl
 root_slot i k c = refl
 
 filled_slot : (os : List Object) (W : ℕ → Type 0) (i : ℕ) (k : Capability) (c : Content Capability) → IsFilled os W c → IsHeld os W k
@@ -163,9 +163,14 @@ filled_root os W p r h = record {
   is_space = h.is_space;
 }
 
-pub frame_root : (os : List Object) (W : ℕ → Type 0) (p : ℕ) (r : Root Capability) → IsRootOf os W p r → SameFrame os (with_root os p r)
+pub root_frame : (os : List Object) (p : ℕ) (r : Root Capability) → IsTrue (is_process os p) → r.annex ≡ annex_at os p → SameFrame os (with_root os p r)
 unfolding with_root
-frame_root os W p r h = frame_content os p (content.Root r) (alike_root (owner_at os p) r (content_at os p) h.is_process h.annex)
+root_frame os p r is same = frame_content os p (content.Root r) (alike_root (owner_at os p) r (content_at os p) is same)
+
+-- a process goes into another state: the frame stays
+pub state_frame : (os : List Object) (p : ℕ) (s : State) → IsTrue (is_process os p) → SameFrame os (with_state os p s)
+unfolding with_state
+state_frame os p s is = root_frame os p _ is refl
 
 pub nearly_root : (g : Geometry) (W : ℕ → Type 0) (os : List Object) (p : ℕ) (r : Root Capability) → IsNearlySound g W os → IsRootOf os W p r → IsNearlySound g W (with_root os p r)
 unfolding with_root
@@ -192,7 +197,7 @@ root_other os p q r differ =
 pub edited_root : (g : Geometry) (W : ℕ → Type 0) (os : List Object) (p : ℕ) (r : Root Capability) → IsNearlySound g W os → IsRootOf os W p r
     → r.state ≡ state_at os p → IsEdited g W os (with_root os p r)
 edited_root g W os p r h fits e = record {
-  frame = frame_root os W p r fits;
+  frame = root_frame os p r fits.is_process fits.annex;
   sound = nearly_root g W os p r h fits;
   states = λ q. elim (cases_eq q p) [
     | inl same ↦ ap (λ (k : ℕ). state_at (with_root os p r) k) same
@@ -259,11 +264,8 @@ abbrev pub But : (ℕ → Type 0) → ℕ → ℕ → Type 0
 But W p q = W q × (q ≢ p)
 
 held_consume : (os : List Object) (W : ℕ → Type 0) (p : ℕ) (c : Capability) → IsHeld os W c → IsHeld os (But W p) (void_where (resumes p) c)
-held_consume os W p (Resume q) h = go (q == p) refl
-  where
-    go : (b : Bool) → (q == p) ≡ b → IsHeld os (But W p) (if b then Void else Resume q)
-    go true e = held_void os (But W p)
-    go false e = record { well_formed = h.well_formed; names = (h.names.0, (h.names.1, eqb-false q p e)) }
+held_consume os W p (Resume q) h = chosen (IsHeld os (But W p)) (q == p) Void (Resume q) (λ _. held_void os (But W p))
+    (λ e. record { well_formed = h.well_formed; names = (h.names.0, (h.names.1, eqb-false q p e)) })
 held_consume os W p c h = record { well_formed = h.well_formed; names = h.names }
 
 space_consume : (p : ℕ) (c : Capability) → IsSpace c → IsSpace (void_where (resumes p) c)

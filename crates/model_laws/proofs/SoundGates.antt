@@ -1,10 +1,10 @@
-use Rattle.std.proofs.Common.{◌≡◌, ◌≢◌, inl, inr, ℕ, zero, suc, ◌+◌, ◌^◌, ◌==◌, ◌<◌, ◌≤◌, Bool, true, false, ◌&&◌, ◌||◌, None, Some, List, [], ◌∷◌, map, length, get_or, refl, sym, ap, subst, arith, ◌∙◌}
-use Rattle.std.specs.Prelude.{if◌then◌else◌, IsTrue, slice_index, slice_index_or, slice_set}
+use Rattle.std.proofs.Common.{◌≡◌, ◌≢◌, inl, inr, ℕ, zero, suc, ◌+◌, ◌^◌, ◌==◌, ◌<◌, ◌≤◌, true, false, ◌&&◌, ◌||◌, Some, List, [], ◌∷◌, map, length, get_or, refl, sym, ap, subst, arith, ◌∙◌}
+use Rattle.std.specs.Prelude.{IsTrue, slice_index, slice_index_or, slice_set}
 use Rattle.std.specs.List.{All}
 use Rattle.std.proofs.lemmas.Bool.{cases_eq, cases_lt, eqb-true, and_parts, or_cases}
 use Rattle.std.proofs.lemmas.List.{get_or_past}
 use Rattle.model.specs.declared.capability.Capability.{Capability}
-use Rattle.model.specs.declared.capability.Capability.TheVariants.{Void, Start, Resume}
+use Rattle.model.specs.declared.capability.Capability.TheVariants.{Void, Resume}
 use Rattle.model.specs.declared.command.Command.TheVariants as command
 use Rattle.model.specs.declared.command.Invocation.{Invocation}
 use Rattle.model.specs.declared.command.Operation.{Operation}
@@ -24,9 +24,11 @@ use Rattle.model.specs.declared.command.Message.{Message}
 use Rattle.model.specs.Invoke.{Effect, deliver, sent_by, is_return, sent_to_gate, after_gate, after_order, through_gate, reply_of, replied, ordered, on_kernel_object, can_start, invoke}
 use Rattle.model.specs.Text.{Fits}
 use Rattle.model_laws.specs.Laws.{InvocationKeepsSound}
+use Rattle.model_laws.proofs.Cases.{after_gate_by, after_order_by, invoked_by, replied_by}
 use Rattle.model_laws.proofs.Usage.{SameFrame, frame_refl, tests_at}
 use Rattle.model_laws.proofs.SoundParts.{IsHeld, IsNearlySound, Waits, state_at, held_on, held_void, nearly_weaken, nearly_from, nearly_to}
-use Rattle.model_laws.proofs.SoundEdits.{IsEdited, IsRootOf, But, at_set, edited_slot, edited_trans, frame_root, nearly_root, nearly_consume, root_same, root_other, state_consume}
+use Rattle.model_laws.proofs.SoundEdits.{IsEdited, IsRootOf, But, at_set, edited_slot, edited_trans, nearly_root, nearly_consume, root_frame, root_same, root_other, state_consume, state_frame}
+use Rattle.model_laws.proofs.SoundWorlds.{holds_replicate}
 use Rattle.model_laws.proofs.SoundObjects.{order_keeps}
 use Rattle.model_laws.proofs.SoundOrders.{IsNow, IsOutcome, root_now, nearly_state, state_other}
 
@@ -54,12 +56,6 @@ pub record IsAfter (g : Geometry) (os us : List Object) : Type 0 where
   pub now : IsNow g us
   pub waits : (x : ℕ) → Waits os x → Waits us x
 
-frame_state : (g : Geometry) (os : List Object) (p : ℕ) (s : State) → IsNow g os → IsTrue (is_process os p) → SameFrame os (with_state os p s)
-unfolding with_state
-frame_state g os p s h is =
-    let r = root_now g (Waits os) os p h is in
-    frame_root os (Waits os) p _ (record { is_process = is; annex = refl; count = r.count; words = r.words; key = r.key; space = r.space; is_space = r.is_space })
-
 state_same : (os : List Object) (p : ℕ) (s : State) → IsTrue (is_process os p) → state_at (with_state os p s) p ≡ s
 unfolding with_state
 state_same os p s is = ap (λ (r : Root Capability). r.state) (root_same os p _ is)
@@ -69,7 +65,7 @@ after_state g os p s h runs =
     let parts = and_parts (is_process os p) (is_running (state_at os p)) runs in
     let kept = λ (x : ℕ) (w : Waits os x). ap is_waiting (state_other os p x s (other_than_running os p x parts.1 w)) ∙ w in
     record {
-      frame = frame_state g os p s h parts.0;
+      frame = state_frame os p s parts.0;
       now = nearly_weaken g (Waits os) (Waits (with_state os p s)) (with_state os p s) kept (nearly_state g (Waits os) os p s h parts.0);
       waits = kept;
     }
@@ -78,20 +74,10 @@ after_none : (g : Geometry) (os : List Object) → IsNow g os → IsAfter g os o
 after_none g os h = record { frame = frame_refl os; now = h; waits = λ x w. w }
 
 after_gate_keeps : (g : Geometry) (os : List Object) (i : Invocation) → IsNow g os → IsTrue (is_running_process os i.process) → IsAfter g os (after_gate os i)
-after_gate_keeps g os i h runs = go i.operation
-  where
-    go : (o : Operation) → IsAfter g os (elim o [ Call ↦ with_state os i.process Waiting | Return ↦ with_state os i.process Available | Send ↦ os ])
-    go Call = after_state g os i.process Waiting h runs
-    go Return = after_state g os i.process Available h runs
-    go Send = after_none g os h
+after_gate_keeps g os i h runs = after_gate_by (IsAfter g os) os i (after_none g os h) (λ s. after_state g os i.process s h runs)
 
 after_order_keeps : (g : Geometry) (os : List Object) (i : Invocation) → IsNow g os → IsTrue (is_running_process os i.process) → IsAfter g os (after_order os i)
-after_order_keeps g os i h runs = go i.operation
-  where
-    go : (o : Operation) → IsAfter g os (elim o [ Return ↦ with_state os i.process Available | _ ↦ os ])
-    go Return = after_state g os i.process Available h runs
-    go Call = after_none g os h
-    go Send = after_none g os h
+after_order_keeps g os i h runs = after_order_by (IsAfter g os) os i (after_none g os h) (λ s. after_state g os i.process s h runs)
 
 held_after : (g : Geometry) (os us : List Object) (c : Capability) → IsAfter g os us → IsHeld os (Waits os) c → IsHeld us (Waits us) c
 held_after g os us c a h = held_on os us (Waits os) (Waits us) c a.frame a.waits h
@@ -130,7 +116,7 @@ deliver_keeps g W os p m h is fits =
     let new : Root Capability = record { state = Running; words = m.words; key = m.key; annex = old.annex; space = old.space } in
     let root : IsRootOf os W p new = record { is_process = is; annex = refl; count = fits.count; words = fits.words; key = fits.key; space = r.space; is_space = r.is_space } in
     let us = with_root os p new in
-    let frame = frame_root os W p new root in
+    let frame = root_frame os p new is refl in
     let e = slots_from g W us old.annex 28 m.capabilities (nearly_root g W os p new h root) (omega arith)
     (λ j. held_on os us W W (get_or m.capabilities j Void) frame (λ p w. w) (fits.held j)) in
     record {
@@ -254,34 +240,19 @@ code_fits code.Done = omega arith
 code_fits c = omega arith
 
 reply_message : (g : Geometry) (o : OrderOutcome) → IsOutcome g o → IsMessage o.objects (Waits o.objects) (reply_of o)
-reply_message g o h = record {
+reply_message g o h = let none = held_void o.objects (Waits o.objects) in record {
   count = ap suc h.count;
   words = elim [ zero ↦ code_fits o.code | suc i ↦ h.words i ];
   key = omega arith;
-  held = elim [
-    | zero ↦ h.held
-    | suc zero ↦ held_void o.objects (Waits o.objects)
-    | suc (suc zero) ↦ held_void o.objects (Waits o.objects)
-    | suc (suc (suc zero)) ↦ held_void o.objects (Waits o.objects)
-    | suc (suc (suc (suc j))) ↦ held_void o.objects (Waits o.objects)
-  ];
+  held = elim [ zero ↦ h.held | suc j ↦ holds_replicate (IsHeld o.objects (Waits o.objects)) 3 Void Void none none j ];
 }
 
 replied_keeps : (g : Geometry) (i : Invocation) (o : OrderOutcome) → IsOutcome g o → IsNow g (replied o.objects i o)
-replied_keeps g i o h = go i.operation
-  where
-    branch : (b : Bool) → is_running_process o.objects i.process ≡ b → IsNow g (if b then deliver o.objects i.process (reply_of o) else o.objects)
-    branch false e = h.now
-    branch true e =
-        let parts = and_parts (is_process o.objects i.process) (is_running (state_at o.objects i.process)) e in
-        started_now g o.objects i.process (deliver o.objects i.process (reply_of o))
-        (deliver_keeps g (Waits o.objects) o.objects i.process (reply_of o) h.now parts.0 (reply_message g o h))
-        (running_is_not_waiting (state_at o.objects i.process) parts.1)
-
-    go : (p : Operation) → IsNow g (elim p [ Call ↦ if is_running_process o.objects i.process then deliver o.objects i.process (reply_of o) else o.objects | _ ↦ o.objects ])
-    go Call = branch (is_running_process o.objects i.process) refl
-    go Return = h.now
-    go Send = h.now
+replied_keeps g i o h = replied_by (IsNow g) o.objects i o h.now (λ runs.
+    let parts = and_parts (is_process o.objects i.process) (is_running (state_at o.objects i.process)) runs in
+    started_now g o.objects i.process (deliver o.objects i.process (reply_of o))
+    (deliver_keeps g (Waits o.objects) o.objects i.process (reply_of o) h.now parts.0 (reply_message g o h))
+    (running_is_not_waiting (state_at o.objects i.process) parts.1))
 
 pub ordered_keeps : (g : Geometry) (os : List Object) (i : Invocation) → IsNow g os → Fits (command.Invoke i) → IsTrue (is_running_process os i.process)
     → IsOutcome g (ordered g os i)
@@ -305,25 +276,10 @@ kernel_keeps g os i h fits runs = replied_keeps g i (ordered g os i) (ordered_ke
 
 invoked_now : (g : Geometry) (os : List Object) (i : Invocation) (e : Effect) → IsNow g os → Fits (command.Invoke i) → IsTrue (is_running_process os i.process)
     → invoke g os i ≡ Some e → IsNow g e.objects
-unfolding invoke
-invoked_now g os i e h fits runs done = go (register_at os i.process i.register) ((h.filled (annex_at os i.process)).slots i.register) done
-  where
-    from : (f : Effect) → IsNow g f.objects → Some f ≡ Some e → IsNow g e.objects
-    from f now same = let equal : f ≡ e = cc in subst (λ (x : Effect). IsNow g x.objects) equal now
-
-    start : (q key : ℕ) (b : Bool) → can_start os i q ≡ b → IsHeld os (Waits os) (Start q key) → (if b then Some (through_gate os i q key) else None) ≡ Some e → IsNow g e.objects
-    start q key true can held same = from (through_gate os i q key) (start_keeps g os i q key h fits runs held.names held.well_formed can) same
-    start q key false can held same = cc
-
-    go : (c : Capability) → IsHeld os (Waits os) c
-        → (elim c [
-          | Start q key ↦ if can_start os i q then Some (through_gate os i q key) else None
-          | Resume q ↦ let effect = through_gate os i q 0 in Some (record { objects = consume q effect.objects; written = effect.written })
-          | _ ↦ Some (on_kernel_object g os i)
-        ]) ≡ Some e → IsNow g e.objects
-    go (Start q key) held same = start q key (can_start os i q) refl held same
-    go (Resume q) held same = from _ (resume_keeps g os i q h fits runs held.names.0) same
-    go c held same = from (on_kernel_object g os i) (kernel_keeps g os i h fits runs) same
+invoked_now g os i e h fits runs =
+    invoked_by (IsNow g) os i (IsHeld os (Waits os)) g e ((h.filled (annex_at os i.process)).slots i.register)
+    (λ q key held can. start_keeps g os i q key h fits runs held.names held.well_formed can) (λ q held. resume_keeps g os i q h fits runs held.names.0)
+    (kernel_keeps g os i h fits runs)
 
 pub invocation_keeps : InvocationKeepsSound
 invocation_keeps g w i e sound fits runs young done =

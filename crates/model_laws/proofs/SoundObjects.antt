@@ -1,5 +1,5 @@
 -- Orders on any kernel object keep sound objects sound.
-use Rattle.std.proofs.Common.{ℕ, ◌^◌, ◌==◌, ◌<◌, Option, None, Some, List, arith}
+use Rattle.std.proofs.Common.{ℕ, ◌^◌, ◌==◌, ◌<◌, List, arith}
 use Rattle.model.specs.declared.capability.Capability.{Capability}
 use Rattle.model.specs.declared.capability.Capability.TheVariants.{Void, Number, Page, Node, Space, Process, Bank, Discrim}
 use Rattle.model.specs.declared.geometry.Geometry.{Geometry}
@@ -8,15 +8,10 @@ use Rattle.model.specs.declared.order.Arguments.{Arguments}
 use Rattle.model.specs.Banking.{on_bank}
 use Rattle.model.specs.Capability.{IsWellFormed, union, access_bits, tag_of}
 use Rattle.model.specs.Order.{bank_order, page_order, node_order, process_order, reduces, on_page, on_node, on_process, order}
-use Rattle.model.specs.OrderOutcome.{OrderOutcome}
+use Rattle.model_laws.proofs.Cases.{chosen, found_or}
 use Rattle.model_laws.proofs.SoundBanks.{on_bank_keeps}
-use Rattle.model_laws.proofs.SoundOrders.{IsNow, IsOutcome, AreArguments, access_fits, access_union, either, given_keeps, on_node_keeps, on_page_keeps, on_process_keeps, refused_keeps, told_keeps}
+use Rattle.model_laws.proofs.SoundOrders.{IsNow, IsOutcome, AreArguments, access_fits, access_union, given_keeps, on_node_keeps, on_page_keeps, on_process_keeps, refused_keeps, told_keeps}
 use Rattle.model_laws.proofs.SoundParts.{IsHeld, Waits}
-
-asked_keeps : {A : Type 0} (g : Geometry) (found : Option A) (x : OrderOutcome) (f : A → OrderOutcome) → IsOutcome g x → ((a : A) → IsOutcome g (f a))
-    → IsOutcome g (elim found [ None ↦ x | Some a ↦ f a ])
-asked_keeps g None x f p q = p
-asked_keeps g (Some a) x f p q = q a
 
 tag_fits : (c : Capability) → tag_of c < 2 ^ 64
 tag_fits Void = omega arith
@@ -33,14 +28,14 @@ pub order_keeps : (g : Geometry) (os : List Object) (c : Capability) (w : ℕ) (
     → AreArguments os args → IsOutcome g (order g os c w args)
 unfolding order
 order_keeps g os Void w args h held fits = refused_keeps g os _ h
-order_keeps g os (Number n) w args h held fits = either g (w == 1) _ _ (λ _. told_keeps g os n 0 h held.well_formed (omega arith)) (λ _. refused_keeps g os _ h)
+order_keeps g os (Number n) w args h held fits = chosen (IsOutcome g) (w == 1) _ _ (λ _. told_keeps g os n 0 h held.well_formed (omega arith)) (λ _. refused_keeps g os _ h)
 order_keeps g os (Page o a) w args h held fits =
-    asked_keeps g (page_order w) _ (λ asked. on_page os o a asked args) (refused_keeps g os _ h) (λ asked. on_page_keeps g os o a asked args h held fits)
+    found_or (IsOutcome g) (page_order w) _ (λ asked. on_page os o a asked args) (refused_keeps g os _ h) (λ asked. on_page_keeps g os o a asked args h held fits)
 order_keeps g os (Node o a) w args h held fits =
-    asked_keeps g (node_order w) _ (λ asked. on_node os o a asked args) (refused_keeps g os _ h) (λ asked. on_node_keeps g os o a asked args h held fits)
+    found_or (IsOutcome g) (node_order w) _ (λ asked. on_node os o a asked args) (refused_keeps g os _ h) (λ asked. on_node_keeps g os o a asked args h held fits)
 order_keeps g os (Space o k a) w args h held fits =
-    either g (w == 3) _ _
-    (λ _. either g (reduces args.first) _ _
+    chosen (IsOutcome g) (w == 3) _ _
+    (λ _. chosen (IsOutcome g) (reduces args.first) _ _
     (λ e. given_keeps g os (Space o k (union a args.first)) h (record {
       well_formed = (held.well_formed.0, held.well_formed.1, access_union a args.first held.well_formed.2 e);
       names = held.names;
@@ -48,11 +43,11 @@ order_keeps g os (Space o k a) w args h held fits =
     (λ _. refused_keeps g os _ h))
     (λ _. refused_keeps g os _ h)
 order_keeps g os (Bank b) w args h held fits =
-    asked_keeps g (bank_order w) _ (λ asked. on_bank g os b asked args) (refused_keeps g os _ h) (λ asked. on_bank_keeps g os b asked args h held.names fits)
+    found_or (IsOutcome g) (bank_order w) _ (λ asked. on_bank g os b asked args) (refused_keeps g os _ h) (λ asked. on_bank_keeps g os b asked args h held.names fits)
 order_keeps g os (Process p) w args h held fits =
-    asked_keeps g (process_order w) _ (λ asked. on_process os p asked args) (refused_keeps g os _ h) (λ asked. on_process_keeps g os p asked args h held.names fits)
+    found_or (IsOutcome g) (process_order w) _ (λ asked. on_process os p asked args) (refused_keeps g os _ h) (λ asked. on_process_keeps g os p asked args h held.names fits)
 order_keeps g os Discrim w args h held fits =
-    either g (w == 1) _ _
+    chosen (IsOutcome g) (w == 1) _ _
     (λ _. told_keeps g os (tag_of args.capability) (access_bits args.capability) h (tag_fits args.capability) (bits_fit args.capability fits.held.well_formed))
     (λ _. refused_keeps g os _ h)
 order_keeps g os c w args h held fits = refused_keeps g os _ h

@@ -1,5 +1,5 @@
-use Rattle.std.proofs.Common.{◌≡◌, ◌≢◌, ◌⊎◌, inl, inr, ℕ, zero, suc, ◌^◌, ◌==◌, ◌<◌, ◌≤◌, Bool, true, false, not, ◌||◌, List, [], ◌∷◌, length, refl, ap, arith, ◌∙◌}
-use Rattle.std.specs.Prelude.{if◌then◌else◌, IsTrue, nat_lt, slice_index, bit_or}
+use Rattle.std.proofs.Common.{◌≡◌, ◌≢◌, ◌⊎◌, inl, inr, ℕ, zero, suc, ◌^◌, ◌==◌, ◌<◌, ◌≤◌, true, false, not, ◌||◌, List, [], ◌∷◌, length, refl, ap, arith, ◌∙◌}
+use Rattle.std.specs.Prelude.{IsTrue, nat_lt, slice_index, bit_or}
 use Rattle.std.proofs.lemmas.Bool.{eqb-true, eqb-false, ltb-true, or_parts, or_cases, not-false}
 use Rattle.std.proofs.lemmas.List.{length-set}
 use Rattle.model.specs.declared.access.Access.{Access}
@@ -11,7 +11,7 @@ use Rattle.model.specs.declared.object.Content.TheVariants as content
 use Rattle.model.specs.declared.object.Object.{Object}
 use Rattle.model.specs.declared.object.Root.{Root}
 use Rattle.model.specs.declared.object.State.{State}
-use Rattle.model.specs.declared.object.State.TheVariants.{Available, Running, Waiting}
+use Rattle.model.specs.declared.object.State.TheVariants.{Available, Running}
 use Rattle.model.specs.declared.order.ResultCode.{ResultCode}
 use Rattle.model.specs.declared.order.PageOrder.{PageOrder}
 use Rattle.model.specs.declared.order.PageOrder.TheVariants as page
@@ -27,6 +27,7 @@ use Rattle.model.specs.Sound.{HasShape, IsSpace}
 use Rattle.model.specs.declared.order.Arguments.{Arguments}
 use Rattle.model.specs.OrderOutcome.{OrderOutcome, refused, told, given, wrote}
 use Rattle.model.specs.Order.{reduces, fetched, stored, is_space, with_root_word, with_space, on_page, on_node, on_process}
+use Rattle.model_laws.proofs.Cases.{chosen, one_of}
 use Rattle.model_laws.proofs.SoundParts.{IsHeld, IsNearlySound, Waits, state_at, held_void, nearly_weaken}
 use Rattle.model_laws.proofs.SoundEdits.{IsEdited, IsRootOf, But, at_set, edited_slot, edited_word, edited_root, nearly_root, nearly_consume, root_other, state_consume}
 
@@ -68,10 +69,6 @@ wrote_keeps g os n h = record { now = h; count = refl; words = three_words 0 0 0
 pub edited_now : (g : Geometry) (os us : List Object) → IsEdited g (Waits os) os us → IsNow g us
 edited_now g os us e = nearly_weaken g (Waits os) (Waits us) us (λ p w. ap is_waiting (e.states p) ∙ w) e.sound
 
-pub either : (g : Geometry) (b : Bool) (x y : OrderOutcome) → (b ≡ true → IsOutcome g x) → (b ≡ false → IsOutcome g y) → IsOutcome g (if b then x else y)
-either g true x y p q = p refl
-either g false x y p q = q refl
-
 -- accesses
 
 one_of_two : (w : ℕ) → reduces w ≡ true → (w ≡ 1) ⊎ (w ≡ 3)
@@ -95,7 +92,6 @@ weak_is_access : IsAccess weak
 weak_is_access = inr (inr refl)
 
 held_diminished : (os : List Object) (W : ℕ → Type 0) (c : Capability) → IsHeld os W c → IsHeld os W (diminished c)
-held_diminished os W Void h = h
 held_diminished os W (Number n) h = h
 held_diminished os W (Page o a) h = record { well_formed = weak_is_access; names = h.names }
 held_diminished os W (Node o a) h = record { well_formed = weak_is_access; names = h.names }
@@ -103,11 +99,7 @@ held_diminished os W (Space o k a) h = record { well_formed = (h.well_formed.0, 
 held_diminished os W c h = held_void os W
 
 held_fetched : (os : List Object) (W : ℕ → Type 0) (a : Access) (c : Capability) → IsHeld os W c → IsHeld os W (fetched a c)
-held_fetched os W a c h = go (a.0 == 3)
-  where
-    go : (b : Bool) → IsHeld os W (if b then diminished c else c)
-    go true = held_diminished os W c h
-    go false = h
+held_fetched os W a c h = one_of (IsHeld os W) (a.0 == 3) (diminished c) c (held_diminished os W c h) h
 
 -- pages
 
@@ -115,14 +107,14 @@ pub on_page_keeps : (g : Geometry) (os : List Object) (o : ℕ) (a : Access) (as
     → IsHeld os (Waits os) (Page o a) → AreArguments os args → IsOutcome g (on_page os o a asked args)
 unfolding on_page
 on_page_keeps g os o a page.Read args h held fits =
-    either g (nat_lt args.first 512) _ _ (λ _. told_keeps g os (word_at os o args.first) 0 h ((h.filled o).words args.first) (omega arith)) (λ _. refused_keeps g os _ h)
+    chosen (IsOutcome g) (nat_lt args.first 512) _ _ (λ _. told_keeps g os (word_at os o args.first) 0 h ((h.filled o).words args.first) (omega arith)) (λ _. refused_keeps g os _ h)
 on_page_keeps g os o a page.Write args h held fits =
-    either g (not (a.0 == 0)) _ _ (λ _. refused_keeps g os _ h) (λ _.
-    either g (nat_lt args.first 512) _ _
+    chosen (IsOutcome g) (not (a.0 == 0)) _ _ (λ _. refused_keeps g os _ h) (λ _.
+    chosen (IsOutcome g) (nat_lt args.first 512) _ _
     (λ _. wrote_keeps g _ o (edited_now g os _ (edited_word g (Waits os) os o args.first args.second h fits.second)))
     (λ _. refused_keeps g os _ h))
 on_page_keeps g os o a page.Reduce args h held fits =
-    either g (reduces args.first) _ _
+    chosen (IsOutcome g) (reduces args.first) _ _
     (λ e. given_keeps g os (Page o (union a args.first)) h (record { well_formed = access_union a args.first held.well_formed e; names = held.names }))
     (λ _. refused_keeps g os _ h)
 
@@ -135,8 +127,8 @@ node_is_no_annex c p q = cc
 stored_keeps : (g : Geometry) (os : List Object) (o : ℕ) (a : Access) (slot : ℕ) (c : Capability) → IsNow g os
     → IsTrue (is_node (content_at os o)) → IsHeld os (Waits os) c → IsOutcome g (stored os o a slot c)
 stored_keeps g os o a slot c h is held =
-    either g (not (a.0 == 0)) _ _ (λ _. refused_keeps g os _ h) (λ _.
-    either g (nat_lt slot 32) _ _
+    chosen (IsOutcome g) (not (a.0 == 0)) _ _ (λ _. refused_keeps g os _ h) (λ _.
+    chosen (IsOutcome g) (nat_lt slot 32) _ _
     (λ _. wrote_keeps g _ o (edited_now g os _ (edited_slot g (Waits os) os o slot c h held (λ annex. absurd (node_is_no_annex (content_at os o) is annex)))))
     (λ _. refused_keeps g os _ h))
 
@@ -151,16 +143,16 @@ pub on_node_keeps : (g : Geometry) (os : List Object) (o : ℕ) (a : Access) (as
     → IsHeld os (Waits os) (Node o a) → AreArguments os args → IsOutcome g (on_node os o a asked args)
 unfolding on_node
 on_node_keeps g os o a node.Fetch args h held fits =
-    either g (nat_lt args.first 32) _ _
+    chosen (IsOutcome g) (nat_lt args.first 32) _ _
     (λ _. given_keeps g os _ h (held_fetched os (Waits os) a (slot_at os o args.first) ((h.filled o).slots args.first)))
     (λ _. refused_keeps g os _ h)
 on_node_keeps g os o a node.Store args h held fits = stored_keeps g os o a args.first args.capability h held.names fits.held
 on_node_keeps g os o a node.Reduce args h held fits =
-    either g (reduces args.first) _ _
+    chosen (IsOutcome g) (reduces args.first) _ _
     (λ e. given_keeps g os (Node o (union a args.first)) h (record { well_formed = access_union a args.first held.well_formed e; names = held.names }))
     (λ _. refused_keeps g os _ h)
 on_node_keeps g os o a node.MakeSpace args h held fits =
-    either g ((args.first == 0) || not (nat_lt args.first 5)) _ _ (λ _. refused_keeps g os _ h)
+    chosen (IsOutcome g) ((args.first == 0) || not (nat_lt args.first 5)) _ _ (λ _. refused_keeps g os _ h)
     (λ e. given_keeps g os (Space o args.first a) h (record {
       well_formed = ((height_fits args.first e).0, (height_fits args.first e).1, held.well_formed);
       names = held.names;
@@ -201,8 +193,7 @@ consumed_now g os p s h is =
 
 state_fits : (s : State) → state_number s < 2 ^ 64
 state_fits Available = omega arith
-state_fits Running = omega arith
-state_fits Waiting = omega arith
+state_fits s = omega arith
 
 space_fits : (c : Capability) → is_space c ≡ true → IsSpace c
 space_fits Void e = tt
@@ -214,19 +205,19 @@ pub on_process_keeps : (g : Geometry) (os : List Object) (p : ℕ) (asked : Proc
     → IsTrue (is_process os p) → AreArguments os args → IsOutcome g (on_process os p asked args)
 unfolding on_process
 on_process_keeps g os p process.GetRegister args h is fits =
-    either g (nat_lt args.first 32) _ _ (λ _. given_keeps g os (register_at os p args.first) h ((h.filled (annex_at os p)).slots args.first)) (λ _. refused_keeps g os _ h)
+    chosen (IsOutcome g) (nat_lt args.first 32) _ _ (λ _. given_keeps g os (register_at os p args.first) h ((h.filled (annex_at os p)).slots args.first)) (λ _. refused_keeps g os _ h)
 on_process_keeps g os p process.PutRegister args h is fits =
-    either g ((args.first == 0) || not (nat_lt args.first 32)) _ _ (λ _. refused_keeps g os _ h)
+    chosen (IsOutcome g) ((args.first == 0) || not (nat_lt args.first 32)) _ _ (λ _. refused_keeps g os _ h)
     (λ e. wrote_keeps g _ (annex_at os p) (edited_now g os _
     (edited_slot g (Waits os) os (annex_at os p) args.first args.capability h fits.held
     (λ _. eqb-false args.first 0 (or_parts (args.first == 0) (not (nat_lt args.first 32)) e).0))))
 on_process_keeps g os p process.GetWord args h is fits =
-    either g (nat_lt args.first 4) _ _
+    chosen (IsOutcome g) (nat_lt args.first 4) _ _
     (λ _. told_keeps g os (slice_index (root_at os p).words args.first) 0 h ((root_now g (Waits os) os p h is).words args.first) (omega arith))
     (λ _. refused_keeps g os _ h)
 on_process_keeps g os p process.PutWord args h is fits =
     let r = root_now g (Waits os) os p h is in
-    either g (nat_lt args.first 4) _ _
+    chosen (IsOutcome g) (nat_lt args.first 4) _ _
     (λ _. wrote_keeps g _ p (edited_now g os _ (edited_root g (Waits os) os p (with_root_word (root_at os p) args.first args.second) h
     (record {
       is_process = is;
@@ -239,19 +230,19 @@ on_process_keeps g os p process.PutWord args h is fits =
     }) refl)))
     (λ _. refused_keeps g os _ h)
 on_process_keeps g os p process.MakeStart args h is fits =
-    either g (nat_lt args.first 65536) _ _
+    chosen (IsOutcome g) (nat_lt args.first 65536) _ _
     (λ e. given_keeps g os (Start p args.first) h (record { well_formed = ltb-true args.first 65536 e; names = is }))
     (λ _. refused_keeps g os _ h)
 on_process_keeps g os p process.GetState args h is fits =
     let r = root_now g (Waits os) os p h is in
     told_keeps g os (state_number (root_at os p).state) (root_at os p).key h (state_fits (root_at os p).state) (omega (arith, r.key))
 on_process_keeps g os p process.SetState args h is fits =
-    either g (args.first == 0) _ _ (λ _. wrote_keeps g _ p (consumed_now g os p Available h is)) (λ _.
-    either g (args.first == 1) _ _ (λ _. wrote_keeps g _ p (consumed_now g os p Running h is)) (λ _. refused_keeps g os _ h))
+    chosen (IsOutcome g) (args.first == 0) _ _ (λ _. wrote_keeps g _ p (consumed_now g os p Available h is)) (λ _.
+    chosen (IsOutcome g) (args.first == 1) _ _ (λ _. wrote_keeps g _ p (consumed_now g os p Running h is)) (λ _. refused_keeps g os _ h))
 on_process_keeps g os p process.GetSpace args h is fits = given_keeps g os (root_at os p).space h (h.filled p).space
 on_process_keeps g os p process.SetSpace args h is fits =
     let r = root_now g (Waits os) os p h is in
-    either g (is_space args.capability) _ _
+    chosen (IsOutcome g) (is_space args.capability) _ _
     (λ e. wrote_keeps g _ p (edited_now g os _ (edited_root g (Waits os) os p (with_space (root_at os p) args.capability) h
     (record {
       is_process = is;

@@ -1,18 +1,18 @@
-use Rattle.std.proofs.Common.{◌≡◌, ◌≢◌, ℕ, ◌^◌, ◌<◌, ◌≤◌, true, List, length, sym, ◌∙◌}
+use Rattle.std.proofs.Common.{◌≡◌, ◌≢◌, ℕ, ◌^◌, ◌<◌, ◌≤◌, true, Some, List, length, refl, sym, ◌∙◌}
 use Rattle.std.specs.Prelude.{IsTrue, slice_index, slice_index_or}
 use Rattle.std.specs.List.{Contains}
 use Rattle.model.specs.declared.capability.Capability.{Capability}
-use Rattle.model.specs.declared.capability.Capability.TheVariants.{Void, Number, Page, Node, Space, Process, Start, Resume, Bank, Discrim}
+use Rattle.model.specs.declared.capability.Capability.TheVariants.{Void, Page, Node, Space, Process, Start, Resume, Bank}
 use Rattle.model.specs.declared.geometry.Geometry.{Geometry}
 use Rattle.model.specs.declared.object.Content.{Content}
 use Rattle.model.specs.declared.object.Object.{Object}
 use Rattle.model.specs.declared.object.State.{State}
-use Rattle.model.specs.Capability.{IsWellFormed}
-use Rattle.model.specs.Object.{is_free, is_annex, is_bank, is_waiting, words_in, slots_in, limit_in, root_in}
+use Rattle.model.specs.Capability.{IsWellFormed, named}
+use Rattle.model.specs.Object.{is_free, is_annex, is_bank, is_waiting, role_of, words_in, slots_in, limit_in, root_in}
 use Rattle.model.specs.World.{World, content_at, owner_at, root_at, annex_at, is_process}
 use Rattle.model.specs.Bank.{chain, usage}
 use Rattle.model.specs.Sound.{IsOfKind, HasShape, IsSpace, NamesItsKind, MayBeHeld, IsSound, object_count}
-use Rattle.model_laws.proofs.Usage.{SameFrame, tests_at, frame_refl, chain_same, usage_same}
+use Rattle.model_laws.proofs.Usage.{SameFrame, same_tests, tests_at, frame_refl, chain_same, usage_same}
 
 -- what a process does
 abbrev pub state_at : List Object → ℕ → State
@@ -67,17 +67,23 @@ pub held_to : (os : List Object) (c : Capability) → IsHeld os (Waits os) c →
 held_to os (Resume p) h = (h.well_formed, h.names)
 held_to os c h = (h.well_formed, h.names)
 
+-- a capability may be held where what it names is of the same role, and may be resumed if it could
+pub held_alike : (os us : List Object) (W V : ℕ → Type 0) (c : Capability) → ((n : ℕ) → named c ≡ Some n → role_of (content_at us n) ≡ role_of (content_at os n))
+    → ((p : ℕ) → named c ≡ Some p → W p → V p) → IsHeld os W c → IsHeld us V c
+held_alike os us W V (Page o a) s f h = record { well_formed = h.well_formed; names = rw (same_tests (content_at os o) (content_at us o) (s o refl)).page h.names }
+held_alike os us W V (Node o a) s f h = record { well_formed = h.well_formed; names = rw (same_tests (content_at os o) (content_at us o) (s o refl)).node h.names }
+held_alike os us W V (Space o k a) s f h = record { well_formed = h.well_formed; names = rw (same_tests (content_at os o) (content_at us o) (s o refl)).node h.names }
+held_alike os us W V (Process p) s f h = record { well_formed = h.well_formed; names = rw (same_tests (content_at os p) (content_at us p) (s p refl)).root h.names }
+held_alike os us W V (Start p key) s f h = record { well_formed = h.well_formed; names = rw (same_tests (content_at os p) (content_at us p) (s p refl)).root h.names }
+held_alike os us W V (Resume p) s f h = record {
+  well_formed = h.well_formed;
+  names = (rw (same_tests (content_at os p) (content_at us p) (s p refl)).root h.names.0, f p refl h.names.1);
+}
+held_alike os us W V (Bank b) s f h = record { well_formed = h.well_formed; names = rw (same_tests (content_at os b) (content_at us b) (s b refl)).bank h.names }
+held_alike os us W V c s f h = record { well_formed = h.well_formed; names = h.names }
+
 pub held_on : (os us : List Object) (W V : ℕ → Type 0) (c : Capability) → SameFrame os us → ((p : ℕ) → W p → V p) → IsHeld os W c → IsHeld us V c
-held_on os us W V Void s f h = record { well_formed = h.well_formed; names = h.names }
-held_on os us W V (Number n) s f h = record { well_formed = h.well_formed; names = h.names }
-held_on os us W V (Page o a) s f h = record { well_formed = h.well_formed; names = rw (tests_at os us s o).page h.names }
-held_on os us W V (Node o a) s f h = record { well_formed = h.well_formed; names = rw (tests_at os us s o).node h.names }
-held_on os us W V (Space o k a) s f h = record { well_formed = h.well_formed; names = rw (tests_at os us s o).node h.names }
-held_on os us W V (Process p) s f h = record { well_formed = h.well_formed; names = rw (tests_at os us s p).root h.names }
-held_on os us W V (Start p key) s f h = record { well_formed = h.well_formed; names = rw (tests_at os us s p).root h.names }
-held_on os us W V (Resume p) s f h = record { well_formed = h.well_formed; names = (rw (tests_at os us s p).root h.names.0, f p h.names.1) }
-held_on os us W V (Bank b) s f h = record { well_formed = h.well_formed; names = rw (tests_at os us s b).bank h.names }
-held_on os us W V Discrim s f h = record { well_formed = h.well_formed; names = h.names }
+held_on os us W V c s f = held_alike os us W V c (λ n is. (s.alike n).role) (λ p is. f p)
 
 pub held_void : (os : List Object) (W : ℕ → Type 0) → IsHeld os W Void
 held_void os W = record { well_formed = tt; names = tt }

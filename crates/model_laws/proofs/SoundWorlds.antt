@@ -1,10 +1,12 @@
 -- The worlds that scripts begin with are sound: each object is in its place.
-use Rattle.std.proofs.Common.{◌≡◌, ◌≢◌, ◌⊎◌, ℕ, zero, suc, ◌+◌, ◌^◌, ◌<◌, ◌≤◌, true, List, [], ◌∷◌, ◌++◌, length, replicate, refl, sym, ◌∙◌, subst, inl, inr, arith}
+use Rattle.std.proofs.Common.{◌≡◌, ◌≢◌, ◌⊎◌, ℕ, false, zero, suc, ◌+◌, ◌^◌, ◌<◌, ◌≤◌, true, List, [], ◌∷◌, ◌++◌, length, replicate, refl, sym, ◌∙◌, subst, inl, inr, arith}
+use Rattle.std.proofs.lemmas.Bool.{false≢true}
 use Rattle.std.specs.Prelude.{IsTrue, slice_index, slice_index_or, slice_set}
 use Rattle.std.specs.List.{Contains}
 use Rattle.model.specs.declared.capability.Capability.{Capability}
 use Rattle.model.specs.declared.capability.Capability.TheVariants.{Void, Page, Node, Process, Start, Bank}
 use Rattle.model.specs.declared.geometry.Geometry.{Geometry}
+use Rattle.model.specs.declared.object.Content.{Content}
 use Rattle.model.specs.declared.object.Content.TheVariants as content
 use Rattle.model.specs.declared.object.Object.{Object}
 use Rattle.model.specs.declared.object.State.{State}
@@ -14,18 +16,15 @@ use Rattle.model.specs.Object.{free, all_slots, zero_words, is_free, is_root, is
 use Rattle.model.specs.World.{World, object_at, content_at, owner_at, slot_at, annex_at, is_process}
 use Rattle.model.specs.Bank.{chain, usage}
 use Rattle.model.specs.Sound.{IsOfKind, HasShape, IsSpace, MayBeHeld, IsSound, object_count}
+use Rattle.model_laws.proofs.SoundEdits.{at_set}
 use Rattle.model.specs.Worlds.{small, of_prime_bank, fresh_root, prime_bank, f0, i0}
 
 -- what is true of the elements of a list, and of what isn't there, stays so where a new one is put
-holds_set : {C : Type 0} (P : C → Type 0) (xs : List C) (i : ℕ) (c d : C) → P c → ((j : ℕ) → P (slice_index_or xs j d))
+pub holds_set : {C : Type 0} (P : C → Type 0) (xs : List C) (i : ℕ) (c d : C) → P c → ((j : ℕ) → P (slice_index_or xs j d))
     → (j : ℕ) → P (slice_index_or (slice_set xs i c) j d)
-holds_set P [] i c d new old j = old j
-holds_set P (x ∷ xs) zero c d new old zero = new
-holds_set P (x ∷ xs) zero c d new old (suc j) = old (suc j)
-holds_set P (x ∷ xs) (suc i) c d new old zero = old zero
-holds_set P (x ∷ xs) (suc i) c d new old (suc j) = holds_set P xs i c d new (λ k. old (suc k)) j
+holds_set P xs i c d new old j = at_set (λ k x. P x) xs i j c d new (old j)
 
-holds_replicate : {C : Type 0} (P : C → Type 0) (n : ℕ) (c d : C) → P c → P d → (j : ℕ) → P (slice_index_or (replicate n c) j d)
+pub holds_replicate : {C : Type 0} (P : C → Type 0) (n : ℕ) (c d : C) → P c → P d → (j : ℕ) → P (slice_index_or (replicate n c) j d)
 holds_replicate P zero c d new old j = old
 holds_replicate P (suc n) c d new old zero = new
 holds_replicate P (suc n) c d new old (suc j) = holds_replicate P n c d new old j
@@ -48,12 +47,12 @@ unfolding all_slots
 all_slots_length = refl
 
 -- a fact of each object of a list and its number
-abbrev Each : (ℕ → Object → Type 0) → ℕ → List Object → Type 0
+abbrev pub Each : (ℕ → Object → Type 0) → ℕ → List Object → Type 0
 Each P k [] = Unit {0}
 Each P k (o ∷ os) = P k o × Each P (k + 1) os
 
 -- it is one of each number, where it is one of what is free
-each_at : (P : ℕ → Object → Type 0) (k : ℕ) (os : List Object) → Each P k os → ((m : ℕ) → P m free)
+pub each_at : (P : ℕ → Object → Type 0) (k : ℕ) (os : List Object) → Each P k os → ((m : ℕ) → P m free)
     → (n m : ℕ) → m ≡ k + n → P m (slice_index_or os n free)
 each_at P k [] each blank n m e = blank m
 each_at P k (o ∷ os) each blank zero m e =
@@ -62,12 +61,16 @@ each_at P k (o ∷ os) each blank zero m e =
 each_at P k (o ∷ os) each blank (suc n) m e = each_at P (k + 1) os each.1 blank n m (omega (arith, e))
 
 -- free objects before others
-each_after : (P : ℕ → Object → Type 0) (m k j : ℕ) (os : List Object) → ((n : ℕ) → P n free) → j ≡ k + m → Each P j os
+pub each_after : (P : ℕ → Object → Type 0) (m k j : ℕ) (os : List Object) → ((n : ℕ) → P n free) → j ≡ k + m → Each P j os
     → Each P k (replicate m free ++ os)
 each_after P zero k j os blank e each =
     let same : j ≡ k = omega (arith, e) in
     subst (λ i. Each P i os) same each
 each_after P (suc m) k j os blank e each = (blank k, each_after P m (k + 1) j os blank (omega (arith, e)) each)
+
+-- the registers of a process: 32, and the first is void
+abbrev AreRegisters : List Capability → Type 0
+AreRegisters registers = (length registers ≡ 32) × (slice_index_or registers 0 Void ≡ Void)
 
 -- an object in its place among others, with such capabilities in its slots; a root is just before its annex
 record IsInPlace (g : Geometry) (os : List Object) (H : Capability → Type 0) (n : ℕ) (o : Object) : Type 0 where
@@ -109,22 +112,34 @@ sound_from g w H size bank own age may at = record {
 }
 
 module _ (g : Geometry) (os : List Object) (H : Capability → Type 0) (bank : IsTrue (is_bank (content_at os 0))) (void : H Void) where
-  free_in_place : (n : ℕ) → IsInPlace g os H n free
-  free_in_place n = record {
-    kind = tt;
-    shape = tt;
-    words = λ i. omega arith;
-    slots = λ i. void;
-    register_0 = λ is. refl;
-    space = refl;
-    annex = λ is. cc;
-    next = λ is. cc;
-    some_root = λ is. cc;
+  -- an object that is no bank, root or annex
+  plain_in_place : (n : ℕ) (c : Content Capability) → is_bank c ≡ false → is_root c ≡ false → is_annex c ≡ false → (root_in c).space ≡ Void
+      → IsOfKind g n c → HasShape c → ((i : ℕ) → slice_index (words_in c) i < 2 ^ 64) → ((i : ℕ) → H (slice_index_or (slots_in c) i Void))
+      → IsInPlace g os H n (of_prime_bank c)
+  plain_in_place n c no_bank no_root no_annex space kind shape words slots = record {
+    kind = kind;
+    shape = shape;
+    words = words;
+    slots = slots;
+    register_0 = λ is. absurd (false≢true (sym no_annex ∙ is));
+    space = space;
+    annex = λ is. absurd (false≢true (sym no_root ∙ is));
+    next = λ is. absurd (false≢true (sym no_root ∙ is));
+    some_root = λ is. absurd (false≢true (sym no_annex ∙ is));
     unowned = λ is. refl;
     owned = λ is. bank;
-    chains = λ is. cc;
-    limits = λ is. cc;
+    chains = λ is. absurd (false≢true (sym no_bank ∙ is));
+    limits = λ is. absurd (false≢true (sym no_bank ∙ is));
   }
+
+  free_in_place : (n : ℕ) → IsInPlace g os H n free
+  free_in_place n = plain_in_place n content.Free refl refl refl refl tt tt (λ i. omega arith) (λ i. void)
+
+  node_in_place : (n : ℕ) → n < g.nodes → IsInPlace g os H n (of_prime_bank (content.Node (all_slots Void)))
+  node_in_place n fits = plain_in_place n (content.Node (all_slots Void)) refl refl refl refl fits all_slots_length (λ i. omega arith) (holds_void H void)
+
+  page_in_place : (n : ℕ) → g.nodes ≤ n → n < object_count g → IsInPlace g os H n (of_prime_bank (content.Page zero_words))
+  page_in_place n from fits = plain_in_place n (content.Page zero_words) refl refl refl refl (from, fits) zero_words_length zero_words_fit (λ i. void)
 
   bank_in_place : 0 < g.nodes → usage os 0 ≤ 1000 → IsInPlace g os H 0 prime_bank
   unfolding chain
@@ -162,15 +177,15 @@ module _ (g : Geometry) (os : List Object) (H : Capability → Type 0) (bank : I
     limits = λ is. cc;
   }
 
-  annex_in_place : (n p : ℕ) (registers : List Capability) → n < g.nodes → length registers ≡ 32
-      → ((i : ℕ) → H (slice_index_or registers i Void)) → slice_index_or registers 0 Void ≡ Void
+  annex_in_place : (n p : ℕ) (registers : List Capability) → n < g.nodes → AreRegisters registers
+      → ((i : ℕ) → H (slice_index_or registers i Void))
       → IsTrue (is_process os p) → annex_at os p ≡ n → IsInPlace g os H n (of_prime_bank (content.Annex registers))
-  annex_in_place n p registers fits size held register_0 is_there same = record {
+  annex_in_place n p registers fits are held is_there same = record {
     kind = fits;
-    shape = size;
+    shape = are.0;
     words = λ i. omega arith;
     slots = held;
-    register_0 = λ is. register_0;
+    register_0 = λ is. are.1;
     space = refl;
     annex = λ is. cc;
     next = λ is. cc;
@@ -181,39 +196,9 @@ module _ (g : Geometry) (os : List Object) (H : Capability → Type 0) (bank : I
     limits = λ is. cc;
   }
 
-  node_in_place : (n : ℕ) → n < g.nodes → IsInPlace g os H n (of_prime_bank (content.Node (all_slots Void)))
-  node_in_place n fits = record {
-    kind = fits;
-    shape = all_slots_length;
-    words = λ i. omega arith;
-    slots = holds_void H void;
-    register_0 = λ is. cc;
-    space = refl;
-    annex = λ is. cc;
-    next = λ is. cc;
-    some_root = λ is. cc;
-    unowned = λ is. refl;
-    owned = λ is. bank;
-    chains = λ is. cc;
-    limits = λ is. cc;
-  }
-
-  page_in_place : (n : ℕ) → g.nodes ≤ n → n < object_count g → IsInPlace g os H n (of_prime_bank (content.Page zero_words))
-  page_in_place n from fits = record {
-    kind = (from, fits);
-    shape = zero_words_length;
-    words = zero_words_fit;
-    slots = λ i. void;
-    register_0 = λ is. refl;
-    space = refl;
-    annex = λ is. cc;
-    next = λ is. cc;
-    some_root = λ is. cc;
-    unowned = λ is. refl;
-    owned = λ is. bank;
-    chains = λ is. cc;
-    limits = λ is. cc;
-  }
+are_void : AreRegisters (all_slots Void)
+unfolding all_slots
+are_void = (refl, refl)
 
 -- what the slots of F0 hold
 abbrev IsInF0 : Capability → Type 0
@@ -222,13 +207,9 @@ IsInF0 c = (c ≡ Void) ⊎ (c ≡ Node 5 full) ⊎ (c ≡ Page 16 full)
 abbrev f0_registers : List Capability
 f0_registers = slice_set (slice_set (all_slots Void) 5 (Node 5 full)) 6 (Page 16 full)
 
-f0_registers_length : length f0_registers ≡ 32
+are_f0_registers : AreRegisters f0_registers
 unfolding all_slots
-f0_registers_length = refl
-
-f0_register_0 : slice_index_or f0_registers 0 Void ≡ Void
-unfolding all_slots
-f0_register_0 = refl
+are_f0_registers = (refl, refl)
 
 f0_held : (i : ℕ) → IsInF0 (slice_index_or f0_registers i Void)
 f0_held =
@@ -250,7 +231,7 @@ f0_in_place n =
       (
         root_in_place small os IsInF0 refl (inl refl) 1 2 Running (omega arith) refl refl refl,
         (
-          annex_in_place small os IsInF0 refl (inl refl) 2 1 f0_registers (omega arith) f0_registers_length f0_held f0_register_0 refl refl,
+          annex_in_place small os IsInF0 refl (inl refl) 2 1 f0_registers (omega arith) are_f0_registers f0_held refl refl,
           (
             blank 3,
             (
@@ -287,13 +268,9 @@ f0_sound = sound_from small f0 IsInF0 refl refl refl (omega arith) f0_may f0_in_
 abbrev i0_registers : List Capability
 i0_registers = slice_set (slice_set (slice_set (slice_set (all_slots Void) 1 (Process 1)) 2 (Bank 0)) 3 (Start 3 7)) 4 (Process 3)
 
-i0_registers_length : length i0_registers ≡ 32
+are_i0_registers : AreRegisters i0_registers
 unfolding all_slots
-i0_registers_length = refl
-
-i0_register_0 : slice_index_or i0_registers 0 Void ≡ Void
-unfolding all_slots
-i0_register_0 = refl
+are_i0_registers = (refl, refl)
 
 i0_held : (i : ℕ) → MayBeHeld i0.objects (slice_index_or i0_registers i Void)
 unfolding i0
@@ -308,11 +285,6 @@ i0_usage : usage i0.objects 0 ≤ 1000
 unfolding i0 chain usage
 i0_usage = omega arith
 
--- register 0 of process 3
-i0_void_register_0 : slice_index_or (all_slots Void) 0 Void ≡ Void
-unfolding all_slots
-i0_void_register_0 = refl
-
 i0_in_place : (n : ℕ) → IsInPlace small i0.objects (MayBeHeld i0.objects) n (object_at i0.objects n)
 unfolding i0
 i0_in_place n =
@@ -325,11 +297,11 @@ i0_in_place n =
       (
         root_in_place small os H refl (tt, tt) 1 2 Running (omega arith) refl refl refl,
         (
-          annex_in_place small os H refl (tt, tt) 2 1 i0_registers (omega arith) i0_registers_length i0_held i0_register_0 refl refl,
+          annex_in_place small os H refl (tt, tt) 2 1 i0_registers (omega arith) are_i0_registers i0_held refl refl,
           (
             root_in_place small os H refl (tt, tt) 3 4 Available (omega arith) refl refl refl,
             (
-              annex_in_place small os H refl (tt, tt) 4 3 (all_slots Void) (omega arith) all_slots_length (holds_void H (tt, tt)) i0_void_register_0 refl refl,
+              annex_in_place small os H refl (tt, tt) 4 3 (all_slots Void) (omega arith) are_void (holds_void H (tt, tt)) refl refl,
               each_after P 19 5 24 [] blank refl tt,
             ),
           ),

@@ -122,17 +122,7 @@ words_count (command.Invoke i) fits =
     let words = length-map i.words decimal in
     let sent = length-map i.sent decimal in
     (omega arith, omega arith)
-words_count (command.Load p address) fits = (omega arith, omega arith)
-words_count (command.Store p address value) fits = (omega arith, omega arith)
-words_count (command.Show n) fits = (omega arith, omega arith)
-words_count (command.Evict n) fits = (omega arith, omega arith)
-words_count command.Checkpoint fits = (omega arith, omega arith)
-words_count (command.Stabilize n) fits = (omega arith, omega arith)
-words_count command.Commit fits = (omega arith, omega arith)
-words_count (command.Migrate n) fits = (omega arith, omega arith)
-words_count (command.Journal n) fits = (omega arith, omega arith)
-words_count command.Restart fits = (omega arith, omega arith)
-words_count command.Cut fits = (omega arith, omega arith)
+words_count c fits = (omega arith, omega arith)
 
 -- the words of a command are the parts of its spelling
 pub split_spelling : (c : Command) → Fits c → split (spelling c) ≡ command_words c
@@ -159,13 +149,13 @@ length-spelling c fits =
 -- From the words to the command
 
 -- the k-th word as a number
-abbrev number_at : List (List ℕ) → ℕ → ℕ
+abbrev pub number_at : List (List ℕ) → ℕ → ℕ
 number_at words k = digits_value 10 (slice_index_or words k [])
 
-abbrev numbers : List (List ℕ) → List ℕ
+abbrev pub numbers : List (List ℕ) → List ℕ
 numbers words = map (digits_value 10) words
 
-abbrev invocation_of : Operation → List (List ℕ) → Command
+abbrev pub invocation_of : Operation → List (List ℕ) → Command
 invocation_of o words = command.Invoke (record {
   operation = o;
   process = number_at words 1;
@@ -229,8 +219,7 @@ reads_parts : (o : Operation) (p r : ℕ) (rest : List (List ℕ)) →
     ≡ invocation o (digits_value 10 (decimal p)) (digits_value 10 (decimal r)) (numbers (take 4 rest)) (numbers (drop 4 rest))
 unfolding command_of
 reads_parts Call p r rest = refl
-reads_parts Return p r rest = refl
-reads_parts Send p r rest = refl
+reads_parts o p r rest = refl
 
 pub reads_words : (c : Command) → Fits c → command_of (command_words c) ≡ c
 unfolding command_of command_words
@@ -245,13 +234,10 @@ reads_words (command.Store p address value) fits =
     λ k. command.Store (value_of p fits.0 k) (value_of address fits.1 k) (value_of value fits.2 k)
 reads_words (command.Show n) fits = ap command.Show (value_of n fits)
 reads_words (command.Evict n) fits = ap command.Evict (value_of n fits)
-reads_words command.Checkpoint fits = refl
 reads_words (command.Stabilize n) fits = ap command.Stabilize (value_of n fits)
-reads_words command.Commit fits = refl
 reads_words (command.Migrate n) fits = ap command.Migrate (value_of n fits)
 reads_words (command.Journal n) fits = ap command.Journal (value_of n fits)
-reads_words command.Restart fits = refl
-reads_words command.Cut fits = refl
+reads_words c fits = refl
 
 -- a spelling tells its command
 pub reads_spelling : (c : Command) → Fits c → command_of (split (spelling c)) ≡ c
@@ -269,19 +255,8 @@ spelling_is_no_skip (command.Invoke i) skipped = no_operation i.operation skippe
   where
     no_operation : (o : Operation) → IsSkipped (spaced ((operation_name o ∷ decimal i.process ∷ decimal i.register ∷ []) ++ map decimal i.words ++ map decimal i.sent)) → ⊥
     no_operation Call e = omega arith
-    no_operation Return e = omega arith
-    no_operation Send e = omega arith
-spelling_is_no_skip (command.Load p address) skipped = omega arith
-spelling_is_no_skip (command.Store p address value) skipped = omega arith
-spelling_is_no_skip (command.Show n) skipped = omega arith
-spelling_is_no_skip (command.Evict n) skipped = omega arith
-spelling_is_no_skip command.Checkpoint skipped = omega arith
-spelling_is_no_skip (command.Stabilize n) skipped = omega arith
-spelling_is_no_skip command.Commit skipped = omega arith
-spelling_is_no_skip (command.Migrate n) skipped = omega arith
-spelling_is_no_skip (command.Journal n) skipped = omega arith
-spelling_is_no_skip command.Restart skipped = omega arith
-spelling_is_no_skip command.Cut skipped = omega arith
+    no_operation o e = omega arith
+spelling_is_no_skip c skipped = omega arith
 
 -- what is skipped or spells a command is not bad, and no spelling is skipped
 pub skip_is_not_bad : (text : List ℕ) → Says text line.Skip → Says text line.Bad → ⊥

@@ -1,5 +1,4 @@
-use Rattle.std.proofs.Common.{◌≡◌, ℕ, zero, suc, ◌+◌, ◌==◌, Bool, not, ◌&&◌, cond, List, [], ◌∷◌, length, get_or, refl, subst, arith}
-use Rattle.std.specs.List.{fold, enumerate_from}
+use Rattle.std.proofs.Common.{◌≡◌, ℕ, zero, suc, ◌==◌, Bool, not, ◌&&◌, List, length, refl, ap}
 use Rattle.model.specs.declared.capability.Capability.{Capability}
 use Rattle.model.specs.declared.geometry.Geometry.{Geometry}
 use Rattle.model.specs.declared.object.Content.{Content}
@@ -9,6 +8,7 @@ use Rattle.model.specs.Object.{free, is_free, is_page, is_node, is_root, is_anne
 use Rattle.model.specs.World.{object_at, content_at, owner_at}
 use Rattle.model.specs.Bank.{chain_within, chain, is_under, usage}
 use Rattle.model.specs.Sound.{IsOfKind}
+use Rattle.model_laws.proofs.Counts.{count_alike}
 
 -- two objects that differ in no more than words, slots, a state, a key or an address space
 pub record AreAlike (x y : Object) : Type 0 where
@@ -69,21 +69,11 @@ pub chain_same : (os us : List Object) → SameFrame os us → (b : ℕ) → cha
 unfolding chain
 chain_same os us s b = chain_within_same 16 os us s b
 
-fold_same : {X : Type 0} (p q : ℕ × X → Bool) (a k : ℕ) (xs ys : List X) (d : X) → length ys ≡ length xs
-    → ((i j : ℕ) → j ≡ k + i → p (j, get_or ys i d) ≡ q (j, get_or xs i d))
-    → fold (λ a x. a + cond (p x) 1 0) a (enumerate_from k ys) ≡ fold (λ a x. a + cond (q x) 1 0) a (enumerate_from k xs)
-fold_same p q a k [] [] d e same = refl
-fold_same p q a k (x ∷ xs) (y ∷ ys) d e same =
-    let head : p (k, y) ≡ q (k, x) = same 0 k (omega arith) in
-    subst (λ t. fold (λ a x. a + cond (p x) 1 0) (a + cond (p (k, y)) 1 0) (enumerate_from (k + 1) ys) ≡ fold (λ a x. a + cond (q x) 1 0) (a + cond t 1 0) (enumerate_from (k + 1) xs)) head
-    (fold_same p q (a + cond (p (k, y)) 1 0) (k + 1) xs ys d (omega arith) (λ i j e. same (suc i) j (omega arith)))
-fold_same p q a k xs ys d e same = absurd (omega arith)
-
 pub under_same : (os us : List Object) → SameFrame os us → (b : ℕ) (x y : Object) → AreAlike x y → is_under us b y ≡ is_under os b x
 under_same os us s b x y a = rw ((same_tests x.content y.content a.role).free, a.owner, chain_same os us s x.owner) refl
 
 pub usage_same : (os us : List Object) → SameFrame os us → (b : ℕ) → usage us b ≡ usage os b
 unfolding usage
 usage_same os us s b =
-    fold_same (λ p. not (p.0 == b) && is_under us b p.1) (λ p. not (p.0 == b) && is_under os b p.1) 0 0 os us free s.size
-    (λ i j e. rw (under_same os us s b (object_at os i) (object_at us i) (s.alike i)) refl)
+    count_alike (λ p. not (p.0 == b) && is_under us b p.1) (λ p. not (p.0 == b) && is_under os b p.1) os us free s.size
+    (λ i. ap (λ (u : Bool). not (i == b) && u) (under_same os us s b (object_at os i) (object_at us i) (s.alike i)))

@@ -1,180 +1,48 @@
-use Rattle.std.proofs.Common.{◌≡◌, ◌≢◌, ℕ, ◌<◌, ◌^◌, true, false, Option, None, Some, List, [], ◌∷◌, ◌++◌, codes, All, bytes_eq, inl, inr, refl, sym, ap, ◌∙◌, subst, arith}
-use Rattle.std.specs.Fmt.{digits}
-use Rattle.model.specs.Object.{all_slots, zero_words}
-use Rattle.model.specs.World.{with_content, with_word, with_slot, with_root, with_state}
-use Rattle.model.specs.Bank.{chain, usage}
-use Rattle.model.specs.Banking.{on_bank, has_room, free_nodes, free_pages, with_new, owned_by, inherited}
-use Rattle.model.specs.Revoke.{rescind, consume}
-use Rattle.model.specs.Walk.{walk}
-use Rattle.model.specs.Order.{on_page, on_node, on_process, order}
-use Rattle.model.specs.Invoke.{deliver, through_gate, on_kernel_object, invoke}
-use Rattle.model.specs.Machine.{Running as Machine, Machine as UpOrDown, Up, renewing, untouched}
+-- Proofs of the worked rows: the definitions are computed.
+use Rattle.std.proofs.Common.{◌≡◌, ◌≢◌, ℕ, true, false, Option, None, Some, List, [], ◌∷◌, ◌++◌, codes, All, bytes_eq, inl, inr, refl, sym, ap, ◌∙◌, subst, arith}
 use Rattle.std.proofs.lemmas.List.Elements.{All-from_recursion}
+use Rattle.std.proofs.lemmas.Slice.Eq.{bytes_eq-Decides}
+use Rattle.model.specs.Machine.{Running as Machine, Machine as UpOrDown, Up}
 use Rattle.model.specs.declared.answer.Answer.{Answer}
 use Rattle.model.specs.declared.answer.Answer.TheVariants as answer
 use Rattle.model.specs.Step.{Outcome, outcome, refusal_of, carried_out, shown}
-use Rattle.model.specs.Worlds.{small, f0, i0}
-use Rattle.std.proofs.lemmas.Slice.Eq.{bytes_eq-Decides}
+use Rattle.model.specs.Worlds.{small, i0}
 use Rattle.model.specs.declared.answer.Refusal.{Refusal}
 use Rattle.model.specs.declared.command.Command.{Command}
 use Rattle.model.specs.declared.command.Command.TheVariants as command
+use Rattle.model.specs.declared.command.Operation.TheVariants.{Return}
 use Rattle.model.specs.declared.line.Line.TheVariants as line
 use Rattle.model_laws.proofs.Spelling.{split, command_of, reads_spelling}
-use Rattle.model.specs.Text.{Fits, command_words, spelling, capability_text, word_lines, capability_lines, object_text, printed, bad_line}
-use Rattle.model_laws.specs.Worked.{s0, b0, WritesPage, DiminishesPage, StartsProcess, AnswersOnce, Stalls, SetsState, StartsItself, AsksProcesses, AsksNodes, Classifies, DiminishesAll, SetsStateOnce, ResetsKey, ClearsRegisters, ReducesFurther, DiminishesKinds}
-use Rattle.model_laws.specs.WorkedMemory.{RefusesReferences, FindsHoles, FindsPages, ReachesDeep, DescendsByOne, FillsLogByStore, RestrictsWays}
-use Rattle.model_laws.specs.WorkedSaves.{RefusesNumbers, Wears, AgesOnceMore, FillsLog, Saves, SavesStores, Forgets, ShowsBanks, RefusesInOrder, CountsWritten, Journals, JournalsSaved, JournalsWords}
-use Rattle.model_laws.specs.WorkedSteps.{AnswersBySteps, FailsBetween, OpensAgain, WantsMemory, RescindsProcess, ChainsBanks, RevokesOnly}
+use Rattle.model.specs.Text.{Fits, spelling}
+use Rattle.model_laws.proofs.Rows.{IsRight, fits_holds, machine, rows_hold}
+use Rattle.model_laws.specs.Worked.{IsRow}
+use Rattle.model_laws.specs.WorkedMemory.{references}
+use Rattle.model_laws.specs.WorkedObjects.{objects}
+use Rattle.model_laws.specs.WorkedProcesses.{processes}
+use Rattle.model_laws.specs.WorkedRefusals.{refusals}
+use Rattle.model_laws.specs.WorkedSaves.{saving}
+use Rattle.model_laws.specs.WorkedSteps.{invokes, AnswersBySteps, FailsBetween, OpensAgain, WantsMemory, RescindsProcess, ChainsBanks, RevokesOnly}
 use Rattle.model_laws.specs.WorkedTexts.{SaysCommands, SaysNothing, SaysBad, CutsLines, RunsScript, PrintsRefusals}
 
--- `unfolding machine` lets `refl` compute what a command comes to
-unfoldable machine : Unit {0}
-unfolding digits all_slots zero_words with_content with_word with_slot with_root with_state chain usage rescind consume walk on_page on_node on_process order deliver through_gate on_kernel_object invoke untouched renewing refusal_of carried_out command_words spelling capability_text word_lines capability_lines object_text printed bad_line f0 i0 s0 b0
-machine = tt
+pub objects_hold : All IsRow objects
+unfolding machine objects
+objects_hold = rows_hold objects (All-from_recursion IsRight objects (refl, (refl, (refl, (refl, (refl, (refl, (refl, (refl, tt)))))))))
 
-pub writes_page : WritesPage
-unfolding machine
-writes_page = (refl, refl)
+pub processes_hold : All IsRow processes
+unfolding machine processes
+processes_hold = rows_hold processes (All-from_recursion IsRight processes (refl, (refl, (refl, (refl, (refl, (refl, (refl, (refl, (refl, tt))))))))))
 
-pub diminishes_page : DiminishesPage
-unfolding machine
-diminishes_page = (refl, refl)
+pub references_hold : All IsRow references
+unfolding machine references
+references_hold = rows_hold references (All-from_recursion IsRight references (refl, (refl, (refl, (refl, (refl, tt))))))
 
-pub starts_process : StartsProcess
-unfolding machine
-starts_process = (refl, refl)
+pub saving_hold : All IsRow saving
+unfolding machine saving
+saving_hold = rows_hold saving (All-from_recursion IsRight saving (refl, (refl, (refl, (refl, (refl, (refl, (refl, tt))))))))
 
-pub answers_once : AnswersOnce
-unfolding machine
-answers_once = (refl, refl)
-
-pub stalls : Stalls
-unfolding machine
-stalls = (refl, refl)
-
-pub sets_state : SetsState
-unfolding machine
-sets_state = (refl, refl)
-
-pub starts_itself : StartsItself
-unfolding machine
-starts_itself = (refl, refl)
-
-pub asks_processes : AsksProcesses
-unfolding machine
-asks_processes = (refl, refl)
-
-pub asks_nodes : AsksNodes
-unfolding machine
-asks_nodes = (refl, refl)
-
-pub classifies : Classifies
-unfolding machine
-classifies = (refl, refl)
-
-pub diminishes_all : DiminishesAll
-unfolding machine
-diminishes_all = (refl, refl)
-
-pub refuses_references : RefusesReferences
-unfolding machine
-refuses_references = (refl, refl)
-
-pub finds_holes : FindsHoles
-unfolding machine
-finds_holes = (refl, refl)
-
-pub finds_pages : FindsPages
-unfolding machine
-finds_pages = (refl, refl)
-
-pub reaches_deep : ReachesDeep
-unfolding machine
-reaches_deep = (refl, refl)
-
-pub descends_by_one : DescendsByOne
-unfolding machine
-descends_by_one = (refl, refl)
-
-pub refuses_numbers : RefusesNumbers
-unfolding machine
-refuses_numbers = (refl, refl)
-
-pub wears : Wears
-unfolding machine
-wears = (refl, refl)
-
-pub ages_once_more : AgesOnceMore
-unfolding machine
-ages_once_more = (refl, refl)
-
-pub fills_log : FillsLog
-unfolding machine
-fills_log = (refl, refl)
-
-pub fills_log_by_store : FillsLogByStore
-unfolding machine
-fills_log_by_store = (refl, refl)
-
-pub saves : Saves
-unfolding machine
-saves = (refl, refl)
-
-pub saves_stores : SavesStores
-unfolding machine
-saves_stores = (refl, refl)
-
-pub forgets : Forgets
-unfolding machine
-forgets = (refl, refl)
-
-pub shows_banks : ShowsBanks
-unfolding machine
-shows_banks = (refl, refl)
-
-pub sets_state_once : SetsStateOnce
-unfolding machine
-sets_state_once = (refl, refl)
-
-pub resets_key : ResetsKey
-unfolding machine
-resets_key = (refl, refl)
-
-pub clears_registers : ClearsRegisters
-unfolding machine
-clears_registers = (refl, refl)
-
-pub reduces_further : ReducesFurther
-unfolding machine
-reduces_further = (refl, refl)
-
-pub diminishes_kinds : DiminishesKinds
-unfolding machine
-diminishes_kinds = (refl, refl)
-
-pub restricts_ways : RestrictsWays
-unfolding machine
-restricts_ways = (refl, refl)
-
-pub refuses_in_order : RefusesInOrder
-unfolding machine
-refuses_in_order = (refl, refl)
-
-pub counts_written : CountsWritten
-unfolding machine
-counts_written = (refl, refl)
-
-pub journals : Journals
-unfolding machine on_bank has_room free_pages with_new
-journals = (refl, refl)
-
-pub journals_saved : JournalsSaved
-unfolding machine on_bank has_room free_pages with_new
-journals_saved = (refl, refl)
-
-pub journals_words : JournalsWords
-unfolding machine on_bank has_room free_nodes free_pages with_new owned_by inherited
-journals_words = (refl, refl)
+pub refusals_hold : All IsRow refusals
+unfolding machine refusals
+refusals_hold = rows_hold refusals (All-from_recursion IsRight refusals (refl, (refl, (refl, (refl, (refl, (refl, (refl, tt))))))))
 
 -- the answer that a refusal or an outcome gives is that of a step
 abbrev comes_to : Machine → Outcome → Option Refusal → Outcome
@@ -208,10 +76,6 @@ pub chains_banks : ChainsBanks
 unfolding machine
 chains_banks = (refl, refl)
 
--- the numbers of four and the registers are within their bounds
-fit : (a b c d limit : ℕ) → a < limit → b < limit → c < limit → d < limit → All (λ n. n < limit) (a ∷ b ∷ c ∷ d ∷ [])
-fit a b c d limit p q r s = All-from_recursion (λ n. n < limit) (a ∷ b ∷ c ∷ d ∷ []) (p, (q, (r, (s, tt))))
-
 pub says_commands : SaysCommands
 unfolding machine
 says_commands = (
@@ -219,17 +83,7 @@ says_commands = (
   (omega arith, refl),
   (omega arith, refl),
   (omega arith, refl),
-  (
-    (
-      omega arith,
-      omega arith,
-      refl,
-      fit 9 0 0 0 (2 ^ 64) (omega arith) (omega arith) (omega arith) (omega arith),
-      refl,
-      fit 5 0 0 31 32 (omega arith) (omega arith) (omega arith) (omega arith),
-    ),
-    refl,
-  ),
+  (fits_holds (invokes Return 3 31 (9 ∷ 0 ∷ 0 ∷ 0 ∷ []) (5 ∷ 0 ∷ 0 ∷ 31 ∷ [])) refl, refl),
 )
 
 pub says_nothing : SaysNothing
@@ -304,3 +158,10 @@ prints_refusals = refl
 pub revokes_only : RevokesOnly
 unfolding machine
 revokes_only = (refl, refl)
+
+-- what each function of `worked` is proved by
+pub ruleset steps = (answers_by_steps, fails_between, opens_again, wants_memory)
+
+pub ruleset revoking = (rescinds_process, revokes_only, chains_banks)
+
+pub ruleset lines = (says_commands, says_nothing, says_bad, cuts_lines, runs_script, prints_refusals)

@@ -1,6 +1,10 @@
 pub mod Laws
+pub mod Shown
 pub mod Worked
 pub mod WorkedMemory
+pub mod WorkedObjects
+pub mod WorkedProcesses
+pub mod WorkedRefusals
 pub mod WorkedSaves
 pub mod WorkedSteps
 pub mod WorkedTexts

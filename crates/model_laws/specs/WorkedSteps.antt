@@ -6,6 +6,7 @@ use Rattle.model.specs.declared.capability.Capability.{Capability}
 use Rattle.model.specs.declared.capability.Capability.TheVariants.{Void, Number, Page, Node, Space, Process, Start, Resume, Bank, Discrim}
 use Rattle.model.specs.declared.command.Command.{Command}
 use Rattle.model.specs.declared.command.Command.TheVariants as command
+use Rattle.model.specs.declared.command.Operation.{Operation}
 use Rattle.model.specs.declared.command.Operation.TheVariants.{Call, Send}
 use Rattle.model.specs.declared.answer.Refusal.TheVariants as refusal
 use Rattle.model.specs.declared.object.Content.TheVariants as content
@@ -18,7 +19,16 @@ use Rattle.model.specs.Machine.{Saved, Running as Machine, Machine as UpOrDown, 
 use Rattle.model.specs.Revoke.{rescind, consume}
 use Rattle.model.specs.Step.{Proceeds, Step, second}
 use Rattle.model.specs.Worlds.{small, of_prime_bank, fresh_root, prime_bank, f0, i0}
-use Rattle.model_laws.specs.Worked.{does, at_world, answered, b0}
+use Rattle.model_laws.specs.Worked.{at_world, answered, b0}
+
+-- an invocation with words and registers
+abbrev pub invokes : Operation → ℕ → ℕ → List ℕ → List ℕ → Command
+invokes operation p r words sent =
+    command.Invoke (record { operation = operation; process = p; register = r; words = words; sent = sent })
+
+-- process 1 of World F0 writes a word of page 16
+abbrev pub writes : Operation → ℕ → Command
+writes operation value = invokes operation 1 6 (2 ∷ 0 ∷ value ∷ 0 ∷ []) (replicate 4 0)
 
 -- the machine after commands in a row
 abbrev pub after : Machine → List Command → Machine
@@ -33,10 +43,15 @@ told_saved saved = map (λ at. (at.generation, at.world.age, at.entries)) saved
 abbrev pub AnswersBySteps : Type 0
 AnswersBySteps = (s : Machine) (c : Command) → Step small (Up s) c (answered s c).answer (Up (answered s c).after)
 
--- a page is frozen, written again, and all that is frozen is in the log
+-- a page is frozen, then written again and all that is frozen is in the log, then committed
+abbrev pub frozen : Machine
+frozen = after (at_world f0) (writes Call 42 ∷ command.Checkpoint ∷ [])
+
 abbrev pub stable : Machine
-stable = after (at_world f0)
-    (does Call 1 6 (2 ∷ 0 ∷ 42 ∷ 0 ∷ []) 0 ∷ command.Checkpoint ∷ does Send 1 6 (2 ∷ 0 ∷ 43 ∷ 0 ∷ []) 0 ∷ command.Stabilize 5 ∷ [])
+stable = after frozen (writes Send 43 ∷ command.Stabilize 5 ∷ [])
+
+abbrev pub committed : Machine
+committed = after stable (command.Commit ∷ [])
 
 -- where the device fails in a commit or a journal, the saved part is the old or the new one; where it fails in the
 -- migration of the last object, its entries are counted or not; elsewhere nothing is in doubt
@@ -44,13 +59,13 @@ abbrev pub FailsBetween : Type 0
 FailsBetween =
     (told_saved (candidates (Up stable) ++ second (Up stable) command.Commit) ≡ (0, 0, 0) ∷ (1, 2, 3) ∷ [])
     × (told_saved (second (Up stable) (command.Stabilize 1)) ≡ [])
-    × (told_saved (second (Up (after (at_world f0) (does Call 1 6 (2 ∷ 0 ∷ 42 ∷ 0 ∷ []) 0 ∷ command.Checkpoint ∷ []))) command.Commit) ≡ [])
-    × (told_saved (second (Up (after stable (command.Commit ∷ []))) (command.Migrate 2)) ≡ [])
-    × (told_saved (second (Up (after stable (command.Commit ∷ []))) (command.Migrate 9)) ≡ (1, 2, 0) ∷ [])
+    × (told_saved (second (Up frozen) command.Commit) ≡ [])
+    × (told_saved (second (Up committed) (command.Migrate 2)) ≡ [])
+    × (told_saved (second (Up committed) (command.Migrate 9)) ≡ (1, 2, 0) ∷ [])
     × (told_saved (second (Up (at_world f0)) (command.Migrate 9)) ≡ [])
     × (told_saved (second (Up stable) (command.Journal 16)) ≡ [])
-    × (told_saved (second (Up (after stable (command.Commit ∷ []))) (command.Journal 16)) ≡ [])
-    × (told_saved (second (Up (after stable (command.Commit ∷ command.Migrate 9 ∷ []))) (command.Journal 16)) ≡ (3, 3, 1) ∷ [])
+    × (told_saved (second (Up committed) (command.Journal 16)) ≡ [])
+    × (told_saved (second (Up (after committed (command.Migrate 9 ∷ []))) (command.Journal 16)) ≡ (3, 3, 1) ∷ [])
     × (told_saved (second (Up (at_world f0)) (command.Journal 5)) ≡ [])
 
 -- a machine that is down says so, and is opened at one of its saved parts
@@ -96,5 +111,7 @@ abbrev pub RevokesOnly : Type 0
 RevokesOnly =
     (consume 1 (slots_of_bank_5 (Resume 1 ∷ Resume 3 ∷ Start 1 7 ∷ Process 1 ∷ []))
     ≡ slots_of_bank_5 (Void ∷ Resume 3 ∷ Start 1 7 ∷ Process 1 ∷ []))
-    × (rescind (3 ∷ []) (slots_of_bank_5 (Resume 1 ∷ Resume 3 ∷ Start 3 7 ∷ Number 3 ∷ Page 3 full ∷ Node 16 weak ∷ Space 3 2 full ∷ Bank 3 ∷ Process 3 ∷ Discrim ∷ []))
+    × (rescind (3 ∷ [])
+    (slots_of_bank_5 (Resume 1 ∷ Resume 3 ∷ Start 3 7 ∷ Number 3 ∷ Page 3 full ∷ Node 16 weak ∷ Space 3 2 full ∷ Bank 3 ∷
+    Process 3 ∷ Discrim ∷ []))
     ≡ slots_of_bank_5 (Resume 1 ∷ Void ∷ Void ∷ Number 3 ∷ Void ∷ Node 16 weak ∷ Void ∷ Void ∷ Void ∷ Discrim ∷ []))

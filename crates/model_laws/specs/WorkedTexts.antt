@@ -11,7 +11,8 @@ use Rattle.model.specs.Run.{Turn, Reply, BadLine, Told, IsRun, output_of, lines_
 use Rattle.model.specs.Step.{shown}
 use Rattle.model.specs.Text.{Says, printed, line_of}
 use Rattle.model.specs.Worlds.{small, i0}
-use Rattle.model_laws.specs.Worked.{sends, at_world}
+use Rattle.model_laws.specs.Worked.{at_world}
+use Rattle.model_laws.specs.WorkedSteps.{invokes}
 
 -- lines that are commands, at the ends of what numbers may be
 abbrev pub SaysCommands : Type 0
@@ -20,7 +21,8 @@ SaysCommands =
     × Says (codes "show 0") (line.Command (command.Show 0))
     × Says (codes "show 18446744073709551615") (line.Command (command.Show (2 ^ 64 - 1)))
     × Says (codes "journal 16") (line.Command (command.Journal 16))
-    × Says (codes "return 3 31 9 0 0 0 5 0 0 31") (line.Command (sends Return 3 31 (9 ∷ 0 ∷ 0 ∷ 0 ∷ []) (5 ∷ 0 ∷ 0 ∷ 31 ∷ [])))
+    × Says (codes "return 3 31 9 0 0 0 5 0 0 31")
+    (line.Command (invokes Return 3 31 (9 ∷ 0 ∷ 0 ∷ 0 ∷ []) (5 ∷ 0 ∷ 0 ∷ 31 ∷ [])))
 
 -- lines that are skipped
 abbrev pub SaysNothing : Type 0
@@ -68,7 +70,8 @@ PrintsRefusals =
     map (λ why. printed (answer.Refused why))
     (refusal.Down ∷ refusal.NoProcess ∷ refusal.NotRunning ∷ refusal.Worn ∷ refusal.Stalled ∷ refusal.LogFull
     ∷ refusal.CheckpointRunning ∷ refusal.MigrationPending ∷ refusal.NotStable 3 ∷ refusal.NoCheckpoint
-    ∷ refusal.NoMemory ∷ refusal.Fault ∷ refusal.BadNumber ∷ refusal.NotJournaled NotPage ∷ refusal.NotJournaled Renewed ∷ [])
+    ∷ refusal.NoMemory ∷ refusal.Fault ∷ refusal.BadNumber ∷ refusal.NotJournaled NotPage
+    ∷ refusal.NotJournaled Renewed ∷ [])
     ≡ map line_of
     (codes "down" ∷ codes "no process" ∷ codes "not running" ∷ codes "worn" ∷ codes "stalled" ∷ codes "log full"
     ∷ codes "checkpoint running" ∷ codes "migration pending" ∷ codes "not stable 3" ∷ codes "no checkpoint"

@@ -25,22 +25,26 @@ pub fn consumes_all()
 {}
 
 /// An order of a bank gives up what it rescinds and nothing else, and nothing where it isn't done.
+#[tactic(auto, using(crate::proofs::GivenUp::gives_up_rescinded))]
 pub fn gives_up_rescinded()
     ensures { GivesUpRescinded }
 {}
 
 /// An invocation that asks no bank, through a gate or not, gives nothing up.
+#[tactic(auto, using(crate::proofs::GivenUp::gives_up_nothing))]
 pub fn gives_up_nothing()
     ensures { GivesUpNothing }
 {}
 
 /// The numbers touched are those touched before and those written.
+#[tactic(auto, using(crate::proofs::Touching::touches_written))]
 pub fn touches_written()
     ensures { TouchesWritten }
 {}
 
 /// An invocation that nothing else refuses is refused as log full exactly where the numbers that it
 /// writes would be too many.
+#[tactic(auto, using(crate::proofs::Touching::log_full_is_exact))]
 pub fn log_full_is_exact()
     ensures { LogFullIsExact }
 {}
@@ -52,16 +56,19 @@ pub fn store_log_full_is_exact()
 {}
 
 /// No two commands share a spelling.
+#[tactic(auto, using(crate::proofs::Spelling::spells_one))]
 pub fn spells_one()
     ensures { SpellsOne }
 {}
 
 /// A line says one thing.
+#[tactic(auto, using(crate::proofs::Spelling::says_one))]
 pub fn says_one()
     ensures { SaysOne }
 {}
 
 /// The worlds that scripts begin with are sound.
+#[tactic(auto, using(crate::proofs::SoundWorlds::f0_sound, crate::proofs::SoundWorlds::i0_sound))]
 pub fn worlds_are_sound()
     ensures { BeginsSound }
 {}

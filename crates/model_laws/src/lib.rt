@@ -1,5 +1,5 @@
 //! Theorems about the abstract machine: laws that any right definitions must have, that an
-//! invocation keeps a sound world sound, and what the machine answers to some fifty short scripts.
+//! invocation keeps a sound world sound, and what the machine answers to worked scripts.
 #![tactic(auto)]
 
 pub mod laws;

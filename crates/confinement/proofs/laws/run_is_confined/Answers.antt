@@ -1,5 +1,0 @@
-use Rattle.confinement.proofs.Runs.{run_confined}
-use Rattle.confinement.proofs.laws.run_is_confined.Goals as goal
-
-pub returns : goal.returns
-returns c = run_confined

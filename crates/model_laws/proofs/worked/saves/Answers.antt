@@ -1,5 +1,0 @@
-use Rattle.model_laws.proofs.WorkedRows.{saves}
-use Rattle.model_laws.proofs.worked.saves.Goals as goal
-
-pub returns : goal.returns
-returns c = saves
