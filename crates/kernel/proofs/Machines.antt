@@ -19,14 +19,16 @@ use Rattle.checkpoint.specs.declared.open_fault.OpenFault.{OpenFault}
 use Rattle.checkpoint.specs.declared.open_fault.OpenFault.TheVariants as fault
 use Rattle.capability.specs.Parts.{Parts}
 use Rattle.object_store.specs.Store.{View}
-use Rattle.kernel.specs.declared.power.Live.{Live}
+use Rattle.recovery.specs.declared.live.Live.{Live}
 use Rattle.kernel.specs.declared.power.Power.{Power}
 use Rattle.kernel.specs.declared.power.Power.TheVariants as power
-use Rattle.kernel.specs.Denotes.{saved_of, DenotesOne, Leaves, LeavesOne}
-use Rattle.kernel.specs.Opening.{IsNoReason, IsSomeDown, Opens, RefusesToOpen, ReopensAs, Reopened, Wakes, refused_by}
-use Rattle.kernel.specs.Standing.{Asks, GoesDown, IsCaused, IsDeviceOf, IsSomeMachine, IsSomeUp, IsUp, SameDevice, Serves, ServesFrom, Stands, disk_of, running}
+use Rattle.recovery.specs.Denotes.{saved_of, DenotesOne, Leaves, LeavesOne}
+use Rattle.recovery.specs.Recovered.{RefusesToOpen, Recovers}
+use Rattle.kernel.specs.Opening.{IsNoReason, IsSomeDown, Opens, ReopensAs, Reopened, refused_by}
+use Rattle.recovery.specs.Live.{IsSomeUp, IsUp, running}
+use Rattle.kernel.specs.Standing.{Asks, GoesDown, IsCaused, IsDeviceOf, IsSomeMachine, SameDevice, Serves, ServesFrom, Stands, disk_of}
 use Rattle.kernel.proofs.Crashes.{leaves_end, leaves_here, among}
-use Rattle.kernel.proofs.Denoted.{one_denoted, one_not_bad}
+use Rattle.recovery.proofs.Denoted.{one_denoted, one_not_bad}
 
 -- ---- steps of the machine
 
@@ -229,7 +231,7 @@ module _ {D S : Type 0} (disk : D → Disk) (view : S → View D) (parts : S →
 
   -- ---- opened, and opened again
 
-  pub opens_up : (device : D) (l : Live S) → Wakes disk view parts device l → Opens disk view parts device (power.Up l)
+  pub opens_up : (device : D) (l : Live S) → Recovers disk view parts device l → Opens disk view parts device (power.Up l)
   opens_up device l wakes =
       let fs = (view l.store).aside.saved in
       record {
@@ -243,7 +245,7 @@ module _ {D S : Type 0} (disk : D → Disk) (view : S → View D) (parts : S →
       }
 
   module _ (device : D) (g : Geometry) (ss : List Saved) (leaves : Leaves g (disk device) ss) where
-    pub rises : (l : Live S) (generation age : ℕ) → Wakes disk view parts device l → generation ≡ (view l.store).aside.saved.generation → age ≡ (view l.store).aside.saved.age →
+    pub rises : (l : Live S) (generation age : ℕ) → Recovers disk view parts device l → generation ≡ (view l.store).aside.saved.generation → age ≡ (view l.store).aside.saved.age →
         Reopened disk view parts g ss device (answer.At generation age) (power.Up l)
     rises l generation age wakes same_generation same_age =
         let fs = (view l.store).aside.saved in

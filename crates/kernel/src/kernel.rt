@@ -2,7 +2,8 @@
 ghost use Rattle.std.specs.Prelude.{IfOk, IfErr};
 ghost use Rattle.processes.specs.Machine.{IsUnlooked};
 ghost use Rattle.kernel.specs.Standing.{HasCode, HasNoneToMove, IsCaused, IsDeviceOf, IsTold, SameDevice, Serves, disk_of};
-ghost use Rattle.kernel.specs.Opening.{Opens, RefusesToOpen};
+ghost use Rattle.recovery.specs.Recovered.{RefusesToOpen};
+ghost use Rattle.kernel.specs.Opening.{Opens};
 
 use crate::machine::Machine;
 use checkpoint::{Checkpoint, OpenRefused};

@@ -4,19 +4,20 @@ ghost use Rattle.model.specs.declared.command.Command.TheVariants as command;
 ghost use Rattle.model.specs.declared.geometry.Geometry.{Geometry};
 ghost use Rattle.model.specs.Machine.{Saved};
 ghost use Rattle.model.specs.Step.{opens};
-ghost use Rattle.kernel.specs.Denotes.{Leaves};
+ghost use Rattle.recovery.specs.Denotes.{Leaves};
 ghost use Rattle.processes.specs.Machine.{IsServedOnce, IsUnlooked, NeedsNoLook, answer_with};
 ghost use Rattle.kernel.specs.Standing.{Asks, GoesDown, HasCode, HasDevice, HasNoneToMove, IsCaused, IsSomeMachine, SameDevice, Serves, disk_of};
-ghost use Rattle.kernel.specs.Opening.{IsNoReason, IsSomeDown, Opens, RefusesToOpen, Reopened, refused_by};
+ghost use Rattle.recovery.specs.Recovered.{RefusesToOpen};
+ghost use Rattle.kernel.specs.Opening.{IsNoReason, IsSomeDown, Opens, Reopened, refused_by};
 
-use crate::power::{Live, Power};
+use crate::power::Power;
 use crate::serving::serve;
-use crate::waking::wake;
 use checkpoint::{OpenFault, OpenRefused};
 use device::{Device, Failed};
 use model::{Answer, Command, Refusal};
 use object_store::ObjectStore;
 use processes::Served;
+use recovery::recover;
 use std::alloc::Global;
 use std::mem;
 
@@ -47,7 +48,7 @@ impl<D: Device, S: ObjectStore<D>> Machine<D, S> {
         ensures opened { IfOk result (λ m. Opens D.disk S.view S.parts device m.power) }
         ensures refused { IfErr result (λ r. RefusesToOpen D.disk device r.device r.fault) }
     {
-        match wake::<D, S>(alloc, device, setting) {
+        match recover::<D, S>(alloc, device, setting) {
             Ok(live) => Ok(Machine {
                 power: Power::Up(live),
                 setting,
@@ -115,7 +116,7 @@ impl<D: Device, S: ObjectStore<D>> Machine<D, S> {
         ensures looks { IsUnlooked result → ⊥ }
         ensures cause { IsCaused (D.disk device) (disk_of D.disk S.view S.parts self.new.power) result }
     {
-        match wake::<D, S>(alloc, device, self.setting) {
+        match recover::<D, S>(alloc, device, self.setting) {
             Ok(live) => {
                 let saved = live.store.saved();
                 self.power = Power::Up(live);

@@ -4,19 +4,7 @@ ghost use Rattle.kernel.specs.Standing.{HasDevice, IsDeviceOf, IsTold};
 use checkpoint::Checkpoint;
 use device::Device;
 use object_store::ObjectStore;
-use space_bank::Banks;
-
-/// A store that serves.
-#[derive(Drop)]
-pub struct Live<S> {
-    pub store: S,
-    /// What is counted of its banks.
-    pub banks: Banks,
-    /// The age now.
-    pub age: u64,
-    /// That of the checkpoint on its way, where there is one.
-    pub frozen_age: u64,
-}
+use recovery::Live;
 
 /// Whether a machine is up.
 #[derive(Drop)]

@@ -1,11 +1,11 @@
-// A store made of a device.
+// Opening a device.
 ghost use Rattle.std.specs.Prelude.{◌≡◌, ◌↔◌, ◌<◌, ◌≤◌, ◌^◌, IfOk, IfErr, OnOk, IsErrOf};
 ghost use Rattle.model.specs.Keepable.{AreKeepable, IsSoundFrames};
 ghost use Rattle.capability.specs.Parts.{LooksUp, frames_of, objects_in};
 ghost use Rattle.space_bank.specs.Banks.{AreCounted};
-ghost use Rattle.kernel.specs.Opening.{IsUnfit, RefusesToOpen, Wakes, fault_of};
+ghost use Rattle.recovery.specs.Recovered.{IsUnfit, Recovers, RefusesToOpen, fault_of};
 
-use crate::power::Live;
+use crate::live::Live;
 use capability::{PrepareFault, PresentFrames};
 use checkpoint::{OpenFault, OpenRefused};
 use consistency::{CheckFault, Inconsistency, check};
@@ -15,7 +15,7 @@ use object_store::ObjectStore;
 use space_bank::Banks;
 use std::alloc::Global;
 
-// Why a device isn't opened where its frames didn't pass the check.
+// The fault of opening if the check refuses the frames.
 fn unchecked(fault: CheckFault) -> OpenFault
     ensures { result ≡ fault_of fault }
 {
@@ -32,7 +32,7 @@ fn unchecked(fault: CheckFault) -> OpenFault
     }
 }
 
-// Looks whether the frames of a store stand for a sound world at an age, and counts its banks.
+// Checks that the frames of a store stand for a sound world at an age, and counts its banks.
 fn examine<F: PresentFrames>(alloc: Global, store: &mut F, age: u64) -> Result<Banks, OpenFault>
     requires keepable { AreKeepable (F.parts store.old).geometry age
         (frames_of (F.parts store.old)) }
@@ -58,14 +58,16 @@ fn examine<F: PresentFrames>(alloc: Global, store: &mut F, age: u64) -> Result<B
     }
 }
 
-/// Makes a store of a device, and writes nothing to it: it is at what is saved. A refusal hands the
-/// device back.
-pub fn wake<D: Device, S: ObjectStore<D>>(
+/// Opens the device at the saved part that its sectors denote, and writes nothing to it.
+///
+/// A refusal gives the device back: `Failed` exactly if the device failed, `NoMemory` if memory ran
+/// out, and else `Bad` with the least of the ten reasons to refuse an image.
+pub fn recover<D: Device, S: ObjectStore<D>>(
     alloc: Global,
     device: D,
     setting: S::Setting,
 ) -> Result<Live<S>, OpenRefused<D>>
-    ensures opened { IfOk result (λ l. Wakes D.disk S.view S.parts device l) }
+    ensures opened { IfOk result (λ l. Recovers D.disk S.view S.parts device l) }
     ensures refused { IfErr result (λ r. RefusesToOpen D.disk device r.device r.fault) }
 {
     match S::open(alloc, device, setting) {

@@ -6,8 +6,8 @@ use Rattle.model.specs.Machine.{Saved}
 use Rattle.model.specs.Sound.{IsSound}
 use Rattle.device.specs.Disk.{Image}
 use Rattle.layout.specs.declared.bad_image.BadImage.{BadImage}
-use Rattle.kernel.specs.Denotes.{Denotes, DenotesOne}
-use Rattle.kernel.specs.Opening.{IsBad}
+use Rattle.recovery.specs.Denotes.{Denotes, DenotesOne}
+use Rattle.recovery.specs.Recovered.{IsBad}
 
 -- the same saved part of the same geometry
 abbrev pub DenoteOneSaved : Type 0

@@ -1,6 +1,6 @@
 //! Laws of what an image denotes, each the contract of a function that does nothing.
 
-ghost use Rattle.kernel.specs.Laws.{DenoteOneSaved, DenotedIsNotBad, DenotedIsOneOf, DenotedIsSound};
+ghost use Rattle.recovery.specs.Laws.{DenoteOneSaved, DenotedIsNotBad, DenotedIsOneOf, DenotedIsSound};
 
 /// An image denotes at most one saved part.
 pub fn denote_one_saved()

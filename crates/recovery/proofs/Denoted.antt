@@ -10,9 +10,17 @@ use Rattle.layout.proofs.Images.{one_state}
 use Rattle.checkpoint.specs.Saved.{SavedFrames, Holds, kept_of}
 use Rattle.consistency.proofs.Unsound.{inconsistent_is_unsound}
 use Rattle.layout.proofs.Denoted.{frames_not_bad}
-use Rattle.kernel.specs.Denotes.{saved_of, IsSoundSaved, Denotes, DenotesOne}
-use Rattle.kernel.specs.Laws.{DenoteOneSaved, DenotedIsNotBad, DenotedIsOneOf, DenotedIsSound}
-use Rattle.kernel.specs.Opening.{IsBad}
+use Rattle.recovery.specs.Denotes.{saved_of, IsSoundSaved, Denotes, DenotesOne}
+use Rattle.recovery.specs.Laws.{DenoteOneSaved, DenotedIsNotBad, DenotedIsOneOf, DenotedIsSound}
+use Rattle.recovery.specs.Recovered.{IsBad}
+
+-- frames that are held are denoted
+pub denoted_by : (g : Geometry) (size : ℕ) (c : Image) (fs : SavedFrames) → IsSoundSaved g fs → Holds size c fs → Denotes g size c (saved_of fs)
+denoted_by g size c fs sound holds = record { frames = fs; holds = holds; sound = sound; stands = refl }
+
+-- a store that is sound: a crash leaves what it saves
+pub leaves_saved : (g : Geometry) (disk : Disk) (fs : SavedFrames) → IsSoundSaved g fs → ((c : Image) → disk.may_leave c → Holds disk.sectors c fs) → Leaves g disk (saved_of fs ∷ [])
+leaves_saved g disk fs sound holds c left = inl (denoted_by g disk.sectors c fs sound (holds c left))
 
 -- sectors hold one saved state of frames
 pub holds_one : (size : ℕ) (c : Image) (a b : SavedFrames) → Holds size c a → Holds size c b → a ≡ b

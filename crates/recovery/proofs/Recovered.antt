@@ -1,12 +1,14 @@
 -- A device that was opened, and one that was refused.
-use Rattle.std.proofs.Common.{◌≡◌, ◌↔◌, ℕ, zero, suc, ◌+◌, ◌<◌, ◌≤◌, Bool, false, Option, None, Some, List, replicate, cond, refl, sym, ap, ◌∙◌, subst, inr, arith}
+use Rattle.std.proofs.Common.{◌≡◌, ◌↔◌, ℕ, zero, suc, ◌+◌, ◌<◌, ◌≤◌, Bool, false, None, Some, List, replicate, cond, refl, sym, ap, ◌∙◌, subst, ⊎_elim, inr, arith}
 use Rattle.std.specs.Prelude.{Result, Ok, Err, IsErrOf}
+use Rattle.std.proofs.lemmas.Bool.{cases_lt}
 use Rattle.std.proofs.lemmas.List.Sums.{sum_by-cons}
 use Rattle.model.specs.declared.frame.Frame.{Frame}
+use Rattle.model.specs.declared.frame.ObjectHeader.{ObjectHeader}
 use Rattle.model.specs.declared.geometry.Geometry.{Geometry}
-use Rattle.model.specs.Frame.{objects_of}
+use Rattle.model.specs.Frame.{frames_in, objects_of}
 use Rattle.model.specs.Keepable.{IsSoundFrames, world_at}
-use Rattle.model.specs.Machine.{Frozen, Running, opened, touched_count, untouched}
+use Rattle.model.specs.Machine.{Running, opened, touched_count, untouched}
 use Rattle.device.specs.Calls.{Only}
 use Rattle.device.specs.Disk.{Image, Disk}
 use Rattle.device.specs.Moments.{Peeks}
@@ -15,17 +17,19 @@ use Rattle.checkpoint.specs.declared.open_fault.OpenFault.{OpenFault}
 use Rattle.checkpoint.specs.declared.open_fault.OpenFault.TheVariants as fault
 use Rattle.checkpoint.specs.Opened.{Looks}
 use Rattle.checkpoint.specs.Saved.{Holds}
-use Rattle.capability.specs.Parts.{Parts, frames_of, objects_in}
+use Rattle.capability.specs.Parts.{LooksUp, Parts, frames_of, objects_in}
 use Rattle.object_store.specs.Store.{Aside, FrozenFrames, Leads, OpensStore, View}
 use Rattle.space_bank.specs.Banks.{AreCounted, BanksState}
-use Rattle.processes.proofs.Serving.{AreSame, same_frames, unfailed}
-use Rattle.kernel.specs.declared.power.Live.{Live}
-use Rattle.kernel.specs.Denotes.{saved_of, IsSoundSaved}
-use Rattle.kernel.specs.Opening.{IsUnfit, IsWhy, RefusesToOpen, Wakes}
-use Rattle.kernel.specs.Standing.{AreSoundTogether, base_of, frozen_of, renewed_since, running}
-use Rattle.kernel.proofs.Crashes.{leaves_saved}
-use Rattle.kernel.proofs.Renewed.{allocations_at, base_saved, none_renewed}
-use Rattle.kernel.proofs.Stages.{frozen_none}
+use Rattle.recovery.specs.declared.live.Live.{Live}
+use Rattle.recovery.specs.Denotes.{saved_of, IsSoundSaved}
+use Rattle.recovery.specs.Recovered.{IsUnfit, IsWhy, Recovers, RefusesToOpen}
+use Rattle.recovery.specs.Live.{AreSoundTogether, base_of, frozen_of, renewed_since, running}
+use Rattle.recovery.proofs.Denoted.{leaves_saved}
+use Rattle.recovery.proofs.Renewed.{allocations_at, base_saved, none_renewed}
+
+-- a count that neither fell nor rose is the same
+unfailed : (m n : ℕ) → m ≤ n → (m < n → ⊥) → n ≡ m
+unfailed m n later stayed = ⊎_elim (λ (rose : m < n). absurd (stayed rose)) (λ (within : n ≤ m). omega arith) (cases_lt m n)
 
 none_touched : (n : ℕ) → touched_count (replicate n false) ≡ 0
 none_touched zero = refl
@@ -34,6 +38,10 @@ none_touched (suc n) = let total = sum_by-cons (λ b. cond b 1 0) false (replica
 pub untouched_count : (g : Geometry) → touched_count (untouched g) ≡ 0
 unfolding untouched
 untouched_count g = none_touched (g.nodes + g.pages)
+
+-- machines of the same parts
+same_running : (r q : Running) → r.now ≡ q.now → r.touched ≡ q.touched → r.renewed ≡ q.renewed → r.frozen ≡ q.frozen → r.saved ≡ q.saved → r.to_move ≡ q.to_move → r ≡ q
+same_running r q now touched renewed frozen saved to_move = cc
 
 -- two looks at a device are one, where a crash leaves what a read gives
 looks_on : (old mid new : Disk) → Looks old mid → Only mid.seen mid → new.sectors ≡ mid.sectors → Peeks mid new → CountsNow new → new.may_leave new.seen → Looks old new
@@ -58,8 +66,11 @@ module _ {D S : Type 0} (disk : D → Disk) (view : S → View D) (parts : S →
     (seen_left : (d : D) → (disk d).may_leave (disk d).seen)
     (sound_holds : (s : S) (c : Image) → (view s).is_sound → (disk (view s).beneath).may_leave c → Holds (disk (view s).beneath).sectors c (view s).aside.saved)
     (geometry_is : (s : S) → (parts s).geometry ≡ (view s).aside.saved.geometry)
-    (device : D) (s t : S) (opens : OpensStore disk device (parts s) (view s)) (same : AreSame (parts s) (parts t)) (leads : Leads disk (view s) (view t))
+    (device : D) (s t : S) (opens : OpensStore disk device (parts s) (view s)) {Goes : S → S → Type 0} (same : LooksUp parts Goes s t) (leads : Leads disk (view s) (view t))
     (peeks : touched_count (parts t).touched ≡ 0 → (view s).aside.frozen ≡ None → Peeks (disk (view s).beneath) (disk (view t).beneath)) where
+  same_frames : frames_of (parts t) ≡ frames_of (parts s)
+  same_frames = ap (λ (hs : List ObjectHeader). frames_in hs (parts t).contents) same.headers ∙ ap (frames_in (parts s).headers) same.contents
+
   still_untouched : touched_count (parts t).touched ≡ 0
   still_untouched = ap touched_count (same.touched ∙ opens.touched) ∙ untouched_count (view s).aside.saved.geometry
 
@@ -95,7 +106,7 @@ module _ {D S : Type 0} (disk : D → Disk) (view : S → View D) (parts : S →
     geometry = sym same.geometry ∙ geometry_is t
 
     frames : frames_of (parts t) ≡ (view t).aside.saved.frames
-    frames = same_frames (parts s) (parts t) same ∙ opens.frames ∙ ap (λ (a : Aside). a.saved.frames) (sym leads.aside)
+    frames = same_frames ∙ opens.frames ∙ ap (λ (a : Aside). a.saved.frames) (sym leads.aside)
 
     age_saved : age ≡ (view t).aside.saved.age
     age_saved = age_is ∙ ap (λ (a : Aside). a.saved.age) (sym leads.aside)
@@ -106,7 +117,7 @@ module _ {D S : Type 0} (disk : D → Disk) (view : S → View D) (parts : S →
     now_sound : IsSoundFrames (view t).aside.saved.geometry age (frames_of (parts t))
     now_sound =
         subst (λ (g : Geometry). IsSoundFrames g age (frames_of (parts t))) geometry
-        (subst (λ (fs : List Frame). IsSoundFrames (parts s).geometry age fs) (sym (same_frames (parts s) (parts t) same)) sound)
+        (subst (λ (fs : List Frame). IsSoundFrames (parts s).geometry age fs) (sym same_frames) sound)
 
     saved_sound : IsSoundSaved (view t).aside.saved.geometry (view t).aside.saved
     saved_sound = record {
@@ -123,7 +134,7 @@ module _ {D S : Type 0} (disk : D → Disk) (view : S → View D) (parts : S →
       geometry = geometry_is t;
       now = now_sound;
       counted = subst (λ (g : Geometry). AreCounted g (objects_in (parts t)) banks) geometry
-          (subst (λ (fs : List Frame). AreCounted (parts s).geometry (objects_of fs) banks) (sym (same_frames (parts s) (parts t) same)) counted);
+          (subst (λ (fs : List Frame). AreCounted (parts s).geometry (objects_of fs) banks) (sym same_frames) counted);
       frozen = λ f is. absurd (never f (sym frozen ∙ is));
       saved = saved_sound;
       order = omega (arith, age_saved);
@@ -138,19 +149,17 @@ module _ {D S : Type 0} (disk : D → Disk) (view : S → View D) (parts : S →
     at_saved =
         let a = (view t).aside in
         let g = a.saved.geometry in
-        ap (λ (rs : List Bool). let r : Running = record { now = world_at age (frames_of (parts t)); touched = (parts t).touched; renewed = rs; frozen = frozen_of age a.frozen; saved = saved_of a.saved; to_move = a.to_move } in r)
-        (ap (λ (fs : List Frame). renewed_since fs (frames_of (parts t))) base_is ∙ none_renewed g (frames_of (parts t)) now_sound.keepable.count)
-        ∙ ap (λ (n : ℕ). let r : Running = record { now = world_at n (frames_of (parts t)); touched = (parts t).touched; renewed = untouched g; frozen = frozen_of age a.frozen; saved = saved_of a.saved; to_move = a.to_move } in r) age_saved
-        ∙ ap (λ (fs : List Frame). let r : Running = record { now = world_at a.saved.age fs; touched = (parts t).touched; renewed = untouched g; frozen = frozen_of age a.frozen; saved = saved_of a.saved; to_move = a.to_move } in r) frames
-        ∙ ap (λ (ts : List Bool). let r : Running = record { now = world_at a.saved.age a.saved.frames; touched = ts; renewed = untouched g; frozen = frozen_of age a.frozen; saved = saved_of a.saved; to_move = a.to_move } in r)
+        same_running (running disk view parts live) (opened g (saved_of a.saved))
+        (ap (λ (n : ℕ). world_at n (frames_of (parts t))) age_saved ∙ ap (world_at a.saved.age) frames)
         (same.touched ∙ opens.touched ∙ ap (λ (x : Aside). untouched x.saved.geometry) (sym leads.aside))
-        ∙ ap (λ (o : Option Frozen). let r : Running = record { now = world_at a.saved.age a.saved.frames; touched = untouched g; renewed = untouched g; frozen = o; saved = saved_of a.saved; to_move = a.to_move } in r) (frozen_none a.frozen age frozen)
-        ∙ ap (λ (n : ℕ). let r : Running = record { now = world_at a.saved.age a.saved.frames; touched = untouched g; renewed = untouched g; frozen = None; saved = saved_of a.saved; to_move = n } in r)
+        (ap (λ (fs : List Frame). renewed_since fs (frames_of (parts t))) base_is ∙ none_renewed g (frames_of (parts t)) now_sound.keepable.count)
+        (ap (frozen_of age) frozen)
+        refl
         (ap (λ (x : Aside). x.to_move) leads.aside ∙ opens.to_move ∙ ap (λ (x : Aside). x.saved.entries) (sym leads.aside))
 
-    pub wakes : Wakes disk view parts device (record { store = t; banks = banks; age = age; frozen_age = age })
+    pub recovers : Recovers disk view parts device (record { store = t; banks = banks; age = age; frozen_age = age })
     unfolding live
-    wakes = record {
+    recovers = record {
       holds = subst (λ (a : Aside). Holds (disk device).sectors (disk device).seen a.saved) (sym leads.aside) opens.holds;
       up = record {
         store = leads.sound opens.sound;
