@@ -1,3 +1,4 @@
+pub mod Power
 pub mod Standing
 pub mod Opening
 pub mod Journal

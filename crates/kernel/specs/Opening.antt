@@ -15,7 +15,7 @@ use Rattle.checkpoint.specs.Opened.{Looks}
 use Rattle.capability.specs.Parts.{Parts}
 use Rattle.object_store.specs.Store.{View}
 use Rattle.recovery.specs.Denotes.{Denotes, Leaves, LeavesOne}
-use Rattle.kernel.specs.declared.power.Power.{Power}
+use Rattle.kernel.specs.Power.{Power}
 use Rattle.kernel.specs.Standing.{Stands, disk_of}
 
 -- the refusal where a device isn't opened that a kernel left

@@ -21,8 +21,8 @@ use Rattle.processes.specs.Machine.{code_with}
 use Rattle.recovery.specs.declared.live.Live.{Live}
 use Rattle.recovery.specs.Denotes.{Leaves, LeavesOne}
 use Rattle.recovery.specs.Live.{IsUp, disk_at, running}
-use Rattle.kernel.specs.declared.power.Power.{Power}
-use Rattle.kernel.specs.declared.power.Power.TheVariants as power
+use Rattle.kernel.specs.Power.{Power}
+use Rattle.kernel.specs.Power as power
 
 -- the machine's refusal where its store refuses
 abbrev pub refusal_by : CheckpointFault → Refusal
@@ -118,18 +118,6 @@ module _ {D S : Type 0} (disk : D → Disk) (view : S → View D) (parts : S →
   abbrev pub HasDevice : Power D S → Type 0
   HasDevice power.Between = ⊥
   HasDevice _ = Unit {0}
-
-  -- it goes down with the device beneath it
-  abbrev pub GoesDown : Power D S → Power D S → Type 0
-  GoesDown old (power.Down d) = IsDeviceOf old d
-  GoesDown old _ = ⊥
-
-  -- a store that is up was asked, or the machine is down
-  abbrev pub Asks : Power D S → Command → Answer → Power D S → Type 0
-  Asks (power.Up l) c a (power.Up k) =
-      ServesUp l c a k × IsCaused (disk_at disk view parts l) (disk_at disk view parts k) a
-  Asks (power.Down d) c a (power.Down e) = (a ≡ answer.Refused refusal.Down) × (e ≡ d)
-  Asks _ c a _ = ⊥
 
   -- what is told of the committed checkpoint is that of the machine that is up
   abbrev pub IsTold : Power D S → Option Checkpoint → Type 0

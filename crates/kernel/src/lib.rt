@@ -4,8 +4,6 @@
 mod checkpoints;
 mod journaling;
 mod kernel;
-mod machine;
-mod power;
 mod serving;
 
 pub use kernel::Kernel;

@@ -4,7 +4,7 @@ ghost use Rattle.model.specs.declared.command.Command.TheVariants as command;
 ghost use Rattle.model.specs.declared.command.Command.TheVariants.{Invoke};
 ghost use Rattle.model.specs.declared.command.Invocation.{Invocation};
 ghost use Rattle.model.specs.Step.{opens};
-ghost use Rattle.kernel.specs.declared.power.Power.TheVariants as power;
+ghost use Rattle.kernel.specs.Power as power;
 ghost use Rattle.processes.specs.Machine.{IsServedOnce, IsToldOnce, IsUnlooked, answer_of, answer_with};
 ghost use Rattle.recovery.specs.Live.{IsSomeUp, disk_at};
 ghost use Rattle.kernel.specs.Standing.{HasCode, HasNoneToMove, IsCaused, ServesUp};

@@ -12,8 +12,8 @@ use Rattle.checkpoint.specs.declared.open_fault.OpenFault.{OpenFault}
 use Rattle.checkpoint.specs.declared.open_fault.OpenFault.TheVariants as fault
 use Rattle.capability.specs.Parts.{Parts}
 use Rattle.object_store.specs.Store.{View}
-use Rattle.kernel.specs.declared.power.Power.{Power}
-use Rattle.kernel.specs.declared.power.Power.TheVariants as power
+use Rattle.kernel.specs.Power.{Power}
+use Rattle.kernel.specs.Power as power
 use Rattle.recovery.specs.Denotes.{Denotes, DenotesOne}
 use Rattle.recovery.specs.Recovered.{RefusesToOpen}
 use Rattle.kernel.specs.Opening.{IsNoReason, Opens}

@@ -18,7 +18,7 @@ use Rattle.checkpoint.specs.declared.open_fault.OpenFault.{OpenFault}
 use Rattle.confinement.specs.Confinement.{AreBy, IsKept, with_free}
 use Rattle.capability.specs.Parts.{Parts}
 use Rattle.object_store.specs.Store.{View}
-use Rattle.kernel.specs.declared.power.Power.{Power}
+use Rattle.kernel.specs.Power.{Power}
 use Rattle.recovery.specs.Denotes.{Denotes}
 use Rattle.recovery.specs.Recovered.{RefusesToOpen}
 use Rattle.kernel.specs.Opening.{IsNoReason, Opens}
