@@ -1,16 +1,16 @@
 -- An image denotes at most one saved part, and one that denotes a saved part isn't bad.
-use Rattle.std.proofs.Common.{◌≡◌, ℕ, zero, suc, List, [], ◌∷◌, refl, sym, ap, subst, ◌∙◌, ⊎_elim, arith}
+use Rattle.std.proofs.Common.{◌≡◌, ℕ, zero, suc, List, [], ◌∷◌, refl, sym, ap, subst, ◌∙◌, ⊎_elim, inl, arith}
 use Rattle.std.specs.List.{Contains}
 use Rattle.model.specs.declared.geometry.Geometry.{Geometry}
 use Rattle.model.specs.Machine.{Saved}
 use Rattle.model.specs.Sound.{IsSound}
-use Rattle.device.specs.Disk.{Image}
+use Rattle.device.specs.Disk.{Image, Disk}
 use Rattle.layout.specs.declared.bad_image.BadImage.{BadImage}
 use Rattle.layout.proofs.Images.{one_state}
 use Rattle.checkpoint.specs.Saved.{SavedFrames, Holds, kept_of}
 use Rattle.consistency.proofs.Unsound.{inconsistent_is_unsound}
 use Rattle.layout.proofs.Denoted.{frames_not_bad}
-use Rattle.recovery.specs.Denotes.{saved_of, IsSoundSaved, Denotes, DenotesOne}
+use Rattle.recovery.specs.Denotes.{saved_of, IsSoundSaved, Denotes, DenotesOne, Leaves}
 use Rattle.recovery.specs.Laws.{DenoteOneSaved, DenotedIsNotBad, DenotedIsOneOf, DenotedIsSound}
 use Rattle.recovery.specs.Recovered.{IsBad}
 

@@ -1,5 +1,5 @@
 -- A device that was opened, and one that was refused.
-use Rattle.std.proofs.Common.{◌≡◌, ◌↔◌, ℕ, zero, suc, ◌+◌, ◌<◌, ◌≤◌, Bool, false, None, Some, List, replicate, cond, refl, sym, ap, ◌∙◌, subst, ⊎_elim, inr, arith}
+use Rattle.std.proofs.Common.{◌≡◌, ◌↔◌, ℕ, zero, suc, ◌+◌, ◌<◌, ◌≤◌, Bool, false, Option, None, Some, List, replicate, cond, refl, sym, ap, ◌∙◌, subst, ⊎_elim, inr, arith}
 use Rattle.std.specs.Prelude.{Result, Ok, Err, IsErrOf}
 use Rattle.std.proofs.lemmas.Bool.{cases_lt}
 use Rattle.std.proofs.lemmas.List.Sums.{sum_by-cons}
@@ -8,7 +8,8 @@ use Rattle.model.specs.declared.frame.ObjectHeader.{ObjectHeader}
 use Rattle.model.specs.declared.geometry.Geometry.{Geometry}
 use Rattle.model.specs.Frame.{frames_in, objects_of}
 use Rattle.model.specs.Keepable.{IsSoundFrames, world_at}
-use Rattle.model.specs.Machine.{Running, opened, touched_count, untouched}
+use Rattle.model.specs.Machine.{Frozen, Saved, opened, touched_count, untouched}
+use Rattle.model.specs.World.{World}
 use Rattle.device.specs.Calls.{Only}
 use Rattle.device.specs.Disk.{Image, Disk}
 use Rattle.device.specs.Moments.{Peeks}
@@ -39,9 +40,10 @@ pub untouched_count : (g : Geometry) → touched_count (untouched g) ≡ 0
 unfolding untouched
 untouched_count g = none_touched (g.nodes + g.pages)
 
--- machines of the same parts
-same_running : (r q : Running) → r.now ≡ q.now → r.touched ≡ q.touched → r.renewed ≡ q.renewed → r.frozen ≡ q.frozen → r.saved ≡ q.saved → r.to_move ≡ q.to_move → r ≡ q
-same_running r q now touched renewed frozen saved to_move = cc
+-- a machine whose parts are those of an opened one
+opened_by : (g : Geometry) (at : Saved) (now : World) (touched renewed : List Bool) (frozen : Option Frozen) (to_move : ℕ) → now ≡ at.world → touched ≡ untouched g → renewed ≡ untouched g → frozen ≡ None →
+    to_move ≡ at.entries → record { now = now; touched = touched; renewed = renewed; frozen = frozen; saved = at; to_move = to_move } ≡ opened g at
+opened_by g at now touched renewed frozen to_move a b c d e = cc
 
 -- two looks at a device are one, where a crash leaves what a read gives
 looks_on : (old mid new : Disk) → Looks old mid → Only mid.seen mid → new.sectors ≡ mid.sectors → Peeks mid new → CountsNow new → new.may_leave new.seen → Looks old new
@@ -149,12 +151,11 @@ module _ {D S : Type 0} (disk : D → Disk) (view : S → View D) (parts : S →
     at_saved =
         let a = (view t).aside in
         let g = a.saved.geometry in
-        same_running (running disk view parts live) (opened g (saved_of a.saved))
+        opened_by g (saved_of a.saved) (world_at age (frames_of (parts t))) (parts t).touched (renewed_since (base_of a) (frames_of (parts t))) (frozen_of age a.frozen) a.to_move
         (ap (λ (n : ℕ). world_at n (frames_of (parts t))) age_saved ∙ ap (world_at a.saved.age) frames)
         (same.touched ∙ opens.touched ∙ ap (λ (x : Aside). untouched x.saved.geometry) (sym leads.aside))
         (ap (λ (fs : List Frame). renewed_since fs (frames_of (parts t))) base_is ∙ none_renewed g (frames_of (parts t)) now_sound.keepable.count)
         (ap (frozen_of age) frozen)
-        refl
         (ap (λ (x : Aside). x.to_move) leads.aside ∙ opens.to_move ∙ ap (λ (x : Aside). x.saved.entries) (sym leads.aside))
 
     pub recovers : Recovers disk view parts device (record { store = t; banks = banks; age = age; frozen_age = age })
