@@ -9,6 +9,7 @@ use Rattle.device.specs.Disk.{Image, Disk}
 use Rattle.device.proofs.Moments.{CountsNow, OnlyNow, ends, leaves_weaker, started}
 use Rattle.checkpoint.specs.Saved.{SavedFrames, Holds, LeavesSaved, LeavesEither, home_saved}
 use Rattle.object_store.specs.Store.{Aside, moved_saved}
+use Rattle.recovery.proofs.Denoted.{denoted_by}
 use Rattle.recovery.specs.Denotes.{saved_of, IsSoundSaved, Denotes, DenotesOne, Leaves, LeavesOne}
 
 -- one of the first is one of all

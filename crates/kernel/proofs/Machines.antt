@@ -26,7 +26,7 @@ use Rattle.recovery.specs.Denotes.{saved_of, DenotesOne, Leaves, LeavesOne}
 use Rattle.recovery.specs.Recovered.{RefusesToOpen, Recovers}
 use Rattle.kernel.specs.Opening.{IsNoReason, IsSomeDown, Opens, ReopensAs, Reopened, refused_by}
 use Rattle.recovery.specs.Live.{IsSomeUp, IsUp, running}
-use Rattle.kernel.specs.Standing.{IsCaused, IsDeviceOf, IsSomeMachine, SameDevice, Serves, ServesFrom, Stands, disk_of}
+use Rattle.kernel.specs.Standing.{IsCaused, IsDeviceOf, IsSomeMachine, SameDevice, Serves, ServesFrom, ServesUp, Stands, disk_of}
 use Rattle.kernel.proofs.Crashes.{leaves_end, leaves_here, among}
 use Rattle.recovery.proofs.Denoted.{one_denoted, one_not_bad}
 
@@ -132,8 +132,11 @@ module _ {D S : Type 0} (disk : D → Disk) (view : S → View D) (parts : S →
   -- ---- a command that goes on
 
   -- the store of a kernel is up
+  pub some_up : (o : Option (Live S)) (d : Option D) (l : Live S) → o ≡ Some l → IsSomeMachine disk view parts (power_of o d) → IsSomeMachine disk view parts (power.Up l)
+  some_up o d l is some = subst (λ (x : Option (Live S)). IsSomeMachine disk view parts (power_of x d)) is some
+
   pub asked_up : (o : Option (Live S)) (d : Option D) (l : Live S) → o ≡ Some l → IsSomeMachine disk view parts (power_of o d) → IsSomeUp disk view parts l
-  asked_up o d l is some = go (subst (λ (x : Option (Live S)). IsSomeMachine disk view parts (power_of x d)) is some)
+  asked_up o d l is some = go (some_up o d l is some)
     where
       go : IsSomeMachine disk view parts (power.Up l) → IsSomeUp disk view parts l
       go (g, Up r, stands) = (g, stands.0)
@@ -166,28 +169,6 @@ module _ {D S : Type 0} (disk : D → Disk) (view : S → View D) (parts : S →
         leaves = left;
       })
   goes_down l k c d serves is g (Down saved) stands = absurd stands
-
-  -- where no call was made, none failed
-  pub none_failed : (l k : Live S) → IsCaused (disk (view l.store).beneath) (disk (view k.store).beneath) (answer.Refused refusal.Fault) → (view k.store).beneath ≡ (view l.store).beneath → ⊥
-  none_failed l k caused same =
-      let rose = caused.exact.0 refl in
-      let equal : (disk (view k.store).beneath).failures ≡ (disk (view l.store).beneath).failures = ap (λ (d : D). (disk d).failures) same in
-      omega (arith, rose, equal)
-
-  -- the machine is down
-  pub refuses_down : (d : Option D) (c : Command) → opens c ≡ false → Serves disk view parts (power_of None d) c (answer.Refused refusal.Down) (power_of None d)
-  refuses_down (Some d) c other g (Down saved) stands = record {
-    after = Down saved;
-    step = down_step g saved c other;
-    stands = stands;
-    leaves = leaves_here g (disk d) saved (second (Down saved) c) (only_now d) stands;
-  }
-  refuses_down (Some d) c other g (Up r) stands = absurd stands
-  refuses_down None c other g m stands = absurd stands
-
-  pub down_device : (d : Option D) → SameDevice disk view parts (power_of None d) (power_of None d)
-  down_device (Some d) = refl
-  down_device None = tt
 
   -- a kernel that served a command stands for a machine
   pub some_after : (p q : Power D S) (c : Command) (a : Answer) → Serves disk view parts p c a q → IsSomeMachine disk view parts p → IsSomeMachine disk view parts q
@@ -273,6 +254,9 @@ module _ {D S : Type 0} (disk : D → Disk) (view : S → View D) (parts : S →
 
   pub some_down : (p : Power D S) (d : D) → IsSomeMachine disk view parts p → IsDeviceOf disk view parts p d → IsSomeDown disk d
   some_down p d some is = (some.0, candidates some.1, beneath some.0 p some.1 d some.2 is)
+
+  pub risen_some : (q : Power D S) (e : D) (a : Answer) → IsSomeDown disk e → ((g : Geometry) (ss : List Saved) → Leaves g (disk e) ss → Reopened disk view parts g ss e a q) → IsSomeMachine disk view parts q
+  risen_some q e a down again = let r = again down.0 down.1 down.2 in (down.0, r.after, r.stands)
 
   module _ (p q : Power D S) (d : D) (c : Command) (a : Answer) (is : IsDeviceOf disk view parts p d) (which : (c ≡ command.Restart) ⊎ (c ≡ command.Cut)) where
     -- the device was opened again, from what a crash left of it
