@@ -32,21 +32,6 @@ use Rattle.recovery.proofs.Denoted.{one_denoted, one_not_bad}
 
 -- ---- steps of the machine
 
--- a machine that is down takes no other command
-down_step : (g : Geometry) (saved : List Saved) (c : Command) → opens c ≡ false → Step g (Down saved) c (answer.Refused refusal.Down) (Down saved)
-down_step g saved (command.Invoke i) other = inl (refl, refl)
-down_step g saved (command.Load p address) other = inl (refl, refl)
-down_step g saved (command.Store p address value) other = inl (refl, refl)
-down_step g saved (command.Show n) other = inl (refl, refl)
-down_step g saved (command.Evict n) other = inl (refl, refl)
-down_step g saved command.Checkpoint other = inl (refl, refl)
-down_step g saved (command.Stabilize n) other = inl (refl, refl)
-down_step g saved command.Commit other = inl (refl, refl)
-down_step g saved (command.Migrate n) other = inl (refl, refl)
-down_step g saved (command.Journal n) other = inl (refl, refl)
-down_step g saved command.Restart other = cc
-down_step g saved command.Cut other = cc
-
 only_one : (s t : Saved) → Contains (s ∷ []) t → t ≡ s
 only_one s t there = go there.0 there.1 there.2
   where
