@@ -20,8 +20,8 @@ use Rattle.checkpoint.specs.Saved.{kept_of}
 use Rattle.image_writer.specs.Laid.{laid_again}
 use Rattle.image_writer.specs.Written.{IsLeftWriting, state_of}
 use Rattle.image_writer.proofs.OldImages.{kept_holds_the_same, none_is_held}
-use Rattle.kernel.specs.Denotes.{IsSoundSaved}
-use Rattle.kernel.specs.Opening.{RefusesToOpen}
+use Rattle.recovery.specs.Denotes.{IsSoundSaved}
+use Rattle.recovery.specs.Recovered.{RefusesToOpen}
 use Rattle.image_builder.specs.declared.upgrade_fault.UpgradeFault.{UpgradeFault}
 use Rattle.image_builder.specs.declared.upgrade_fault.UpgradeFault.TheVariants as fault
 use Rattle.image_builder.specs.Upgraded.{IsLeftUpgrading, IsNotUpgraded, IsOnlyRead, Upgrades, numbered, upgraded}

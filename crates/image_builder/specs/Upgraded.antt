@@ -12,8 +12,8 @@ use Rattle.checkpoint.specs.Saved.{Holds, SavedFrames, kept_of}
 use Rattle.capability.specs.Parts.{frames_of}
 use Rattle.object_cache.specs.PlainStore.{StoreState, parts_of, saved_by}
 use Rattle.image_writer.specs.Laid.{laid_again}
-use Rattle.kernel.specs.Denotes.{IsSoundSaved}
-use Rattle.kernel.specs.Opening.{RefusesToOpen}
+use Rattle.recovery.specs.Denotes.{IsSoundSaved}
+use Rattle.recovery.specs.Recovered.{RefusesToOpen}
 use Rattle.image_builder.specs.declared.upgrade_fault.UpgradeFault.{UpgradeFault}
 use Rattle.image_builder.specs.declared.upgrade_fault.UpgradeFault.TheVariants as fault
 

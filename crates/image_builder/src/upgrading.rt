@@ -11,7 +11,7 @@ ghost use Rattle.checkpoint.specs.Opened.{CountsOpen};
 ghost use Rattle.checkpoint.specs.Saved.{kept_of};
 ghost use Rattle.image_writer.specs.Laid.{laid_again};
 ghost use Rattle.image_writer.specs.Written.{IsLeftWriting};
-ghost use Rattle.kernel.specs.Denotes.{IsSoundSaved};
+ghost use Rattle.recovery.specs.Denotes.{IsSoundSaved};
 ghost use Rattle.migrator.specs.Opened.{IsUnplanned};
 ghost use Rattle.migrator.specs.Durable.{saved_state, seen_of};
 ghost use Rattle.model.specs.Frame.{frames_in};
@@ -24,11 +24,11 @@ use crate::upgrade_fault::UpgradeFault;
 use checkpoint::{OpenFault, OpenRefused};
 use device::Device;
 use image_writer::{lay_out_again, write_saved};
-use kernel::{Live, wake};
 use layout::{CheckpointHeader, Entry, Version};
 use migrator::{Durable, superblock_of};
 use model::{Cap, Content, ObjectHeader};
 use object_cache::PlainStore;
+use recovery::{Live, recover};
 use std::alloc::{AllocError, Global};
 use std::marker::Model;
 
@@ -203,7 +203,7 @@ impl<D: ClosableDevice> OldImage<D> {
         ensures reads { OnErr result (ReadsAndCloses D.disk D.was_closed old
             (IsErrOf result (UpgradeFault.Old OpenFault.Failed))) }
     {
-        match wake::<D, PlainStore<D>>(alloc, old, ()) {
+        match recover::<D, PlainStore<D>>(alloc, old, ()) {
             Ok(live) => {
                 let Live { store, .. } = live;
                 Ok(OldImage { store })

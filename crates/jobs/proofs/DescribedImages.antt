@@ -19,8 +19,8 @@ use Rattle.checkpoint.specs.Saved.{Holds, SavedFrames}
 use Rattle.migrator.specs.Durable.{saved_state, seen_of}
 use Rattle.capability.specs.Parts.{AreSound, frames_of, objects_in}
 use Rattle.image_writer.specs.Written.{first_saved}
-use Rattle.kernel.specs.declared.power.Live.{Live}
-use Rattle.kernel.specs.Opening.{Wakes}
+use Rattle.recovery.specs.declared.live.Live.{Live}
+use Rattle.recovery.specs.Recovered.{Recovers}
 use Rattle.description.specs.declared.entry.Description.{Description}
 use Rattle.description.specs.Reading.{IsDescription}
 use Rattle.description.specs.Laws.{IsSame}
@@ -36,7 +36,7 @@ use Rattle.jobs.specs.Laws.{DescribedIsDenoted}
 use Rattle.jobs.specs.Reaching.{HoldsOfSaved}
 
 -- A store that was made of a device.
-module _ {D : Type 0} (disk : D → Disk) (seen_left : (d : D) → (disk d).may_leave (disk d).seen) (device : D) (l : Live (StoreState D)) (wakes : Wakes disk (view_of disk) (parts_of disk) device l) where
+module _ {D : Type 0} (disk : D → Disk) (seen_left : (d : D) → (disk d).may_leave (disk d).seen) (device : D) (l : Live (StoreState D)) (wakes : Recovers disk (view_of disk) (parts_of disk) device l) where
   -- what is saved, as the device gives it
   abbrev pub state_of : SavedState
   state_of = saved_state (seen_of disk l.store.durable) l.store.durable.books

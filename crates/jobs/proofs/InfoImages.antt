@@ -6,9 +6,9 @@ use Rattle.std.specs.declared.alloc.Global.{Global}
 use Rattle.device.specs.Disk.{Disk}
 use Rattle.layout.specs.Image.{SavedState}
 use Rattle.checkpoint.specs.Saved.{kept_of}
-use Rattle.kernel.specs.declared.power.Live.{Live}
-use Rattle.kernel.specs.Denotes.{saved_of}
-use Rattle.kernel.specs.Opening.{Wakes}
+use Rattle.recovery.specs.declared.live.Live.{Live}
+use Rattle.recovery.specs.Denotes.{saved_of}
+use Rattle.recovery.specs.Recovered.{Recovers}
 use Rattle.object_cache.specs.PlainStore.{StoreState, parts_of, saved_by, view_of}
 use Rattle.jobs.specs.declared.info.InfoLine.{InfoLine}
 use Rattle.model.specs.declared.capability.Cap.{Cap}
@@ -73,7 +73,7 @@ pub lines_found : {E : Type 0} (found : Result (Vec InfoLine Global) E) (lines :
 lines_found {E} found lines are is each = subst (λ (r : Result (Vec InfoLine Global) E). IfOk r (λ v. v.items ≡ are)) is each
 
 -- what is told of a store that was made of a device
-module _ {D : Type 0} (disk : D → Disk) (seen_left : (d : D) → (disk d).may_leave (disk d).seen) (device : D) (l : Live (StoreState D)) (wakes : Wakes disk (view_of disk) (parts_of disk) device l) where
+module _ {D : Type 0} (disk : D → Disk) (seen_left : (d : D) → (disk d).may_leave (disk d).seen) (device : D) (l : Live (StoreState D)) (wakes : Recovers disk (view_of disk) (parts_of disk) device l) where
   pub informed : (back : D) → back ≡ l.store.durable.beneath → (lines : List InfoLine) → lines ≡ info_lines (saved_by disk l.store).plan (saved_of (kept_of (saved_by disk l.store))) → InfoOf disk device back lines
   informed back same lines are = record {
     state = saved_by disk l.store;

@@ -9,8 +9,8 @@ use Rattle.capability.specs.Parts.{Parts}
 use Rattle.checkpoint.specs.declared.committed.Checkpoint.{Checkpoint}
 use Rattle.checkpoint.specs.Opened.{Looks}
 use Rattle.object_store.specs.Store.{View}
-use Rattle.kernel.specs.declared.power.Power.{Power}
-use Rattle.kernel.specs.declared.power.Power.TheVariants as power
+use Rattle.kernel.specs.Power.{Power}
+use Rattle.kernel.specs.Power as power
 use Rattle.kernel.specs.Opening.{Opens}
 use Rattle.kernel.specs.Standing.{IsDeviceOf, IsTold}
 use Rattle.script.specs.Writing.{AppendsFront}

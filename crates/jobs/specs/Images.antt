@@ -19,9 +19,10 @@ use Rattle.checkpoint.specs.declared.open_fault.OpenFault.TheVariants as opening
 use Rattle.image_writer.specs.Laid.{laid_again, numbers_of}
 use Rattle.capability.specs.Parts.{Parts}
 use Rattle.object_store.specs.Store.{View}
-use Rattle.kernel.specs.declared.power.Power.{Power}
-use Rattle.kernel.specs.Opening.{Opens, RefusesToOpen}
-use Rattle.kernel.specs.Denotes.{Denotes}
+use Rattle.kernel.specs.Power.{Power}
+use Rattle.recovery.specs.Recovered.{RefusesToOpen}
+use Rattle.kernel.specs.Opening.{Opens}
+use Rattle.recovery.specs.Denotes.{Denotes}
 use Rattle.kernel.specs.Standing.{IsDeviceOf}
 use Rattle.description.specs.declared.entry.Description.{Description}
 use Rattle.description.specs.Reading.{IsDescription}

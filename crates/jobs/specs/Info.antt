@@ -20,8 +20,8 @@ use Rattle.checkpoint.specs.declared.committed.Checkpoint.{Checkpoint}
 use Rattle.checkpoint.specs.declared.open_fault.OpenFault.{OpenFault}
 use Rattle.checkpoint.specs.Opened.{Looks}
 use Rattle.checkpoint.specs.Saved.{kept_of}
-use Rattle.kernel.specs.Denotes.{saved_of}
-use Rattle.kernel.specs.Opening.{RefusesToOpen}
+use Rattle.recovery.specs.Denotes.{saved_of}
+use Rattle.recovery.specs.Recovered.{RefusesToOpen}
 use Rattle.script.specs.Writing.{AppendsFront}
 use Rattle.jobs.specs.declared.fault.Fault.{Fault}
 use Rattle.jobs.specs.declared.fault.Fault.TheVariants as fault

@@ -12,7 +12,7 @@ use Rattle.layout.specs.Superblock.{Plan, version_number}
 use Rattle.checkpoint.specs.Saved.{Holds, SavedFrames}
 use Rattle.image_writer.specs.Laid.{MayBeLaid}
 use Rattle.image_writer.specs.Written.{first_saved}
-use Rattle.kernel.specs.Denotes.{Denotes}
+use Rattle.recovery.specs.Denotes.{Denotes}
 use Rattle.description.specs.declared.entry.Description.{Description}
 use Rattle.description.specs.Reading.{IsDescription}
 use Rattle.image_builder.specs.Built.{IsAccepted, IsSavedOf, plan_for}

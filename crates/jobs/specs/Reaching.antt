@@ -13,7 +13,7 @@ use Rattle.layout.specs.Image.{Encodes, SavedState}
 use Rattle.checkpoint.specs.Opened.{Looks}
 use Rattle.checkpoint.specs.declared.open_fault.OpenFault.{OpenFault}
 use Rattle.checkpoint.specs.declared.open_fault.OpenFault.TheVariants as opening
-use Rattle.kernel.specs.Opening.{RefusesToOpen}
+use Rattle.recovery.specs.Recovered.{RefusesToOpen}
 use Rattle.script.specs.Writing.{AppendsFront}
 use Rattle.reach.specs.declared.step.Step.{Step}
 use Rattle.reach.specs.Chain.{IsShortestIfAny}

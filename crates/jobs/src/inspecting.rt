@@ -2,7 +2,7 @@
 ghost use Rattle.std.specs.Prelude.{◌≡◌, IfOk, Result};
 ghost use Rattle.checkpoint.specs.Saved.{kept_of};
 ghost use Rattle.capability.specs.Parts.{frames_of};
-ghost use Rattle.kernel.specs.Denotes.{saved_of};
+ghost use Rattle.recovery.specs.Denotes.{saved_of};
 ghost use Rattle.object_cache.specs.PlainStore.{parts_of, saved_by};
 ghost use Rattle.jobs.specs.Faults.{IsTold, status_of};
 ghost use Rattle.jobs.specs.Info.{InspectsImage, OpensForInfo, info_lines};
@@ -12,8 +12,8 @@ use crate::fault::{Fault, status};
 use crate::info::{InfoLine, lines_about, print_lines};
 use checkpoint::OpenFault;
 use device::Device;
-use kernel::wake;
 use object_cache::PlainStore;
+use recovery::recover;
 use std::alloc::{AllocError, Global};
 use std::io::Write;
 
@@ -38,7 +38,7 @@ fn lines_in<D: Device>(
 fn read_info<D: Device>(alloc: Global, device: D) -> (Result<Vec<InfoLine>, OpenFault>, D)
     ensures { OpensForInfo D.disk device result.1 result.0 }
 {
-    let live = match wake::<D, PlainStore<D>>(alloc, device, ()) {
+    let live = match recover::<D, PlainStore<D>>(alloc, device, ()) {
         Ok(live) => live,
         Err(refused) => return (Err(refused.fault), refused.device),
     };

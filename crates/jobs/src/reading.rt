@@ -6,11 +6,11 @@ ghost use Rattle.jobs.specs.Reaching.{OpensAndReads};
 
 use checkpoint::OpenFault;
 use device::Device;
-use kernel::wake;
 use model::Object;
 use object_cache::PlainStore;
 use object_store::ObjectStore;
 use reach::read_objects;
+use recovery::recover;
 use std::alloc::{AllocError, Global};
 
 // The objects of a store. Fails only if memory runs out: nothing is asked of the device.
@@ -35,7 +35,7 @@ fn objects_of<D: Device>(
 pub(crate) fn read_saved<D: Device>(alloc: Global, device: D) -> (Result<Vec<Object>, OpenFault>, D)
     ensures { OpensAndReads D.disk device result.1 result.0 }
 {
-    let live = match wake::<D, PlainStore<D>>(alloc, device, ()) {
+    let live = match recover::<D, PlainStore<D>>(alloc, device, ()) {
         Ok(live) => live,
         Err(refused) => return (Err(refused.fault), refused.device),
     };

@@ -9,9 +9,9 @@ use checkpoint::OpenFault;
 use description::Description;
 use device::Device;
 use image_describer::{describe, ranges_of};
-use kernel::wake;
 use object_cache::PlainStore;
 use object_store::ObjectStore;
+use recovery::recover;
 use std::alloc::{AllocError, Global};
 
 // The description of the objects of a store, which are sound at an age, with the ranges and the version that its plan has.
@@ -46,7 +46,7 @@ pub(crate) fn describe_saved<D: Device>(
 ) -> (Result<Description, OpenFault>, D)
     ensures { OpensAndDescribes D.disk device result.1 result.0 }
 {
-    let live = match wake::<D, PlainStore<D>>(alloc, device, ()) {
+    let live = match recover::<D, PlainStore<D>>(alloc, device, ()) {
         Ok(live) => live,
         Err(refused) => return (Err(refused.fault), refused.device),
     };

@@ -27,11 +27,14 @@ use Rattle.space_bank.specs.Banks.{AreCounted, BanksState}
 use Rattle.processes.specs.Machine.{Performs, answer_of}
 use Rattle.processes.proofs.Serving.{AreSame}
 use Rattle.processes.proofs.Steps.{refused_step}
-use Rattle.kernel.specs.declared.power.Live.{Live}
-use Rattle.kernel.specs.Denotes.{saved_of, LeavesOne}
-use Rattle.kernel.specs.Standing.{AreSoundTogether, IsCaused, IsUp, ServesUp, base_of, disk_at, frozen_of, refusal_by, renewed_since, running, running_of}
-use Rattle.kernel.proofs.Crashes.{leaves_along, leaves_either, leaves_here, leaves_home, leaves_saved}
-use Rattle.kernel.proofs.Renewed.{base_frozen, base_moved, none_renewed, renewed_on}
+use Rattle.recovery.specs.declared.live.Live.{Live}
+use Rattle.recovery.specs.Denotes.{saved_of, LeavesOne}
+use Rattle.recovery.specs.Live.{AreSoundTogether, IsUp, base_of, disk_at, frozen_of, renewed_since, running, running_of}
+use Rattle.kernel.specs.Standing.{IsCaused, ServesUp, refusal_by}
+use Rattle.recovery.proofs.Denoted.{leaves_saved}
+use Rattle.kernel.proofs.Crashes.{leaves_along, leaves_either, leaves_here, leaves_home}
+use Rattle.recovery.proofs.Renewed.{base_frozen, none_renewed}
+use Rattle.kernel.proofs.Renewed.{base_moved, renewed_on}
 use Rattle.kernel.proofs.Stages.{acts_sound, begun_sound, committed_sound, frames_again, frozen_none, frozen_some, moved_sound, next_sound, none_there, same_running, saved_moved, some_left, some_there, stabilized_sound, stays_sound}
 use Rattle.kernel.proofs.Steps.{checkpoint_step, commit_step, evict_refused, evict_step, migrate_step, none_to_commit, none_to_stabilize, not_home, not_stable, running_already, second_of_commit, stabilize_step}
 

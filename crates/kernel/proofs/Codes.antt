@@ -15,8 +15,8 @@ use Rattle.capability.specs.Parts.{Parts, objects_in}
 use Rattle.object_store.specs.Store.{View}
 use Rattle.processes.specs.declared.served.Served.{Served}
 use Rattle.processes.specs.Machine.{code_with}
-use Rattle.kernel.specs.declared.power.Live.{Live}
-use Rattle.kernel.specs.declared.power.Power.TheVariants as power
+use Rattle.recovery.specs.declared.live.Live.{Live}
+use Rattle.kernel.specs.Power as power
 use Rattle.kernel.specs.Standing.{HasCode, Stands, told_code}
 
 -- a command that isn't an invocation has none

@@ -9,20 +9,13 @@ use Rattle.device.specs.Disk.{Image, Disk}
 use Rattle.device.proofs.Moments.{CountsNow, OnlyNow, ends, leaves_weaker, started}
 use Rattle.checkpoint.specs.Saved.{SavedFrames, Holds, LeavesSaved, LeavesEither, home_saved}
 use Rattle.object_store.specs.Store.{Aside, moved_saved}
-use Rattle.kernel.specs.Denotes.{saved_of, IsSoundSaved, Denotes, DenotesOne, Leaves, LeavesOne}
-
--- frames that are held are denoted
-pub denoted_by : (g : Geometry) (size : ℕ) (c : Image) (fs : SavedFrames) → IsSoundSaved g fs → Holds size c fs → Denotes g size c (saved_of fs)
-denoted_by g size c fs sound holds = record { frames = fs; holds = holds; sound = sound; stands = refl }
+use Rattle.recovery.proofs.Denoted.{denoted_by}
+use Rattle.recovery.specs.Denotes.{saved_of, IsSoundSaved, Denotes, DenotesOne, Leaves, LeavesOne}
 
 -- one of the first is one of all
 pub among : (g : Geometry) (size : ℕ) (c : Image) (ss ts : List Saved) → DenotesOne g size ss c → DenotesOne g size (ss ++ ts) c
 among g size c [] ts one = absurd one
 among g size c (s ∷ ss) ts one = ⊎_elim (λ here. inl here) (λ there. inr (among g size c ss ts there)) one
-
--- a store that is sound: a crash leaves what it saves
-pub leaves_saved : (g : Geometry) (disk : Disk) (fs : SavedFrames) → IsSoundSaved g fs → ((c : Image) → disk.may_leave c → Holds disk.sectors c fs) → Leaves g disk (saved_of fs ∷ [])
-leaves_saved g disk fs sound holds c left = inl (denoted_by g disk.sectors c fs sound (holds c left))
 
 -- no call was made
 pub leaves_here : (g : Geometry) (disk : Disk) (ss ts : List Saved) → OnlyNow disk → Leaves g disk ss → LeavesOne g disk disk (ss ++ ts)

@@ -41,9 +41,10 @@ use Rattle.object_store.specs.Journal.{is_page_now, is_page_role, is_still_saved
 use Rattle.object_store.specs.Store.{Aside}
 use Rattle.space_bank.specs.Banks.{BanksState}
 use Rattle.processes.proofs.Steps.{done_step}
-use Rattle.kernel.specs.Denotes.{saved_of, IsSoundSaved}
-use Rattle.kernel.specs.Standing.{AreSoundTogether, base_of, renewed_since, running_of}
-use Rattle.kernel.proofs.Renewed.{allocations_at, base_saved, header_in, renewed_at}
+use Rattle.recovery.specs.Denotes.{saved_of, IsSoundSaved}
+use Rattle.recovery.specs.Live.{AreSoundTogether, base_of, renewed_since, running_of}
+use Rattle.recovery.proofs.Renewed.{allocations_at, base_saved, renewed_at}
+use Rattle.kernel.proofs.Renewed.{header_in}
 use Rattle.kernel.proofs.Stages.{frames_later}
 
 -- ---- steps

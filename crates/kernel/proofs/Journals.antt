@@ -23,10 +23,11 @@ use Rattle.object_store.specs.Store.{Aside, View, left_in}
 use Rattle.processes.specs.Machine.{IsUnlooked}
 use Rattle.processes.proofs.Serving.{AreSame}
 use Rattle.processes.proofs.Steps.{refused_step}
-use Rattle.kernel.specs.declared.power.Live.{Live}
-use Rattle.kernel.specs.Denotes.{saved_of, LeavesOne}
+use Rattle.recovery.specs.declared.live.Live.{Live}
+use Rattle.recovery.specs.Denotes.{saved_of, LeavesOne}
 use Rattle.kernel.specs.Journal.{unjournaled_by}
-use Rattle.kernel.specs.Standing.{IsCaused, IsUp, ServesUp, disk_at, running}
+use Rattle.recovery.specs.Live.{IsUp, disk_at, running}
+use Rattle.kernel.specs.Standing.{IsCaused, ServesUp}
 use Rattle.kernel.proofs.Acts.{failed, is_up, refused, refused_again, with_store}
 use Rattle.kernel.proofs.Crashes.{leaves_along, leaves_either}
 use Rattle.kernel.proofs.JournalSteps.{journal_no_page, journal_pending, journal_renewed, journal_running, journal_step, journal_unknown, journal_worn, known_now, next_is, now_is, page_now, running_next, saved_is, saved_next, saved_too, second_of_journal, sound_next, together_next}

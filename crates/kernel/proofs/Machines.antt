@@ -1,5 +1,5 @@
 -- From a store that serves to a machine that is up or down.
-use Rattle.std.proofs.Common.{append-nil, ◌≡◌, ◌↔◌, ◌⊎◌, ℕ, zero, suc, ◌<◌, ◌≤◌, false, List, [], ◌∷◌, ◌++◌, length, refl, sym, ap, ◌∙◌, subst, inl, inr, arith}
+use Rattle.std.proofs.Common.{append-nil, ◌≡◌, ◌↔◌, ◌⊎◌, ℕ, zero, suc, ◌<◌, ◌≤◌, false, Option, None, Some, List, [], ◌∷◌, ◌++◌, length, refl, sym, ap, ◌∙◌, subst, inl, inr, arith}
 use Rattle.std.specs.Prelude.{slice_index_or}
 use Rattle.std.specs.List.{Contains}
 use Rattle.model.specs.declared.answer.Answer.{Answer}
@@ -19,31 +19,18 @@ use Rattle.checkpoint.specs.declared.open_fault.OpenFault.{OpenFault}
 use Rattle.checkpoint.specs.declared.open_fault.OpenFault.TheVariants as fault
 use Rattle.capability.specs.Parts.{Parts}
 use Rattle.object_store.specs.Store.{View}
-use Rattle.kernel.specs.declared.power.Live.{Live}
-use Rattle.kernel.specs.declared.power.Power.{Power}
-use Rattle.kernel.specs.declared.power.Power.TheVariants as power
-use Rattle.kernel.specs.Denotes.{saved_of, DenotesOne, Leaves, LeavesOne}
-use Rattle.kernel.specs.Opening.{IsNoReason, IsSomeDown, Opens, RefusesToOpen, ReopensAs, Reopened, Wakes, refused_by}
-use Rattle.kernel.specs.Standing.{Asks, GoesDown, IsCaused, IsDeviceOf, IsSomeMachine, IsSomeUp, IsUp, SameDevice, Serves, ServesFrom, Stands, disk_of, running}
+use Rattle.recovery.specs.declared.live.Live.{Live}
+use Rattle.kernel.specs.Power.{Power, power_of}
+use Rattle.kernel.specs.Power as power
+use Rattle.recovery.specs.Denotes.{saved_of, DenotesOne, Leaves, LeavesOne}
+use Rattle.recovery.specs.Recovered.{RefusesToOpen, Recovers}
+use Rattle.kernel.specs.Opening.{IsNoReason, IsSomeDown, Opens, ReopensAs, Reopened, refused_by}
+use Rattle.recovery.specs.Live.{IsSomeUp, IsUp, running}
+use Rattle.kernel.specs.Standing.{IsCaused, IsDeviceOf, IsSomeMachine, SameDevice, Serves, ServesFrom, ServesUp, Stands, disk_of}
 use Rattle.kernel.proofs.Crashes.{leaves_end, leaves_here, among}
-use Rattle.kernel.proofs.Denoted.{one_denoted, one_not_bad}
+use Rattle.recovery.proofs.Denoted.{one_denoted, one_not_bad}
 
 -- ---- steps of the machine
-
--- a machine that is down takes no other command
-down_step : (g : Geometry) (saved : List Saved) (c : Command) → opens c ≡ false → Step g (Down saved) c (answer.Refused refusal.Down) (Down saved)
-down_step g saved (command.Invoke i) other = inl (refl, refl)
-down_step g saved (command.Load p address) other = inl (refl, refl)
-down_step g saved (command.Store p address value) other = inl (refl, refl)
-down_step g saved (command.Show n) other = inl (refl, refl)
-down_step g saved (command.Evict n) other = inl (refl, refl)
-down_step g saved command.Checkpoint other = inl (refl, refl)
-down_step g saved (command.Stabilize n) other = inl (refl, refl)
-down_step g saved command.Commit other = inl (refl, refl)
-down_step g saved (command.Migrate n) other = inl (refl, refl)
-down_step g saved (command.Journal n) other = inl (refl, refl)
-down_step g saved command.Restart other = cc
-down_step g saved command.Cut other = cc
 
 only_one : (s t : Saved) → Contains (s ∷ []) t → t ≡ s
 only_one s t there = go there.0 there.1 there.2
@@ -129,107 +116,52 @@ module _ {D S : Type 0} (disk : D → Disk) (view : S → View D) (parts : S →
     (seen_left : (d : D) → (disk d).may_leave (disk d).seen) where
   -- ---- a command that goes on
 
-  -- the store that was asked is up
-  pub asked_up : (l : Live S) (p : Power D S) → p ≡ power.Up l → IsSomeMachine disk view parts p → IsSomeUp disk view parts l
-  asked_up l p is some = go (subst (IsSomeMachine disk view parts) is some)
+  -- the store of a kernel is up
+  pub some_up : (o : Option (Live S)) (d : Option D) (l : Live S) → o ≡ Some l → IsSomeMachine disk view parts (power_of o d) → IsSomeMachine disk view parts (power.Up l)
+  some_up o d l is some = subst (λ (x : Option (Live S)). IsSomeMachine disk view parts (power_of x d)) is some
+
+  pub asked_up : (o : Option (Live S)) (d : Option D) (l : Live S) → o ≡ Some l → IsSomeMachine disk view parts (power_of o d) → IsSomeUp disk view parts l
+  asked_up o d l is some = go (some_up o d l is some)
     where
       go : IsSomeMachine disk view parts (power.Up l) → IsSomeUp disk view parts l
       go (g, Up r, stands) = (g, stands.0)
       go (g, Down saved, stands) = absurd stands
 
-  -- the store answered, or the machine is down
-  pub stays : (p q : Power D S) (c : Command) (a : Answer) → opens c ≡ false → (a ≡ answer.Refused refusal.Fault → ⊥) → Asks disk view parts p c a q → Serves disk view parts p c a q
-  stays (power.Up l) (power.Up k) c a other fine asks g (Up r) stands =
-      let s = asks.0 g stands.0 in
+  -- it answered
+  pub stays_up : (l k : Live S) (c : Command) (a : Answer) → (a ≡ answer.Refused refusal.Fault → ⊥) → ServesUp disk view parts l c a k → Serves disk view parts (power.Up l) c a (power.Up k)
+  stays_up l k c a fine serves g (Up r) stands =
+      let s = serves g stands.0 in
       subst (λ (x : Running). ServesFrom disk view parts g (Up x) (power.Up l) c a (power.Up k)) (sym stands.1) (record {
         after = Up (running disk view parts k);
         step = s.step fine;
         stands = (s.up fine, refl);
         leaves = s.leaves;
       })
-  stays (power.Up l) (power.Up k) c a other fine asks g (Down saved) stands = absurd stands
-  stays (power.Down d) (power.Down e) c a other fine asks g (Up r) stands = absurd stands
-  stays (power.Down d) (power.Down e) c a other fine asks g (Down saved) stands =
-      subst (λ (x : D). ServesFrom disk view parts g (Down saved) (power.Down d) c a (power.Down x)) (sym asks.1)
-      (subst (λ (b : Answer). ServesFrom disk view parts g (Down saved) (power.Down d) c b (power.Down d)) (sym asks.0) (record {
-        after = Down saved;
-        step = down_step g saved c other;
-        stands = stands;
-        leaves = leaves_here g (disk d) saved (second (Down saved) c) (only_now d) stands;
-      }))
-  stays (power.Up l) (power.Down e) c a other fine asks g m stands = absurd asks
-  stays (power.Up l) power.Between c a other fine asks g m stands = absurd asks
-  stays (power.Down d) (power.Up k) c a other fine asks g m stands = absurd asks
-  stays (power.Down d) power.Between c a other fine asks g m stands = absurd asks
-  stays power.Between q c a other fine asks g m stands = absurd asks
+  stays_up l k c a fine serves g (Down saved) stands = absurd stands
 
-  -- the device failed
-  goes_down : (p q : Power D S) (c : Command) (a : Answer) (d : D) → a ≡ answer.Refused refusal.Fault → Asks disk view parts p c a q → IsDeviceOf disk view parts q d → Serves disk view parts p c a (power.Down d)
-  goes_down (power.Up l) (power.Up k) c a d told asks is g (Up r) stands =
-      let s = asks.0 g stands.0 in
-      let ss : List Saved = candidates (Up (running disk view parts l)) ++ second (Up (running disk view parts l)) c in
+  -- the device failed, and was given back
+  pub goes_down : (l k : Live S) (c : Command) (d : D) → ServesUp disk view parts l c (answer.Refused refusal.Fault) k → d ≡ (view k.store).beneath →
+      Serves disk view parts (power.Up l) c (answer.Refused refusal.Fault) (power.Down d)
+  goes_down l k c d serves is g (Up r) stands =
+      let s = serves g stands.0 in
+      let was : Machine = Up (running disk view parts l) in
+      let ss : List Saved = candidates was ++ second was c in
       let left : LeavesOne g (disk (view l.store).beneath) (disk d) ss = subst (λ (x : D). LeavesOne g (disk (view l.store).beneath) (disk x) ss) (sym is) s.leaves in
-      subst (λ (x : Running). ServesFrom disk view parts g (Up x) (power.Up l) c a (power.Down d)) (sym stands.1) (record {
+      subst (λ (x : Running). ServesFrom disk view parts g (Up x) (power.Up l) c (answer.Refused refusal.Fault) (power.Down d)) (sym stands.1) (record {
         after = Down ss;
-        step = inr (inr (tt, told, refl));
+        step = inr (inr (tt, refl, refl));
         stands = leaves_end g (disk (view l.store).beneath) (disk d) ss (counts_now d) left;
         leaves = left;
       })
-  goes_down (power.Up l) (power.Up k) c a d told asks is g (Down saved) stands = absurd stands
-  goes_down (power.Down e) (power.Down f) c a d told asks is g m stands = let never = sym asks.0 ∙ told in cc
-  goes_down (power.Up l) (power.Down e) c a d told asks is g m stands = absurd asks
-  goes_down (power.Up l) power.Between c a d told asks is g m stands = absurd asks
-  goes_down (power.Down e) (power.Up k) c a d told asks is g m stands = absurd asks
-  goes_down (power.Down e) power.Between c a d told asks is g m stands = absurd asks
-  goes_down power.Between q c a d told asks is g m stands = absurd asks
+  goes_down l k c d serves is g (Down saved) stands = absurd stands
 
-  -- and the device tells which it was
-  pub asked_cause : (p q : Power D S) (c : Command) (a : Answer) → Asks disk view parts p c a q → IsCaused (disk_of disk view parts p) (disk_of disk view parts q) a
-  asked_cause (power.Up l) (power.Up k) c a asks = asks.1
-  asked_cause (power.Down d) (power.Down e) c a asks =
-      subst (λ (x : D). IsCaused (disk d) (disk x) a) (sym asks.1) (record {
-        later = omega arith;
-        exact = (λ told. let never = sym asks.0 ∙ told in cc, λ rose. absurd (omega (arith, rose)));
-      })
-  asked_cause (power.Up l) (power.Down e) c a asks = absurd asks
-  asked_cause (power.Up l) power.Between c a asks = absurd asks
-  asked_cause (power.Down d) (power.Up k) c a asks = absurd asks
-  asked_cause (power.Down d) power.Between c a asks = absurd asks
-  asked_cause power.Between q c a asks = absurd asks
-
-  -- where no call was made, none failed
-  pub none_failed : (p q : Power D S) (c : Command) → Asks disk view parts p c (answer.Refused refusal.Fault) q → SameDevice disk view parts p q → ⊥
-  none_failed (power.Up l) (power.Up k) c asks same =
-      let rose = asks.1.exact.0 refl in
-      let equal : (disk_of disk view parts (power.Up k)).failures ≡ (disk_of disk view parts (power.Up l)).failures = ap (λ (d : D). (disk d).failures) same in
-      omega (arith, rose, equal)
-  none_failed (power.Down d) (power.Down e) c asks same = let told = asks.0 in absurd cc
-  none_failed (power.Up l) (power.Down e) c asks same = absurd asks
-  none_failed (power.Up l) power.Between c asks same = absurd asks
-  none_failed (power.Down d) (power.Up k) c asks same = absurd asks
-  none_failed (power.Down d) power.Between c asks same = absurd asks
-  none_failed power.Between q c asks same = absurd asks
-
-  -- the disk beneath is that of the device
-  pub disk_beneath : (p : Power D S) (d : D) → IsDeviceOf disk view parts p d → (old : Disk) (a : Answer) → IsCaused old (disk_of disk view parts p) a → IsCaused old (disk d) a
-  disk_beneath (power.Up l) d is old a caused = subst (λ (x : D). IsCaused old (disk x) a) (sym is) caused
-  disk_beneath (power.Down e) d is old a caused = subst (λ (x : D). IsCaused old (disk x) a) (sym is) caused
-  disk_beneath power.Between d is old a caused = absurd is
-
-  -- so it is with a kernel that went down
-  pub goes_down_after : (p q r : Power D S) (c : Command) (a : Answer) → a ≡ answer.Refused refusal.Fault → Asks disk view parts p c a q → GoesDown disk view parts q r → Serves disk view parts p c a r
-  goes_down_after p q (power.Down d) c a told asks is = goes_down p q c a d told asks is
-  goes_down_after p q (power.Up l) c a told asks is = absurd is
-  goes_down_after p q power.Between c a told asks is = absurd is
-
-  pub down_cause : (p q r : Power D S) (c : Command) (a : Answer) → Asks disk view parts p c a q → GoesDown disk view parts q r → IsCaused (disk_of disk view parts p) (disk_of disk view parts r) a
-  down_cause p q (power.Down d) c a asks is = disk_beneath q d is (disk_of disk view parts p) a (asked_cause p q c a asks)
-  down_cause p q (power.Up l) c a asks is = absurd is
-  down_cause p q power.Between c a asks is = absurd is
+  -- a kernel that served a command stands for a machine
+  pub some_after : (p q : Power D S) (c : Command) (a : Answer) → Serves disk view parts p c a q → IsSomeMachine disk view parts p → IsSomeMachine disk view parts q
+  some_after p q c a serves some = let s = serves some.0 some.1 some.2 in (some.0, s.after, s.stands)
 
   -- ---- opened, and opened again
 
-  pub opens_up : (device : D) (l : Live S) → Wakes disk view parts device l → Opens disk view parts device (power.Up l)
+  pub opens_up : (device : D) (l : Live S) → Recovers disk view parts device l → Opens disk view parts device (power.Up l)
   opens_up device l wakes =
       let fs = (view l.store).aside.saved in
       record {
@@ -242,8 +174,11 @@ module _ {D S : Type 0} (disk : D → Disk) (view : S → View D) (parts : S →
         failures = wakes.failures;
       }
 
+  pub opened_some : (device : D) (l : Live S) → Recovers disk view parts device l → IsSomeMachine disk view parts (power.Up l)
+  opened_some device l wakes = let opens = opens_up device l wakes in (opens.geometry, Up (opened opens.geometry opens.saved), opens.stands)
+
   module _ (device : D) (g : Geometry) (ss : List Saved) (leaves : Leaves g (disk device) ss) where
-    pub rises : (l : Live S) (generation age : ℕ) → Wakes disk view parts device l → generation ≡ (view l.store).aside.saved.generation → age ≡ (view l.store).aside.saved.age →
+    pub rises : (l : Live S) (generation age : ℕ) → Recovers disk view parts device l → generation ≡ (view l.store).aside.saved.generation → age ≡ (view l.store).aside.saved.age →
         Reopened disk view parts g ss device (answer.At generation age) (power.Up l)
     rises l generation age wakes same_generation same_age =
         let fs = (view l.store).aside.saved in
@@ -304,6 +239,9 @@ module _ {D S : Type 0} (disk : D → Disk) (view : S → View D) (parts : S →
 
   pub some_down : (p : Power D S) (d : D) → IsSomeMachine disk view parts p → IsDeviceOf disk view parts p d → IsSomeDown disk d
   some_down p d some is = (some.0, candidates some.1, beneath some.0 p some.1 d some.2 is)
+
+  pub risen_some : (q : Power D S) (e : D) (a : Answer) → IsSomeDown disk e → ((g : Geometry) (ss : List Saved) → Leaves g (disk e) ss → Reopened disk view parts g ss e a q) → IsSomeMachine disk view parts q
+  risen_some q e a down again = let r = again down.0 down.1 down.2 in (down.0, r.after, r.stands)
 
   module _ (p q : Power D S) (d : D) (c : Command) (a : Answer) (is : IsDeviceOf disk view parts p d) (which : (c ≡ command.Restart) ⊎ (c ≡ command.Cut)) where
     -- the device was opened again, from what a crash left of it

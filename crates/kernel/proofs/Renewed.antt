@@ -18,26 +18,11 @@ use Rattle.capability.specs.Parts.{Parts, Renews, frames_of, objects_in}
 use Rattle.capability.proofs.Frames.{headers_in}
 use Rattle.checkpoint.specs.Saved.{SavedFrames, home_saved}
 use Rattle.object_store.specs.Store.{Aside, FrozenFrames, moved, moved_saved}
-use Rattle.kernel.specs.Standing.{base_of, renewed_since}
-
--- the count of allocations of a number, among frames
-abbrev pub allocations_at : List Frame → ℕ → ℕ
-allocations_at fs n = (frame_at fs n).header.allocations
+use Rattle.recovery.specs.Live.{base_of, renewed_since}
+use Rattle.recovery.proofs.Renewed.{allocations_at, base_by, renewed_at, renewed_length}
 
 pub header_in : (hs : List ObjectHeader) (cs : List (Content Cap)) (n : ℕ) → (frame_at (frames_in hs cs) n).header ≡ header_at hs n
 header_in hs cs n = sym (get_or-map (λ (f : Frame). f.header) (frames_in hs cs) n blank_frame) ∙ ap (λ (ks : List ObjectHeader). header_at ks n) (headers_in hs cs)
-
--- whether a number was renewed since
-abbrev has_risen : List Frame → List Frame → ℕ → Bool
-has_risen base fs n = not (allocations_at fs n == allocations_at base n)
-
-pub renewed_at : (base fs : List Frame) (n : ℕ) → n < length base → slice_index_or (renewed_since base fs) n false ≡ not (allocations_at fs n == allocations_at base n)
-unfolding renewed_since
-renewed_at base fs n inside = get_or-map-range_with_len (has_risen base fs) 0 (length base) n n false inside (omega arith)
-
-renewed_length : (base fs : List Frame) → length (renewed_since base fs) ≡ length base
-unfolding renewed_since
-renewed_length base fs = length-map-range_with_len (has_risen base fs) 0 (length base)
 
 -- a count differs where it did before, or rises now
 differs : (gone : Bool) (base old new : ℕ) → base ≤ old → new ≡ old + (if gone then 1 else 0) → (not (old == base) || gone) ≡ not (new == base)
@@ -86,29 +71,6 @@ module _ (base : List Frame) (p q : Parts) (renews : Renews p q) (risen : (n : �
       ∙ (ap (λ (b : Bool). b || gone n) (renewed_at base (frames_of p) n known)
       ∙ (differs (gone n) (allocations_at base n) (allocations_at (frames_of p) n) (allocations_at (frames_of q) n) (risen n) (rises n)
       ∙ sym (renewed_at base (frames_of q) n known))))
-
--- as it begins no number is renewed
-pub none_renewed : (g : Geometry) (fs : List Frame) → length fs ≡ g.nodes + g.pages → renewed_since fs fs ≡ untouched g
-unfolding untouched
-none_renewed g fs count =
-    let size = renewed_length fs fs in
-    ext_get_or false (renewed_since fs fs) (replicate (g.nodes + g.pages) false)
-    (size ∙ (count ∙ sym (length-replicate {A = Bool} (g.nodes + g.pages) false)))
-    (λ n inside.
-    let known : n < length fs = omega (arith, inside, size) in
-    renewed_at fs fs n known
-    ∙ (ap (λ (b : Bool). not b) (eq-eqb (allocations_at fs n) (allocations_at fs n) refl)
-    ∙ sym (get_or-replicate (g.nodes + g.pages) n false false (omega (arith, known, count)))))
-
--- what it began from
-abbrev base_by : List Frame → Option FrozenFrames → List Frame
-base_by saved o = elim o [ None ↦ saved | Some f ↦ f.frames ]
-
-pub base_frozen : (a : Aside) (f : FrozenFrames) → a.frozen ≡ Some f → base_of a ≡ f.frames
-base_frozen a f is = ap (base_by a.saved.frames) is
-
-pub base_saved : (a : Aside) → a.frozen ≡ None → base_of a ≡ a.saved.frames
-base_saved a is = ap (base_by a.saved.frames) is
 
 frames_if : (b : Bool) (fs : SavedFrames) → (if b then home_saved fs else fs).frames ≡ fs.frames
 frames_if true fs = refl

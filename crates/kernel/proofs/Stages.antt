@@ -15,9 +15,10 @@ use Rattle.object_store.specs.Store.{Aside, FrozenFrames, freezing, next_saved, 
 use Rattle.object_store.specs.Store as store
 use Rattle.space_bank.specs.Banks.{AreCounted, BanksState}
 use Rattle.processes.proofs.Serving.{AreSame, same_frames}
-use Rattle.kernel.specs.Denotes.{saved_of, IsSoundSaved}
-use Rattle.kernel.specs.Standing.{AreSoundTogether, IsSoundFrozen, base_of, frozen_of, renewed_since, running_of}
-use Rattle.kernel.proofs.Renewed.{allocations_at, base_frozen, base_moved, risen_on}
+use Rattle.recovery.specs.Denotes.{saved_of, IsSoundSaved}
+use Rattle.recovery.specs.Live.{AreSoundTogether, IsSoundFrozen, base_of, frozen_of, renewed_since, running_of}
+use Rattle.recovery.proofs.Renewed.{allocations_at, base_frozen}
+use Rattle.kernel.proofs.Renewed.{base_moved, risen_on}
 
 -- ---- frames at a later age
 

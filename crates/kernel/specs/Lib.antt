@@ -1,5 +1,4 @@
-pub mod Denotes
+pub mod Power
 pub mod Standing
 pub mod Opening
 pub mod Journal
-pub mod Laws

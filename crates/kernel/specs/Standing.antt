@@ -1,72 +1,28 @@
 -- The machine that a kernel stands for, and how it serves a command.
-use Rattle.std.specs.Prelude.{◌≡◌, ◌↔◌, ℕ, ◌<◌, ◌≤◌, ◌==◌, Bool, not, Option, None, Some, List, [], ◌∷◌, ◌++◌, length, map}
-use Rattle.std.specs.List.{range_with_len}
+use Rattle.std.specs.Prelude.{◌≡◌, ◌↔◌, ℕ, ◌<◌, ◌≤◌, Option, None, Some, List, [], ◌++◌}
 use Rattle.model.specs.declared.answer.Answer.{Answer}
 use Rattle.model.specs.declared.answer.Answer.TheVariants as answer
 use Rattle.model.specs.declared.answer.Refusal.{Refusal}
 use Rattle.model.specs.declared.answer.Refusal.TheVariants as refusal
 use Rattle.model.specs.declared.command.Command.{Command}
 use Rattle.model.specs.declared.command.Command.TheVariants as command
-use Rattle.model.specs.declared.frame.Frame.{Frame}
 use Rattle.model.specs.declared.geometry.Geometry.{Geometry}
 use Rattle.model.specs.declared.order.ResultCode.{ResultCode}
-use Rattle.model.specs.Frame.{frame_at}
-use Rattle.model.specs.Keepable.{IsSoundFrames, world_at}
-use Rattle.model.specs.Machine.{Frozen, Running, Machine, Up, Down, candidates}
+use Rattle.model.specs.Machine.{Machine, Up, Down, candidates}
 use Rattle.model.specs.Step.{Step, second}
 use Rattle.device.specs.Disk.{Disk}
-use Rattle.capability.specs.Parts.{Parts, frames_of, objects_in}
+use Rattle.capability.specs.Parts.{Parts}
 use Rattle.checkpoint.specs.declared.checkpoint_fault.CheckpointFault.{CheckpointFault}
 use Rattle.checkpoint.specs.declared.checkpoint_fault.CheckpointFault.TheVariants as fault
 use Rattle.checkpoint.specs.declared.committed.Checkpoint.{Checkpoint}
-use Rattle.object_store.specs.Store.{Aside, FrozenFrames, View}
-use Rattle.space_bank.specs.Banks.{AreCounted, BanksState}
+use Rattle.object_store.specs.Store.{View}
 use Rattle.processes.specs.declared.served.Served.{Served}
 use Rattle.processes.specs.Machine.{code_with}
-use Rattle.kernel.specs.declared.power.Live.{Live}
-use Rattle.kernel.specs.declared.power.Power.{Power}
-use Rattle.kernel.specs.declared.power.Power.TheVariants as power
-use Rattle.kernel.specs.Denotes.{saved_of, IsSoundSaved, Leaves, LeavesOne}
-
--- the checkpoint on its way that frozen frames stand for at an age
-abbrev pub frozen_of : ℕ → Option FrozenFrames → Option Frozen
-frozen_of age None = None
-frozen_of age (Some f) = Some (record { world = world_at age f.frames; size = f.size; left = f.left })
-
--- the frames that the last checkpoint or restart began from
-abbrev pub base_of : Aside → List Frame
-base_of a = elim a.frozen [ None ↦ a.saved.frames | Some f ↦ f.frames ]
-
--- the numbers whose counts of allocations have risen since
-unfoldable pub renewed_since : List Frame → List Frame → List Bool
-renewed_since base fs = map (λ n. not ((frame_at fs n).header.allocations == (frame_at base n).header.allocations)) (range_with_len 0 (length base))
-
--- the machine of present frames and of what is kept beside them
-abbrev pub running_of : Parts → Aside → ℕ → ℕ → Running
-running_of p aside age frozen_age = record {
-  now = world_at age (frames_of p);
-  touched = p.touched;
-  renewed = renewed_since (base_of aside) (frames_of p);
-  frozen = frozen_of frozen_age aside.frozen;
-  saved = saved_of aside.saved;
-  to_move = aside.to_move;
-}
-
--- frozen frames are sound at their age, which lies between that of what is saved and that of now
-pub record IsSoundFrozen (g : Geometry) (saved_age frozen_age age : ℕ) (f : FrozenFrames) : Type 0 where
-  pub after : saved_age < frozen_age
-  pub before : frozen_age ≤ age
-  pub sound : IsSoundFrames g frozen_age f.frames
-
--- all that a kernel keeps is sound, what is counted of banks is what there is, and no count of allocations has fallen
-pub record AreSoundTogether (g : Geometry) (p : Parts) (aside : Aside) (banks : BanksState) (age frozen_age : ℕ) : Type 0 where
-  pub geometry : p.geometry ≡ g
-  pub now : IsSoundFrames g age (frames_of p)
-  pub counted : AreCounted g (objects_in p) banks
-  pub frozen : (f : FrozenFrames) → aside.frozen ≡ Some f → IsSoundFrozen g aside.saved.age frozen_age age f
-  pub saved : IsSoundSaved g aside.saved
-  pub order : aside.saved.age ≤ age
-  pub risen : (n : ℕ) → (frame_at (base_of aside) n).header.allocations ≤ (frame_at (frames_of p) n).header.allocations
+use Rattle.recovery.specs.declared.live.Live.{Live}
+use Rattle.recovery.specs.Denotes.{Leaves, LeavesOne}
+use Rattle.recovery.specs.Live.{IsUp, disk_at, running}
+use Rattle.kernel.specs.Power.{Power}
+use Rattle.kernel.specs.Power as power
 
 -- the machine's refusal where its store refuses
 abbrev pub refusal_by : CheckpointFault → Refusal
@@ -92,35 +48,22 @@ pub record IsCaused (old new : Disk) (a : Answer) : Type 0 where
 
 -- The parameters are ghost members of a device and of an object store.
 module _ {D S : Type 0} (disk : D → Disk) (view : S → View D) (parts : S → Parts) where
-  -- the machine that is up
-  abbrev pub running : Live S → Running
-  running l = running_of (parts l.store) (view l.store).aside l.age l.frozen_age
-
-  abbrev pub disk_at : Live S → Disk
-  disk_at l = disk (view l.store).beneath
-
-  -- a store that serves: a crash leaves what is saved
-  pub record IsUp (g : Geometry) (l : Live S) : Type 0 where
-    pub store : (view l.store).is_sound
-    pub sound : AreSoundTogether g (parts l.store) (view l.store).aside l.banks l.age l.frozen_age
-    pub leaves : Leaves g (disk_at l) (saved_of (view l.store).aside.saved ∷ [])
-
-  abbrev pub IsSomeUp : Live S → Type 0
-  IsSomeUp l = (g : Geometry) × IsUp g l
-
   -- from one store to another a command is answered as the machine may answer it, or the device failed; a crash at any
   -- moment in its course leaves what denotes the saved part, or what the command may save besides
   pub record ServesAt (g : Geometry) (old : Live S) (c : Command) (a : Answer) (new : Live S) : Type 0 where
-    pub step : (a ≡ answer.Refused refusal.Fault → ⊥) → Step g (Up (running old)) c a (Up (running new))
-    pub up : (a ≡ answer.Refused refusal.Fault → ⊥) → IsUp g new
-    pub leaves : LeavesOne g (disk_at old) (disk_at new) (candidates (Up (running old)) ++ second (Up (running old)) c)
+    pub step : (a ≡ answer.Refused refusal.Fault → ⊥) →
+        Step g (Up (running disk view parts old)) c a (Up (running disk view parts new))
+    pub up : (a ≡ answer.Refused refusal.Fault → ⊥) → IsUp disk view parts g new
+    pub leaves :
+        let was = Up (running disk view parts old) in
+        LeavesOne g (disk_at disk view parts old) (disk_at disk view parts new) (candidates was ++ second was c)
 
   abbrev pub ServesUp : Live S → Command → Answer → Live S → Type 0
-  ServesUp old c a new = (g : Geometry) → IsUp g old → ServesAt g old c a new
+  ServesUp old c a new = (g : Geometry) → IsUp disk view parts g old → ServesAt g old c a new
 
   -- the disk beneath a kernel
   abbrev pub disk_of : Power D S → Disk
-  disk_of (power.Up l) = disk_at l
+  disk_of (power.Up l) = disk_at disk view parts l
   disk_of (power.Down d) = disk d
   disk_of power.Between = nothing
 
@@ -132,7 +75,7 @@ module _ {D S : Type 0} (disk : D → Disk) (view : S → View D) (parts : S →
 
   -- a kernel stands for a machine of a geometry
   abbrev pub Stands : Geometry → Power D S → Machine → Type 0
-  Stands g (power.Up l) (Up r) = IsUp g l × (r ≡ running l)
+  Stands g (power.Up l) (Up r) = IsUp disk view parts g l × (r ≡ running disk view parts l)
   Stands g (power.Up l) (Down saved) = ⊥
   Stands g (power.Down d) (Up r) = ⊥
   Stands g (power.Down d) (Down saved) = Leaves g (disk d) saved
@@ -176,20 +119,10 @@ module _ {D S : Type 0} (disk : D → Disk) (view : S → View D) (parts : S →
   HasDevice power.Between = ⊥
   HasDevice _ = Unit {0}
 
-  -- it goes down with the device beneath it
-  abbrev pub GoesDown : Power D S → Power D S → Type 0
-  GoesDown old (power.Down d) = IsDeviceOf old d
-  GoesDown old _ = ⊥
-
-  -- a store that is up was asked, or the machine is down
-  abbrev pub Asks : Power D S → Command → Answer → Power D S → Type 0
-  Asks (power.Up l) c a (power.Up k) = ServesUp l c a k × IsCaused (disk_at l) (disk_at k) a
-  Asks (power.Down d) c a (power.Down e) = (a ≡ answer.Refused refusal.Down) × (e ≡ d)
-  Asks _ c a _ = ⊥
-
   -- what is told of the committed checkpoint is that of the machine that is up
   abbrev pub IsTold : Power D S → Option Checkpoint → Type 0
   IsTold (power.Up l) (Some told) =
-      (told.generation ≡ (view l.store).aside.saved.generation) × (told.age ≡ (view l.store).aside.saved.age) × (told.entries ≡ (view l.store).aside.saved.entries)
+      (told.generation ≡ (view l.store).aside.saved.generation) × (told.age ≡ (view l.store).aside.saved.age)
+      × (told.entries ≡ (view l.store).aside.saved.entries)
   IsTold (power.Up l) None = ⊥
   IsTold _ told = told ≡ None

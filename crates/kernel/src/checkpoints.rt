@@ -2,13 +2,14 @@
 ghost use Rattle.std.specs.Prelude.{◌≡◌};
 ghost use Rattle.model.specs.declared.command.Command.TheVariants as command;
 ghost use Rattle.processes.specs.Machine.{IsToldOnce, IsUnlooked, answer_of};
-ghost use Rattle.kernel.specs.Standing.{IsCaused, IsSomeUp, ServesUp, disk_at, refusal_by};
+ghost use Rattle.recovery.specs.Live.{IsSomeUp, disk_at};
+ghost use Rattle.kernel.specs.Standing.{IsCaused, ServesUp, refusal_by};
 
-use crate::power::Live;
 use checkpoint::CheckpointFault;
 use device::{Device, Failed};
 use model::{Answer, Refusal};
 use object_store::ObjectStore;
+use recovery::Live;
 
 // What is answered where the store refuses.
 fn refused(fault: CheckpointFault) -> Result<Answer, Failed>

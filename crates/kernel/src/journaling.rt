@@ -2,13 +2,14 @@
 ghost use Rattle.std.specs.Prelude.{◌≡◌};
 ghost use Rattle.model.specs.declared.command.Command.TheVariants as command;
 ghost use Rattle.processes.specs.Machine.{IsToldOnce, IsUnlooked, answer_of};
-ghost use Rattle.kernel.specs.Standing.{IsCaused, IsSomeUp, ServesUp, disk_at};
+ghost use Rattle.recovery.specs.Live.{IsSomeUp, disk_at};
+ghost use Rattle.kernel.specs.Standing.{IsCaused, ServesUp};
 ghost use Rattle.kernel.specs.Journal.{unjournaled_by};
 
-use crate::power::Live;
 use device::{Device, Failed};
 use model::{Answer, Refusal, Unjournaled};
 use object_store::{JournalFault, ObjectStore};
+use recovery::Live;
 
 // What is answered where the store refuses, by whether an object has the number.
 fn refused(fault: JournalFault, is_known: bool) -> Result<Answer, Failed>

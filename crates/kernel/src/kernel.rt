@@ -1,15 +1,23 @@
-// The kernel.
-ghost use Rattle.std.specs.Prelude.{IfOk, IfErr};
-ghost use Rattle.processes.specs.Machine.{IsUnlooked};
-ghost use Rattle.kernel.specs.Standing.{HasCode, HasNoneToMove, IsCaused, IsDeviceOf, IsTold, SameDevice, Serves, disk_of};
-ghost use Rattle.kernel.specs.Opening.{Opens, RefusesToOpen};
+// A machine that is up or down, and its steps.
+ghost use Rattle.std.specs.Prelude.{◌≡◌, List, None, false, IfOk, IfErr};
+ghost use Rattle.model.specs.declared.command.Command.TheVariants as command;
+ghost use Rattle.model.specs.declared.geometry.Geometry.{Geometry};
+ghost use Rattle.model.specs.Machine.{Saved};
+ghost use Rattle.model.specs.Step.{opens};
+ghost use Rattle.processes.specs.Machine.{IsUnlooked, NeedsNoLook};
+ghost use Rattle.recovery.specs.Denotes.{Leaves};
+ghost use Rattle.recovery.specs.Recovered.{RefusesToOpen};
+ghost use Rattle.kernel.specs.Power.{power_of};
+ghost use Rattle.kernel.specs.Standing.{HasCode, HasDevice, HasNoneToMove, IsCaused, IsDeviceOf, IsTold, SameDevice, Serves, disk_of};
+ghost use Rattle.kernel.specs.Opening.{IsNoReason, IsSomeDown, Opens, Reopened, refused_by};
 
-use crate::machine::Machine;
-use checkpoint::{Checkpoint, OpenRefused};
-use device::Device;
-use model::{Answer, Command};
+use crate::serving::serve;
+use checkpoint::{Checkpoint, OpenFault, OpenRefused};
+use device::{Device, Failed};
+use model::{Answer, Command, Refusal};
 use object_store::ObjectStore;
 use processes::Served;
+use recovery::{Live, recover};
 use std::alloc::Global;
 use std::marker::Model;
 
@@ -19,18 +27,90 @@ use std::marker::Model;
 /// It is up at a store, or down after a failure of the device until it is opened again.
 #[derive(Drop)]
 pub struct Kernel<D: Device, S: ObjectStore<D>> {
-    machine: Machine<D, S>,
+    // `None` while the machine is down.
+    live: Option<Live<S>>,
+    // The device of a machine that is down.
+    device: Option<D>,
+    setting: S::Setting,
 }
 
 impl<D: Device, S: ObjectStore<D>> Model for Kernel<D, S> {
-    ghost use Rattle.kernel.specs.declared.power.Power.{Power};
+    ghost use Rattle.kernel.specs.Power.{Power, power_of};
     ghost use Rattle.kernel.specs.Standing.{IsSomeMachine};
 
     ghost Value = { Power D S };
 
-    ghost view = { λ k. k.machine.power };
+    ghost view = { λ k. power_of k.live k.device };
 
-    ghost invariant = { λ k. IsSomeMachine D.disk S.view S.parts k.machine.power };
+    ghost invariant = { λ k. IsSomeMachine D.disk S.view S.parts (power_of k.live k.device) };
+}
+
+// Takes the device out of the fields of a kernel.
+#[inline(never)]
+fn take_device<D: Device, S: ObjectStore<D>>(
+    live: &mut Option<Live<S>>,
+    device: &mut Option<D>,
+) -> D
+    requires { HasDevice D.disk S.view S.parts (power_of live.old device.old) }
+    ensures is { IsDeviceOf D.disk S.view S.parts (power_of live.old device.old) result }
+    ensures down { live.new ≡ None }
+{
+    match live.take() {
+        Some(live) => live.store.into_device(),
+        None => match device.take() {
+            Some(device) => device,
+            None => unreachable!(),
+        },
+    }
+}
+
+// The refusal if a device isn't opened that a crash of a kernel left.
+fn refusal(fault: OpenFault) -> Refusal
+    requires { IsNoReason fault }
+    ensures why { result ≡ refused_by fault }
+    ensures looks { NeedsNoLook result → ⊥ }
+{
+    match fault {
+        OpenFault::Failed => Refusal::Fault,
+        OpenFault::NoMemory => Refusal::NoMemory,
+        OpenFault::Bad(_) => unreachable!(),
+    }
+}
+
+// Opens a device that a crash of a kernel left. After a refusal the machine is down.
+fn rise<D: Device, S: ObjectStore<D>>(
+    alloc: Global,
+    opened: D,
+    setting: S::Setting,
+    live: &mut Option<Live<S>>,
+    device: &mut Option<D>,
+) -> Answer
+    requires left { IsSomeDown D.disk opened }
+    requires down { live.old ≡ None }
+    ensures reopened { (g : Geometry) (saved : List Saved) → Leaves g (D.disk opened) saved
+        → Reopened D.disk S.view S.parts g saved opened result (power_of live.new device.new) }
+    ensures looks { IsUnlooked result → ⊥ }
+    ensures cause { IsCaused (D.disk opened)
+        (disk_of D.disk S.view S.parts (power_of live.new device.new)) result }
+{
+    match recover::<D, S>(alloc, opened, setting) {
+        Ok(found) => {
+            let saved = found.store.saved();
+            *live = Some(found);
+            Answer::At {
+                generation: saved.generation,
+                age: saved.age,
+            }
+        }
+        Err(refused) => {
+            let OpenRefused {
+                fault,
+                device: back,
+            } = refused;
+            *device = Some(back);
+            Answer::Refused(refusal(fault))
+        }
+    }
 }
 
 impl<D: Device, S: ObjectStore<D>> Kernel<D, S> {
@@ -44,10 +124,64 @@ impl<D: Device, S: ObjectStore<D>> Kernel<D, S> {
         ensures opened { IfOk result (λ k. Opens D.disk S.view S.parts device k) }
         ensures refused { IfErr result (λ r. RefusesToOpen D.disk device r.device r.fault) }
     {
-        match Machine::<D, S>::open(alloc, device, setting) {
-            Ok(machine) => Ok(Kernel { machine }),
+        match recover::<D, S>(alloc, device, setting) {
+            Ok(live) => Ok(Kernel {
+                live: Some(live),
+                device: None,
+                setting,
+            }),
             Err(refused) => Err(refused),
         }
+    }
+
+    // Serves a command that doesn't open the device. After a failure the machine is down.
+    fn go_on(&mut self, alloc: Global, command: Command) -> Served
+        requires { opens command ≡ false }
+        ensures serves { Serves D.disk S.view S.parts self.old command result.answer self.new }
+        ensures untouched { IsUnlooked result.answer
+            → SameDevice D.disk S.view S.parts self.old self.new }
+        ensures none_to_move { HasNoneToMove D.disk S.view S.parts self.old command
+            → SameDevice D.disk S.view S.parts self.old self.new }
+        ensures cause { IsCaused (disk_of D.disk S.view S.parts self.old)
+            (disk_of D.disk S.view S.parts self.new) result.answer }
+        ensures code { HasCode D.disk S.view S.parts self.old command result }
+    {
+        match &mut self.live {
+            Some(live) => match serve::<D, S>(alloc, live, command) {
+                Ok(served) => served,
+                Err(Failed) => {
+                    let device = take_device::<D, S>(&mut self.live, &mut self.device);
+                    self.device = Some(device);
+                    Served::from(Answer::Refused(Refusal::Fault))
+                }
+            },
+            None => Served::from(Answer::Refused(Refusal::Down)),
+        }
+    }
+
+    // Opens the device again.
+    #[inline(never)]
+    fn restart(&mut self, alloc: Global) -> Answer
+        ensures serves { Serves D.disk S.view S.parts self.old command.Restart result self.new }
+        ensures looks { IsUnlooked result → ⊥ }
+        ensures cause { IsCaused (disk_of D.disk S.view S.parts self.old)
+            (disk_of D.disk S.view S.parts self.new) result }
+    {
+        let device = take_device::<D, S>(&mut self.live, &mut self.device);
+        rise::<D, S>(alloc, device, self.setting, &mut self.live, &mut self.device)
+    }
+
+    // Cuts the power, and opens the device again.
+    #[inline(never)]
+    fn cut(&mut self, alloc: Global) -> Answer
+        ensures serves { Serves D.disk S.view S.parts self.old command.Cut result self.new }
+        ensures looks { IsUnlooked result → ⊥ }
+        ensures cause { IsCaused (disk_of D.disk S.view S.parts self.old)
+            (disk_of D.disk S.view S.parts self.new) result }
+    {
+        let mut device = take_device::<D, S>(&mut self.live, &mut self.device);
+        device.power_cut();
+        rise::<D, S>(alloc, device, self.setting, &mut self.live, &mut self.device)
     }
 
     /// Serves one command, as the machine does.
@@ -84,27 +218,47 @@ impl<D: Device, S: ObjectStore<D>> Kernel<D, S> {
             (disk_of D.disk S.view S.parts self.new) result.answer }
         ensures code { HasCode D.disk S.view S.parts self.old command result }
     {
-        self.machine.step(alloc, command)
+        match command {
+            Command::Restart => Served::from(self.restart(alloc)),
+            Command::Cut => Served::from(self.cut(alloc)),
+            other => self.go_on(alloc, other),
+        }
     }
 
     /// Generation, age and entries of the committed checkpoint, where the machine is up.
     pub fn saved(&self) -> Option<Checkpoint>
         ensures { IsTold D.disk S.view S.parts self.now result }
     {
-        self.machine.power.saved()
+        match &self.live {
+            Some(live) => Some(live.store.saved()),
+            None => None,
+        }
     }
 
     /// The device beneath, on which no call is made.
     pub fn device(&self) -> &D
         ensures { IsDeviceOf D.disk S.view S.parts self.now result.now }
     {
-        self.machine.power.device()
+        match &self.live {
+            Some(live) => live.store.device(),
+            None => match &self.device {
+                Some(device) => device,
+                None => unreachable!(),
+            },
+        }
     }
 
     /// Gives the device back, and makes no call of it.
     pub fn into_device(self) -> D
         ensures { IsDeviceOf D.disk S.view S.parts self result }
     {
-        self.machine.power.into_device()
+        let Kernel { live, device, .. } = self;
+        match live {
+            Some(live) => live.store.into_device(),
+            None => match device {
+                Some(device) => device,
+                None => unreachable!(),
+            },
+        }
     }
 }

@@ -4,13 +4,7 @@
 mod checkpoints;
 mod journaling;
 mod kernel;
-pub mod laws;
-mod machine;
-mod power;
 mod serving;
-mod waking;
 
 pub use kernel::Kernel;
-pub use power::Live;
 pub use processes::Served;
-pub use waking::wake;

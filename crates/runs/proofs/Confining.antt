@@ -14,8 +14,8 @@ use Rattle.confinement.specs.Confinement.{AreBy, IsLineBy, with_free}
 use Rattle.confinement.proofs.Runs.{run_confined}
 use Rattle.capability.specs.Parts.{Parts}
 use Rattle.object_store.specs.Store.{View}
-use Rattle.kernel.specs.declared.power.Power.{Power}
-use Rattle.kernel.specs.declared.power.Power.TheVariants as power
+use Rattle.kernel.specs.Power.{Power}
+use Rattle.kernel.specs.Power as power
 use Rattle.kernel.specs.Standing.{Stands}
 use Rattle.script.specs.declared.fault.RunFault.{RunFault}
 use Rattle.script.specs.declared.fault.RunFault.TheVariants as fault

@@ -20,9 +20,9 @@ use Rattle.device.specs.Moments.{LeavesOnly}
 use Rattle.device.proofs.Moments.{leaves_weaker, started}
 use Rattle.capability.specs.Parts.{Parts}
 use Rattle.object_store.specs.Store.{View}
-use Rattle.kernel.specs.declared.power.Power.{Power}
-use Rattle.kernel.specs.declared.power.Power.TheVariants as power
-use Rattle.kernel.specs.Denotes.{DenotesOne, saved_of}
+use Rattle.kernel.specs.Power.{Power}
+use Rattle.kernel.specs.Power as power
+use Rattle.recovery.specs.Denotes.{DenotesOne, saved_of}
 use Rattle.kernel.specs.Standing.{IsCaused, Serves, Stands, disk_of}
 use Rattle.script.specs.declared.fault.RunFault.{RunFault}
 use Rattle.script.specs.declared.fault.RunFault.TheVariants as fault

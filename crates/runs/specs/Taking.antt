@@ -13,8 +13,8 @@ use Rattle.device.specs.Disk.{Disk}
 use Rattle.device.specs.Moments.{LeavesOnly}
 use Rattle.capability.specs.Parts.{Parts}
 use Rattle.object_store.specs.Store.{View}
-use Rattle.kernel.specs.declared.power.Power.{Power}
-use Rattle.kernel.specs.Denotes.{DenotesOne}
+use Rattle.kernel.specs.Power.{Power}
+use Rattle.recovery.specs.Denotes.{DenotesOne}
 use Rattle.kernel.specs.Standing.{Stands, disk_of}
 use Rattle.script.specs.declared.fault.RunFault.{RunFault}
 use Rattle.script.specs.declared.fault.RunFault.TheVariants as fault

@@ -3,7 +3,7 @@ ghost use Rattle.std.specs.Prelude.{◌≡◌, ◌≢◌, ◌<◌, ◌++◌, ℕ
 ghost use Rattle.model.specs.declared.geometry.Geometry.{Geometry};
 ghost use Rattle.model.specs.Machine.{Machine};
 ghost use Rattle.model.specs.Run.{lines_of};
-ghost use Rattle.kernel.specs.declared.power.Power.{Power};
+ghost use Rattle.kernel.specs.Power.{Power};
 ghost use Rattle.kernel.specs.Standing.{Stands};
 ghost use Rattle.model.specs.Text.{Says};
 ghost use Rattle.script.specs.Lines.{Holds, IsOneLine, IsTextOf};

@@ -12,12 +12,13 @@ use Rattle.checkpoint.specs.declared.open_fault.OpenFault.{OpenFault}
 use Rattle.checkpoint.specs.declared.open_fault.OpenFault.TheVariants as fault
 use Rattle.capability.specs.Parts.{Parts}
 use Rattle.object_store.specs.Store.{View}
-use Rattle.kernel.specs.declared.power.Power.{Power}
-use Rattle.kernel.specs.declared.power.Power.TheVariants as power
-use Rattle.kernel.specs.Denotes.{Denotes, DenotesOne}
-use Rattle.kernel.specs.Opening.{IsNoReason, Opens, RefusesToOpen}
+use Rattle.kernel.specs.Power.{Power}
+use Rattle.kernel.specs.Power as power
+use Rattle.recovery.specs.Denotes.{Denotes, DenotesOne}
+use Rattle.recovery.specs.Recovered.{RefusesToOpen}
+use Rattle.kernel.specs.Opening.{IsNoReason, Opens}
 use Rattle.kernel.specs.Standing.{Stands, disk_of}
-use Rattle.kernel.proofs.Denoted.{denotes_one, denoted_not_bad}
+use Rattle.recovery.proofs.Denoted.{denotes_one, denoted_not_bad}
 use Rattle.runs.specs.KernelRuns.{AreTurnsOf, IsLeftIn}
 use Rattle.runs_laws.specs.Laws.{CrashesAreSurvived, IsOpenedAt, MaySave}
 

@@ -18,9 +18,10 @@ use Rattle.checkpoint.specs.declared.open_fault.OpenFault.{OpenFault}
 use Rattle.confinement.specs.Confinement.{AreBy, IsKept, with_free}
 use Rattle.capability.specs.Parts.{Parts}
 use Rattle.object_store.specs.Store.{View}
-use Rattle.kernel.specs.declared.power.Power.{Power}
-use Rattle.kernel.specs.Denotes.{Denotes}
-use Rattle.kernel.specs.Opening.{IsNoReason, Opens, RefusesToOpen}
+use Rattle.kernel.specs.Power.{Power}
+use Rattle.recovery.specs.Denotes.{Denotes}
+use Rattle.recovery.specs.Recovered.{RefusesToOpen}
+use Rattle.kernel.specs.Opening.{IsNoReason, Opens}
 use Rattle.kernel.specs.Standing.{Stands, disk_of}
 use Rattle.runs.specs.KernelRuns.{IsRunOf, lines_in}
 

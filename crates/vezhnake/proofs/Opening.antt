@@ -4,7 +4,7 @@ use Rattle.device.specs.Calls.{Agrees, image_of, sectors_of}
 use Rattle.vezhnake.specs.Steps.{fresh}
 use Rattle.checkpoint.specs.declared.open_fault.OpenFault.{OpenFault}
 use Rattle.checkpoint.specs.declared.open_fault.OpenFault.TheVariants as fault
-use Rattle.kernel.specs.Opening.{RefusesToOpen}
+use Rattle.recovery.specs.Recovered.{RefusesToOpen}
 use Rattle.vezhnake.specs.declared.host_kernel.HostKernel.{HostKernel}
 use Rattle.vezhnake.specs.declared.host_kernel.HostKernel.TheVariants as store
 use Rattle.vezhnake.specs.declared.status.Status.{Status}

@@ -8,8 +8,8 @@ use Rattle.device.specs.Calls.{image_of}
 use Rattle.memory_device.specs.Past.{Event, MayLeave, at_first, replay}
 use Rattle.capability.specs.Parts.{Parts}
 use Rattle.object_store.specs.Store.{View}
-use Rattle.kernel.specs.declared.power.Power.{Power}
-use Rattle.kernel.specs.declared.power.Power.TheVariants as power
+use Rattle.kernel.specs.Power.{Power}
+use Rattle.kernel.specs.Power as power
 use Rattle.kernel.specs.Standing.{IsDeviceOf, Stands, disk_of}
 use Rattle.model.specs.declared.geometry.Geometry.{Geometry}
 use Rattle.model.specs.Machine.{Machine}

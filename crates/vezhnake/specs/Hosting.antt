@@ -6,9 +6,9 @@ use Rattle.capability.specs.Parts.{Parts}
 use Rattle.object_store.specs.Store.{View}
 use Rattle.file_device.specs.declared.file_device.CopiedFile.{CopiedFile}
 use Rattle.file_device.specs.FileDevice.{file_disk}
-use Rattle.kernel.specs.declared.power.Power.{Power}
-use Rattle.kernel.specs.declared.power.Power.TheVariants as power
-use Rattle.kernel.specs.Denotes.{Denotes}
+use Rattle.kernel.specs.Power.{Power}
+use Rattle.kernel.specs.Power as power
+use Rattle.recovery.specs.Denotes.{Denotes}
 use Rattle.kernel.specs.Standing.{IsDeviceOf, Stands, disk_of}
 use Rattle.model.specs.declared.geometry.Geometry.{Geometry}
 use Rattle.model.specs.Machine.{Machine, Saved}

@@ -1,7 +1,8 @@
 -- What the calls of the library do to a session, and what they copy out.
 use Rattle.std.specs.Prelude.{◌≡◌, ◌≢◌, ◌⊎◌, ℕ, ◌<◌, ◌≤◌, ◌%◌, ◌++◌, Bool, true, false, List, [], length, drop, Option, None, Some, Result, Ok, Err}
 use Rattle.checkpoint.specs.declared.open_fault.OpenFault.TheVariants as fault
-use Rattle.kernel.specs.Opening.{IsBad, IsWhy, Opens}
+use Rattle.recovery.specs.Recovered.{IsBad, IsWhy}
+use Rattle.kernel.specs.Opening.{Opens}
 use Rattle.object_cache.specs.PlainStore as plain
 use Rattle.bounded_cache.specs.Cache as bounded
 use Rattle.script.specs.declared.fault.RunFault.{RunFault}

@@ -1,4 +1,4 @@
-use Rattle.kernel.specs.Denotes.{saved_of}
+use Rattle.recovery.specs.Denotes.{saved_of}
 use Rattle.checkpoint.specs.Saved.{kept_of}
 use Rattle.object_cache.specs.PlainStore.{saved_by}
 use Rattle.jobs.specs.Info.{info_lines}

@@ -1,5 +1,0 @@
-use Rattle.kernel.proofs.Denoted.{denotes_one}
-use Rattle.kernel.proofs.laws.denote_one_saved.Goals as goal
-
-pub returns : goal.returns
-returns c = denotes_one

@@ -1,5 +1,0 @@
-use Rattle.kernel.proofs.Denoted.{denoted_not_bad}
-use Rattle.kernel.proofs.laws.denoted_is_not_bad.Goals as goal
-
-pub returns : goal.returns
-returns c = denoted_not_bad

@@ -1,5 +1,0 @@
-use Rattle.kernel.proofs.Denoted.{denoted_one_of}
-use Rattle.kernel.proofs.laws.denoted_is_one_of.Goals as goal
-
-pub returns : goal.returns
-returns c = denoted_one_of

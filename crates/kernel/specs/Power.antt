@@ -1,0 +1,15 @@
+-- Whether a machine is up.
+use Rattle.std.specs.Prelude.{Option, None, Some}
+use Rattle.recovery.specs.declared.live.Live.{Live}
+
+-- a machine is up at a store, or down with its device; within a command it may have neither
+pub data Power (D S : Type 0) : Type 0 where
+  Up : Live S → Power D S
+  Down : D → Power D S
+  Between : Power D S
+
+-- that of a kernel, from its fields
+abbrev pub power_of : {D S : Type 0} → Option (Live S) → Option D → Power D S
+power_of (Some l) d = Up l
+power_of None (Some d) = Down d
+power_of None None = Between

@@ -1,0 +1,3 @@
+pub mod Denoted
+mod Recovered
+pub mod Renewed

@@ -1,0 +1,50 @@
+-- Which numbers were renewed since the last checkpoint or restart, by their counts of allocations.
+use Rattle.std.proofs.Common.{◌≡◌, ℕ, ◌+◌, ◌<◌, ◌==◌, Bool, false, not, Option, None, Some, List, length, replicate, slice_index_or, refl, ap, ◌∙◌, sym, arith}
+use Rattle.std.proofs.lemmas.Bool.{eq-eqb}
+use Rattle.std.proofs.lemmas.List.{ext_get_or, get_or-replicate, length-replicate}
+use Rattle.std.proofs.lemmas.List.FromFn.{get_or-map-range_with_len, length-map-range_with_len}
+use Rattle.model.specs.declared.frame.Frame.{Frame}
+use Rattle.model.specs.declared.geometry.Geometry.{Geometry}
+use Rattle.model.specs.Frame.{frame_at}
+use Rattle.model.specs.Machine.{untouched}
+use Rattle.object_store.specs.Store.{Aside, FrozenFrames}
+use Rattle.recovery.specs.Live.{base_of, renewed_since}
+
+-- the count of allocations of a number, among frames
+abbrev pub allocations_at : List Frame → ℕ → ℕ
+allocations_at fs n = (frame_at fs n).header.allocations
+
+-- whether a number was renewed since
+abbrev has_risen : List Frame → List Frame → ℕ → Bool
+has_risen base fs n = not (allocations_at fs n == allocations_at base n)
+
+pub renewed_at : (base fs : List Frame) (n : ℕ) → n < length base → slice_index_or (renewed_since base fs) n false ≡ not (allocations_at fs n == allocations_at base n)
+unfolding renewed_since
+renewed_at base fs n inside = get_or-map-range_with_len (has_risen base fs) 0 (length base) n n false inside (omega arith)
+
+pub renewed_length : (base fs : List Frame) → length (renewed_since base fs) ≡ length base
+unfolding renewed_since
+renewed_length base fs = length-map-range_with_len (has_risen base fs) 0 (length base)
+
+-- as it begins no number is renewed
+pub none_renewed : (g : Geometry) (fs : List Frame) → length fs ≡ g.nodes + g.pages → renewed_since fs fs ≡ untouched g
+unfolding untouched
+none_renewed g fs count =
+    let size = renewed_length fs fs in
+    ext_get_or false (renewed_since fs fs) (replicate (g.nodes + g.pages) false)
+    (size ∙ (count ∙ sym (length-replicate {A = Bool} (g.nodes + g.pages) false)))
+    (λ n inside.
+    let known : n < length fs = omega (arith, inside, size) in
+    renewed_at fs fs n known
+    ∙ (ap (λ (b : Bool). not b) (eq-eqb (allocations_at fs n) (allocations_at fs n) refl)
+    ∙ sym (get_or-replicate (g.nodes + g.pages) n false false (omega (arith, known, count)))))
+
+-- what it began from
+abbrev pub base_by : List Frame → Option FrozenFrames → List Frame
+base_by saved o = elim o [ None ↦ saved | Some f ↦ f.frames ]
+
+pub base_frozen : (a : Aside) (f : FrozenFrames) → a.frozen ≡ Some f → base_of a ≡ f.frames
+base_frozen a f is = ap (base_by a.saved.frames) is
+
+pub base_saved : (a : Aside) → a.frozen ≡ None → base_of a ≡ a.saved.frames
+base_saved a is = ap (base_by a.saved.frames) is

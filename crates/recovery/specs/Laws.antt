@@ -1,0 +1,26 @@
+-- An image denotes at most one saved part, whose world is sound, and is then refused for no reason.
+use Rattle.std.specs.Prelude.{◌≡◌, ℕ, List}
+use Rattle.std.specs.List.{Contains}
+use Rattle.model.specs.declared.geometry.Geometry.{Geometry}
+use Rattle.model.specs.Machine.{Saved}
+use Rattle.model.specs.Sound.{IsSound}
+use Rattle.device.specs.Disk.{Image}
+use Rattle.layout.specs.declared.bad_image.BadImage.{BadImage}
+use Rattle.recovery.specs.Denotes.{Denotes, DenotesOne}
+use Rattle.recovery.specs.Recovered.{IsBad}
+
+-- the same saved part of the same geometry
+abbrev pub DenoteOneSaved : Type 0
+DenoteOneSaved = (g h : Geometry) (size : ℕ) (c : Image) (s t : Saved) → Denotes g size c s → Denotes h size c t → (g ≡ h) × (s ≡ t)
+
+-- one of those of which it denotes one
+abbrev pub DenotedIsOneOf : Type 0
+DenotedIsOneOf = (g h : Geometry) (size : ℕ) (c : Image) (ss : List Saved) (t : Saved) → DenotesOne g size ss c → Denotes h size c t → (g ≡ h) × Contains ss t
+
+-- a sound world
+abbrev pub DenotedIsSound : Type 0
+DenotedIsSound = (g : Geometry) (size : ℕ) (c : Image) (s : Saved) → Denotes g size c s → IsSound g s.world
+
+-- and none of the ten reasons holds
+abbrev pub DenotedIsNotBad : Type 0
+DenotedIsNotBad = (g : Geometry) (size : ℕ) (c : Image) (s : Saved) (reason : BadImage) → Denotes g size c s → IsBad size c reason → ⊥

@@ -1,0 +1,4 @@
+pub mod Denotes
+pub mod Live
+pub mod Recovered
+pub mod Laws

@@ -1,0 +1,70 @@
+-- The outcomes of opening a device.
+use Rattle.std.specs.Prelude.{◌≡◌, ◌⊎◌, ℕ, ◌<◌, List}
+use Rattle.model.specs.declared.frame.Frame.{Frame}
+use Rattle.model.specs.Machine.{opened}
+use Rattle.device.specs.Calls.{Only}
+use Rattle.device.specs.Disk.{Image, Disk}
+use Rattle.layout.specs.declared.bad_image.BadImage.{BadImage}
+use Rattle.layout.specs.declared.bad_image.BadImage.TheVariants as bad
+use Rattle.layout.specs.Image.{IsBadBy}
+use Rattle.checkpoint.specs.declared.open_fault.OpenFault.{OpenFault}
+use Rattle.checkpoint.specs.declared.open_fault.OpenFault.TheVariants as fault
+use Rattle.checkpoint.specs.Opened.{Looks}
+use Rattle.checkpoint.specs.Saved.{SavedFrames, Holds}
+use Rattle.capability.specs.Parts.{Parts, frames_of}
+use Rattle.object_store.specs.Store.{View}
+use Rattle.consistency.specs.declared.reason.CheckFault.{CheckFault}
+use Rattle.consistency.specs.declared.reason.CheckFault.TheVariants as check
+use Rattle.consistency.specs.declared.reason.Inconsistency.{Inconsistency}
+use Rattle.consistency.specs.declared.reason.Inconsistency.TheVariants.{BadCapability, BadProcess, BadBank}
+use Rattle.consistency.specs.Consistency.{IsInconsistent}
+use Rattle.recovery.specs.declared.live.Live.{Live}
+use Rattle.recovery.specs.Denotes.{saved_of}
+use Rattle.recovery.specs.Live.{IsUp, disk_at, running}
+
+-- the reason of an image for which its frames are inconsistent
+abbrev pub reason_of : Inconsistency → BadImage
+reason_of BadCapability = bad.BadCapability
+reason_of BadProcess = bad.BadProcess
+reason_of BadBank = bad.BadBank
+
+-- why a device isn't opened where its frames didn't pass the check
+abbrev pub fault_of : CheckFault → OpenFault
+fault_of (check.Inconsistent why) = fault.Bad (reason_of why)
+fault_of check.NoMemory = fault.NoMemory
+fault_of check.Failed = fault.Failed
+
+-- frames are refused for want of memory, a failure, or the least reason for which they are inconsistent
+abbrev pub IsUnfit : List Frame → OpenFault → Type 0
+IsUnfit fs fault.Failed = Unit {0}
+IsUnfit fs fault.NoMemory = Unit {0}
+IsUnfit fs (fault.Bad reason) = (why : Inconsistency) × (reason ≡ reason_of why) × IsInconsistent fs why
+
+-- the least of the ten reasons to refuse an image
+abbrev pub IsBad : ℕ → Image → BadImage → Type 0
+IsBad size c reason =
+    IsBadBy c size reason
+    ⊎ ((saved : SavedFrames) × Holds size c saved × IsUnfit saved.frames (fault.Bad reason))
+
+-- why a device wasn't opened
+abbrev pub IsWhy : Disk → Disk → OpenFault → Type 0
+IsWhy old new fault.Failed = old.failures < new.failures
+IsWhy old new fault.NoMemory = new.failures ≡ old.failures
+IsWhy old new (fault.Bad reason) = (new.failures ≡ old.failures) × IsBad old.sectors old.seen reason
+
+-- a device wasn't opened, and nothing was written
+pub record RefusesToOpen {D : Type 0} (disk : D → Disk) (device back : D) (why : OpenFault) : Type 0 where
+  pub is_why : IsWhy (disk device) (disk back) why
+  pub looks : Looks (disk device) (disk back)
+
+-- The parameters are ghost members of a device and of an object store.
+module _ {D S : Type 0} (disk : D → Disk) (view : S → View D) (parts : S → Parts) where
+  -- a device was opened, and nothing was written: the store is up at what is saved, and a crash leaves what a read gives
+  pub record Recovers (device : D) (l : Live S) : Type 0 where
+    pub holds : Holds (disk device).sectors (disk device).seen (view l.store).aside.saved
+    pub up : IsUp disk view parts (view l.store).aside.saved.geometry l
+    pub frames : frames_of (parts l.store) ≡ (view l.store).aside.saved.frames
+    pub at_saved : running disk view parts l ≡ opened (view l.store).aside.saved.geometry (saved_of (view l.store).aside.saved)
+    pub durable : Only (disk_at disk view parts l).seen (disk_at disk view parts l)
+    pub looks : Looks (disk device) (disk_at disk view parts l)
+    pub failures : (disk_at disk view parts l).failures ≡ (disk device).failures

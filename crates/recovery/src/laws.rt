@@ -1,0 +1,24 @@
+//! Laws of what an image denotes, each the contract of a function that does nothing.
+
+ghost use Rattle.recovery.specs.Laws.{DenoteOneSaved, DenotedIsNotBad, DenotedIsOneOf, DenotedIsSound};
+
+/// An image denotes at most one saved part.
+pub fn denote_one_saved()
+    ensures { DenoteOneSaved }
+{}
+
+/// What an image denotes is one of those of which it denotes one. So where a crash leaves one of
+/// some saved parts, `Kernel::open` stands at one of these.
+pub fn denoted_is_one_of()
+    ensures { DenotedIsOneOf }
+{}
+
+/// Its world is sound.
+pub fn denoted_is_sound()
+    ensures { DenotedIsSound }
+{}
+
+/// It is refused for none of the ten reasons.
+pub fn denoted_is_not_bad()
+    ensures { DenotedIsNotBad }
+{}

@@ -1,0 +1,92 @@
+// Opening a device.
+ghost use Rattle.std.specs.Prelude.{◌≡◌, ◌↔◌, ◌<◌, ◌≤◌, ◌^◌, IfOk, IfErr, OnOk, IsErrOf};
+ghost use Rattle.model.specs.Keepable.{AreKeepable, IsSoundFrames};
+ghost use Rattle.capability.specs.Parts.{LooksUp, frames_of, objects_in};
+ghost use Rattle.space_bank.specs.Banks.{AreCounted};
+ghost use Rattle.recovery.specs.Recovered.{IsUnfit, Recovers, RefusesToOpen, fault_of};
+
+use crate::live::Live;
+use capability::{PrepareFault, PresentFrames};
+use checkpoint::{OpenFault, OpenRefused};
+use consistency::{CheckFault, Inconsistency, check};
+use device::Device;
+use layout::BadImage;
+use object_store::ObjectStore;
+use space_bank::Banks;
+use std::alloc::Global;
+
+// The fault of opening if the check refuses the frames.
+fn unchecked(fault: CheckFault) -> OpenFault
+    ensures { result ≡ fault_of fault }
+{
+    match fault {
+        CheckFault::NoMemory => OpenFault::NoMemory,
+        CheckFault::Failed => OpenFault::Failed,
+        CheckFault::Inconsistent(Inconsistency::BadCapability) => {
+            OpenFault::Bad(BadImage::BadCapability)
+        }
+        CheckFault::Inconsistent(Inconsistency::BadProcess) => {
+            OpenFault::Bad(BadImage::BadProcess)
+        }
+        CheckFault::Inconsistent(Inconsistency::BadBank) => OpenFault::Bad(BadImage::BadBank),
+    }
+}
+
+// Checks that the frames of a store stand for a sound world at an age, and counts its banks.
+fn examine<F: PresentFrames>(alloc: Global, store: &mut F, age: u64) -> Result<Banks, OpenFault>
+    requires keepable { AreKeepable (F.parts store.old).geometry age
+        (frames_of (F.parts store.old)) }
+    requires most { age ≤ 2 ^ 62 }
+    ensures sound { OnOk result (IsSoundFrames (F.parts store.old).geometry age
+        (frames_of (F.parts store.old))) }
+    ensures counted { IfOk result (AreCounted (F.parts store.old).geometry
+        (objects_in (F.parts store.old))) }
+    ensures bad { IfErr result (IsUnfit (frames_of (F.parts store.old))) }
+    ensures aside { LooksUp F.parts F.LeadsTo store.old store.new }
+    ensures later { (F.parts store.old).failures ≤ (F.parts store.new).failures }
+    ensures cause { IsErrOf result OpenFault.Failed
+        ↔ ((F.parts store.old).failures < (F.parts store.new).failures) }
+{
+    match check(alloc, store, age) {
+        Ok(()) => match Banks::count(alloc, store) {
+            Ok(banks) => Ok(banks),
+            Err(PrepareFault::Failed) => Err(OpenFault::Failed),
+            Err(PrepareFault::NoMemory) => Err(OpenFault::NoMemory),
+            Err(PrepareFault::LogFull) => unreachable!(),
+        },
+        Err(fault) => Err(unchecked(fault)),
+    }
+}
+
+/// Opens the device at the saved part that its sectors denote, and writes nothing to it.
+///
+/// A refusal gives the device back: `Failed` exactly if the device failed, `NoMemory` if memory ran
+/// out, and else `Bad` with the least of the ten reasons to refuse an image.
+pub fn recover<D: Device, S: ObjectStore<D>>(
+    alloc: Global,
+    device: D,
+    setting: S::Setting,
+) -> Result<Live<S>, OpenRefused<D>>
+    ensures opened { IfOk result (λ l. Recovers D.disk S.view S.parts device l) }
+    ensures refused { IfErr result (λ r. RefusesToOpen D.disk device r.device r.fault) }
+{
+    match S::open(alloc, device, setting) {
+        Ok(store) => {
+            let mut store = store;
+            let age = store.saved().age;
+            match examine(alloc, &mut store, age) {
+                Ok(banks) => Ok(Live {
+                    store,
+                    banks,
+                    age,
+                    frozen_age: age,
+                }),
+                Err(fault) => Err(OpenRefused {
+                    fault,
+                    device: store.into_device(),
+                }),
+            }
+        }
+        Err(refused) => Err(refused),
+    }
+}
