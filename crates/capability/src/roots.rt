@@ -3,7 +3,7 @@ ghost use Rattle.std.specs.Prelude.{◌≡◌, ◌<◌, ℕ, IsTrue, slice_index
 ghost use Rattle.model.specs.Keepable.{AreCurrent, AreKeepable, IsKeptCap};
 ghost use Rattle.model.specs.Order.{with_root_word, with_space};
 ghost use Rattle.model.specs.Sound.{IsSpace};
-ghost use Rattle.model.specs.World.{root_at, is_process, with_root, with_state};
+ghost use Rattle.model.specs.World.{root_at, is_process, is_running_process, with_root, with_state};
 ghost use Rattle.capability.specs.Objects.{live_cap, with_root_in};
 ghost use Rattle.capability.specs.Parts.{HaveTheirRoles, KeepsAside, frames_of, objects_in};
 
@@ -53,6 +53,18 @@ pub fn state<F: PresentFrames>(store: &F, process: u64) -> State
     match store.frame(process) {
         Content::Root(root) => root.state,
         _ => State::Available,
+    }
+}
+
+/// Whether a process runs. Its root is fetched.
+pub fn is_running<F: PresentFrames>(store: &F, process: u64) -> bool
+    requires fetched { F.IsFetched store.now process }
+    requires process { IsTrue (is_process (objects_in (F.parts store.now)) process) }
+    ensures { result ≡ is_running_process (objects_in (F.parts store.now)) process }
+{
+    match state(store, process) {
+        State::Running => true,
+        State::Available | State::Waiting => false,
     }
 }
 
