@@ -1,8 +1,8 @@
 -- What is counted, as a process that returns becomes available, after the reply, and after an invocation that asks no bank.
-use Rattle.std.proofs.Common.{◌≡◌, ℕ, ◌+◌, ◌++◌, ◌<◌, ◌≤◌, ◌&&◌, Bool, true, false, List, Result, Ok, Err, drop, length, refl, sym, ap, subst, ◌∙◌, arith, if◌then◌else◌}
+use Rattle.std.proofs.Common.{◌≡◌, ℕ, ◌+◌, ◌++◌, ◌≤◌, ◌&&◌, Bool, true, false, List, Result, Ok, Err, drop, length, refl, sym, ap, subst, ◌∙◌, arith, if◌then◌else◌}
 use Rattle.std.specs.Prelude.{IsTrue, OnOk, OnErr, slice_index}
 use Rattle.std.specs.List.{All}
-use Rattle.model.specs.declared.capability.Capability.TheVariants.{Process, Bank}
+use Rattle.model.specs.declared.capability.Capability.TheVariants.{Bank}
 use Rattle.model.specs.declared.command.Command.TheVariants as command
 use Rattle.model.specs.declared.command.Invocation.{Invocation}
 use Rattle.model.specs.declared.frame.Frame.{Frame}
@@ -11,16 +11,14 @@ use Rattle.model.specs.declared.command.Operation.TheVariants.{Call, Return, Sen
 use Rattle.model.specs.declared.geometry.Geometry.{Geometry}
 use Rattle.model.specs.declared.object.Object.{Object}
 use Rattle.model.specs.declared.order.Arguments.{Arguments}
-use Rattle.model.specs.declared.order.BankOrder.{BankOrder}
-use Rattle.model.specs.Banking.{on_bank}
 use Rattle.model.specs.Frame.{objects_of}
 use Rattle.model.specs.Invoke.{deliver}
 use Rattle.model.specs.Keepable.{AreCurrent, AreKeepable, IsSoundFrames}
-use Rattle.model.specs.Object.{is_bank, is_running}
+use Rattle.model.specs.Object.{is_running}
 use Rattle.model.specs.Order.{IsNoBankOrder}
-use Rattle.model.specs.Sound.{IsSound, MayBeHeld, NamesItsKind}
+use Rattle.model.specs.Sound.{IsSound, NamesItsKind}
 use Rattle.model.specs.Text.{Fits}
-use Rattle.model.specs.World.{World, annex_at, content_at, is_process, is_running_process, register_at, root_at}
+use Rattle.model.specs.World.{World, annex_at, is_process, is_running_process, register_at, root_at}
 use Rattle.model_laws.proofs.InvocationFrame.{deliver_frame, invocation_frame, state_sound}
 use Rattle.model_laws.proofs.SoundOrders.{AreArguments, IsNow}
 use Rattle.model_laws.proofs.SoundParts.{held_to}
@@ -30,7 +28,6 @@ use Rattle.capability.specs.declared.order.OrderPlan.{OrderPlan}
 use Rattle.capability.specs.declared.order.Reply.{Reply}
 use Rattle.capability.specs.Changes.{message_of}
 use Rattle.capability.specs.Parts.{AreSound, IsUnchanged, Parts, frames_of, objects_in}
-use Rattle.capability.proofs.Frames.{process_known}
 use Rattle.space_bank.specs.Banks.{AreCounted, BanksState, MayAsk}
 use Rattle.space_bank.specs.Planning.{writer_count, writers}
 use Rattle.gate.specs.Ordering.{IsPlanned, answered, arguments_of, state_before}

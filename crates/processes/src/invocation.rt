@@ -1,5 +1,5 @@
 // The step of an invocation.
-ghost use Rattle.std.specs.Prelude.{◌≡◌, ◌≤◌, ◌^◌, IfOk};
+ghost use Rattle.std.specs.Prelude.{◌≡◌, ◌≤◌, ◌^◌, None, IfOk};
 ghost use Rattle.model.specs.declared.command.Command.TheVariants as command;
 ghost use Rattle.model.specs.Keepable.{IsSoundFrames};
 ghost use Rattle.capability.specs.Parts.{LooksUp, frames_of, objects_in};
@@ -17,16 +17,19 @@ use model::{Answer, Invocation, Refusal};
 use space_bank::Banks;
 use std::alloc::Global;
 
-// The refusal by a fault other than a failure of the device.
-fn refusal_by(fault: InvokeFault) -> Refusal
-    ensures { result ≡ refusal_by fault }
+// What is answered to an invocation that isn't carried out.
+fn unserved(fault: InvokeFault) -> Result<Served, Failed>
+    ensures answer { answer_with result ≡ Answer.Refused (refusal_by fault) }
+    ensures looks { IsUnlooked (answer_with result) → ⊥ }
+    ensures told_once { IsServedOnce result }
+    ensures code { IfOk result (λ served. served.code ≡ None) }
 {
     match fault {
-        InvokeFault::NotRunning => Refusal::NotRunning,
-        InvokeFault::Stalled => Refusal::Stalled,
-        InvokeFault::LogFull => Refusal::LogFull,
-        InvokeFault::NoMemory => Refusal::NoMemory,
-        InvokeFault::Failed => Refusal::Fault,
+        InvokeFault::NotRunning => Ok(Served::refused(Refusal::NotRunning)),
+        InvokeFault::Stalled => Ok(Served::refused(Refusal::Stalled)),
+        InvokeFault::LogFull => Ok(Served::refused(Refusal::LogFull)),
+        InvokeFault::NoMemory => Ok(Served::refused(Refusal::NoMemory)),
+        InvokeFault::Failed => Err(Failed),
     }
 }
 
@@ -99,7 +102,6 @@ pub fn invoke<F: PresentFrames>(
                 code,
             })
         }
-        Err(InvokeFault::Failed) => Err(Failed),
-        Err(fault) => Ok(Served::refused(refusal_by(fault))),
+        Err(fault) => unserved(fault),
     }
 }
