@@ -22,7 +22,7 @@ use Rattle.model.specs.Object.{all_slots, is_root, map_content, role_of, root_in
 use Rattle.model.specs.World.{content_at, is_process, with_content, with_root, with_slot, with_word}
 use Rattle.capability.specs.declared.present.Fresh.{Fresh}
 use Rattle.capability.specs.declared.present.Fresh.TheVariants as fresh
-use Rattle.capability.specs.Objects.{with_message, with_message_in}
+use Rattle.capability.specs.Objects.{live_cap, with_message, with_message_in}
 use Rattle.capability.specs.Parts.{Parts, frames_of, fresh_content, with_both, with_header, with_held, objects_in}
 use Rattle.capability.proofs.Frames.{at_set, content_there, frame_in, frame_past, headers_in, owner_in, set_in}
 
@@ -194,15 +194,15 @@ pub live : (hs : List ObjectHeader) (c : Capability) → conveyed hs (record { w
 live hs c = let P : ℕ → Type 0 = λ n. (if nat_lt n n then Void else c) ≡ c in let all : (n : ℕ) → P n = λ n. grind (arith, nat_tests) in all (current_count hs c)
 
 -- how the parts come out of what was put into a lent content
-pub slot_put : (p q : Parts) (hs : List ObjectHeader) (n i count : ℕ) (w : Capability) (now new : Content Cap) → q ≡ with_held p n new →
-    new ≡ with_slot_in now i (record { what = w; count = count }) → now ≡ held_at p.contents n → count ≡ current_count hs w → hs ≡ p.headers →
-    q ≡ with_held p n (with_slot_in (held_at p.contents n) i (record { what = w; count = current_count p.headers w }))
-slot_put p q hs n i count w now new back set value counted table =
+pub slot_put : (p q : Parts) (hs : List ObjectHeader) (n i : ℕ) (w : Capability) (held : Cap) (now new : Content Cap) → q ≡ with_held p n new →
+    new ≡ with_slot_in now i held → now ≡ held_at p.contents n → held ≡ live_cap hs w → hs ≡ p.headers →
+    q ≡ with_held p n (with_slot_in (held_at p.contents n) i (live_cap p.headers w))
+slot_put p q hs n i w held now new back set value live table =
     back
     ∙ ap (with_held p n)
     (set
-    ∙ ap (λ (c : Content Cap). with_slot_in c i (record { what = w; count = count })) value
-    ∙ ap (λ (m : ℕ). with_slot_in (held_at p.contents n) i (record { what = w; count = m })) (counted ∙ ap (λ (ks : List ObjectHeader). current_count ks w) table))
+    ∙ ap (λ (c : Content Cap). with_slot_in c i held) value
+    ∙ ap (with_slot_in (held_at p.contents n) i) (live ∙ ap (λ (ks : List ObjectHeader). live_cap ks w) table))
 
 pub word_put : (p q : Parts) (n i word : ℕ) (now new : Content Cap) → q ≡ with_held p n new → new ≡ with_word_in now i word →
     now ≡ held_at p.contents n → q ≡ with_held p n (with_word_in (held_at p.contents n) i word)

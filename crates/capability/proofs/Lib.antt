@@ -6,6 +6,7 @@ pub mod Mapped
 pub mod Roles
 mod Counts
 mod Edits
+mod Registers
 mod RootEdits
 mod SoundFrames
 pub mod Touched

@@ -18,7 +18,7 @@ use Rattle.model.specs.Order.{with_space}
 use Rattle.model.specs.Sound.{IsSpace}
 use Rattle.model.specs.Object.{is_root, map_content, root_in}
 use Rattle.model.specs.World.{is_process, root_at, with_content, with_root, with_state}
-use Rattle.capability.specs.Objects.{with_root_in}
+use Rattle.capability.specs.Objects.{live_cap, with_root_in}
 use Rattle.capability.specs.Parts.{Parts, frames_of, with_held, objects_in}
 use Rattle.capability.proofs.Edits.{current_held, header_kept, held_current, held_objects, live}
 use Rattle.capability.proofs.Frames.{content_there}
@@ -100,14 +100,14 @@ pub state_is : (os : List Object) (p : ℕ) (s : State) → with_state os p s �
 unfolding with_state
 state_is os p s = refl
 
-pub space_through : (hs : List ObjectHeader) (w : Capability) (count : ℕ) → count ≡ current_count hs w →
-    GoesThrough (λ (r : Root Cap). record r { space = record { what = w; count = count } }) (λ (r : Root Capability). with_space r w) (conveyed hs)
-space_through hs w count is r =
+pub space_through : (hs : List ObjectHeader) (w : Capability) (held : Cap) → held ≡ live_cap hs w →
+    GoesThrough (λ (r : Root Cap). record r { space = held }) (λ (r : Root Capability). with_space r w) (conveyed hs)
+space_through hs w held is r =
     ap (λ (s : Capability). content.Root (record (root_in (map_content (conveyed hs) (content.Root r))) { space = s }))
-    (ap (λ (n : ℕ). conveyed hs (record { what = w; count = n })) is ∙ live hs w)
+    (ap (conveyed hs) is ∙ live hs w)
 
-pub space_kept : (g : Geometry) (age : ℕ) (hs : List ObjectHeader) (w : Capability) (count : ℕ) → count ≡ current_count hs w →
-    IsKeptCap g age (record { what = w; count = current_count hs w }) → IsSpace w → (r : Root Cap) →
-    MayBeKept g age (content.Root r) → MayBeKept g age (content.Root (record r { space = record { what = w; count = count } }))
-space_kept g age hs w count is held space r k =
-    (k.0, k.1, k.2, subst (λ (n : ℕ). IsKeptCap g age (record { what = w; count = n })) (sym is) held, space)
+pub space_kept : (g : Geometry) (age : ℕ) (hs : List ObjectHeader) (w : Capability) (held : Cap) → held ≡ live_cap hs w →
+    IsKeptCap g age (live_cap hs w) → IsSpace w → (r : Root Cap) →
+    MayBeKept g age (content.Root r) → MayBeKept g age (content.Root (record r { space = held }))
+space_kept g age hs w held is kept space r k =
+    (k.0, k.1, k.2, subst (IsKeptCap g age) (sym is) kept, subst (λ (c : Cap). IsSpace c.what) (sym is) space)

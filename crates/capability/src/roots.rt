@@ -1,11 +1,10 @@
 // The roots of processes, read and changed as the definitions see them.
 ghost use Rattle.std.specs.Prelude.{◌≡◌, ◌<◌, ℕ, IsTrue, slice_index, slice_set};
-ghost use Rattle.model.specs.Frame.{current_count};
 ghost use Rattle.model.specs.Keepable.{AreCurrent, AreKeepable, IsKeptCap};
 ghost use Rattle.model.specs.Order.{with_root_word, with_space};
 ghost use Rattle.model.specs.Sound.{IsSpace};
-ghost use Rattle.model.specs.World.{root_at, is_process, with_root, with_state};
-ghost use Rattle.capability.specs.Objects.{with_root_in};
+ghost use Rattle.model.specs.World.{root_at, is_process, is_running_process, with_root, with_state};
+ghost use Rattle.capability.specs.Objects.{live_cap, with_root_in};
 ghost use Rattle.capability.specs.Parts.{HaveTheirRoles, KeepsAside, frames_of, objects_in};
 
 use crate::present::PresentFrames;
@@ -54,6 +53,18 @@ pub fn state<F: PresentFrames>(store: &F, process: u64) -> State
     match store.frame(process) {
         Content::Root(root) => root.state,
         _ => State::Available,
+    }
+}
+
+/// Whether a process runs. Its root is fetched.
+pub fn is_running<F: PresentFrames>(store: &F, process: u64) -> bool
+    requires fetched { F.IsFetched store.now process }
+    requires process { IsTrue (is_process (objects_in (F.parts store.now)) process) }
+    ensures { result ≡ is_running_process (objects_in (F.parts store.now)) process }
+{
+    match state(store, process) {
+        State::Running => true,
+        State::Available | State::Waiting => false,
     }
 }
 
@@ -115,16 +126,13 @@ pub fn set_space<F: PresentFrames>(store: &mut F, process: u64, capability: Capa
     ensures current { AreCurrent (frames_of (F.parts store.old))
         → AreCurrent (frames_of (F.parts store.new)) }
     ensures keepable { (age : ℕ)
-        → IsKeptCap (F.parts store.old).geometry age (record { what = capability; count = current_count (F.parts store.old).headers capability })
+        → IsKeptCap (F.parts store.old).geometry age (live_cap (F.parts store.old).headers capability)
         → IsSpace capability
         → AreKeepable (F.parts store.old).geometry age (frames_of (F.parts store.old))
         → AreKeepable (F.parts store.old).geometry age (frames_of (F.parts store.new)) }
     ensures aside { KeepsAside F.parts F.IsFetched F.IsAnnounced F.LeadsTo store.old store.new }
 {
-    let held = Cap {
-        what: capability,
-        count: store.table().current_count(capability),
-    };
+    let held = store.table().live_cap(capability);
     put_space(store.frame_mut(process), held);
 }
 

@@ -1,6 +1,7 @@
 // The table of all objects' headers.
 ghost use Rattle.std.specs.Prelude.{◌≡◌, ◌<◌, length, not, nat_lt, slice_set};
 ghost use Rattle.model.specs.Frame.{header_at, current_count, conveyed, given_up, owned_by, called, claimed};
+ghost use Rattle.capability.specs.Objects.{live_cap};
 
 use model::{Cap, Capability, ObjectHeader, Role};
 use std::marker::Model;
@@ -69,6 +70,17 @@ impl ObjectTable {
             header.calls
         } else {
             header.allocations
+        }
+    }
+
+    /// A capability as it is held while it is live.
+    #[inline(always)]
+    pub fn live_cap(&self, capability: Capability) -> Cap
+        ensures { result ≡ live_cap self.now capability }
+    {
+        Cap {
+            what: capability,
+            count: self.current_count(capability),
         }
     }
 

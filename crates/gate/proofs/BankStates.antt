@@ -1,8 +1,8 @@
 -- What is counted, as a process that returns becomes available, after the reply, and after an invocation that asks no bank.
-use Rattle.std.proofs.Common.{◌≡◌, ℕ, ◌+◌, ◌++◌, ◌<◌, ◌≤◌, ◌&&◌, Bool, true, false, List, Result, Ok, Err, drop, length, refl, sym, ap, subst, ◌∙◌, arith, if◌then◌else◌}
+use Rattle.std.proofs.Common.{◌≡◌, ℕ, ◌+◌, ◌++◌, ◌≤◌, ◌&&◌, Bool, true, false, List, Result, Ok, Err, drop, length, refl, sym, ap, subst, ◌∙◌, arith, if◌then◌else◌}
 use Rattle.std.specs.Prelude.{IsTrue, OnOk, OnErr, slice_index}
 use Rattle.std.specs.List.{All}
-use Rattle.model.specs.declared.capability.Capability.TheVariants.{Process, Bank}
+use Rattle.model.specs.declared.capability.Capability.TheVariants.{Bank}
 use Rattle.model.specs.declared.command.Command.TheVariants as command
 use Rattle.model.specs.declared.command.Invocation.{Invocation}
 use Rattle.model.specs.declared.frame.Frame.{Frame}
@@ -11,16 +11,14 @@ use Rattle.model.specs.declared.command.Operation.TheVariants.{Call, Return, Sen
 use Rattle.model.specs.declared.geometry.Geometry.{Geometry}
 use Rattle.model.specs.declared.object.Object.{Object}
 use Rattle.model.specs.declared.order.Arguments.{Arguments}
-use Rattle.model.specs.declared.order.BankOrder.{BankOrder}
-use Rattle.model.specs.Banking.{on_bank}
 use Rattle.model.specs.Frame.{objects_of}
 use Rattle.model.specs.Invoke.{deliver}
 use Rattle.model.specs.Keepable.{AreCurrent, AreKeepable, IsSoundFrames}
-use Rattle.model.specs.Object.{is_bank, is_running}
+use Rattle.model.specs.Object.{is_running}
 use Rattle.model.specs.Order.{IsNoBankOrder}
-use Rattle.model.specs.Sound.{IsSound, MayBeHeld, NamesItsKind}
+use Rattle.model.specs.Sound.{IsSound, NamesItsKind}
 use Rattle.model.specs.Text.{Fits}
-use Rattle.model.specs.World.{World, annex_at, content_at, is_process, is_running_process, register_at, root_at}
+use Rattle.model.specs.World.{World, annex_at, is_process, is_running_process, register_at, root_at}
 use Rattle.model_laws.proofs.InvocationFrame.{deliver_frame, invocation_frame, state_sound}
 use Rattle.model_laws.proofs.SoundOrders.{AreArguments, IsNow}
 use Rattle.model_laws.proofs.SoundParts.{held_to}
@@ -30,7 +28,6 @@ use Rattle.capability.specs.declared.order.OrderPlan.{OrderPlan}
 use Rattle.capability.specs.declared.order.Reply.{Reply}
 use Rattle.capability.specs.Changes.{message_of}
 use Rattle.capability.specs.Parts.{AreSound, IsUnchanged, Parts, frames_of, objects_in}
-use Rattle.capability.proofs.Frames.{process_known}
 use Rattle.space_bank.specs.Banks.{AreCounted, BanksState, MayAsk}
 use Rattle.space_bank.specs.Planning.{writer_count, writers}
 use Rattle.gate.specs.Ordering.{IsPlanned, answered, arguments_of, state_before}
@@ -52,8 +49,10 @@ counted_on g os us s f h =
       page = λ n inside. h.page n inside ∙ sym (t (g.nodes + n)).free;
       usage_each = h.usage_each;
       limit_each = h.limit_each;
+      annex_each = h.annex_each;
       usage = λ b is. h.usage b (sym (t b).bank ∙ is) ∙ sym (usage_same os us f b);
       limit = λ b is. h.limit b (sym (t b).bank ∙ is) ∙ sym (f.alike b).limit;
+      annex = λ p is. h.annex p (sym (t p).root ∙ is) ∙ sym (f.alike p).annex;
       room = h.room;
     }
 
@@ -160,47 +159,32 @@ module _ (old mid new : Parts) (i : Invocation) (s : BanksState) (sound : AreSou
   counted_after (Err e) done unchanged = counted_same unchanged
 
 -- what is counted stays whatever is listed
-pub counted_listed : (g : Geometry) (os : List Object) (s t : BanksState) → t ≡ record s { listed = t.listed } → AreCounted g os s → AreCounted g os t
-counted_listed g os s t kept h = subst (AreCounted g os) (sym kept) (record {
+pub counted_listed : (g : Geometry) (os : List Object) (s t : BanksState) (list : List ℕ) → t ≡ record s { listed = list } → AreCounted g os s → AreCounted g os t
+counted_listed g os s t list kept h = subst (AreCounted g os) (sym kept) (record {
   nodes = h.nodes;
   pages = h.pages;
   node = h.node;
   page = h.page;
   usage_each = h.usage_each;
   limit_each = h.limit_each;
+  annex_each = h.annex_each;
   usage = h.usage;
   limit = h.limit;
+  annex = h.annex;
   room = h.room;
 })
 
--- a bank that is invoked may be asked, also after a look
-module _ (old now : Parts) (s : BanksState) (i : Invocation) (caller : Caller) (b : ℕ) (args : Arguments) (looks : LooksAs old now) (sound : AreSound old)
-    (counted : AreCounted old.geometry (objects_in old) s) (fits : Fits (command.Invoke i)) (is : IsAsked (objects_in old) i caller) (args_are : args ≡ arguments_of (objects_in old) i)
-    (invoked : caller.invoked ≡ Bank b) where
-  pub bank_may_ask : MayAsk now s b args
-  bank_may_ask =
-      let os = objects_in old in
-      let same = looked_objects old now looks in
-      record {
-        sound = looked_sound old now looks sound;
-        counted = counted_looked old now s looks counted;
-        bank = subst (λ (us : List Object). IsTrue (is_bank (content_at us b))) (sym same)
-            (subst (NamesItsKind os) invoked (held_to os caller.invoked (invoked_held old.geometry os i (now_sound old sound) caller.invoked is.invoked)).1);
-        sent = subst (λ (us : List Object). MayBeHeld us args.capability) (sym same)
-            (held_to os args.capability (subst (λ (a : Arguments). AreArguments os a) (sym args_are) (arguments_held old.geometry os i (now_sound old sound) fits)).held);
-      }
-
--- a process that is sent is one of the objects
-pub bank_known : (p : Parts) (sound : AreSound p) (i : Invocation) (args : Arguments) → Fits (command.Invoke i) → args ≡ arguments_of (objects_in p) i →
-    (q : ℕ) → args.capability ≡ Process q → q < length p.headers
-bank_known p sound i args fits args_are q is =
+-- a bank that is invoked may be asked
+pub bank_may_ask : (p : Parts) (s : BanksState) (i : Invocation) (caller : Caller) (b : ℕ) (args : Arguments) → AreSound p → AreCounted p.geometry (objects_in p) s →
+    Fits (command.Invoke i) → IsAsked (objects_in p) i caller → args ≡ arguments_of (objects_in p) i → caller.invoked ≡ Bank b → MayAsk p s b args
+bank_may_ask p s i caller b args sound counted fits is args_are invoked =
     let os = objects_in p in
-    process_known p q (subst (NamesItsKind os) is
-    (held_to os args.capability (subst (λ (a : Arguments). AreArguments os a) (sym args_are) (arguments_held p.geometry os i (now_sound p sound) fits)).held).1)
-
-pub bank_written : (p q : Parts) (b : ℕ) (order : BankOrder) (args : Arguments) → p.geometry ≡ q.geometry →
-    (on_bank p.geometry (objects_in p) b order args).written ≡ (on_bank q.geometry (objects_in p) b order args).written
-bank_written p q b order args same = ap (λ (g : Geometry). (on_bank g (objects_in p) b order args).written) same
+    record {
+      sound = sound;
+      counted = counted;
+      bank = subst (NamesItsKind os) invoked (held_to os caller.invoked (invoked_held p.geometry os i (now_sound p sound) caller.invoked is.invoked)).1;
+      sent = held_to os args.capability (subst (λ (a : Arguments). AreArguments os a) (sym args_are) (arguments_held p.geometry os i (now_sound p sound) fits)).held;
+    }
 
 -- what is planned is planned of the same objects
 pub planned_same : (g : Geometry) (os us : List Object) (i : Invocation) (caller : Caller) (plan : OrderPlan) (list : List ℕ) → os ≡ us

@@ -1,5 +1,5 @@
 -- What comes of an invocation, from what its looks, its announcing and its change told.
-use Rattle.std.proofs.Common.{◌≡◌, ℕ, ◌+◌, ◌^◌, ◌<◌, ◌≤◌, Bool, List, Option, None, Some, Result, Ok, Err, refl, sym, ap, ◌∙◌, subst, ⊎_elim, arith}
+use Rattle.std.proofs.Common.{◌≡◌, ℕ, ◌+◌, ◌^◌, ◌<◌, ◌≤◌, Bool, true, false, List, Option, None, Some, Result, Ok, Err, refl, sym, ap, ◌∙◌, subst, ⊎_elim, arith}
 use Rattle.std.proofs.lemmas.Bool.{cases_lt}
 use Rattle.std.specs.Prelude.{IfOk, IsErrOf, IsTrue, OnErr}
 use Rattle.model.specs.declared.command.Command.TheVariants as command
@@ -17,7 +17,7 @@ use Rattle.capability.specs.declared.present.PrepareFault.TheVariants as prepare
 use Rattle.capability.specs.Parts.{IsUnchanged, Looks, Parts, Prepares, Renews, frames_of, objects_in}
 use Rattle.gate.specs.declared.fault.InvokeFault.{InvokeFault}
 use Rattle.gate.specs.declared.fault.InvokeFault.TheVariants as fault
-use Rattle.gate.specs.Invoke.{Invoked, Invokes, Overfills, fault_of, result_code}
+use Rattle.gate.specs.Invoke.{Invoked, Invokes, Overfills, TellsState, fault_of, result_code}
 use Rattle.gate.proofs.Effects.{invokes_by, overfills_by, sound_after}
 use Rattle.gate.proofs.Fits.{in_geometry}
 use Rattle.gate.proofs.Listed.{full_fault, on_ok}
@@ -29,6 +29,26 @@ never_stalled : (e : PrepareFault) → IsErrOf {T = Option ResultCode} (Err (fau
 never_stalled prepare.NoMemory is = cc
 never_stalled prepare.LogFull is = cc
 never_stalled prepare.Failed is = cc
+
+never_stopped : (e : PrepareFault) → IsErrOf {T = Option ResultCode} (Err (fault_of e)) fault.NotRunning → ⊥
+never_stopped prepare.NoMemory is = cc
+never_stopped prepare.LogFull is = cc
+never_stopped prepare.Failed is = cc
+
+-- what a result tells of the process: nothing where it wasn't looked at, and that it runs after that was found
+pub unlooked_tells : (os : List Object) (i : Invocation) {T : Type 0} (e : PrepareFault) → (IsErrOf {T = T} (Err e) prepare.LogFull → ⊥) → TellsState os i (Err (fault_of e))
+unlooked_tells os i prepare.NoMemory room = tt
+unlooked_tells os i prepare.LogFull room = absurd (room refl)
+unlooked_tells os i prepare.Failed room = tt
+
+pub running_tells : (os : List Object) (i : Invocation) (r : Result (Option ResultCode) InvokeFault) → is_running_process os i.process ≡ true
+    → (IsErrOf r fault.NotRunning → is_running_process os i.process ≡ false) → TellsState os i r
+running_tells os i (Ok code) runs stopped = runs
+running_tells os i (Err fault.NotRunning) runs stopped = stopped refl
+running_tells os i (Err fault.Stalled) runs stopped = runs
+running_tells os i (Err fault.LogFull) runs stopped = runs
+running_tells os i (Err fault.NoMemory) runs stopped = tt
+running_tells os i (Err fault.Failed) runs stopped = tt
 
 failed_fault : {T U : Type 0} (e : PrepareFault) → IsErrOf {T = U} (Err (fault_of e)) fault.Failed → IsErrOf {T = T} (Err e) prepare.Failed
 failed_fault prepare.Failed is = refl
@@ -61,6 +81,7 @@ module _ {S : Type 0} (parts : S → Parts) (Leads : S → S → Type 0) (i : In
   unlooked s t e looks = record {
     done = tt;
     code = tt;
+    runs = λ is. absurd (never_stopped e is);
     stalled = λ is. absurd (never_stalled e is);
     full = λ is. absurd (looks.room (full_fault e is));
     sound = tt;
@@ -83,26 +104,37 @@ module _ {S : Type 0} (parts : S → Parts) (Leads : S → S → Type 0) (i : In
         (subst (λ (os : List Object). P (parts t).geometry os (parts s).touched) (looked_objects (parts s) (parts t) (looked_as looks.aside))
         (subst (λ (ts : List Bool). P (parts t).geometry (objects_in (parts t)) ts) looks.aside.touched p))
 
-    -- a process that isn't available
-    pub found_stalled : invoke (parts s).geometry (objects_in (parts s)) i ≡ None → Invoked parts Leads s t i (Err fault.Stalled)
-    found_stalled none = record {
+    -- a refusal that only a look told
+    found : (k : InvokeFault) → (IsErrOf {T = Option ResultCode} (Err k) fault.LogFull → ⊥) → (IsErrOf {T = Option ResultCode} (Err k) fault.Failed → ⊥) →
+        (IsErrOf {T = Option ResultCode} (Err k) fault.NotRunning → is_running_process (objects_in (parts s)) i.process ≡ false) →
+        (IsErrOf {T = Option ResultCode} (Err k) fault.Stalled → invoke (parts s).geometry (objects_in (parts s)) i ≡ None) → Invoked parts Leads s t i (Err k)
+    found k not_full not_failed stopped stalled = record {
       done = tt;
       code = tt;
-      stalled = λ is. none;
-      full = λ is. cc;
+      runs = stopped;
+      stalled = stalled;
+      full = λ is. absurd (not_full is);
       sound = tt;
       renews = tt;
       unchanged = record { headers = looks.aside.headers; contents = looks.aside.contents; touched = looks.aside.touched };
-      cause = (λ is. cc, λ rose. absurd (ok_no_failure x (looks.cause.1 rose)));
+      cause = (λ is. absurd (not_failed is), λ rose. absurd (ok_no_failure x (looks.cause.1 rose)));
       later = looks.later;
       geometry = looks.aside.geometry;
       leads = looks.aside.leads;
     }
 
+    -- a process that doesn't run, and one that isn't available
+    pub found_stopped : is_running_process (objects_in (parts s)) i.process ≡ false → Invoked parts Leads s t i (Err fault.NotRunning)
+    found_stopped stopped = found fault.NotRunning (λ is. cc) (λ is. cc) (λ is. stopped) (λ is. cc)
+
+    pub found_stalled : invoke (parts s).geometry (objects_in (parts s)) i ≡ None → Invoked parts Leads s t i (Err fault.Stalled)
+    found_stalled none = found fault.Stalled (λ is. cc) (λ is. cc) (λ is. cc) (λ is. none)
+
     pub invoked_looked : (r : Result (Option ResultCode) InvokeFault) → Invoked parts Leads t u i r → Invoked parts Leads s u i r
     invoked_looked r is = record {
       done = on_ok r (before (λ g os ts. Invokes g i os ts (objects_in (parts u)) (parts u).touched)) is.done;
       code = if_ok r (λ code told. before (λ g os ts. code ≡ result_code g os i) told) is.code;
+      runs = λ e. before (λ g os ts. is_running_process os i.process ≡ false) (is.runs e);
       stalled = λ e. before (λ g os ts. invoke g os i ≡ None) (is.stalled e);
       full = λ e. before (λ g os ts. Overfills g i os ts) (is.full e);
       sound = on_ok r (keeps_looked (parts s) (parts t) (parts u) (looked_as looks.aside)) is.sound;
@@ -125,6 +157,7 @@ module _ {S : Type 0} (parts : S → Parts) (Leads : S → S → Type 0) (i : In
       unannounced f told = record {
         done = tt;
         code = tt;
+        runs = λ is. absurd (never_stopped f is);
         stalled = λ is. absurd (never_stalled f is);
         full = λ is. overfills_by (parts s).geometry i (objects_in (parts s)) (parts s).touched e invoked
             (subst (λ (ms : List ℕ). (parts s).geometry.log < touched_count (touching (parts s).touched ms)) written
@@ -161,6 +194,7 @@ module _ {S : Type 0} (parts : S → Parts) (Leads : S → S → Type 0) (i : In
               (subst (λ (ts : List Bool). touched_count ts ≤ (parts s).geometry.log) (sym touched)
               (subst (λ (g : Geometry). touched_count (parts m).touched ≤ g.log) there.geometry told.within));
           code = is;
+          runs = λ is. cc;
           stalled = λ is. cc;
           full = λ is. cc;
           sound = λ age young sound. sound_after (parts s).geometry age (frames_of (parts s)) (frames_of (parts u)) i e young fits running invoked objects sound

@@ -293,14 +293,14 @@ bank_plans g os b w asked args plan list now bank names is listed plans =
       known = subst (λ (ns : List ℕ). All (λ n. n < length os) ns) (sym listed) (written_within g os b asked args now bank names);
     }
 
-pub bank_planned : (g : Geometry) (os us : List Object) (i : Invocation) (caller : Caller) (plan : OrderPlan) (args : Arguments) (b : ℕ) (asked : BankOrder) (first list ws : List ℕ)
-    → us ≡ os → IsNow g os → Fits (command.Invoke i) → IsAsked os i caller → args ≡ arguments_of os i → first ≡ writers caller.operation caller.process caller.annex
-    → caller.invoked ≡ Bank b → bank_order (slice_index i.words 0) ≡ Some asked → ws ≡ (on_bank g us b asked args).written → list ≡ first ++ ws → PlansAs g us b asked args ws plan
-    → IsPlanned g os i caller plan list
-bank_planned g os us i caller plan args b asked first list ws same now fits is args_are first_is invoked order_is written listed plans =
+pub bank_planned : (g : Geometry) (os : List Object) (i : Invocation) (caller : Caller) (plan : OrderPlan) (args : Arguments) (b : ℕ) (asked : BankOrder) (first list : List ℕ)
+    → IsNow g os → Fits (command.Invoke i) → IsAsked os i caller → args ≡ arguments_of os i → first ≡ writers caller.operation caller.process caller.annex
+    → caller.invoked ≡ Bank b → bank_order (slice_index i.words 0) ≡ Some asked → list ≡ first ++ (on_bank g os b asked args).written
+    → PlansAs g os b asked args (on_bank g os b asked args).written plan → IsPlanned g os i caller plan list
+bank_planned g os i caller plan args b asked first list now fits is args_are first_is invoked order_is listed plans =
+    let ws = (on_bank g os b asked args).written in
     let sent = subst (λ (a : Arguments). AreArguments os a) (sym args_are) (arguments_held g os i now fits) in
     let bank : IsTrue (is_bank (content_at os b)) = subst (NamesItsKind os) invoked (held_to os caller.invoked (invoked_held g os i now caller.invoked is.invoked)).1 in
     planned_by g os i caller plan args first list ws args_are first_is listed
     (subst (λ (c : Capability). Plans g os c (slice_index i.words 0) args ws plan) (sym invoked)
-    (bank_plans g os b (slice_index i.words 0) asked args plan ws now bank (held_to os args.capability sent.held).1 order_is
-    (subst (λ (vs : List Object). ws ≡ (on_bank g vs b asked args).written) same written) (subst (λ (vs : List Object). PlansAs g vs b asked args ws plan) same plans)))
+    (bank_plans g os b (slice_index i.words 0) asked args plan ws now bank (held_to os args.capability sent.held).1 order_is refl plans))

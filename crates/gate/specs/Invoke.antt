@@ -1,5 +1,5 @@
 -- What an invocation does to a store of present frames.
-use Rattle.std.specs.Prelude.{◌≡◌, ◌↔◌, ℕ, ◌+◌, ◌^◌, ◌<◌, ◌≤◌, Bool, List, [], ◌∷◌, Option, None, Some, if◌then◌else◌, slice_set, Result, IfOk, OnOk, OnErr, IsErrOf}
+use Rattle.std.specs.Prelude.{◌≡◌, ◌↔◌, ℕ, ◌+◌, ◌^◌, ◌<◌, ◌≤◌, Bool, true, false, List, [], ◌∷◌, Option, None, Some, if◌then◌else◌, slice_set, Result, Ok, Err, IfOk, OnOk, OnErr, IsErrOf}
 use Rattle.model.specs.declared.capability.Capability.{Capability}
 use Rattle.model.specs.declared.capability.Capability.TheVariants.{Start, Resume}
 use Rattle.model.specs.declared.command.Invocation.{Invocation}
@@ -12,7 +12,7 @@ use Rattle.model.specs.Invoke.{Effect, invoke, after_gate, deliver, ordered}
 use Rattle.model.specs.Keepable.{IsSoundFrames}
 use Rattle.model.specs.Machine.{touching, touched_count}
 use Rattle.model.specs.Revoke.{consume}
-use Rattle.model.specs.World.{annex_at, register_at}
+use Rattle.model.specs.World.{annex_at, is_running_process, register_at}
 use Rattle.capability.specs.declared.order.Caller.{Caller}
 use Rattle.capability.specs.declared.present.PrepareFault.{PrepareFault}
 use Rattle.capability.specs.declared.present.PrepareFault.TheVariants as prepare
@@ -64,11 +64,20 @@ result_code g os i = elim (register_at os i.process i.register) [ Start q key �
 abbrev pub KeepsSoundFrames : Parts → Parts → Type 0
 KeepsSoundFrames old new = (age : ℕ) → age < 2 ^ 62 → IsSoundFrames old.geometry age (frames_of old) → IsSoundFrames old.geometry (age + 1) (frames_of new)
 
+-- whether the process runs, where a result tells it
+abbrev pub TellsState : List Object → Invocation → Result (Option ResultCode) InvokeFault → Type 0
+TellsState os i (Ok code) = is_running_process os i.process ≡ true
+TellsState os i (Err fault.NotRunning) = is_running_process os i.process ≡ false
+TellsState os i (Err fault.Stalled) = is_running_process os i.process ≡ true
+TellsState os i (Err fault.LogFull) = is_running_process os i.process ≡ true
+TellsState os i (Err _) = Unit {0}
+
 -- The outcome of an invocation. After an error nothing has changed. The parameters are ghost members of a store of
 -- present frames.
 pub record Invoked {S : Type 0} (parts : S → Parts) (Leads : S → S → Type 0) (old new : S) (i : Invocation) (result : Result (Option ResultCode) InvokeFault) : Type 0 where
   pub done : OnOk result (Invokes (parts old).geometry i (objects_in (parts old)) (parts old).touched (objects_in (parts new)) (parts new).touched)
   pub code : IfOk result (λ code. code ≡ result_code (parts old).geometry (objects_in (parts old)) i)
+  pub runs : IsErrOf result fault.NotRunning → is_running_process (objects_in (parts old)) i.process ≡ false
   pub stalled : IsErrOf result fault.Stalled → invoke (parts old).geometry (objects_in (parts old)) i ≡ None
   pub full : IsErrOf result fault.LogFull → Overfills (parts old).geometry i (objects_in (parts old)) (parts old).touched
   pub sound : OnOk result (KeepsSoundFrames (parts old) (parts new))

@@ -95,7 +95,7 @@ fn deliver_reply<F: PresentFrames>(store: &mut F, process: u64, reply: Reply)
         → AreKeepable (F.parts store.old).geometry age (frames_of (F.parts store.new)) }
     ensures aside { KeepsAside F.parts F.IsFetched F.IsAnnounced F.LeadsTo store.old store.new }
 {
-    if roots::state(store, process) != State::Running {
+    if !roots::is_running(store, process) {
         return;
     }
     let [first, second, third] = reply.words;

@@ -5,6 +5,9 @@ use thiserror::Error;
 /// Why an invocation wasn't carried out. Nothing was changed.
 #[derive(Clone, Copy, PartialEq, Eq, Debug, Error)]
 pub enum InvokeFault {
+    /// The process that invokes doesn't run.
+    #[error("not running")]
+    NotRunning,
     /// The process that is started isn't available.
     #[error("stalled")]
     Stalled,

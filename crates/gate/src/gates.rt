@@ -8,6 +8,7 @@ ghost use Rattle.model.specs.Text.{Fits};
 ghost use Rattle.model.specs.World.{annex_at, is_process, is_running_process};
 ghost use Rattle.capability.specs.Parts.{AreSound, KeepsAside, frames_of, objects_in, Prepares};
 ghost use Rattle.std.specs.List.{All};
+ghost use Rattle.space_bank.specs.Banks.{AreCounted};
 ghost use Rattle.gate.specs.Invoke.{entered, gate_capability, received, written_through, IsAsked, IsKernelObject, Invoked};
 ghost use Rattle.gate.specs.Plan.{FitsCap};
 
@@ -17,6 +18,7 @@ use crate::looking::{all_sent, look_at_process};
 use crate::written::Written;
 use capability::{Caller, PrepareFault, PresentFrames, objects, roots};
 use model::{Capability, Invocation, Message, Operation, ResultCode, State};
+use space_bank::Banks;
 use std::alloc::Global;
 
 /// An invoked gate: its process, its key, and whether it works only once.
@@ -176,6 +178,7 @@ fn can_enter<F: PresentFrames>(store: &F, invocation: &Invocation, gate: Gate) -
 pub fn invoke_gate<F: PresentFrames>(
     alloc: Global,
     store: &mut F,
+    banks: &Banks,
     invocation: &Invocation,
     caller: Caller,
     gate: Gate,
@@ -183,6 +186,8 @@ pub fn invoke_gate<F: PresentFrames>(
     requires sound { AreSound (F.parts store.old) }
     requires running { IsTrue (is_running_process
         (objects_in (F.parts store.old)) invocation.now.process) }
+    requires counted { AreCounted (F.parts store.old).geometry
+        (objects_in (F.parts store.old)) banks.now }
     requires fits { Fits (command.Invoke invocation.now) }
     requires few { length (F.parts store.old).headers < 2 ^ 64 }
     requires asked { IsAsked (objects_in (F.parts store.old)) invocation.now caller }
@@ -192,7 +197,7 @@ pub fn invoke_gate<F: PresentFrames>(
     ensures { Invoked F.parts F.LeadsTo store.old store.new invocation.now result }
 {
     let sent = all_sent(store, invocation, caller.annex);
-    let annex = look_at_process(alloc, store, gate.process)?;
+    let annex = look_at_process(alloc, store, banks, gate.process)?;
     if !can_enter(store, invocation, gate) {
         return Err(InvokeFault::Stalled);
     }

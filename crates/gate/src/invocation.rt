@@ -1,22 +1,21 @@
 // Invocations.
 ghost use Rattle.std.specs.Prelude.{IsTrue};
 ghost use Rattle.model.specs.Invoke.{invoke};
-ghost use Rattle.model.specs.World.{is_running_process};
+ghost use Rattle.model.specs.World.{is_process};
 ghost use Rattle.capability.specs.Parts.{AreSound, objects_in};
 ghost use Rattle.space_bank.specs.Banks.{AreCounted};
-ghost use Rattle.gate.specs.Invoke.{Invoked};
+ghost use Rattle.gate.specs.Invoke.{Invoked, TellsState};
 
 use crate::fault::InvokeFault;
 use crate::gates::{gate_of, invoke_gate};
 use crate::kernel_object::invoke_order;
 use crate::looking::{ask, numbers_fit};
-use capability::PresentFrames;
+use capability::{PresentFrames, roots};
 use model::{Invocation, ResultCode};
 use space_bank::Banks;
 use std::alloc::Global;
 
-/// Carries out the invocation of a capability by a running process (EROS, KeyKOS: call, return and
-/// send).
+/// Carries out the invocation of a capability by a process (EROS, KeyKOS: call, return and send).
 ///
 /// The invoked and the sent capabilities are read before anything changes. A start or resume
 /// capability is a gate: the message goes to another process, and the result is `None`. A resume
@@ -25,7 +24,7 @@ use std::alloc::Global;
 /// `banks` keeps the usages of the banks as they are after it. The count of allocations of a number
 /// rises by one if its object is given up.
 ///
-/// An error changes nothing. `Stalled`: the process behind the start capability isn't available.
+/// An error changes nothing. `NotRunning`: the process doesn't run. `Stalled`: the process behind the start capability isn't available.
 /// `LogFull`: with what the invocation writes, more numbers were written since the last checkpoint
 /// than half of the log holds. `NoMemory`: memory ran out. `Failed`: the device failed.
 pub fn invoke<F: PresentFrames>(
@@ -35,20 +34,23 @@ pub fn invoke<F: PresentFrames>(
     invocation: Invocation,
 ) -> Result<Option<ResultCode>, InvokeFault>
     requires sound { AreSound (F.parts store.old) }
-    requires process { IsTrue (is_running_process
+    requires process { IsTrue (is_process
         (objects_in (F.parts store.old)) invocation.process) }
     requires counted { AreCounted (F.parts store.old).geometry
         (objects_in (F.parts store.old)) banks.old }
-
+    ensures state { TellsState (objects_in (F.parts store.old)) invocation result }
     ensures invoked { Invoked F.parts F.LeadsTo store.old store.new invocation result }
     ensures counted { AreCounted (F.parts store.new).geometry
         (objects_in (F.parts store.new)) banks.new }
 {
     invocation.can_be_spelt();
     numbers_fit(store);
-    let caller = ask(alloc, store, &invocation)?;
+    let caller = ask(alloc, store, banks, &invocation)?;
+    if !roots::is_running(store, invocation.process) {
+        return Err(InvokeFault::NotRunning);
+    }
     match gate_of(caller.invoked) {
-        Some(gate) => invoke_gate(alloc, store, &invocation, caller, gate),
+        Some(gate) => invoke_gate(alloc, store, banks, &invocation, caller, gate),
         None => invoke_order(alloc, store, banks, &invocation, caller),
     }
 }

@@ -15,7 +15,7 @@ ghost use Rattle.gate.specs.Invoke.{IsAsked, IsKernelObject, Invoked};
 ghost use Rattle.gate.specs.Ordering.{IsPlanned, arguments_of};
 ghost use Rattle.gate.specs.Plan.{fetched_of};
 
-use crate::banking::{asked_bank, plan_bank_order};
+use crate::banking::asked_bank;
 use crate::carrying::carry_out;
 use crate::fault::InvokeFault;
 use crate::looking::{look_at_named, order_arguments};
@@ -46,6 +46,8 @@ fn plan_object_order<F: PresentFrames>(
     arguments: Arguments,
 ) -> Result<OrderPlan, PrepareFault>
     requires sound { AreSound (F.parts store.old) }
+    requires counted { AreCounted (F.parts store.old).geometry
+        (objects_in (F.parts store.old)) banks.old }
     requires fits { Fits (command.Invoke invocation.now) }
     requires few { length (F.parts store.old).headers < 2 ^ 64 }
     requires asked { IsAsked (objects_in (F.parts store.old)) invocation.now caller }
@@ -57,7 +59,7 @@ fn plan_object_order<F: PresentFrames>(
     ensures kept { banks.new ≡ record banks.old { listed = banks.new.listed } }
     ensures looks { Looks F.parts F.LeadsTo store.old store.new result }
 {
-    look_at_named(alloc, store, caller.invoked)?;
+    look_at_named(alloc, store, banks, caller.invoked)?;
     let plan = plan(store, caller.invoked, invocation.words[0], arguments);
     list_target(banks, plan.change);
     Ok(plan)
@@ -87,9 +89,7 @@ fn plan_order<F: PresentFrames>(
     let arguments = order_arguments(store, invocation, caller.annex);
     banks.list_writers(caller);
     match asked_bank(caller.invoked, invocation.words[0]) {
-        Some((bank, order)) => plan_bank_order(
-            alloc, store, banks, invocation, caller, bank, order, arguments,
-        ),
+        Some((bank, order)) => Ok(banks.plan(store, bank, order, arguments)),
         None => plan_object_order(alloc, store, banks, invocation, caller, arguments),
     }
 }

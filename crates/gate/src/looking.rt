@@ -7,16 +7,18 @@ ghost use Rattle.model.specs.Object.{is_annex};
 ghost use Rattle.model.specs.Sound.{NamesItsKind};
 ghost use Rattle.model.specs.World.{annex_at, content_at, is_process};
 ghost use Rattle.capability.specs.Parts.{Looks, frames_of, objects_in};
+ghost use Rattle.space_bank.specs.Banks.{AreCounted};
 ghost use Rattle.gate.specs.Ordering.{arguments_of};
 ghost use Rattle.gate.specs.Invoke.{IsAsked};
 ghost use Rattle.gate.specs.Plan.{process_named};
 
 use capability::{Caller, PrepareFault, PresentFrames, objects};
 use model::{Arguments, Capability, Invocation};
+use space_bank::Banks;
 use std::alloc::Global;
 
-/// Fetches one object.
-pub fn look<F: PresentFrames>(alloc: Global, store: &mut F, number: u64) -> Result<(), PrepareFault>
+// Fetches one object.
+fn look<F: PresentFrames>(alloc: Global, store: &mut F, number: u64) -> Result<(), PrepareFault>
     requires known { number < length (F.parts store.old).headers }
     requires keepable { AreKeepable (F.parts store.old).geometry u64.MAX
         (frames_of (F.parts store.old)) }
@@ -30,6 +32,7 @@ pub fn look<F: PresentFrames>(alloc: Global, store: &mut F, number: u64) -> Resu
 pub fn look_at_process<F: PresentFrames>(
     alloc: Global,
     store: &mut F,
+    banks: &Banks,
     process: u64,
 ) -> Result<u64, PrepareFault>
     requires keepable { AreKeepable (F.parts store.old).geometry u64.MAX
@@ -38,12 +41,13 @@ pub fn look_at_process<F: PresentFrames>(
     requires annex { IsTrue (is_annex
         (content_at (objects_in (F.parts store.old))
         (annex_at (objects_in (F.parts store.old)) process))) }
+    requires counted { AreCounted (F.parts store.old).geometry
+        (objects_in (F.parts store.old)) banks.now }
     ensures root { OnOk result (F.IsFetched store.new process) }
     ensures annex { IfOk result (λ annex. (annex ≡ annex_at (objects_in (F.parts store.old)) process) × F.IsFetched store.new annex) }
     ensures looks { Looks F.parts F.LeadsTo store.old store.new result }
 {
-    look(alloc, store, process)?;
-    let annex = objects::annex(store, process);
+    let annex = banks.annex(process);
     objects::fetch(store, alloc, &[process, annex])?;
     Ok(annex)
 }
@@ -53,10 +57,13 @@ pub fn look_at_process<F: PresentFrames>(
 pub fn look_at_named<F: PresentFrames>(
     alloc: Global,
     store: &mut F,
+    banks: &Banks,
     capability: Capability,
 ) -> Result<(), PrepareFault>
     requires keepable { AreKeepable (F.parts store.old).geometry u64.MAX
         (frames_of (F.parts store.old)) }
+    requires counted { AreCounted (F.parts store.old).geometry
+        (objects_in (F.parts store.old)) banks.now }
     requires kind { NamesItsKind (objects_in (F.parts store.old)) capability }
     requires annex { (p : ℕ) → process_named capability ≡ Some p
         → IsTrue (is_annex (content_at (objects_in (F.parts store.old)) (annex_at (objects_in (F.parts store.old)) p))) }
@@ -66,7 +73,7 @@ pub fn look_at_named<F: PresentFrames>(
     ensures looks { Looks F.parts F.LeadsTo store.old store.new result }
 {
     if let Capability::Process(process) = capability {
-        look_at_process(alloc, store, process)?;
+        look_at_process(alloc, store, banks, process)?;
         return Ok(());
     }
     match capability.named() {
@@ -75,10 +82,11 @@ pub fn look_at_named<F: PresentFrames>(
     }
 }
 
-/// Reads what a process invokes, and fetches its annex.
+/// Fetches the process that invokes and its annex, and reads what it invokes.
 pub fn ask<F: PresentFrames>(
     alloc: Global,
     store: &mut F,
+    banks: &Banks,
     invocation: &Invocation,
 ) -> Result<Caller, PrepareFault>
     requires keepable { AreKeepable (F.parts store.old).geometry u64.MAX
@@ -88,11 +96,14 @@ pub fn ask<F: PresentFrames>(
     requires annex { IsTrue (is_annex
         (content_at (objects_in (F.parts store.old))
         (annex_at (objects_in (F.parts store.old)) invocation.now.process))) }
+    requires counted { AreCounted (F.parts store.old).geometry
+        (objects_in (F.parts store.old)) banks.now }
     ensures asked { IfOk result (λ caller. IsAsked (objects_in (F.parts store.old)) invocation.now caller) }
     ensures fetched { IfOk result (λ caller. F.IsFetched store.new caller.annex) }
+    ensures root { OnOk result (F.IsFetched store.new invocation.now.process) }
     ensures looks { Looks F.parts F.LeadsTo store.old store.new result }
 {
-    let annex = look_at_process(alloc, store, invocation.process)?;
+    let annex = look_at_process(alloc, store, banks, invocation.process)?;
     Ok(Caller {
         process: invocation.process,
         annex,

@@ -1,5 +1,5 @@
 -- What a command comes to over present frames, from what each part of it told.
-use Rattle.std.proofs.Common.{◌≡◌, ◌↔◌, ℕ, ◌+◌, ◌^◌, ◌<◌, ◌≤◌, Bool, true, false, List, length, Option, None, Result, Ok, Err, refl, sym, ap, ◌∙◌, subst, ⊎_elim, arith}
+use Rattle.std.proofs.Common.{◌≡◌, ◌↔◌, ℕ, ◌+◌, ◌^◌, ◌<◌, ◌≤◌, Bool, true, false, List, length, Option, Result, Ok, Err, refl, sym, ap, ◌∙◌, subst, ⊎_elim, arith}
 use Rattle.std.proofs.lemmas.Bool.{cases_lt}
 use Rattle.model.specs.declared.answer.Answer.{Answer}
 use Rattle.model.specs.declared.answer.Answer.TheVariants as answer
@@ -14,7 +14,6 @@ use Rattle.model.specs.declared.object.Object.{Object}
 use Rattle.model.specs.declared.order.ResultCode.{ResultCode}
 use Rattle.model.specs.declared.frame.ObjectHeader.{ObjectHeader}
 use Rattle.model.specs.Frame.{frames_in, header_at, objects_of}
-use Rattle.model.specs.Invoke.{invoke}
 use Rattle.model.specs.Keepable.{IsSoundFrames, world_at}
 use Rattle.model.specs.Machine.{Frozen, Running, Saved, Machine, Up, renewing, touching, touched_count}
 use Rattle.model.specs.Object.{is_free}
@@ -28,12 +27,12 @@ use Rattle.capability.specs.declared.present.PrepareFault.{PrepareFault}
 use Rattle.capability.specs.declared.present.PrepareFault.TheVariants as prepare
 use Rattle.gate.specs.declared.fault.InvokeFault.{InvokeFault}
 use Rattle.gate.specs.declared.fault.InvokeFault.TheVariants as fault
-use Rattle.gate.specs.Invoke.{Invokes, KeepsSoundFrames, Overfills, result_code}
+use Rattle.gate.specs.Invoke.{Invoked, Invokes, KeepsSoundFrames, TellsState}
 use Rattle.device.specs.declared.device.Failed.{Failed}
 use Rattle.space_bank.proofs.Renewing.{renews_after, renews_none}
 use Rattle.processes.specs.Machine.{Performs, machine_at, renewed_by}
-use Rattle.processes.specs.Prepared.{refused_by}
-use Rattle.processes.proofs.Steps.{bad_number_step, full_step, invoke_step, no_memory_step, show_no_memory, show_step, stalled_step}
+use Rattle.processes.specs.Prepared.{refusal_by, refused_by}
+use Rattle.processes.proofs.Steps.{bad_number_step, early_step, full_step, invoke_step, no_memory_step, show_no_memory, show_step, stalled_step}
 
 -- the same parts but for failures
 pub record AreSame (old new : Parts) : Type 0 where
@@ -141,62 +140,52 @@ done_serves age old new i young process running sound invokes keeps renews geome
         ap (λ (os : List Object). standing (age + 1) (renewing renewed (objects_in old) os) frozen saved to_move os (touching old.touched invokes.0.written)) (sym invokes.2)
         ∙ ap (standing (age + 1) (renewed_by renewed old new) frozen saved to_move (objects_in new)) (sym invokes.3)
 
--- what is answered to a process that runs, after a look, by what came of its invocation
-module _ (age : ℕ) (old mid new : Parts) (i : Invocation) (same : AreSame old mid) (failures : mid.failures ≡ old.failures)
-    (process : is_process (objects_in old) i.process ≡ true) (running : is_running_process (objects_in old) i.process ≡ true)
-    (sound : IsSoundFrames old.geometry age (frames_of old)) (young : age < 2 ^ 62) where
-  process_then : is_process (objects_in mid) i.process ≡ true
-  process_then = ap (λ (fs : List Frame). is_process (objects_of fs) i.process) (same_frames old mid same) ∙ process
+-- what is answered where there is no process
+pub no_process_serves : (p : Parts) (age : ℕ) (i : Invocation) → IsSoundFrames p.geometry age (frames_of p) → is_process (objects_in p) i.process ≡ false →
+    Performs age p (command.Invoke i) (answer.Refused refusal.NoProcess) age p
+no_process_serves p age i sound none =
+    refused_serves age p p (command.Invoke i) refusal.NoProcess (record { headers = refl; contents = refl; touched = refl; geometry = refl }) sound (omega arith)
+    (told_cause refusal.NoProcess (λ e. cc) (λ rose. absurd (omega (arith, rose))))
+    (λ renewed frozen saved to_move other. early_step p.geometry _ i refusal.NoProcess none)
 
-  running_then : is_running_process (objects_in mid) i.process ≡ true
-  running_then = ap (λ (fs : List Frame). is_running_process (objects_of fs) i.process) (same_frames old mid same) ∙ running
+-- what is answered to an invocation that wasn't carried out
+module _ {S : Type 0} (parts : S → Parts) (Leads : S → S → Type 0) (age : ℕ) (old new : S) (i : Invocation)
+    (process : is_process (objects_in (parts old)) i.process ≡ true) (sound : IsSoundFrames (parts old).geometry age (frames_of (parts old))) (young : age < 2 ^ 62) where
+  module _ (f : InvokeFault) (said : Invoked parts Leads old new i (Err f)) where
+    unchanged : AreSame (parts old) (parts new)
+    unchanged = record { headers = said.unchanged.headers; contents = said.unchanged.contents; touched = said.unchanged.touched; geometry = said.geometry }
 
-  pub done_after : Invokes mid.geometry i (objects_in mid) mid.touched (objects_in new) new.touched → KeepsSoundFrames mid new → Renews mid new → new.geometry ≡ mid.geometry →
-      mid.failures ≤ new.failures → (mid.failures < new.failures → ⊥) → Performs age old (command.Invoke i) answer.Done (age + 1) new
-  done_after invokes keeps renews geometry later stayed =
-      serves_looked age (age + 1) old mid new (command.Invoke i) answer.Done same failures
-      (done_serves age mid new i young process_then running_then (same_sound old mid same age sound) invokes keeps renews geometry later stayed)
+    refused : (why : Refusal) → ((why ≡ refusal.Fault) ↔ (f ≡ fault.Failed)) →
+        ((renewed : List Bool) (frozen : Option Frozen) (saved : Saved) (to_move : ℕ) → (why ≡ refusal.Fault → ⊥) →
+        Step (parts old).geometry (machine_at age (parts old) renewed frozen saved to_move) (command.Invoke i) (answer.Refused why) (machine_at age (parts old) renewed frozen saved to_move)) →
+        Performs age (parts old) (command.Invoke i) (answer.Refused why) age (parts new)
+    refused why same step =
+        refused_serves age (parts old) (parts new) (command.Invoke i) why unchanged sound said.later
+        (λ e. said.cause.0 (ap (λ (k : InvokeFault). let r : Result (Option ResultCode) InvokeFault = Err k in r) (same.0 e)), λ rose. let failed = said.cause.1 rose in same.1 cc) step
 
-  refused_after : (why : Refusal) → AreSame mid new → mid.failures ≤ new.failures → ((why ≡ refusal.Fault) ↔ (mid.failures < new.failures)) →
-      ((renewed : List Bool) (frozen : Option Frozen) (saved : Saved) (to_move : ℕ) → (why ≡ refusal.Fault → ⊥) →
-      Step mid.geometry (machine_at age mid renewed frozen saved to_move) (command.Invoke i) (answer.Refused why) (machine_at age mid renewed frozen saved to_move)) →
-      Performs age old (command.Invoke i) (answer.Refused why) age new
-  refused_after why unchanged later cause step =
-      serves_looked age age old mid new (command.Invoke i) (answer.Refused why) same failures
-      (refused_serves age mid new (command.Invoke i) why unchanged (same_sound old mid same age sound) later cause step)
+  pub fault_serves : (f : InvokeFault) → TellsState (objects_in (parts old)) i (Err f) → Invoked parts Leads old new i (Err f) →
+      Performs age (parts old) (command.Invoke i) (answer.Refused (refusal_by f)) age (parts new)
+  fault_serves fault.NotRunning tells said =
+      refused fault.NotRunning said refusal.NotRunning (λ e. cc, λ e. cc)
+      (λ renewed frozen saved to_move other. early_step (parts old).geometry _ i refusal.NotRunning (process, tells))
+  fault_serves fault.Stalled tells said =
+      refused fault.Stalled said refusal.Stalled (λ e. cc, λ e. cc)
+      (λ renewed frozen saved to_move other. stalled_step (parts old).geometry _ i process tells young (said.stalled refl))
+  fault_serves fault.LogFull tells said =
+      let over = said.full refl in
+      refused fault.LogFull said refusal.LogFull (λ e. cc, λ e. cc)
+      (λ renewed frozen saved to_move other. full_step (parts old).geometry _ i process tells young over.0 over.1 over.2)
+  fault_serves fault.NoMemory tells said =
+      refused fault.NoMemory said refusal.NoMemory (λ e. cc, λ e. cc) (λ renewed frozen saved to_move other. no_memory_step (parts old).geometry _ i process)
+  fault_serves fault.Failed tells said =
+      refused fault.Failed said refusal.Fault (λ e. refl, λ e. refl) (λ renewed frozen saved to_move other. absurd (other refl))
 
-  pub stalled_after : invoke mid.geometry (objects_in mid) i ≡ None → AreSame mid new → mid.failures ≤ new.failures → (mid.failures < new.failures → ⊥) →
-      Performs age old (command.Invoke i) (answer.Refused refusal.Stalled) age new
-  stalled_after none unchanged later stayed =
-      refused_after refusal.Stalled unchanged later (told_cause refusal.Stalled (λ e. cc) stayed)
-      (λ renewed frozen saved to_move other. stalled_step mid.geometry _ i process_then running_then young none)
-
-  pub full_after : Overfills mid.geometry i (objects_in mid) mid.touched → AreSame mid new → mid.failures ≤ new.failures → (mid.failures < new.failures → ⊥) →
-      Performs age old (command.Invoke i) (answer.Refused refusal.LogFull) age new
-  full_after over unchanged later stayed =
-      refused_after refusal.LogFull unchanged later (told_cause refusal.LogFull (λ e. cc) stayed)
-      (λ renewed frozen saved to_move other. full_step mid.geometry _ i process_then running_then young over.0 over.1 over.2)
-
-  pub no_memory_after : AreSame mid new → mid.failures ≤ new.failures → (mid.failures < new.failures → ⊥) →
-      Performs age old (command.Invoke i) (answer.Refused refusal.NoMemory) age new
-  no_memory_after unchanged later stayed =
-      refused_after refusal.NoMemory unchanged later (told_cause refusal.NoMemory (λ e. cc) stayed)
-      (λ renewed frozen saved to_move other. no_memory_step mid.geometry _ i process_then)
-
--- the result code is the same after a look
-pub code_looked : (old mid : Parts) (i : Invocation) → AreSame old mid → (code : Option ResultCode) → code ≡ result_code mid.geometry (objects_in mid) i → code ≡ result_code old.geometry (objects_in old) i
-code_looked old mid i same code is =
-    is ∙ ap (λ (g : Geometry). result_code g (objects_in mid) i) same.geometry ∙ ap (λ (fs : List Frame). result_code old.geometry (objects_of fs) i) (same_frames old mid same)
-
--- what a fault of an invocation isn't
-pub done_unfailed : (code : Option ResultCode) → (let r : Result (Option ResultCode) InvokeFault = Ok code in IsErrOf r fault.Failed) → ⊥
-done_unfailed code e = cc
-
-pub fault_is : (f k : InvokeFault) → f ≡ k → (let r : Result (Option ResultCode) InvokeFault = Err f in IsErrOf r k)
-fault_is f k is = ap (λ (e : InvokeFault). Err e) is
-
-pub fault_unfailed : (f k : InvokeFault) → f ≡ k → (k ≡ fault.Failed → ⊥) → (let r : Result (Option ResultCode) InvokeFault = Err f in IsErrOf r fault.Failed) → ⊥
-fault_unfailed f k is other e = let d : f ≡ fault.Failed = cc in other (sym is ∙ d)
+  -- and to one that was
+  pub invoked_serves : (code : Option ResultCode) → TellsState (objects_in (parts old)) i (Ok code) → Invoked parts Leads old new i (Ok code) →
+      Performs age (parts old) (command.Invoke i) answer.Done (age + 1) (parts new)
+  invoked_serves code runs said =
+      done_serves age (parts old) (parts new) i young process runs sound said.done said.sound said.renews said.geometry said.later
+      (λ rose. let failed = said.cause.1 rose in cc)
 
 -- what is shown of an object
 pub shown_serves : (age : ℕ) (old new : Parts) (n : ℕ) (a : Answer) → n < length old.headers → AreSame old new → IsSoundFrames old.geometry age (frames_of old) →

@@ -1,11 +1,20 @@
--- The refusals of a failed `prepare`.
+-- The refusals of a failed `prepare`, and of an invocation that isn't carried out.
 use Rattle.model.specs.declared.answer.Refusal.{Refusal}
 use Rattle.model.specs.declared.answer.Refusal.TheVariants as refusal
 use Rattle.capability.specs.declared.present.PrepareFault.{PrepareFault}
 use Rattle.capability.specs.declared.present.PrepareFault.TheVariants as prepare
+use Rattle.gate.specs.declared.fault.InvokeFault.{InvokeFault}
+use Rattle.gate.specs.declared.fault.InvokeFault.TheVariants as fault
 
 -- the refusal of a load or a store
 abbrev pub refused_by : PrepareFault → Refusal
 refused_by prepare.NoMemory = refusal.NoMemory
 refused_by prepare.LogFull = refusal.LogFull
 refused_by prepare.Failed = refusal.Fault
+
+abbrev pub refusal_by : InvokeFault → Refusal
+refusal_by fault.NotRunning = refusal.NotRunning
+refusal_by fault.Stalled = refusal.Stalled
+refusal_by fault.LogFull = refusal.LogFull
+refusal_by fault.NoMemory = refusal.NoMemory
+refusal_by fault.Failed = refusal.Fault

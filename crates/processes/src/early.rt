@@ -6,7 +6,7 @@ ghost use Rattle.processes.specs.Machine.{IsEarly, NeedsNoLook};
 
 use capability::{PrepareFault, PresentFrames, objects, roots};
 use device::Failed;
-use model::{Refusal, State};
+use model::Refusal;
 use std::alloc::Global;
 
 /// The refusal of a command because its process doesn't run, or `None`. `NoProcess` needs no memory
@@ -35,8 +35,8 @@ pub fn early<F: PresentFrames>(
         Err(PrepareFault::NoMemory) => return Ok(Some(Refusal::NoMemory)),
         Err(PrepareFault::LogFull) => unreachable!(),
     }
-    match roots::state(store, process) {
-        State::Running => Ok(None),
-        State::Available | State::Waiting => Ok(Some(Refusal::NotRunning)),
+    if roots::is_running(store, process) {
+        return Ok(None);
     }
+    Ok(Some(Refusal::NotRunning))
 }

@@ -12,7 +12,7 @@ use Rattle.model.specs.Bank.{chain}
 use Rattle.model.specs.Banking.{new_annex, new_root, with_new}
 use Rattle.model.specs.Frame.{header_at}
 use Rattle.model.specs.Keepable.{AreCurrent, AreKeepable}
-use Rattle.model.specs.Object.{is_bank, is_free}
+use Rattle.model.specs.Object.{is_bank, is_free, is_root}
 use Rattle.model.specs.World.{content_at}
 use Rattle.model_laws.proofs.BankTree.{at_other}
 use Rattle.capability.specs.declared.present.Fresh.{Fresh}
@@ -24,7 +24,7 @@ use Rattle.space_bank.specs.Banks.{AreCounted, BanksState}
 use Rattle.space_bank.specs.Carrying.{CarriesOut, IsAlone, IsMadeUnder, MayServe, marks_of}
 use Rattle.space_bank.specs.Chains.{IsRaised}
 use Rattle.space_bank.proofs.Standing.{free_header, serve_framed, serve_tree}
-use Rattle.space_bank.proofs.Tallies.{IsTaken, counted_alone, counted_bank, counted_two}
+use Rattle.space_bank.proofs.Tallies.{IsTaken, counted_alone, counted_bank, counted_process}
 
 -- a number is marked as taken, and nothing else is another
 pub record IsMade (s t : BanksState) (n : ℕ) : Type 0 where
@@ -41,6 +41,7 @@ taken_one banks count s r t n raised kept made = record {
   nodes = made.nodes ∙ ap (λ (k : BanksState). length k.free_nodes) kept;
   pages = made.pages ∙ ap (λ (k : BanksState). length k.free_pages) kept;
   limits = ap (λ (k : BanksState). k.limits) made.kept ∙ ap (λ (k : BanksState). k.limits) kept;
+  annexes = ap (λ (k : BanksState). k.annexes) made.kept ∙ ap (λ (k : BanksState). k.annexes) kept;
   room = ap (λ (k : BanksState). k.room) made.kept ∙ ap (λ (k : BanksState). k.room) kept;
   marks_are = made.marks ∙ ap (λ (k : BanksState). slice_set (marks_of k) n false) kept;
 }
@@ -53,6 +54,7 @@ taken_two banks count s r t marks n taken made = record {
   nodes = made.nodes ∙ taken.nodes;
   pages = made.pages ∙ taken.pages;
   limits = ap (λ (k : BanksState). k.limits) made.kept ∙ taken.limits;
+  annexes = ap (λ (k : BanksState). k.annexes) made.kept ∙ taken.annexes;
   room = ap (λ (k : BanksState). k.room) made.kept ∙ taken.room;
   marks_are = made.marks ∙ ap (λ (bs : List Bool). slice_set bs n false) taken.marks_are;
 }
@@ -95,6 +97,11 @@ alone_plain fresh.Page is = refl
 alone_plain fresh.Node is = refl
 alone_plain f is = absurd is
 
+alone_other : (f : Fresh) → IsAlone f → is_root (fresh_content Void f) ≡ false
+alone_other fresh.Page is = refl
+alone_other fresh.Node is = refl
+alone_other f is = absurd is
+
 module _ (p : Parts) (s : BanksState) (b : ℕ) (asks : MayServe p s b) (q : Parts) (us : List Object) (u : BanksState) (objects : objects_in q ≡ us)
     (current : AreCurrent (frames_of p) → AreCurrent (frames_of q))
     (keepable : (age : ℕ) → AreKeepable p.geometry age (frames_of p) → AreKeepable p.geometry age (frames_of q)) where
@@ -119,7 +126,7 @@ module _ (p : Parts) (s : BanksState) (b : ℕ) (asks : MayServe p s b) (n : ℕ
   alone_carried f u alone objects keepable taken =
       carried p s b asks q (with_new before n b (fresh_content Void f)) u objects current (λ age k. keepable age (alone_fits f alone) k)
       (counted_alone p.geometry before (serve_framed p s b asks).size (serve_tree p s b asks) s asks.counted b asks.bank n inside unused (fresh_content Void f) u
-      (alone_used f alone) (alone_plain f alone) taken)
+      (alone_used f alone) (alone_plain f alone) (alone_other f alone) taken)
 
   pub bank_carried : (limit : ℕ) (u v : BanksState) → objects_in q ≡ with_new before n b (content.Bank limit)
       → ((age : ℕ) → AreKeepable p.geometry age (frames_of p) → AreKeepable p.geometry age (frames_of q))
@@ -129,11 +136,11 @@ module _ (p : Parts) (s : BanksState) (b : ℕ) (asks : MayServe p s b) (n : ℕ
       carried p s b asks q (with_new before n b (content.Bank limit)) v objects current keepable
       (counted_bank p.geometry before (serve_framed p s b asks).size (serve_tree p s b asks) s asks.counted b asks.bank n inside unused limit u v short place taken is)
 
-  pub process_carried : (m : ℕ) (u : BanksState) → objects_in q ≡ with_new (with_new before n b (new_root m)) m b new_annex
+  pub process_carried : (m : ℕ) (u v : BanksState) → objects_in q ≡ with_new (with_new before n b (new_root m)) m b new_annex
       → ((age : ℕ) → AreKeepable p.geometry age (frames_of p) → AreKeepable p.geometry age (frames_of q))
-      → m < length p.headers → m ≢ n → IsTrue (is_free (content_at before m))
-      → IsTaken (chain before b) 2 s u (slice_set (slice_set (marks_of s) n false) m false) → CarriesOut p q u
-  process_carried m u objects keepable within two unused_too taken =
-      carried p s b asks q (with_new (with_new before n b (new_root m)) m b new_annex) u objects current keepable
-      (counted_two p.geometry before (serve_framed p s b asks).size (serve_tree p s b asks) s asks.counted b asks.bank n inside unused
-      (new_root m) new_annex m u refl refl refl refl (omega (arith, length_objects p.headers p.contents)) two unused_too taken)
+      → m < length p.headers → m ≢ n → n < p.geometry.nodes → IsTrue (is_free (content_at before m))
+      → IsTaken (chain before b) 2 s u (slice_set (slice_set (marks_of s) n false) m false) → v ≡ record u { annexes = slice_set u.annexes n m } → CarriesOut p q v
+  process_carried m u v objects keepable within two place unused_too taken is =
+      carried p s b asks q (with_new (with_new before n b (new_root m)) m b new_annex) v objects current keepable
+      (counted_process p.geometry before (serve_framed p s b asks).size (serve_tree p s b asks) s asks.counted b asks.bank n inside unused
+      m u v (omega (arith, length_objects p.headers p.contents)) two place unused_too taken is)

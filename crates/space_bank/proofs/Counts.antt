@@ -15,16 +15,26 @@ use Rattle.model.specs.declared.object.Content.TheVariants as content
 use Rattle.model.specs.declared.object.Object.{Object}
 use Rattle.model.specs.Bank.{usage}
 use Rattle.model.specs.Frame.{conveyed, frames_in, held_at, objects_of}
-use Rattle.model.specs.Object.{is_bank, is_free, limit_in}
+use Rattle.model.specs.declared.object.Role.{Role}
+use Rattle.model.specs.declared.object.Role.TheVariants as role
+use Rattle.model.specs.Object.{is_bank, is_free, is_root, limit_in, root_in}
 use Rattle.model.specs.Sound.{object_count}
 use Rattle.model.specs.World.{content_at}
 use Rattle.capability.specs.Parts.{Parts, objects_in}
 use Rattle.capability.proofs.Frames.{content_there}
 use Rattle.capability.proofs.Mapped.{mapped}
 use Rattle.space_bank.specs.Banks.{AreCounted, BanksState}
-use Rattle.space_bank.specs.Counting.{AreMarked}
+use Rattle.space_bank.specs.Counting.{AreKept, AreMarked, kept_number}
 
--- what is no bank has no limit
+-- what is no process has no annex, and what is no bank no limit
+pub annex_of_other : (c : Content Capability) → is_root c ≡ false → (root_in c).annex ≡ 0
+annex_of_other content.Free other = refl
+annex_of_other (content.Page words) other = refl
+annex_of_other (content.Node slots) other = refl
+annex_of_other (content.Root r) other = cc
+annex_of_other (content.Annex registers) other = refl
+annex_of_other (content.Bank limit) other = refl
+
 pub limit_of_other : (c : Content Capability) → is_bank c ≡ false → limit_in c ≡ 0
 limit_of_other content.Free other = refl
 limit_of_other (content.Page words) other = refl
@@ -60,16 +70,16 @@ never_failed old mid now so later never = elim (cases_lt mid now) [
   | inr same ↦ omega arith
 ]
 
--- one limit more, read after a look
-pub limits_more : (old now : Parts) (n limit : ℕ) (limits new : List ℕ) → now.headers ≡ old.headers → now.contents ≡ old.contents →
-    limit ≡ limit_in (content_at (objects_in now) n) →
-    limits ≡ map (λ m. limit_in (content_at (objects_in old) m)) (range_with_len 0 n) → new ≡ limits ++ limit ∷ [] →
-    new ≡ map (λ m. limit_in (content_at (objects_in old) m)) (range_with_len 0 (n + 1))
-limits_more old now n limit limits new headers contents is so more =
-    let f : ℕ → ℕ = λ m. limit_in (content_at (objects_in old) m) in
-    let here : limit ≡ f n = is ∙ ap (λ (os : List Object). limit_in (content_at os n)) (objects_looked old now headers contents) in
+-- one number more, read after a look
+pub numbers_more : (old now : Parts) (r : Role) (n one : ℕ) (kept new : List ℕ) → now.headers ≡ old.headers → now.contents ≡ old.contents →
+    one ≡ kept_number r (content_at (objects_in now) n) →
+    kept ≡ map (λ m. kept_number r (content_at (objects_in old) m)) (range_with_len 0 n) → new ≡ kept ++ one ∷ [] →
+    new ≡ map (λ m. kept_number r (content_at (objects_in old) m)) (range_with_len 0 (n + 1))
+numbers_more old now r n one kept new headers contents is so more =
+    let f : ℕ → ℕ = λ m. kept_number r (content_at (objects_in old) m) in
+    let here : one ≡ f n = is ∙ ap (λ (os : List Object). kept_number r (content_at os n)) (objects_looked old now headers contents) in
     more
-    ∙ ap (λ (xs : List ℕ). xs ++ limit ∷ []) so
+    ∙ ap (λ (xs : List ℕ). xs ++ one ∷ []) so
     ∙ ap (λ (m : ℕ). map f (range_with_len 0 n) ++ m ∷ []) here
     ∙ sym (map-range_with_len_more f 0 n n (zero-add n))
 
@@ -83,27 +93,31 @@ pub room_told : (count room : ℕ) → SomeIff (Some room) (count + 2 < 2 ^ 64) 
 room_told count room is = is.1
 
 -- what is counted, part by part
-module _ (g : Geometry) (os : List Object) (s : BanksState) (below : (b : ℕ) → IsTrue (is_bank (content_at os b)) → b < g.nodes) where
+module _ (g : Geometry) (os : List Object) (s : BanksState) (below : (b : ℕ) → IsTrue (is_bank (content_at os b)) → b < g.nodes)
+    (process_below : (p : ℕ) → IsTrue (is_root (content_at os p)) → p < g.nodes) where
   counted_parts : AreMarked os 0 g.nodes s.free_nodes → AreMarked os g.nodes g.pages s.free_pages → length s.usages ≡ g.nodes →
       ((b : ℕ) → IsTrue (is_bank (content_at os b)) → slice_index s.usages b ≡ usage os b) →
-      s.limits ≡ map (λ n. limit_in (content_at os n)) (range_with_len 0 g.nodes) → object_count g + 2 ≤ s.room → AreCounted g os s
-  counted_parts nodes pages size usages limits room =
-      let f : ℕ → ℕ = λ n. limit_in (content_at os n) in
+      AreKept os g.nodes s.limits s.annexes → object_count g + 2 ≤ s.room → AreCounted g os s
+  counted_parts nodes pages size usages kept room =
+      let f : ℕ → ℕ = λ n. kept_number role.Bank (content_at os n) in
+      let h : ℕ → ℕ = λ n. kept_number role.Root (content_at os n) in
       record {
         nodes = nodes.size;
         pages = pages.size;
         node = λ n inside. nodes.each n inside ∙ ap (λ (m : ℕ). is_free (content_at os m)) (zero-add n);
         page = pages.each;
         usage_each = size;
-        limit_each = ap length limits ∙ length-map-range_with_len f 0 g.nodes;
+        limit_each = ap length kept.limits_are ∙ length-map-range_with_len f 0 g.nodes;
+        annex_each = ap length kept.annexes_are ∙ length-map-range_with_len h 0 g.nodes;
         usage = usages;
-        limit = λ b bank. ap (λ (xs : List ℕ). slice_index xs b) limits ∙ get_or-map-range_with_len f 0 g.nodes b b 0 (below b bank) (zero-add b);
+        limit = λ b bank. ap (λ (xs : List ℕ). slice_index xs b) kept.limits_are ∙ get_or-map-range_with_len f 0 g.nodes b b 0 (below b bank) (zero-add b);
+        annex = λ p root. ap (λ (xs : List ℕ). slice_index xs p) kept.annexes_are ∙ get_or-map-range_with_len h 0 g.nodes p p 0 (process_below p root) (zero-add p);
         room = room;
       }
 
   pub counted_from : (h : Geometry) → h ≡ g → AreMarked os 0 h.nodes s.free_nodes → AreMarked os h.nodes h.pages s.free_pages → length s.usages ≡ h.nodes →
       ((b : ℕ) → IsTrue (is_bank (content_at os b)) → slice_index s.usages b ≡ usage os b) →
-      s.limits ≡ map (λ n. limit_in (content_at os n)) (range_with_len 0 g.nodes) → object_count g + 2 ≤ s.room → AreCounted g os s
+      AreKept os g.nodes s.limits s.annexes → object_count g + 2 ≤ s.room → AreCounted g os s
   counted_from h is nodes pages size =
       counted_parts (subst (λ (k : Geometry). AreMarked os 0 k.nodes s.free_nodes) is nodes)
       (subst (λ (k : Geometry). AreMarked os k.nodes k.pages s.free_pages) is pages)

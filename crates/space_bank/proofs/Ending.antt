@@ -12,7 +12,7 @@ use Rattle.model.specs.declared.object.Object.{Object}
 use Rattle.model.specs.Bank.{chain, usage}
 use Rattle.model.specs.Frame.{header_at}
 use Rattle.model.specs.Keepable.{AreCurrent, AreKeepable}
-use Rattle.model.specs.Object.{free, is_bank, is_free, limit_in}
+use Rattle.model.specs.Object.{free, is_bank, is_free, is_root, limit_in}
 use Rattle.model.specs.Revoke.{is_member, names_member, rescind, void_where, without}
 use Rattle.model.specs.World.{content_at, object_at}
 use Rattle.model_laws.proofs.NumberLists.{AllDiffer}
@@ -20,14 +20,14 @@ use Rattle.model_laws.proofs.BankTree.{chain_banks, member_tail}
 use Rattle.model_laws.proofs.GivenUp.{free_rescinded}
 use Rattle.model_laws.proofs.Revoking.{at_rescind}
 use Rattle.capability.specs.Parts.{AreGivenUp, IsOnce, KeepsAside, Parts, frames_of, objects_in}
-use Rattle.capability.proofs.Mapped.{mapped}
+use Rattle.model_laws.proofs.Mapped.{IsMapped, without_mapped}
 use Rattle.space_bank.specs.Banks.{AreCounted, BanksState, KeepsObjects}
 use Rattle.space_bank.specs.Carrying.{CarriesOut, MayGiveUp, MayServe, marks_of}
 use Rattle.space_bank.specs.Chains.{IsRaised}
 use Rattle.number_set.specs.Marks.{is_marked}
 use Rattle.space_bank.proofs.Renewing.{SameFree, renews_after, renews_none, renews_rescinded}
 use Rattle.space_bank.proofs.Standing.{few_allocations, few_calls, serve_count, serve_tree}
-use Rattle.space_bank.proofs.Tallies.{counted_from, marks_counted}
+use Rattle.space_bank.proofs.Tallies.{annex_in, counted_from, marks_counted}
 
 -- lists of numbers
 
@@ -57,13 +57,13 @@ module _ (set : List ℕ) (os : List Object) (n : ℕ) where
   pub bank_stays : IsTrue (is_bank (content_at (rescind set os) n)) → is_member set n ≡ false
   bank_stays is = false_from_ne_true (is_member set n) (λ e. false≢true (sym (ap (λ (o : Object). is_bank o.content) (went e)) ∙ is))
 
-  pub bank_was : IsTrue (is_bank (content_at (rescind set os) n)) → IsTrue (is_bank (content_at os n))
-  bank_was is =
-      sym (ap (λ (o : Object). is_bank o.content) (kept (bank_stays is)) ∙ (mapped (void_where (names_member set)) (content_at os n)).bank) ∙ is
+  root_stays : IsTrue (is_root (content_at (rescind set os) n)) → is_member set n ≡ false
+  root_stays is = false_from_ne_true (is_member set n) (λ e. false≢true (sym (ap (λ (o : Object). is_root o.content) (went e)) ∙ is))
 
-  pub limit_was : IsTrue (is_bank (content_at (rescind set os) n)) → limit_in (content_at (rescind set os) n) ≡ limit_in (content_at os n)
-  limit_was is =
-      ap (λ (o : Object). limit_in o.content) (kept (bank_stays is)) ∙ (mapped (void_where (names_member set)) (content_at os n)).limit
+  was : is_member set n ≡ false → IsMapped (void_where (names_member set)) (content_at os n) (content_at (rescind set os) n)
+  was stays =
+      subst (λ (o : Object). IsMapped (void_where (names_member set)) (content_at os n) o.content) (sym (kept stays))
+      (without_mapped (names_member set) (object_at os n))
 
 -- The chain of a bank accounts for so many fewer, and a set is marked as free.
 pub record IsReleased (banks : List ℕ) (count : ℕ) (s t : BanksState) (set : List ℕ) : Type 0 where
@@ -71,6 +71,7 @@ pub record IsReleased (banks : List ℕ) (count : ℕ) (s t : BanksState) (set :
   pub nodes : length t.free_nodes ≡ length s.free_nodes
   pub pages : length t.free_pages ≡ length s.free_pages
   pub limits : t.limits ≡ s.limits
+  pub annexes : t.annexes ≡ s.annexes
   pub room : t.room ≡ s.room
   pub marks : (n : ℕ) → is_marked (marks_of t) n ≡ (if is_member set n then true else is_marked (marks_of s) n)
 
@@ -86,6 +87,7 @@ counted_gone g os vs s t set banks count counted same released usages =
       pages = released.pages;
       usages = sym released.usages.size;
       limits = ap (λ (xs : List ℕ). length xs) released.limits;
+      annexes = ap (λ (xs : List ℕ). length xs) released.annexes;
       room = released.room;
     })
     (λ n known.
@@ -97,10 +99,14 @@ counted_gone g os vs s t set banks count counted same released usages =
     omega (arith, released.usages.each x, counted.usage x was, usages x was (bank_stays set vs x is)))
     (λ x is.
     ap (λ (xs : List ℕ). slice_index xs x) released.limits
-    ∙ (counted.limit x (was_bank x is) ∙ (ap (λ (c : Content Capability). limit_in c) (sym (same x)) ∙ sym (limit_was set vs x is))))
+    ∙ (counted.limit x (was_bank x is) ∙ (ap (λ (c : Content Capability). limit_in c) (sym (same x)) ∙ sym (was set vs x (bank_stays set vs x is)).limit)))
+    (λ x is.
+    let before = was set vs x (root_stays set vs x is) in
+    ap (λ (xs : List ℕ). slice_index xs x) released.annexes
+    ∙ (counted.annex x (ap is_root (sym (same x)) ∙ (sym before.root ∙ is)) ∙ (ap annex_in (sym (same x)) ∙ sym before.annex)))
   where
     was_bank : (x : ℕ) → IsTrue (is_bank (content_at (rescind set vs) x)) → IsTrue (is_bank (content_at os x))
-    was_bank x is = ap (λ (c : Content Capability). is_bank c) (sym (same x)) ∙ bank_was set vs x is
+    was_bank x is = ap is_bank (sym (same x)) ∙ (sym (was set vs x (bank_stays set vs x is)).bank ∙ is)
 
 -- counts can rise
 module _ (p : Parts) (s : BanksState) (b : ℕ) (asks : MayServe p s b) (n : ℕ) (known : n < length p.headers) where
@@ -194,6 +200,7 @@ released_then banks count s r v nodes pages set raised kept same nodes_same page
   nodes = nodes_same ∙ (ap (λ (k : BanksState). length k.free_nodes) same ∙ ap (λ (k : BanksState). length k.free_nodes) kept);
   pages = pages_same ∙ (ap (λ (k : BanksState). length k.free_pages) same ∙ ap (λ (k : BanksState). length k.free_pages) kept);
   limits = ap (λ (k : BanksState). k.limits) same ∙ ap (λ (k : BanksState). k.limits) kept;
+  annexes = ap (λ (k : BanksState). k.annexes) same ∙ ap (λ (k : BanksState). k.annexes) kept;
   room = ap (λ (k : BanksState). k.room) same ∙ ap (λ (k : BanksState). k.room) kept;
   marks = λ n.
       marks n

@@ -106,8 +106,10 @@ module _ (p : Parts) (s : BanksState) (b : ℕ) (h : IsBankOf p s b) where
       page = h.counted.page;
       usage_each = h.counted.usage_each;
       limit_each = h.counted.limit_each;
+      annex_each = h.counted.annex_each;
       usage = h.counted.usage;
       limit = h.counted.limit;
+      annex = h.counted.annex;
       room = h.counted.room;
     };
     bank = h.bank;

@@ -4,7 +4,7 @@ use Rattle.std.specs.Prelude.{IsTrue, if◌then◌else◌, nat_lt, not}
 use Rattle.std.proofs.lemmas.Bool.{eq-eqb, ne_eqb}
 use Rattle.std.proofs.lemmas.List.{append-nil, length-append}
 use Rattle.model.specs.declared.capability.Capability.{Capability}
-use Rattle.model.specs.declared.capability.Capability.TheVariants.{Void, Page, Node, Process}
+use Rattle.model.specs.declared.capability.Capability.TheVariants.{Void, Number, Page, Node, Space, Process, Start, Resume, Bank, Discrim}
 use Rattle.model.specs.declared.geometry.Geometry.{Geometry}
 use Rattle.model.specs.declared.object.Content.{Content}
 use Rattle.model.specs.declared.object.Content.TheVariants as content
@@ -39,7 +39,7 @@ use Rattle.space_bank.specs.declared.planning_new.New.TheVariants as new
 use Rattle.space_bank.specs.Allocating.{allocated_by, allocating, count_of, given_by, given_for, is_deep, made_for, new_at, new_of, numbers_of, process_at}
 use Rattle.space_bank.specs.Banks.{BanksState, MayAsk}
 use Rattle.space_bank.specs.Carrying.{IsPlanned, MayMake, PlansAs}
-use Rattle.space_bank.specs.Planning.{IsBankOf}
+use Rattle.space_bank.specs.Planning.{IsBankOf, annex_among, annex_of}
 use Rattle.space_bank.proofs.Walks.{node_of_bank}
 
 -- a plan that tells no, one that makes a change of a bank, and one that tells three words
@@ -242,6 +242,19 @@ process_room p s t b c q n h sent is few listed =
     let known : q < p.geometry.nodes = root_number p.geometry q (content_at os q) (h.sound.1.sound.kinds q) process in
     let other : q ≡ b → ⊥ = λ e. root_not_bank (content_at os b) (subst (λ (m : ℕ). IsTrue (is_root (content_at os m))) e process) h.bank in
     omega (arith, node_of_bank p s b h, h.counted.room, ap (λ (u : BanksState). length u.listed) listed, length-append s.listed (n ∷ []), ap (λ (u : BanksState). u.room) listed)
+
+-- the annex of a process that may be sent is kept
+pub annex_kept : (p : Parts) (s : BanksState) (b : ℕ) (c : Capability) → IsBankOf p s b → MayBeHeld (objects_in p) c → annex_among s.annexes c ≡ annex_of (objects_in p) c
+annex_kept p s b (Process q) h sent = ap (λ (n : ℕ). n ∷ []) (h.counted.annex q sent.1)
+annex_kept p s b Void h sent = refl
+annex_kept p s b (Number n) h sent = refl
+annex_kept p s b (Page o a) h sent = refl
+annex_kept p s b (Node o a) h sent = refl
+annex_kept p s b (Space o l a) h sent = refl
+annex_kept p s b (Start q key) h sent = refl
+annex_kept p s b (Resume q) h sent = refl
+annex_kept p s b (Bank m) h sent = refl
+annex_kept p s b Discrim h sent = refl
 
 -- a bank that may be asked is one
 pub bank_asked : (p : Parts) (s : BanksState) (b : ℕ) (args : Arguments) → MayAsk p s b args → IsBankOf p s b

@@ -10,8 +10,8 @@ use Rattle.model.specs.declared.object.Content.{Content}
 use Rattle.model.specs.declared.object.Content.TheVariants as content
 use Rattle.model.specs.declared.object.Object.{Object}
 use Rattle.model.specs.Bank.{chain, usage}
-use Rattle.model.specs.Banking.{with_new}
-use Rattle.model.specs.Object.{is_bank, is_free, limit_in}
+use Rattle.model.specs.Banking.{new_annex, new_root, with_new}
+use Rattle.model.specs.Object.{is_bank, is_free, is_root, limit_in, root_in}
 use Rattle.model.specs.Revoke.{is_member}
 use Rattle.model.specs.Sound.{object_count}
 use Rattle.model.specs.World.{content_at}
@@ -68,12 +68,20 @@ pub record IsAsWide (s t : BanksState) : Type 0 where
   pub pages : length t.free_pages ≡ length s.free_pages
   pub usages : length t.usages ≡ length s.usages
   pub limits : length t.limits ≡ length s.limits
+  pub annexes : length t.annexes ≡ length s.annexes
   pub room : t.room ≡ s.room
+
+-- a list has a number of each object that passes a test
+abbrev pub HasEach : (Content Capability → Bool) → (Content Capability → ℕ) → List Object → List ℕ → Type 0
+HasEach passes number os xs = (x : ℕ) → IsTrue (passes (content_at os x)) → slice_index xs x ≡ number (content_at os x)
+
+abbrev pub annex_in : Content Capability → ℕ
+annex_in c = (root_in c).annex
 
 pub counted_from : (g : Geometry) (os us : List Object) (s t : BanksState) → AreCounted g os s → IsAsWide s t → AreMarked g us (marks_of t)
     → ((x : ℕ) → IsTrue (is_bank (content_at us x)) → slice_index t.usages x ≡ usage us x)
-    → ((x : ℕ) → IsTrue (is_bank (content_at us x)) → slice_index t.limits x ≡ limit_in (content_at us x)) → AreCounted g us t
-counted_from g os us s t counted wide marks usages limits = record {
+    → HasEach is_bank limit_in us t.limits → HasEach is_root annex_in us t.annexes → AreCounted g us t
+counted_from g os us s t counted wide marks usages limits annexes = record {
   nodes = wide.nodes ∙ counted.nodes;
   pages = wide.pages ∙ counted.pages;
   node = λ n inside.
@@ -84,8 +92,10 @@ counted_from g os us s t counted wide marks usages limits = record {
       ∙ ap (λ m. is_marked t.free_pages m) at) ∙ marks (g.nodes + n) (omega arith);
   usage_each = wide.usages ∙ counted.usage_each;
   limit_each = wide.limits ∙ counted.limit_each;
+  annex_each = wide.annexes ∙ counted.annex_each;
   usage = usages;
   limit = limits;
+  annex = annexes;
   room = omega (arith, counted.room, wide.room);
 }
 
@@ -108,6 +118,7 @@ pub record IsTaken (banks : List ℕ) (count : ℕ) (s t : BanksState) (marks : 
   pub nodes : length t.free_nodes ≡ length s.free_nodes
   pub pages : length t.free_pages ≡ length s.free_pages
   pub limits : t.limits ≡ s.limits
+  pub annexes : t.annexes ≡ s.annexes
   pub room : t.room ≡ s.room
   pub marks_are : marks_of t ≡ marks
 
@@ -117,22 +128,39 @@ taken_wide banks count s t marks taken = record {
   pages = taken.pages;
   usages = taken.usages.size;
   limits = ap (λ (xs : List ℕ). length xs) taken.limits;
+  annexes = ap (λ (xs : List ℕ). length xs) taken.annexes;
   room = taken.room;
 }
 
 module _ (os : List Object) (n b : ℕ) (inside : n < length os) (c : Content Capability) where
-  -- what is a bank after a new object that is none was one before
-  old_bank : is_bank c ≡ false → (x : ℕ) → IsTrue (is_bank (content_at (with_new os n b c) x)) → x ≢ n
-  old_bank plain x is e =
-      let no_bank : true ≡ false = sym is ∙ (ap (λ (m : ℕ). is_bank (content_at (with_new os n b c) m)) e
-      ∙ (ap (λ (o : Object). is_bank o.content) (at_new os n b c inside) ∙ plain)) in
-      cc
-
   other_content : (x : ℕ) → x ≢ n → content_at (with_new os n b c) x ≡ content_at os x
   other_content x differ = ap (λ (o : Object). o.content) (at_other os n b c x differ)
 
-  other_bank : (x : ℕ) → x ≢ n → IsTrue (is_bank (content_at (with_new os n b c) x)) → IsTrue (is_bank (content_at os x))
-  other_bank x differ is = sym (ap (λ (d : Content Capability). is_bank d) (other_content x differ)) ∙ is
+  new_content : content_at (with_new os n b c) n ≡ c
+  new_content = ap (λ (o : Object). o.content) (at_new os n b c inside)
+
+  module _ (passes : Content Capability → Bool) where
+    -- what passes a test after a new object that fails it did before
+    old_one : passes c ≡ false → (x : ℕ) → IsTrue (passes (content_at (with_new os n b c) x)) → x ≢ n
+    old_one plain x is e =
+        let wrong : true ≡ false = sym is ∙ (ap (λ (m : ℕ). passes (content_at (with_new os n b c) m)) e ∙ (ap passes new_content ∙ plain)) in
+        cc
+
+    other_one : (x : ℕ) → x ≢ n → IsTrue (passes (content_at (with_new os n b c) x)) → IsTrue (passes (content_at os x))
+    other_one x differ is = sym (ap passes (other_content x differ)) ∙ is
+
+    -- the numbers of what passes it stay, or the new one has its own
+    module _ (number : Content Capability → ℕ) (xs : List ℕ) (each : HasEach passes number os xs) where
+      each_kept : passes c ≡ false → HasEach passes number (with_new os n b c) xs
+      each_kept plain x is =
+          let differ = old_one plain x is in
+          each x (other_one x differ is) ∙ ap number (sym (other_content x differ))
+
+      each_set : (m : ℕ) → m ≡ number c → n < length xs → HasEach passes number (with_new os n b c) (slice_set xs n m)
+      each_set m is within x here = elim (cases_eq x n) [
+        | inl e ↦ rw (e, get_or-set_same xs n m 0 within) (is ∙ ap number (sym new_content))
+        | inr differ ↦ rw (get_or-set_other xs n x m 0 differ) (each x (other_one x differ here) ∙ ap number (sym (other_content x differ)))
+      ]
 
 no_bank_short : (c : Content Capability) (P : Type 0) → is_bank c ≡ false → IsTrue (is_bank c) → P
 no_bank_short c P plain is = cc
@@ -142,25 +170,23 @@ module _ (g : Geometry) (os : List Object) (size : length os ≡ object_count g)
   known_mark : n < length (marks_of s)
   known_mark = omega (arith, marks_length g os s counted, size)
 
-  -- one object that is no bank
-  pub counted_alone : (c : Content Capability) (u : BanksState) → is_free c ≡ false → is_bank c ≡ false
+  -- one object that is neither a bank nor a process
+  pub counted_alone : (c : Content Capability) (u : BanksState) → is_free c ≡ false → is_bank c ≡ false → is_root c ≡ false
       → IsTaken (chain os b) 1 s u (slice_set (marks_of s) n false) → AreCounted g (with_new os n b c) u
-  counted_alone c u used plain taken =
+  counted_alone c u used plain other taken =
       counted_from g os (with_new os n b c) s u counted (taken_wide (chain os b) 1 s u (slice_set (marks_of s) n false) taken)
       (subst (λ (marks : List Bool). AreMarked g (with_new os n b c) marks) (sym taken.marks_are)
       (marked_new g os (marks_of s) n b c inside known_mark used (marks_counted g os s counted)))
       (λ x is.
-      let was = other_bank os n b inside c x (old_bank os n b inside c plain x is) is in
+      let was = other_one os n b inside c is_bank x (old_one os n b inside c is_bank plain x is) is in
       omega (
         arith,
         taken.usages.each x,
         counted.usage x was,
         usage_new os n b c t bank inside unused used (no_bank_short c (length (chain os b) < 16) plain) x was,
       ))
-      (λ x is.
-      let differ = old_bank os n b inside c plain x is in
-      ap (λ (xs : List ℕ). slice_index xs x) taken.limits
-      ∙ (counted.limit x (other_bank os n b inside c x differ is) ∙ ap (λ (d : Content Capability). limit_in d) (sym (other_content os n b inside c x differ))))
+      (subst (HasEach is_bank limit_in (with_new os n b c)) (sym taken.limits) (each_kept os n b inside c is_bank limit_in s.limits counted.limit plain))
+      (subst (HasEach is_root annex_in (with_new os n b c)) (sym taken.annexes) (each_kept os n b inside c is_root annex_in s.annexes counted.annex other))
 
   -- a bank, of which nothing is counted yet
   pub counted_bank : (limit : ℕ) (u v : BanksState) → length (chain os b) < 16 → n < g.nodes → IsTaken (chain os b) 1 s u (slice_set (marks_of s) n false)
@@ -169,7 +195,7 @@ module _ (g : Geometry) (os : List Object) (size : length os ≡ object_count g)
       let c : Content Capability = content.Bank limit in
       let wide = taken_wide (chain os b) 1 s u (slice_set (marks_of s) n false) taken in
       let within : n < length u.usages = omega (arith, wide.usages, counted.usage_each) in
-      let within_limits : n < length u.limits = omega (arith, wide.limits, counted.limit_each) in
+      let within_limits : n < length s.limits = omega (arith, counted.limit_each) in
       subst (λ (w : BanksState). AreCounted g (with_new os n b c) w) (sym is)
       (counted_from g os (with_new os n b c) s (record u { usages = slice_set u.usages n 0; limits = slice_set u.limits n limit }) counted
       (record {
@@ -177,6 +203,7 @@ module _ (g : Geometry) (os : List Object) (size : length os ≡ object_count g)
         pages = wide.pages;
         usages = length-set u.usages n 0 ∙ wide.usages;
         limits = length-set u.limits n limit ∙ wide.limits;
+        annexes = wide.annexes;
         room = wide.room;
       })
       (subst (λ (marks : List Bool). AreMarked g (with_new os n b c) marks) (sym taken.marks_are)
@@ -184,56 +211,60 @@ module _ (g : Geometry) (os : List Object) (size : length os ≡ object_count g)
       (λ x here. elim (cases_eq x n) [
         | inl e ↦ rw (e, get_or-set_same u.usages n 0 0 within) (sym (usage_new_bank os n b c t bank inside unused refl (λ is_one. short) refl))
         | inr differ ↦
-            let was = other_bank os n b inside c x differ here in
+            let was = other_one os n b inside c is_bank x differ here in
             rw (get_or-set_other u.usages n x 0 0 differ)
             (omega (arith, taken.usages.each x, counted.usage x was, usage_new os n b c t bank inside unused refl (λ is_one. short) x was))
       ])
-      (λ x here. elim (cases_eq x n) [
-        | inl e ↦ rw (e, get_or-set_same u.limits n limit 0 within_limits) (sym (ap (λ (o : Object). limit_in o.content) (at_new os n b c inside)))
-        | inr differ ↦
-            rw (get_or-set_other u.limits n x limit 0 differ)
-            (ap (λ (xs : List ℕ). slice_index xs x) taken.limits
-            ∙ (counted.limit x (other_bank os n b inside c x differ here) ∙ ap (λ (d : Content Capability). limit_in d) (sym (other_content os n b inside c x differ))))
-      ]))
+      (subst (λ (xs : List ℕ). HasEach is_bank limit_in (with_new os n b c) (slice_set xs n limit)) (sym taken.limits)
+      (each_set os n b inside c is_bank limit_in s.limits counted.limit limit refl within_limits))
+      (subst (HasEach is_root annex_in (with_new os n b c)) (sym taken.annexes) (each_kept os n b inside c is_root annex_in s.annexes counted.annex refl)))
 
-  -- two objects, neither of which is a bank
-  pub counted_two : (c d : Content Capability) (m : ℕ) (u : BanksState) → is_free c ≡ false → is_bank c ≡ false → is_free d ≡ false → is_bank d ≡ false
-      → m < length os → m ≢ n → IsTrue (is_free (content_at os m)) → IsTaken (chain os b) 2 s u (slice_set (slice_set (marks_of s) n false) m false)
-      → AreCounted g (with_new (with_new os n b c) m b d) u
-  counted_two c d m u used plain used_too plain_too within two unused_too taken =
+  -- a process: two objects, neither of which is a bank
+  pub counted_process : (m : ℕ) (u v : BanksState) → m < length os → m ≢ n → n < g.nodes → IsTrue (is_free (content_at os m))
+      → IsTaken (chain os b) 2 s u (slice_set (slice_set (marks_of s) n false) m false) → v ≡ record u { annexes = slice_set u.annexes n m }
+      → AreCounted g (with_new (with_new os n b (new_root m)) m b new_annex) v
+  counted_process m u v within two place unused_too taken is =
+      let c = new_root m in
+      let d = new_annex in
       let vs = with_new os n b c in
-      let short = no_bank_short c (length (chain os b) < 16) plain in
-      let grown = tree_new os n b c t bank inside unused used short in
-      let kept = new_bank_kept os n b c t bank inside unused used short b bank in
-      let chain_kept = chain_new os n b c t bank inside unused used short b bank in
+      let short = no_bank_short c (length (chain os b) < 16) refl in
+      let grown = tree_new os n b c t bank inside unused refl short in
+      let kept = new_bank_kept os n b c t bank inside unused refl short b bank in
+      let chain_kept = chain_new os n b c t bank inside unused refl short b bank in
       let within_grown : m < length vs = omega (arith, length_new os n b c) in
       let unused_grown : IsTrue (is_free (content_at vs m)) = ap (λ (e : Content Capability). is_free e) (other_content os n b inside c m two) ∙ unused_too in
       let known : m < length (slice_set (marks_of s) n false) = omega (arith, length-set (marks_of s) n false, marks_length g os s counted, size) in
-      counted_from g os (with_new vs m b d) s u counted
-      (taken_wide (chain os b) 2 s u (slice_set (slice_set (marks_of s) n false) m false) taken)
+      let wide = taken_wide (chain os b) 2 s u (slice_set (slice_set (marks_of s) n false) m false) taken in
+      let annexes = each_set os n b inside c is_root annex_in s.annexes counted.annex m refl (omega (arith, counted.annex_each)) in
+      subst (λ (w : BanksState). AreCounted g (with_new vs m b d) w) (sym is)
+      (counted_from g os (with_new vs m b d) s (record u { annexes = slice_set u.annexes n m }) counted
+      (record {
+        nodes = wide.nodes;
+        pages = wide.pages;
+        usages = wide.usages;
+        limits = wide.limits;
+        annexes = length-set u.annexes n m ∙ wide.annexes;
+        room = wide.room;
+      })
       (subst (λ (marks : List Bool). AreMarked g (with_new vs m b d) marks) (sym taken.marks_are)
-      (marked_new g vs (slice_set (marks_of s) n false) m b d within_grown known used_too
-      (marked_new g os (marks_of s) n b c inside known_mark used (marks_counted g os s counted))))
+      (marked_new g vs (slice_set (marks_of s) n false) m b d within_grown known refl
+      (marked_new g os (marks_of s) n b c inside known_mark refl (marks_counted g os s counted))))
       (λ x is.
-      let first = other_bank vs m b within_grown d x (old_bank vs m b within_grown d plain_too x is) is in
-      let was = other_bank os n b inside c x (old_bank os n b inside c plain x first) first in
+      let first = other_one vs m b within_grown d is_bank x (old_one vs m b within_grown d is_bank refl x is) is in
+      let was = other_one os n b inside c is_bank x (old_one os n b inside c is_bank refl x first) first in
       omega (
         arith,
         taken.usages.each x,
         counted.usage x was,
-        usage_new os n b c t bank inside unused used short x was,
-        usage_new vs m b d grown kept within_grown unused_grown used_too (no_bank_short d (length (chain vs b) < 16) plain_too) x first,
+        usage_new os n b c t bank inside unused refl short x was,
+        usage_new vs m b d grown kept within_grown unused_grown refl (no_bank_short d (length (chain vs b) < 16) refl) x first,
         ap {B = ℕ} (λ (xs : List ℕ). if is_member xs x then 1 else 0) chain_kept,
         twice (is_member (chain os b) x),
       ))
-      (λ x is.
-      let differ_too = old_bank vs m b within_grown d plain_too x is in
-      let first = other_bank vs m b within_grown d x differ_too is in
-      let differ = old_bank os n b inside c plain x first in
-      ap (λ (xs : List ℕ). slice_index xs x) taken.limits
-      ∙ (counted.limit x (other_bank os n b inside c x differ first)
-      ∙ (ap (λ (e : Content Capability). limit_in e) (sym (other_content os n b inside c x differ))
-      ∙ ap (λ (e : Content Capability). limit_in e) (sym (other_content vs m b within_grown d x differ_too)))))
+      (subst (HasEach is_bank limit_in (with_new vs m b d)) (sym taken.limits)
+      (each_kept vs m b within_grown d is_bank limit_in s.limits (each_kept os n b inside c is_bank limit_in s.limits counted.limit refl) refl))
+      (subst (λ (xs : List ℕ). HasEach is_root annex_in (with_new vs m b d) (slice_set xs n m)) (sym taken.annexes)
+      (each_kept vs m b within_grown d is_root annex_in (slice_set s.annexes n m) annexes refl)))
     where
       twice : (is : Bool) → (if is then 2 else 0) ≡ (if is then 1 else 0) + (if is then 1 else 0)
       twice true = refl

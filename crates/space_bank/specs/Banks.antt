@@ -6,17 +6,19 @@ use Rattle.model.specs.declared.order.Arguments.{Arguments}
 use Rattle.model.specs.Bank.{usage}
 use Rattle.model.specs.Object.{is_bank, is_free, limit_in}
 use Rattle.model.specs.Sound.{MayBeHeld, object_count}
-use Rattle.model.specs.World.{content_at}
+use Rattle.model.specs.World.{annex_at, content_at, is_process}
 use Rattle.capability.specs.Parts.{AreSound, Parts, Renews, objects_in}
 use Rattle.number_set.specs.Marks.{is_marked}
 
 -- Which nodes and which pages are free, counted from the first of each; by number of a bank how many objects it
--- accounts for, and its limit; and the numbers that were listed for an order, with so much room for them.
+-- accounts for, and its limit; by number of a process its annex; and the numbers that were listed for an order, with
+-- so much room for them.
 pub record BanksState : Type 0 where
   pub free_nodes : List Bool
   pub free_pages : List Bool
   pub usages : List ℕ
   pub limits : List ℕ
+  pub annexes : List ℕ
   pub listed : List ℕ
   pub room : ℕ
 
@@ -28,8 +30,10 @@ pub record AreCounted (g : Geometry) (os : List Object) (s : BanksState) : Type 
   pub page : (n : ℕ) → n < g.pages → is_marked s.free_pages n ≡ is_free (content_at os (g.nodes + n))
   pub usage_each : length s.usages ≡ g.nodes
   pub limit_each : length s.limits ≡ g.nodes
+  pub annex_each : length s.annexes ≡ g.nodes
   pub usage : (b : ℕ) → IsTrue (is_bank (content_at os b)) → slice_index s.usages b ≡ usage os b
   pub limit : (b : ℕ) → IsTrue (is_bank (content_at os b)) → slice_index s.limits b ≡ limit_in (content_at os b)
+  pub annex : (p : ℕ) → IsTrue (is_process os p) → slice_index s.annexes p ≡ annex_at os p
   pub room : object_count g + 2 ≤ s.room
 
 -- a bank may be asked: the frames are sound and counted, and what is sent may be held

@@ -1,7 +1,12 @@
 -- What is counted, part by part.
-use Rattle.std.specs.Prelude.{◌≡◌, ℕ, ◌+◌, ◌<◌, Bool, List, length}
+use Rattle.std.specs.Prelude.{◌≡◌, ℕ, ◌+◌, ◌<◌, Bool, List, length, map}
+use Rattle.std.specs.List.{range_with_len}
+use Rattle.model.specs.declared.capability.Capability.{Capability}
+use Rattle.model.specs.declared.object.Content.{Content}
 use Rattle.model.specs.declared.object.Object.{Object}
-use Rattle.model.specs.Object.{is_free}
+use Rattle.model.specs.declared.object.Role.{Role}
+use Rattle.model.specs.declared.object.Role.TheVariants as role
+use Rattle.model.specs.Object.{is_free, limit_in, root_in}
 use Rattle.model.specs.World.{content_at}
 use Rattle.number_set.specs.Marks.{is_marked}
 
@@ -9,3 +14,14 @@ use Rattle.number_set.specs.Marks.{is_marked}
 pub record AreMarked (os : List Object) (first count : ℕ) (marks : List Bool) : Type 0 where
   pub size : length marks ≡ count
   pub each : (n : ℕ) → n < count → is_marked marks n ≡ is_free (content_at os (first + n))
+
+-- the number that is kept of an object with a role: the limit of a bank, or the annex of a process
+abbrev pub kept_number : Role → Content Capability → ℕ
+kept_number role.Bank c = limit_in c
+kept_number role.Root c = (root_in c).annex
+kept_number _ c = 0
+
+-- the limits of banks and the annexes of processes, of so many numbers
+pub record AreKept (os : List Object) (count : ℕ) (limits annexes : List ℕ) : Type 0 where
+  pub limits_are : limits ≡ map (λ n. kept_number role.Bank (content_at os n)) (range_with_len 0 count)
+  pub annexes_are : annexes ≡ map (λ n. kept_number role.Root (content_at os n)) (range_with_len 0 count)

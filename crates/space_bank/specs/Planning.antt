@@ -1,5 +1,5 @@
 -- What planning reads of a bank.
-use Rattle.std.specs.Prelude.{◌≡◌, ℕ, ◌+◌, ◌<◌, ◌≤◌, ◌++◌, Bool, true, false, IsTrue, List, [], ◌∷◌, length}
+use Rattle.std.specs.Prelude.{◌≡◌, ℕ, ◌+◌, ◌<◌, ◌≤◌, ◌++◌, Bool, true, false, IsTrue, List, [], ◌∷◌, length, slice_index}
 use Rattle.model.specs.declared.capability.Capability.{Capability}
 use Rattle.model.specs.declared.capability.Capability.TheVariants.{Process}
 use Rattle.model.specs.declared.command.Operation.{Operation}
@@ -21,6 +21,11 @@ pub record IsBankOf (p : Parts) (s : BanksState) (b : ℕ) : Type 0 where
 abbrev pub annex_of : List Object → Capability → List ℕ
 annex_of os (Process p) = annex_at os p ∷ []
 annex_of os _ = []
+
+-- the same, by the annexes of all processes
+abbrev pub annex_among : List ℕ → Capability → List ℕ
+annex_among annexes (Process p) = slice_index annexes p ∷ []
+annex_among annexes _ = []
 
 -- what is marked, nodes first, is what is free
 pub record AreFree (os : List Object) (nodes pages : List Bool) : Type 0 where

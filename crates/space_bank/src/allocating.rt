@@ -75,6 +75,7 @@ impl Banks {
         self.account(store, bank, 2);
         self.make(store, root, Fresh::Root { annex }, bank);
         self.make(store, annex, Fresh::Annex, bank);
+        self.annexes[root as usize] = annex;
     }
 
     /// Makes a free number, fetched and announced, a bank of a bank in whose chain no limit is

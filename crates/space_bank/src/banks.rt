@@ -4,7 +4,8 @@ ghost use Rattle.std.specs.Prelude.{◌≡◌, slice_index};
 use number_set::NumberSet;
 use std::marker::Model;
 
-/// Which numbers are free, and for each bank its limit and how many objects it accounts for.
+/// Which numbers are free; for each bank its limit and how many objects it accounts for; and for each
+/// process its annex.
 ///
 /// Counted once from the objects, and kept from then on by every order that a bank carries out. No
 /// call but the counting takes memory.
@@ -14,6 +15,7 @@ pub struct Banks {
     pub(crate) pages: NumberSet,
     pub(crate) usages: Vec<u64>,
     pub(crate) limits: Vec<u64>,
+    pub(crate) annexes: Vec<u64>,
     pub(crate) listed: Vec<u64>,
 }
 
@@ -28,6 +30,7 @@ impl Model for Banks {
       free_pages = b.pages;
       usages = b.usages.items;
       limits = b.limits.items;
+      annexes = b.annexes.items;
       listed = b.listed.items;
       room = vec_capacity b.listed;
     } };
@@ -40,6 +43,16 @@ impl Banks {
     {
         match self.usages.get(bank as usize) {
             Some(usage) => *usage,
+            None => 0,
+        }
+    }
+
+    /// The annex of a process.
+    pub fn annex(&self, process: u64) -> u64
+        ensures { result ≡ slice_index self.now.annexes process }
+    {
+        match self.annexes.get(process as usize) {
+            Some(annex) => *annex,
             None => 0,
         }
     }

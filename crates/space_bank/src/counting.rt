@@ -1,19 +1,19 @@
 // What there is, counted from the objects.
-ghost use Rattle.std.specs.Prelude.{◌≡◌, ◌↔◌, ℕ, ◌+◌, ◌<◌, ◌≤◌, ◌^◌, length, map, slice_index, IfOk, IsErrOf, IsTrue};
+ghost use Rattle.std.specs.Prelude.{◌≡◌, ◌↔◌, ℕ, ◌+◌, ◌<◌, ◌≤◌, ◌^◌, false, length, map, slice_index, IfOk, IsErrOf, IsTrue};
 ghost use Rattle.std.specs.List.{range_with_len};
 ghost use Rattle.model.specs.Bank.{usage as usage_of};
 ghost use Rattle.model.specs.Keepable.{AreKeepable};
 ghost use Rattle.model.specs.Object.{is_bank as counts_as_bank, limit_in};
 ghost use Rattle.model.specs.World.{content_at};
 ghost use Rattle.model_laws.proofs.BankTree.{IsTree};
-ghost use Rattle.capability.specs.Parts.{AreSound, HaveTheirRoles, LooksUp, frames_of, objects_in};
+ghost use Rattle.capability.specs.Parts.{AreSound, HaveTheirRoles, Looks, LooksUp, frames_of, objects_in};
 ghost use Rattle.space_bank.specs.Banks.{AreCounted};
-ghost use Rattle.space_bank.specs.Counting.{AreMarked};
+ghost use Rattle.space_bank.specs.Counting.{AreKept, AreMarked, kept_number};
 
 use crate::banks::Banks;
 use crate::chains::raise;
 use crate::walking::{is_free, owner};
-use capability::{PrepareFault, PresentFrames, objects};
+use capability::{PrepareFault, PresentFrames, objects, roots};
 use model::{Content, Role};
 use number_set::NumberSet;
 use std::alloc::{AllocError, Global};
@@ -39,30 +39,85 @@ fn limit_there<F: PresentFrames>(store: &F, number: u64) -> u64
     }
 }
 
-// The limit of a bank, which is fetched for it; 0 where it is no bank.
-fn read_limit<F: PresentFrames>(
+// The number that is kept of an object with a role, which is fetched.
+fn number_there<F: PresentFrames>(store: &F, number: u64, role: Role) -> u64
+    requires { F.IsFetched store.now number }
+    ensures { result ≡ kept_number role (content_at (objects_in (F.parts store.now)) number) }
+{
+    match role {
+        Role::Bank => limit_there(store, number),
+        Role::Root => objects::annex(store, number),
+        _ => 0,
+    }
+}
+
+// Whether an object has a role of which a number is kept. If not, the number is 0.
+fn is_kept<F: PresentFrames>(store: &F, number: u64, role: Role) -> bool
+    requires { HaveTheirRoles (frames_of (F.parts store.now)) }
+    ensures { result ≡ false
+        → kept_number role (content_at (objects_in (F.parts store.now)) number) ≡ 0 }
+{
+    match role {
+        Role::Bank => is_bank(store, number),
+        Role::Root => roots::is_process(store, number),
+        _ => false,
+    }
+}
+
+// The number that is kept of an object with a role, which is fetched for it; 0 in another role.
+fn read_number<F: PresentFrames>(
     alloc: Global,
     store: &mut F,
     number: u64,
+    role: Role,
 ) -> Result<u64, PrepareFault>
     requires known { number < length (F.parts store.old).headers }
     requires keepable { AreKeepable (F.parts store.old).geometry u64.MAX
         (frames_of (F.parts store.old)) }
-    ensures limit { IfOk result (λ limit. limit
-        ≡ limit_in (content_at (objects_in (F.parts store.old)) number)) }
-    ensures room { IsErrOf result PrepareFault.LogFull → ⊥ }
-    ensures cause { IsErrOf result PrepareFault.Failed
-        ↔ ((F.parts store.old).failures < (F.parts store.new).failures) }
-    ensures later { (F.parts store.old).failures ≤ (F.parts store.new).failures }
-    ensures aside { LooksUp F.parts F.LeadsTo store.old store.new }
+    ensures kept { IfOk result (λ kept. kept
+        ≡ kept_number role (content_at (objects_in (F.parts store.old)) number)) }
+    ensures looks { Looks F.parts F.LeadsTo store.old store.new result }
 {
-    if !is_bank(store, number) {
+    if !is_kept(store, number, role) {
         return Ok(0);
     }
     match objects::fetch(store, alloc, &[number]) {
         Err(fault) => Err(fault),
-        Ok(()) => Ok(limit_there(store, number)),
+        Ok(()) => Ok(number_there(store, number, role)),
     }
+}
+
+/// The numbers that are kept of the objects below a count, by number: the limits of banks, or the
+/// annexes of processes, and 0 in another role. Each object with the role is fetched, one at a time;
+/// nothing else is.
+///
+/// `NoMemory` where memory ran out, `Failed` exactly where the device failed, and never `LogFull`,
+/// since nothing is announced. No object is another than before.
+pub fn read_numbers<F: PresentFrames>(
+    alloc: Global,
+    store: &mut F,
+    count: u64,
+    role: Role,
+) -> Result<Vec<u64>, PrepareFault>
+    requires known { count ≤ length (F.parts store.old).headers }
+    requires keepable { AreKeepable (F.parts store.old).geometry u64.MAX
+        (frames_of (F.parts store.old)) }
+    ensures kept { let objects = objects_in (F.parts store.old) in
+        IfOk result (λ kept. kept.items
+        ≡ map (λ n. kept_number role (content_at objects n)) (range_with_len 0 count)) }
+    ensures looks { Looks F.parts F.LeadsTo store.old store.new result }
+{
+    let mut kept = match Vec::with_capacity(alloc, count as usize) {
+        Ok(kept) => kept,
+        Err(_) => return Err(PrepareFault::NoMemory),
+    };
+    for number in 0..count {
+        match read_number(alloc, store, number, role) {
+            Err(fault) => return Err(fault),
+            Ok(one) => kept.push_reserved(one),
+        }
+    }
+    Ok(kept)
 }
 
 /// The limits of all banks below a count by number, 0 for what is no bank. Each bank is fetched,
@@ -87,17 +142,7 @@ pub fn read_limits<F: PresentFrames>(
     ensures later { (F.parts store.old).failures ≤ (F.parts store.new).failures }
     ensures aside { LooksUp F.parts F.LeadsTo store.old store.new }
 {
-    let mut limits = match Vec::with_capacity(alloc, count as usize) {
-        Ok(limits) => limits,
-        Err(_) => return Err(PrepareFault::NoMemory),
-    };
-    for number in 0..count {
-        match read_limit(alloc, store, number) {
-            Err(fault) => return Err(fault),
-            Ok(limit) => limits.push_reserved(limit),
-        }
-    }
-    Ok(limits)
+    read_numbers(alloc, store, count, Role::Bank)
 }
 
 // Which of so many numbers from a first one on are free.
@@ -162,8 +207,32 @@ pub fn count_usages<F: PresentFrames>(
     Ok(usages)
 }
 
+// The limits of banks and the annexes of processes, among the nodes.
+fn read_all<F: PresentFrames>(
+    alloc: Global,
+    store: &mut F,
+    nodes: u64,
+) -> Result<(Vec<u64>, Vec<u64>), PrepareFault>
+    requires known { nodes ≤ length (F.parts store.old).headers }
+    requires keepable { AreKeepable (F.parts store.old).geometry u64.MAX
+        (frames_of (F.parts store.old)) }
+    ensures kept { IfOk result (λ kept. AreKept (objects_in (F.parts store.old)) nodes
+        kept.0.items kept.1.items) }
+    ensures looks { Looks F.parts F.LeadsTo store.old store.new result }
+{
+    let limits = match read_numbers(alloc, store, nodes, Role::Bank) {
+        Ok(limits) => limits,
+        Err(fault) => return Err(fault),
+    };
+    match read_numbers(alloc, store, nodes, Role::Root) {
+        Ok(annexes) => Ok((limits, annexes)),
+        Err(fault) => Err(fault),
+    }
+}
+
 impl Banks {
-    /// Counts what there is. Each bank is fetched for its limit, one at a time; nothing else is.
+    /// Counts what there is. Each bank is fetched for its limit and each process for its annex, one at a
+    /// time; nothing else is.
     ///
     /// Takes all the memory that any order will need; no other call takes any. `NoMemory` where
     /// memory ran out, `Failed` exactly where the device failed, and never `LogFull`, since nothing
@@ -179,25 +248,25 @@ impl Banks {
         ensures aside { LooksUp F.parts F.LeadsTo store.old store.new }
     {
         let nodes = store.geometry().nodes;
-        match read_limits(alloc, store, nodes) {
+        match read_all(alloc, store, nodes) {
             Err(fault) => Err(fault),
-            Ok(limits) => match Banks::with_limits(alloc, store, limits) {
+            Ok((limits, annexes)) => match Banks::with_numbers(alloc, store, limits, annexes) {
                 Err(_) => Err(PrepareFault::NoMemory),
                 Ok(banks) => Ok(banks),
             },
         }
     }
 
-    // Counts what there is beside the limits.
-    fn with_limits<F: PresentFrames>(
+    // Counts what there is beside the limits and the annexes.
+    fn with_numbers<F: PresentFrames>(
         alloc: Global,
         store: &F,
         limits: Vec<u64>,
+        annexes: Vec<u64>,
     ) -> Result<Banks, AllocError>
         requires sound { AreSound (F.parts store.now) }
-        requires limits { let objects = objects_in (F.parts store.now) in limits.items
-            ≡ map (λ n. limit_in (content_at objects n))
-            (range_with_len 0 (F.parts store.now).geometry.nodes) }
+        requires kept { AreKept (objects_in (F.parts store.now))
+            (F.parts store.now).geometry.nodes limits.items annexes.items }
         ensures { IfOk result (AreCounted (F.parts store.now).geometry
             (objects_in (F.parts store.now))) }
     {
@@ -215,6 +284,7 @@ impl Banks {
             pages,
             usages,
             limits,
+            annexes,
             listed,
         })
     }

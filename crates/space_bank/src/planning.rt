@@ -10,12 +10,12 @@ ghost use Rattle.model.specs.World.{content_at};
 ghost use Rattle.capability.specs.Parts.{objects_in};
 ghost use Rattle.space_bank.specs.Banks.{MayAsk};
 ghost use Rattle.space_bank.specs.Carrying.{IsPlanned};
-ghost use Rattle.space_bank.specs.Planning.{IsBankOf, annex_of};
+ghost use Rattle.space_bank.specs.Planning.{IsBankOf, annex_among, annex_of};
 
 use crate::banks::Banks;
 use crate::planning_new::New;
 use crate::walking::owner;
-use capability::{BankChange, Change, OrderPlan, PresentFrames, objects};
+use capability::{BankChange, Change, OrderPlan, PresentFrames};
 use model::{Access, Arguments, BankOrder, Capability, ResultCode};
 
 // The object that a capability frees, the root of a process: none where it frees nothing.
@@ -41,6 +41,7 @@ impl Banks {
     ///
     /// Changes nothing else and takes no memory. A new object is planned at the least number that
     /// is free. If more than one code applies, the plan has the least.
+    #[tactic(auto, using(crate::proofs::Plans::bank_asked))]
     pub fn plan<F: PresentFrames>(
         &mut self,
         store: &F,
@@ -49,8 +50,6 @@ impl Banks {
         arguments: Arguments,
     ) -> OrderPlan
         requires asks { MayAsk (F.parts store.now) self.old bank arguments }
-        requires root { (p : ℕ) → arguments.capability ≡ Capability.Process p
-            → F.IsFetched store.now p }
         requires few { length self.old.listed ≤ 2 }
         ensures planned { IsPlanned (F.parts store.now) bank order arguments self.old.listed result
             self.new.listed }
@@ -97,7 +96,6 @@ impl Banks {
         requires bank { IsBankOf (F.parts store.now) self.old bank }
         requires few { length self.old.listed ≤ 2 }
         requires sent { MayBeHeld (objects_in (F.parts store.now)) capability }
-        requires root { (p : ℕ) → capability ≡ Capability.Process p → F.IsFetched store.now p }
         ensures planned { (args : Arguments) → args.capability ≡ capability
             → IsPlanned (F.parts store.now) bank BankOrder.Free args self.old.listed result
             self.new.listed }
@@ -110,22 +108,22 @@ impl Banks {
                     return OrderPlan::refused(ResultCode::NotFromThisBank);
                 }
                 self.list(object);
-                self.list_annex(store, capability);
+                self.list_annex(capability);
                 OrderPlan::changed(Change::Bank(BankChange::GiveUp { above: bank }))
             }
         }
     }
 
     // Lists the annex of the process that a capability names, if it names one.
-    fn list_annex<F: PresentFrames>(&mut self, store: &F, capability: Capability)
-        requires room { (p : ℕ) → capability ≡ Capability.Process p
+    fn list_annex(&mut self, capability: Capability)
+        requires { (p : ℕ) → capability ≡ Capability.Process p
             → length self.old.listed < self.old.room }
-        requires root { (p : ℕ) → capability ≡ Capability.Process p → F.IsFetched store.now p }
-        ensures { let objects = objects_in (F.parts store.now) in self.new
-            ≡ record self.old { listed = self.old.listed ++ annex_of objects capability } }
+        ensures { self.new ≡ record self.old {
+          listed = self.old.listed ++ annex_among self.old.annexes capability;
+        } }
     {
         if let Capability::Process(root) = capability {
-            self.list(objects::annex(store, root));
+            self.list(self.annex(root));
         }
     }
 

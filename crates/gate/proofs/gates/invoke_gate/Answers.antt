@@ -16,7 +16,7 @@ use Rattle.capability.proofs.Frames.{process_known}
 use Rattle.gate.proofs.Known.{running_process}
 use Rattle.gate.proofs.Invoking.{carried_out, found_stalled, unannounced}
 use Rattle.gate.proofs.Renewing.{gate_no_bank, renews_invoked}
-use Rattle.gate.proofs.Standing.{LooksAs, annex_there, calls_below, few_objects, keepable_most, looked_as, looked_number, looked_objects, looked_sound, looks_again, now_sound, prepared_as, register_kind}
+use Rattle.gate.proofs.Standing.{LooksAs, annex_there, asked_annex, calls_below, few_objects, keepable_most, looked_as, looked_number, looked_objects, looked_sound, looks_again, now_sound, prepared_as, register_kind}
 use Rattle.gate.proofs.gates.invoke_gate.Goals as goal
 
 pub look_at_process-requires-clause-keepable : goal.look_at_process-requires-clause-keepable
@@ -34,6 +34,34 @@ look_at_process-requires-clause-annex g c =
     let i = c.args.invocation.now in
     annex_there old c.requires.sound c.args.gate.process
     (gate_process (objects_in old) c.args.caller.invoked c.args.gate (register_kind old c.requires.sound i.process i.register c.args.caller.invoked c.requires.asked.invoked) c.requires.gate)
+
+pub can_enter-requires-clause-process : goal.can_enter-requires-clause-process
+can_enter-requires-clause-process g c =
+    let old = g.F.PresentFrames.parts c.args.store.now in
+    let now = g.F.PresentFrames.parts c.look_at_process.new.store in
+    let looks : LooksAs old now = looked_as c.in_ok-annex.ensures.looks.aside in
+    subst (λ (us : List Object). is_process us c.args.gate.process ≡ true) (sym (looked_objects old now looks))
+    (gate_process (objects_in old) c.args.caller.invoked c.args.gate
+    (register_kind old c.requires.sound c.args.invocation.now.process c.args.invocation.now.register c.args.caller.invoked c.requires.asked.invoked) c.requires.gate)
+
+pub announce-requires-clause-receiver : goal.announce-requires-clause-receiver
+announce-requires-clause-receiver g c =
+    let old = g.F.PresentFrames.parts c.args.store.now in
+    let now = g.F.PresentFrames.parts c.look_at_process.new.store in
+    let looks : LooksAs old now = looked_as c.in_ok-annex.ensures.looks.aside in
+    looked_number old now looks c.args.gate.process (process_known old c.args.gate.process
+    (gate_process (objects_in old) c.args.caller.invoked c.args.gate
+    (register_kind old c.requires.sound c.args.invocation.now.process c.args.invocation.now.register c.args.caller.invoked c.requires.asked.invoked) c.requires.gate))
+
+pub announce-requires-clause-annex : goal.announce-requires-clause-annex
+announce-requires-clause-annex g c =
+    let old = g.F.PresentFrames.parts c.args.store.now in
+    let now = g.F.PresentFrames.parts c.look_at_process.new.store in
+    let looks : LooksAs old now = looked_as c.in_ok-annex.ensures.looks.aside in
+    looked_number old now looks c.in_ok-annex.annex (asked_annex old c.requires.sound c.args.gate.process c.in_ok-annex.annex
+    (gate_process (objects_in old) c.args.caller.invoked c.args.gate
+    (register_kind old c.requires.sound c.args.invocation.now.process c.args.invocation.now.register c.args.caller.invoked c.requires.asked.invoked) c.requires.gate)
+    c.in_ok-annex.ensures.annex.0)
 
 pub announce-requires-clause-keepable : goal.announce-requires-clause-keepable
 announce-requires-clause-keepable g c =

@@ -1,11 +1,13 @@
-use Rattle.std.proofs.Common.{sym, subst, ◌∙◌}
+use Rattle.std.proofs.Common.{◌≡◌, true, List, sym, subst, ◌∙◌}
 use Rattle.std.specs.Prelude.{slice_index}
 use Rattle.model.specs.declared.capability.Capability.{Capability}
+use Rattle.model.specs.declared.object.Object.{Object}
 use Rattle.model.specs.Order.{IsNoBankOrder}
+use Rattle.model.specs.World.{is_running_process}
 use Rattle.gate.proofs.BankStates.{counted_after}
 use Rattle.gate.proofs.Invoking.{invoked_looked}
 use Rattle.gate.proofs.Renewing.{gate_no_bank}
-use Rattle.gate.proofs.Standing.{LooksAs, keepable_most, looked_as}
+use Rattle.gate.proofs.Standing.{LooksAs, keepable_most, looked_as, looked_objects}
 use Rattle.gate.proofs.invocation.invoke.Goals as goal
 
 pub ask-requires-clause-keepable : goal.ask-requires-clause-keepable
@@ -18,7 +20,8 @@ returns-in-Some-clause-counted g c =
     let new = g.F.PresentFrames.parts c.invoke_gate.new.store in
     let looks : LooksAs old mid = looked_as c.in_ok-caller.ensures.looks.aside in
     let i = c.args.invocation in
-    counted_after old mid new i c.args.banks.now c.requires.sound looks c.can_be_spelt.ensures c.requires.process
+    counted_after old mid new i c.args.banks.now c.requires.sound looks c.can_be_spelt.ensures
+    (subst (λ (us : List Object). is_running_process us i.process ≡ true) (looked_objects old mid looks) (sym c.is_running.ensures ∙ c.if-not-is_running.false))
     (subst (λ (k : Capability). IsNoBankOrder k (slice_index i.words 0)) (sym c.in-Some.ensures.gate ∙ c.in_ok-caller.ensures.asked.invoked) (gate_no_bank c.in-Some.gate (slice_index i.words 0)))
     c.requires.counted c.invoke_gate.ensures.geometry c.invoke_gate.result c.invoke_gate.ensures.done c.invoke_gate.ensures.unchanged
 

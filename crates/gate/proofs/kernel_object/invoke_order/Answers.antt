@@ -62,7 +62,7 @@ carry_out-requires g c =
     (now_sound old c.requires.sound) c.requires.fits c.requires.running in
     record {
       sound = looked_sound old mid there c.requires.sound;
-      counted = counted_listed mid.geometry (objects_in mid) c.args.banks.now banks c.in_ok-plan.ensures.kept (counted_looked old mid c.args.banks.now there c.requires.counted);
+      counted = counted_listed mid.geometry (objects_in mid) c.args.banks.now banks banks.listed c.in_ok-plan.ensures.kept (counted_looked old mid c.args.banks.now there c.requires.counted);
       running = subst (λ (us : List Object). IsTrue (is_running_process us caller.process)) (sym same) running;
       annex = c.requires.asked.annex ∙ annex_asked old mid i caller there c.requires.asked.process;
       planned = subst (λ (h : Geometry). IsPlanned h (objects_in mid) i caller plan banks.listed) (sym there.geometry)

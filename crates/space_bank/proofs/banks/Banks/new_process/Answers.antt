@@ -4,6 +4,7 @@ use Rattle.model.specs.declared.geometry.Geometry.{Geometry}
 use Rattle.model.specs.declared.object.Object.{Object}
 use Rattle.model.specs.Banking.{new_annex, new_root, with_new}
 use Rattle.model.specs.Keepable.{AreKeepable}
+use Rattle.space_bank.specs.Banks.{BanksState}
 use Rattle.space_bank.specs.Carrying.{marks_of}
 use Rattle.model.specs.Bank.{chain}
 use Rattle.capability.specs.Parts.{frames_of, objects_in}
@@ -39,10 +40,11 @@ returns-clause-carried g c =
     let made_annex : IsMade c.make.new.self c.make-2.new.self c.args.annex =
     record { nodes = c.make-2.ensures.nodes; pages = c.make-2.ensures.pages; marks = c.make-2.ensures.marks; kept = c.make-2.ensures.kept } in
     process_carried p s c.args.bank c.requires.asks c.args.root at.0 c.requires.free r (λ current. c.make-2.ensures.current (c.make.ensures.current current))
-    c.args.annex c.make-2.new.self
+    c.args.annex c.make-2.new.self _
     (c.make-2.ensures.objects ∙ ap (λ (os : List Object). with_new os c.args.annex c.args.bank new_annex) c.make.ensures.objects)
     (λ age k. subst (λ (g : Geometry). AreKeepable g age (frames_of r)) c.make.ensures.aside.geometry
     (c.make-2.ensures.keepable age tt (subst (λ (g : Geometry). AreKeepable g age (frames_of q)) (sym c.make.ensures.aside.geometry) (c.make.ensures.keepable age c.ranges.annex.fits k))))
-    at_annex.0 c.requires.two c.requires.annex_free
+    at_annex.0 c.requires.two c.requires.place c.requires.annex_free
     (taken_two banks 2 s c.make.new.self c.make-2.new.self (slice_set (marks_of s) c.args.root false) c.args.annex
     (taken_one banks 2 s c.account.new.self c.make.new.self c.args.root c.account.ensures.usages c.account.ensures.kept made) made_annex)
+    (ap (λ (k : BanksState). let u : BanksState = record k { annexes = slice_set k.annexes c.args.root c.args.annex } in u) c.self.view_is)

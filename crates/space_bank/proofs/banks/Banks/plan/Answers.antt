@@ -10,63 +10,35 @@ use Rattle.space_bank.specs.Carrying.{IsPlanned}
 use Rattle.space_bank.proofs.Plans.{answer, bank_asked, planned_none, remaining_there, told_as}
 use Rattle.space_bank.proofs.banks.Banks.plan.Goals as goal
 
-pub plan_new-requires-clause-bank : goal.plan_new-requires-clause-bank
-plan_new-requires-clause-bank g c =
-    bank_asked (g.F.PresentFrames.parts c.args.store.now) c.args.self.now c.args.bank c.args.arguments c.requires.asks
-
 pub returns-in-NewPage-clause-planned : goal.returns-in-NewPage-clause-planned
 returns-in-NewPage-clause-planned g c =
     subst (λ (o : BankOrder). IsPlanned (g.F.PresentFrames.parts c.args.store.now) c.args.bank o c.args.arguments c.args.self.now.listed c.plan_new.result c.plan_new.new.self.listed) (sym c.in-NewPage.is)
     (c.plan_new.ensures.planned bank.NewPage c.args.arguments refl)
-
-pub plan_new-requires-in-NewNode-clause-bank : goal.plan_new-requires-in-NewNode-clause-bank
-plan_new-requires-in-NewNode-clause-bank g c =
-    bank_asked (g.F.PresentFrames.parts c.args.store.now) c.args.self.now c.args.bank c.args.arguments c.requires.asks
 
 pub returns-in-NewNode-clause-planned : goal.returns-in-NewNode-clause-planned
 returns-in-NewNode-clause-planned g c =
     subst (λ (o : BankOrder). IsPlanned (g.F.PresentFrames.parts c.args.store.now) c.args.bank o c.args.arguments c.args.self.now.listed c.plan_new-in-NewNode.result c.plan_new-in-NewNode.new.self.listed) (sym c.in-NewNode.is)
     (c.plan_new-in-NewNode.ensures.planned bank.NewNode c.args.arguments refl)
 
-pub plan_new-requires-in-NewProcess-clause-bank : goal.plan_new-requires-in-NewProcess-clause-bank
-plan_new-requires-in-NewProcess-clause-bank g c =
-    bank_asked (g.F.PresentFrames.parts c.args.store.now) c.args.self.now c.args.bank c.args.arguments c.requires.asks
-
 pub returns-in-NewProcess-clause-planned : goal.returns-in-NewProcess-clause-planned
 returns-in-NewProcess-clause-planned g c =
     subst (λ (o : BankOrder). IsPlanned (g.F.PresentFrames.parts c.args.store.now) c.args.bank o c.args.arguments c.args.self.now.listed c.plan_new-in-NewProcess.result c.plan_new-in-NewProcess.new.self.listed) (sym c.in-NewProcess.is)
     (c.plan_new-in-NewProcess.ensures.planned bank.NewProcess c.args.arguments refl)
-
-pub plan_new-requires-in-NewBank-clause-bank : goal.plan_new-requires-in-NewBank-clause-bank
-plan_new-requires-in-NewBank-clause-bank g c =
-    bank_asked (g.F.PresentFrames.parts c.args.store.now) c.args.self.now c.args.bank c.args.arguments c.requires.asks
 
 pub returns-in-NewBank-clause-planned : goal.returns-in-NewBank-clause-planned
 returns-in-NewBank-clause-planned g c =
     subst (λ (o : BankOrder). IsPlanned (g.F.PresentFrames.parts c.args.store.now) c.args.bank o c.args.arguments c.args.self.now.listed c.plan_new-in-NewBank.result c.plan_new-in-NewBank.new.self.listed) (sym c.in-NewBank.is)
     (c.plan_new-in-NewBank.ensures.planned bank.NewBank c.args.arguments refl)
 
-pub plan_free-requires-clause-bank : goal.plan_free-requires-clause-bank
-plan_free-requires-clause-bank g c =
-    bank_asked (g.F.PresentFrames.parts c.args.store.now) c.args.self.now c.args.bank c.args.arguments c.requires.asks
-
 pub returns-in-Free-clause-planned : goal.returns-in-Free-clause-planned
 returns-in-Free-clause-planned g c =
     subst (λ (o : BankOrder). IsPlanned (g.F.PresentFrames.parts c.args.store.now) c.args.bank o c.args.arguments c.args.self.now.listed c.plan_free.result c.plan_free.new.self.listed) (sym c.in-Free.is)
     (c.plan_free.ensures.planned c.args.arguments refl)
 
-pub plan_destroy-requires-clause-bank : goal.plan_destroy-requires-clause-bank
-plan_destroy-requires-clause-bank g c =
-    bank_asked (g.F.PresentFrames.parts c.args.store.now) c.args.self.now c.args.bank c.args.arguments c.requires.asks
-
 pub returns-in-Destroy-clause-planned : goal.returns-in-Destroy-clause-planned
 returns-in-Destroy-clause-planned g c =
     subst (λ (o : BankOrder). IsPlanned (g.F.PresentFrames.parts c.args.store.now) c.args.bank o c.args.arguments c.args.self.now.listed c.plan_destroy.result c.plan_destroy.new.self.listed) (sym c.in-Destroy.is)
     (c.plan_destroy.ensures.planned c.args.arguments)
-
-pub plan_return-requires-clause-bank : goal.plan_return-requires-clause-bank
-plan_return-requires-clause-bank g c =
-    bank_asked (g.F.PresentFrames.parts c.args.store.now) c.args.self.now c.args.bank c.args.arguments c.requires.asks
 
 pub returns-in-ReturnToParent-clause-planned : goal.returns-in-ReturnToParent-clause-planned
 returns-in-ReturnToParent-clause-planned g c =

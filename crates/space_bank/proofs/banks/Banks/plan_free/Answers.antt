@@ -1,13 +1,13 @@
-use Rattle.std.proofs.Common.{◌++◌, ◌∙◌, [], ◌∷◌, append_assoc, refl, sym, ap}
+use Rattle.std.proofs.Common.{◌++◌, ◌∙◌, ℕ, List, [], ◌∷◌, append_assoc, refl, sym, ap}
 use Rattle.model.specs.declared.capability.Capability.TheVariants.{Void}
 use Rattle.model.specs.declared.order.BankOrder.TheVariants as bank
 use Rattle.model.specs.declared.order.ResultCode.TheVariants as code
 use Rattle.capability.specs.declared.order.BankChange.TheVariants.{GiveUp}
 use Rattle.capability.specs.Parts.{objects_in}
 use Rattle.space_bank.specs.Banks.{BanksState}
-use Rattle.space_bank.specs.Planning.{annex_of}
+use Rattle.space_bank.specs.Planning.{annex_among, annex_of}
 use Rattle.space_bank.proofs.Making.{may_free}
-use Rattle.space_bank.proofs.Plans.{frees_none_there, frees_other_there, frees_own_there, made_as, planned_as, planned_none, process_room, refused_as}
+use Rattle.space_bank.proofs.Plans.{annex_kept, frees_none_there, frees_other_there, frees_own_there, made_as, planned_as, planned_none, process_room, refused_as}
 use Rattle.space_bank.proofs.banks.Banks.plan_free.Goals as goal
 
 pub returns-in-None-clause-planned : goal.returns-in-None-clause-planned
@@ -30,8 +30,8 @@ returns-then-owner-bank-clause-planned g c = λ args is.
     (λ e. c.if-owner-bank.true (c.owner.ensures ∙ e)))
     c.refused-then-owner-bank.ensures) refl
 
-pub list_annex-requires-clause-room : goal.list_annex-requires-clause-room
-list_annex-requires-clause-room g c = λ q is.
+pub list_annex-requires : goal.list_annex-requires
+list_annex-requires g c q is =
     process_room (g.F.PresentFrames.parts c.args.store.now) c.args.self.now c.list.new.self c.args.bank c.args.capability q c.in-Some.object
     c.requires.bank c.requires.sent is c.requires.few c.list.ensures
 
@@ -49,5 +49,6 @@ returns-else-owner-bank-clause-planned g c = λ args is.
     (λ us frame now. may_free p.geometry os c.args.bank c.requires.bank.bank us frame now c.args.capability object annex c.requires.sent.1 (c.in-Some.ensures os) own)
     c.changed.ensures)
     (ap (λ (s : BanksState). s.listed) c.list_annex.ensures
-    ∙ ap (λ (s : BanksState). s.listed ++ annex) c.list.ensures
+    ∙ ap (λ (s : BanksState). s.listed ++ annex_among s.annexes c.args.capability) c.list.ensures
+    ∙ ap (λ (ns : List ℕ). (first ++ object ∷ []) ++ ns) (annex_kept p c.args.self.now c.args.bank c.args.capability c.requires.bank c.requires.sent)
     ∙ append_assoc first (object ∷ []) annex)

@@ -8,8 +8,8 @@ use Rattle.capability.specs.Parts.{frames_of, objects_in}
 use Rattle.capability.proofs.Keeping.{keepable_count, keepable_roles}
 use Rattle.space_bank.specs.Banks.{BanksState}
 use Rattle.space_bank.proofs.Counts.{counted_from, numbers_fit, room_told}
-use Rattle.capability.proofs.KindNumbers.{bank_number}
-use Rattle.space_bank.proofs.banks.Banks.with_limits.Goals as goal
+use Rattle.capability.proofs.KindNumbers.{bank_number, root_number}
+use Rattle.space_bank.proofs.banks.Banks.with_numbers.Goals as goal
 
 pub free_numbers-requires-2-clause-fits : goal.free_numbers-requires-2-clause-fits
 free_numbers-requires-2-clause-fits g c =
@@ -38,12 +38,14 @@ returns g c =
       free_pages = c.in_ok-pages.pages;
       usages = c.in_ok-usages.usages.items;
       limits = c.args.limits.items;
+      annexes = c.args.annexes.items;
       listed = c.in_ok-listed.listed.items;
       room = vec_capacity c.in_ok-listed.listed;
     } in
     counted_from p.geometry os made (λ b bank. bank_number p.geometry b (content_at os b) (sound.1.sound.kinds b) bank)
+    (λ q root. root_number p.geometry q (content_at os q) (sound.1.sound.kinds q) root)
     c.geometry-geometry.result c.geometry-geometry.ensures.geometry c.in_ok-nodes.ensures c.in_ok-pages.ensures c.in_ok-usages.ensures.size c.in_ok-usages.ensures.counted
-    c.requires.limits room
+    c.requires.kept room
 
 pub free_numbers-requires-2-clause-roles : goal.free_numbers-requires-2-clause-roles
 free_numbers-requires-2-clause-roles g c =

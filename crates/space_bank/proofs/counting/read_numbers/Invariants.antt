@@ -1,18 +1,18 @@
 use Rattle.std.proofs.Common.{◌≡◌, ◌≤◌, map, vec_len}
 use Rattle.std.specs.List.{range_with_len}
 use Rattle.std.specs.Vec.{vec_capacity}
-use Rattle.model.specs.Object.{limit_in}
 use Rattle.model.specs.World.{content_at}
 use Rattle.capability.specs.Parts.{LooksUp, objects_in}
-use Rattle.space_bank.proofs.counting.read_limits.Given as goal
+use Rattle.space_bank.specs.Counting.{kept_number}
+use Rattle.space_bank.proofs.counting.read_numbers.Given as goal
 
 abbrev pub invariant-loop-number : goal.invariant-loop-number
 invariant-loop-number g l =
     let os = objects_in (g.F.PresentFrames.parts l.initial.store) in
     record {
-      limits : l.limits.items ≡ map (λ n. limit_in (content_at os n)) (range_with_len 0 l.number);
-      size : vec_len l.limits ≡ l.number;
-      room : l.count ≤ vec_capacity l.limits;
+      kept : l.kept.items ≡ map (λ n. kept_number l.role (content_at os n)) (range_with_len 0 l.number);
+      size : vec_len l.kept ≡ l.number;
+      room : l.count ≤ vec_capacity l.kept;
       failures : (g.F.PresentFrames.parts l.store).failures ≡ (g.F.PresentFrames.parts l.initial.store).failures;
       aside : LooksUp g.F.PresentFrames.parts g.F.PresentFrames.LeadsTo l.initial.store l.store;
     }
