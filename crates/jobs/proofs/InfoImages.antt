@@ -9,7 +9,7 @@ use Rattle.checkpoint.specs.Saved.{kept_of}
 use Rattle.kernel.specs.declared.power.Live.{Live}
 use Rattle.kernel.specs.Denotes.{saved_of}
 use Rattle.kernel.specs.Opening.{Wakes}
-use Rattle.object_cache.specs.PlainStore.{StoreState, parts_of, saved_by, view_of}
+use Rattle.object_cache.specs.StoreState.{StoreState, parts_of, saved_by, view_of}
 use Rattle.jobs.specs.declared.info.InfoLine.{InfoLine}
 use Rattle.model.specs.declared.capability.Cap.{Cap}
 use Rattle.model.specs.declared.frame.Frame.{Frame}

@@ -1,7 +1,7 @@
 use Rattle.std.proofs.Common.{List, ◌≡◌, IfOk, ap, subst, ◌∙◌}
 use Rattle.layout.specs.Superblock.{Plan}
 use Rattle.migrator.specs.Durable.{DurableState, stored_of}
-use Rattle.object_cache.specs.PlainStore.{saved_by}
+use Rattle.object_cache.specs.StoreState.{saved_by}
 use Rattle.capability.specs.Plain.{PlainState}
 use Rattle.jobs.specs.declared.info.InfoLine.{InfoLine}
 use Rattle.jobs.proofs.InfoImages.{lines_saved}
