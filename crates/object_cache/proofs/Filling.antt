@@ -53,4 +53,3 @@ module _ {D : Type 0} where
         ∙ filled.unseated n (omega (arith, past));
     count = ap (λ (x : StoreState D). length x.order) is ∙ omega (arith, filled.count);
   }
-

@@ -3,8 +3,8 @@ ghost use Rattle.std.specs.Prelude.{◌≡◌, ◌≤◌, true, length, IfOk, If
 ghost use Rattle.migrator.specs.Durable.{stored_of};
 ghost use Rattle.object_cache.specs.StoreState.{AreObjectsOf, IsBounded, IsJustOpened, IsMadeOver, IsOpenOver, bodies_of};
 
-use crate::cache::Cache;
 use crate::all_objects::AllObjects;
+use crate::cache::Cache;
 use crate::policy::{KeepAll, KeepRecent, Policy};
 use crate::saved_objects::SavedObjects;
 use device::Device;
@@ -42,10 +42,7 @@ impl<D: Device, P: Policy> Model for Store<D, P> {
 }
 
 // Gives each object its body, if the policy keeps every body.
-fn fill<D: Device, P: Policy>(
-    cache: Cache<D>,
-    bodies: Vec<Content<Cap>>,
-) -> Result<Cache<D>, D>
+fn fill<D: Device, P: Policy>(cache: Cache<D>, bodies: Vec<Content<Cap>>) -> Result<Cache<D>, D>
     requires made { IsMadeOver D.disk cache.durable cache.most cache }
     requires bodies { P.KEEPS_ALL ≡ true → bodies.items ≡ bodies_of (stored_of D.disk cache.durable).saved.frames }
     requires room { P.KEEPS_ALL ≡ true → length cache.headers ≤ cache.most }
@@ -74,7 +71,11 @@ fn cache_over<D: Device, P: Policy>(
     ensures made { IfOk result (λ cache. IsOpenOver P.KEEPS_ALL D.disk durable (P.most_for setting (length saved.headers.items)) cache) }
     ensures back { IfErr result (λ device. device ≡ durable.beneath) }
 {
-    let SavedObjects { headers, bodies, .. } = saved;
+    let SavedObjects {
+        headers,
+        bodies,
+        ..
+    } = saved;
     let capacity = P::capacity(setting, headers.len());
     match Cache::new(alloc, durable, headers, capacity) {
         Ok(cache) => fill::<D, P>(cache, bodies),

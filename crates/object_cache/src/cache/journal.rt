@@ -15,13 +15,13 @@ ghost use Rattle.object_cache.specs.Journaled.{held_now};
 ghost use Rattle.object_cache.specs.StoreState.{parts_of, view_of};
 
 use crate::cache::Cache;
+use crate::page::{may_journal, save_content, save_words};
 use cache_entries::Entries;
 use capability::ObjectTable;
 use device::{Device, Failed};
 use layout::Room;
 use migrator::Durable;
 use object_store::JournalFault;
-use crate::page::{may_journal, save_content, save_words};
 
 // Saves a page with the words that it has on the device. Fails exactly where the device does.
 fn save_read<D: Device>(

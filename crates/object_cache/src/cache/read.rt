@@ -6,6 +6,7 @@ ghost use Rattle.migrator.specs.Durable.{newest, stored_of, ReadsStore};
 ghost use Rattle.object_cache.specs.Memory.{masked};
 ghost use Rattle.object_cache.specs.StoreState.{GoesOnIn, seat_at};
 
+use crate::body::held;
 use crate::cache::Cache;
 use capability::PrepareFault;
 use device::Device;
@@ -13,7 +14,6 @@ use layout::Room;
 use migrator::Durable;
 use model::{Cap, Content, Role};
 use std::alloc::Global;
-use crate::body::held;
 
 // Reads the newest body of an object.
 fn read_newest<D: Device>(

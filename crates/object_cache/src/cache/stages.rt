@@ -10,8 +10,8 @@ ghost use Rattle.checkpoint.specs.Refused.{IsCommitAnswer, IsFreezeAnswer, IsRef
 ghost use Rattle.object_store.specs.Store.{FrozenFrames, MayCommit, aside_after_commit, freezing, left_in, moved, moved_saved, next_saved};
 ghost use Rattle.object_cache.specs.StoreState.{AreObjectsOf, IsWhole, parts_of, view_of};
 
-use crate::cache::Cache;
 use crate::all_objects::{AllObjects, take_bodies};
+use crate::cache::Cache;
 use checkpoint::{Checkpoint, CheckpointFault};
 use device::{Device, Failed};
 use layout::Superblock;

@@ -1,4 +1,4 @@
-use Rattle.std.proofs.Common.{◌∙◌, ap, length, arith}
+use Rattle.std.proofs.Common.{◌≡◌, ◌∙◌, ap, length, arith}
 use Rattle.object_cache.specs.Memory.{memory_of}
 use Rattle.object_cache.specs.StoreState.{StoreState}
 use Rattle.object_cache.proofs.Emptying.{contents_each, taken_are}
@@ -17,7 +17,7 @@ pub returns-in-Ok-clause-objects : goal.returns-in-Ok-clause-objects
 returns-in-Ok-clause-objects g c =
     let i = c.self.inside in
     let m = memory_of i.table i.frozen_headers i.touched i.dirty i.pending i.entries.at i.hand in
-    let count = c.len.ensures ∙ ap length c.into_headers-headers.ensures in
+    let count : c.len.result ≡ length i.table = omega (arith, c.len.ensures, ap length c.into_headers-headers.ensures) in
     record {
       headers_are = c.into_headers-headers.ensures ∙ ap (λ (t : StoreState g.row.D.Denot). t.headers) c.self.view_is;
       contents = taken_are g.D.Device.disk i.durable m i.left i.entries.order i.entries.most c.args.self c.self.view_is c.requires c.in-Ok.contents.items (c.in-Ok.ensures.count ∙ count)
