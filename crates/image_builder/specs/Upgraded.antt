@@ -10,7 +10,7 @@ use Rattle.checkpoint.specs.declared.open_fault.OpenFault.TheVariants as opening
 use Rattle.checkpoint.specs.Opened.{Looks}
 use Rattle.checkpoint.specs.Saved.{Holds, SavedFrames, kept_of}
 use Rattle.capability.specs.Parts.{frames_of}
-use Rattle.object_cache.specs.PlainStore.{StoreState, parts_of, saved_by}
+use Rattle.object_cache.specs.StoreState.{StoreState, parts_of, saved_by}
 use Rattle.image_writer.specs.Laid.{laid_again}
 use Rattle.recovery.specs.Denotes.{IsSoundSaved}
 use Rattle.recovery.specs.Recovered.{RefusesToOpen}

@@ -15,7 +15,7 @@ ghost use Rattle.recovery.specs.Denotes.{IsSoundSaved};
 ghost use Rattle.migrator.specs.Opened.{IsUnplanned};
 ghost use Rattle.migrator.specs.Durable.{saved_state, seen_of};
 ghost use Rattle.model.specs.Frame.{frames_in};
-ghost use Rattle.object_cache.specs.PlainStore.{parts_of, saved_by};
+ghost use Rattle.object_cache.specs.StoreState.{parts_of, saved_by};
 ghost use Rattle.capability.specs.Parts.{frames_of};
 ghost use Rattle.image_builder.specs.Upgraded.{IsLeftUpgrading, IsNotUpgraded, IsOpenedFrom, IsRefusedAsOld, ReadsAndCloses, Upgrades, numbered, upgraded};
 
@@ -151,11 +151,13 @@ fn write_store<D: Device, E: Device>(
         ↔ ((E.disk new.old).failures < (E.disk new.new).failures) }
     ensures device { result.1 ≡ store.durable.beneath }
 {
-    let (saved, present) = store.into_parts();
-    let (headers, contents) = present.into_parts();
+    let (saved, objects) = store.into_parts(alloc);
+    let Ok(objects) = objects else {
+        return (Err(UpgradeFault::NoMemory), saved.into_device());
+    };
     match in_order(alloc, saved.directory()) {
         Ok(entries) => {
-            let written = write_over(&saved, &entries, &headers, &contents, new);
+            let written = write_over(&saved, &entries, &objects.headers, &objects.contents, new);
             (written, saved.into_device())
         }
         Err(_) => (Err(UpgradeFault::NoMemory), saved.into_device()),
@@ -181,7 +183,7 @@ pub struct OldImage<D: Device> {
 }
 
 impl<D: Device> Model for OldImage<D> {
-    ghost use Rattle.object_cache.specs.PlainStore.{StoreState};
+    ghost use Rattle.object_cache.specs.StoreState.{StoreState};
     ghost use Rattle.image_builder.specs.Upgraded.{IsWhole};
 
     ghost Value = { StoreState D };

@@ -30,7 +30,7 @@ use Rattle.image_describer.proofs.Short.{described_has_text}
 use Rattle.image_describer.proofs.SameTables.{same_described}
 use Rattle.image_describer.specs.Spelled.{CanBeSpelled}
 use Rattle.image_describer.specs.Text.{description_text}
-use Rattle.object_cache.specs.PlainStore.{StoreState, parts_of, view_of}
+use Rattle.object_cache.specs.StoreState.{StoreState, parts_of, view_of}
 use Rattle.jobs.specs.Images.{DescribesSaved, IsDescriptionOf, OpensAndDescribes, TellsWhole}
 use Rattle.jobs.specs.Laws.{DescribedIsDenoted}
 use Rattle.jobs.specs.Reaching.{HoldsOfSaved}

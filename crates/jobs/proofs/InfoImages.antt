@@ -9,7 +9,8 @@ use Rattle.checkpoint.specs.Saved.{kept_of}
 use Rattle.recovery.specs.declared.live.Live.{Live}
 use Rattle.recovery.specs.Denotes.{saved_of}
 use Rattle.recovery.specs.Recovered.{Recovers}
-use Rattle.object_cache.specs.PlainStore.{StoreState, parts_of, saved_by, view_of}
+use Rattle.object_cache.specs.declared.all_objects.AllObjects.{AllObjects}
+use Rattle.object_cache.specs.StoreState.{StoreState, AreObjectsOf, parts_of, saved_by, view_of}
 use Rattle.jobs.specs.declared.info.InfoLine.{InfoLine}
 use Rattle.model.specs.declared.capability.Cap.{Cap}
 use Rattle.model.specs.declared.frame.Frame.{Frame}
@@ -67,6 +68,10 @@ lines_saved p told s hs cs ds plan generation age entries contents whole frames 
     ∙ ap (λ (xs : List (Content Cap)). lines_over s.plan saved xs) contents
     ∙ lines_same s.plan saved (λ r. count_by (λ c. has_role r c) cs) (λ r. objects_with r (world_at s.header.age s.frames))
     (λ r. sym (role_counted hs cs s.header.age r whole) ∙ ap (λ (fs : List Frame). objects_with r (world_at s.header.age fs)) frames)
+
+-- objects that were taken out of a store
+pub objects_found : {D E : Type 0} (s : StoreState D) (found : Result AllObjects E) (os : AllObjects) → found ≡ Ok os → IfOk found (λ (o : AllObjects). AreObjectsOf s o) → AreObjectsOf s os
+objects_found {D} {E} s found os is each = subst (λ (r : Result AllObjects E). IfOk r (λ (o : AllObjects). AreObjectsOf s o)) is each
 
 -- lines that were found
 pub lines_found : {E : Type 0} (found : Result (Vec InfoLine Global) E) (lines : Vec InfoLine Global) (are : List InfoLine) → found ≡ Ok lines → IfOk found (λ v. v.items ≡ are) → lines.items ≡ are

@@ -3,7 +3,7 @@ ghost use Rattle.std.specs.Prelude.{◌≡◌, IfOk, Result};
 ghost use Rattle.checkpoint.specs.Saved.{kept_of};
 ghost use Rattle.capability.specs.Parts.{frames_of};
 ghost use Rattle.recovery.specs.Denotes.{saved_of};
-ghost use Rattle.object_cache.specs.PlainStore.{parts_of, saved_by};
+ghost use Rattle.object_cache.specs.StoreState.{parts_of, saved_by};
 ghost use Rattle.jobs.specs.Faults.{IsTold, status_of};
 ghost use Rattle.jobs.specs.Info.{InspectsImage, OpensForInfo, info_lines};
 
@@ -28,9 +28,11 @@ fn lines_in<D: Device>(
         ≡ info_lines (saved_by D.disk store).plan (saved_of (kept_of (saved_by D.disk store)))) }
     ensures device { result.1 ≡ store.durable.beneath }
 {
-    let (saved, present) = store.into_parts();
-    let (_headers, contents) = present.into_parts();
-    let lines = lines_about(alloc, saved.superblock(), saved.saved(), &contents);
+    let (saved, objects) = store.into_parts(alloc);
+    let Ok(objects) = objects else {
+        return (Err(AllocError), saved.into_device());
+    };
+    let lines = lines_about(alloc, saved.superblock(), saved.saved(), &objects.contents);
     (lines, saved.into_device())
 }
 

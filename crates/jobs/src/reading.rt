@@ -1,7 +1,7 @@
 // The objects that are saved on a device.
 ghost use Rattle.std.specs.Prelude.{◌≡◌, IfOk};
 ghost use Rattle.capability.specs.Parts.{AreSound, objects_in};
-ghost use Rattle.object_cache.specs.PlainStore.{parts_of};
+ghost use Rattle.object_cache.specs.StoreState.{parts_of};
 ghost use Rattle.jobs.specs.Reaching.{OpensAndReads};
 
 use checkpoint::OpenFault;

@@ -2,7 +2,7 @@
 ghost use Rattle.std.specs.Prelude.{◌≡◌, IfOk};
 ghost use Rattle.model.specs.Keepable.{IsSoundFrames};
 ghost use Rattle.capability.specs.Parts.{frames_of};
-ghost use Rattle.object_cache.specs.PlainStore.{parts_of};
+ghost use Rattle.object_cache.specs.StoreState.{parts_of};
 ghost use Rattle.jobs.specs.Images.{IsDescriptionOf, OpensAndDescribes};
 
 use checkpoint::OpenFault;

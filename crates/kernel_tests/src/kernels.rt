@@ -1,7 +1,7 @@
 // Kernels over a device.
 ghost use Rattle.std.specs.Prelude.{IfOk};
 ghost use Rattle.kernel.specs.Opening.{Opens};
-ghost use Rattle.object_cache.specs.PlainStore.{parts_of, view_of};
+ghost use Rattle.object_cache.specs.StoreState.{parts_of, view_of};
 
 use device::Device;
 use kernel::Kernel;

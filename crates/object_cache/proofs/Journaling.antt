@@ -1,151 +1,355 @@
--- A page of a store is journaled.
-use Rattle.std.proofs.Common.{◌≡◌, ℕ, ◌<◌, ◌≤◌, true, false, List, slice_index_or, length-set, refl, sym, ap, subst, ◌∙◌, arith, Option, Some, None, Result, Ok, Err, OnOk, OnErr}
-use Rattle.std.specs.Prelude.{◌==◌, if◌then◌else◌, ◌⊎◌, option_map}
-use Rattle.std.proofs.lemmas.List.{ext_get_or}
+-- A page is journaled: no object is another, and what is saved of the page has the words that it has now.
+use Rattle.std.proofs.Common.{◌≡◌, ◌≢◌, ◌⊎◌, inl, inr, ℕ, ◌<◌, Bool, true, false, List, length, set, length-set, Option, Some, None, option_map, Result, Ok, Err, OnOk, OnErr, refl, sym, ap, subst, ◌∙◌, arith}
+use Rattle.std.proofs.lemmas.Bool.{cases_eq}
+use Rattle.std.proofs.lemmas.List.{get_or-set_same, get_or-set_other}
+use Rattle.std.proofs.lemmas.Option.{none-some}
+use Rattle.model.specs.declared.capability.Cap.{Cap}
 use Rattle.model.specs.declared.frame.Frame.{Frame}
-use Rattle.model.specs.declared.object.Content.TheVariants as content
+use Rattle.model.specs.declared.frame.ObjectHeader.{ObjectHeader}
+use Rattle.model.specs.declared.object.Content.{Content}
+use Rattle.model.specs.declared.object.Role.{Role}
 use Rattle.model.specs.declared.object.Role.TheVariants as role
-use Rattle.model.specs.Frame.{blank_frame, frame_at, header_at, held_at}
+use Rattle.model.specs.Frame.{blank_frame, frame_at, frames_in, header_at, held_at}
 use Rattle.model.specs.Keepable.{AreKeepable}
 use Rattle.model.specs.Object.{is_page, role_of, words_in}
-use Rattle.device.specs.Disk.{Disk}
-use Rattle.migrator.specs.Put.{put_or}
-use Rattle.checkpoint.specs.Saved.{most, SavedFrames, LeavesOneOf, with_words}
-use Rattle.migrator.specs.Durable.{Stored, FrozenPuts, DurableState, frozen_put, below_at, stored_after_journal, left_of, stored_of}
-use Rattle.capability.specs.Plain.{PlainState}
-use Rattle.capability.proofs.Frames.{at_set, frame_in}
-use Rattle.object_cache.specs.declared.snapshot.Snapshot.{Snapshot}
-use Rattle.object_cache.specs.declared.snapshot.Snapshot.TheVariants.{Below}
-use Rattle.object_cache.specs.Frozen.{snapshot_at, frozen_frame, frozen_frames}
-use Rattle.object_cache.specs.FrozenLaws.{length_frozen, frozen_at}
-use Rattle.object_store.proofs.Journaling.{content_is_page, known_page, next_same, page_is, role_is_page}
+use Rattle.model.specs.Sound.{object_count}
+use Rattle.device.specs.Disk.{Image, Disk}
+use Rattle.device.specs.Moments.{LeavesOnly}
+use Rattle.device.proofs.Moments.{leaves_on, leaves_weaker}
+use Rattle.layout.specs.declared.body.Body.{Body}
+use Rattle.layout.specs.declared.body.Body.TheVariants as body
+use Rattle.layout.specs.declared.body.Room.{Room}
+use Rattle.layout.specs.Frame.{content_of, frame_of}
+use Rattle.migrator.specs.Put.{Put, Absent, Broken, Kept, put_at, put_or}
+use Rattle.checkpoint.specs.Saved.{most, SavedFrames, Holds, LeavesEither, LeavesOneOf, journaled_saved, with_words}
+use Rattle.migrator.specs.Durable.{DurableState, FrozenPuts, Stored, below_at, ReadsStore, frozen_put, is_sound, left_of, stored_after_journal, stored_of}
+use Rattle.checkpoint.proofs.Lists.{maps_same}
+use Rattle.capability.proofs.Frames.{frame_in}
+use Rattle.object_store.specs.declared.journal_fault.JournalFault.{JournalFault}
+use Rattle.object_store.specs.declared.journal_fault.JournalFault.TheVariants as fault
 use Rattle.object_store.specs.Journal as journal
-use Rattle.object_store.specs.Journal.{is_page_role}
+use Rattle.object_store.specs.Journal.{is_page_role, next_journaled}
 use Rattle.object_store.specs.Store.{Aside, FrozenFrames}
-use Rattle.object_cache.specs.PlainStore.{StoreState, IsStore, aside_in, frozen_in, present_frames, view_of}
+use Rattle.object_store.proofs.Journaling.{page_is, role_is_page, content_is_page, known_page, next_same}
+use Rattle.cache_entries.specs.declared.entry.Entry.{Entry}
+use Rattle.cache_entries.specs.Entries.{entry_at}
+use Rattle.object_cache.specs.Journaled.{entry_body, held_now}
+use Rattle.object_cache.specs.Memory.{Memory, mark_at, masked, in_hand, put_body, newest_body, below_body, present_body, content_at, present_at, frozen_body, frozen_frame, frozen_at, contents_in, frozen_in}
+use Rattle.object_cache.specs.StoreState.{StoreState, IsCache, aside_of, cache_of, frozen_seen}
+use Rattle.object_cache.proofs.Freezing.{put_or_body}
+use Rattle.object_cache.proofs.Objects.{content_in}
+use Rattle.object_cache.proofs.Seating.{no_hand}
 
--- where no checkpoint is on its way all frozen frames are the saved ones
-idle_frozen : (s : Stored) (fs : List Frame) (ss : List Snapshot) → s.frozen ≡ None → ((n : ℕ) → snapshot_at ss n ≡ Below) → frozen_frames s fs ss ≡ s.saved.frames
-idle_frozen s fs ss none below = ext_get_or blank_frame (frozen_frames s fs ss) s.saved.frames (length_frozen s fs ss)
-    (λ n lt.
-    frozen_at s fs ss n (omega (arith, lt, length_frozen s fs ss))
-    ∙ ap (λ (x : Snapshot). frozen_frame x (frame_at fs n) (below_at s n)) (below n)
-    ∙ ap (λ (x : Option FrozenPuts). put_or (frozen_put x n) (frame_at s.saved.frames n)) none)
+as_page : (o : Option Entry) (c : Content Cap) → present_body o role.Page c ≡ entry_body o c
+as_page None c = refl
+as_page (Some e) c = refl
 
-module _ (s : Stored) (p : PlainState) (ss : List Snapshot) (is : IsStore s p ss) (age n : ℕ) (none : s.frozen ≡ None)
-    (role_is : (header_at p.headers n).role ≡ role.Page) (holds : is_page (held_at p.contents n) ≡ true) where
-  abbrev words : List ℕ
-  words = words_in (held_at p.contents n)
+module _ (s : Stored) (m : Memory) (left count : ℕ) (is : IsCache s m left count) (none : s.frozen ≡ None) (n : ℕ) (role_is : (header_at m.headers n).role ≡ role.Page) where
+  hand_none : (k : ℕ) (c : Content Cap) → in_hand m.hand k c ≡ c
+  hand_none k c = no_hand m.hand m.pending is.held k c (is.idle none k)
 
-  abbrev next : Stored
-  next = stored_after_journal age n words s
+  -- what it holds now
+  pub page_held : content_at s m n ≡ held_now m.entries s n
+  page_held =
+      ap (λ (r : Role). present_body (entry_at m.entries n) r (newest_body s m n)) role_is
+      ∙ as_page (entry_at m.entries n) (newest_body s m n)
+      ∙ ap (λ (c : Content Cap). entry_body (entry_at m.entries n) (put_body (put_at s.working n) c)) (hand_none n (below_at s n).content)
+      ∙ ap (entry_body (entry_at m.entries n)) (sym (put_or_body (put_at s.working n) (below_at s n)))
 
-  abbrev page : Frame
-  page = with_words words (frame_at s.saved.frames n)
+  module _ (age : ℕ) (holds : is_page (content_at s m n) ≡ true) where
+    abbrev words : List ℕ
+    words = words_in (content_at s m n)
 
-  as_saved : (m : ℕ) → slice_index_or p.touched m false ≡ false → frame_at (present_frames p) m ≡ frame_at s.saved.frames m
-  as_saved m blank = is.unwritten m blank ∙ ap (λ (fs : List Frame). frame_at fs m) (idle_frozen s (present_frames p) ss none (is.idle none))
+    abbrev after : Stored
+    after = stored_after_journal age n words s
 
-  page_here : slice_index_or p.touched n false ≡ false → frame_at (present_frames p) n ≡ page
-  page_here blank =
-      let was : (frame_at (present_frames p) n).header ≡ (frame_at s.saved.frames n).header = ap (λ (f : Frame). f.header) (as_saved n blank) in
-      let body : (frame_at (present_frames p) n).content ≡ content.Page (words_in (held_at p.contents n)) = ap (λ (f : Frame). f.content) (frame_in p.headers p.contents n (known_page p.headers n role_is)) ∙ page_is (held_at p.contents n) holds in
-      λ k. record { header = was k; content = body k }
+    abbrev page : Frame
+    page = with_words words (frame_at s.saved.frames n)
 
-  pub journaled_stands : IsStore (stored_after_journal age n (words_in (held_at p.contents n)) s) p ss
-  journaled_stands = record {
-    geometry = is.geometry;
-    headers = is.headers;
-    contents = is.contents;
-    marks = is.marks;
-    within = is.within;
-    frames = length-set s.saved.frames n page ∙ is.frames;
-    snapshots = is.snapshots;
-    working = is.working;
-    idle = λ e m. is.idle none m;
-    running = λ f some. absurd (let never : None ≡ Some f = sym none ∙ some in cc);
-    keepable = λ f some. absurd (let never : None ≡ Some f = sym none ∙ some in cc);
-    unwritten = λ m blank.
-        at_set (λ k f. slice_index_or p.touched k false ≡ false → frame_at (present_frames p) k ≡ f) s.saved.frames n m page blank_frame page_here (as_saved m) blank
-        ∙ ap (λ (fs : List Frame). frame_at fs m) (sym (idle_frozen next (present_frames p) ss none (is.idle none)));
-  }
+    within : n < length s.saved.frames
+    within = let known = known_page m.headers n role_is in omega (arith, known, is.headers, is.frames)
 
-  pub journaled_aside : aside_in (stored_after_journal age n (words_in (held_at p.contents n)) s) (frozen_frames (stored_after_journal age n (words_in (held_at p.contents n)) s) (present_frames p) ss)
-      ≡ journal.aside_after_journal age n (words_in (held_at p.contents n)) (aside_in s (frozen_frames s (present_frames p) ss))
-  journaled_aside =
-      ap (λ (o : Option FrozenFrames). let x : Aside = record { frozen = o; saved = next.saved; to_move = 1 } in x)
-      (ap (option_map (frozen_in next (frozen_frames next (present_frames p) ss))) none ∙ sym (ap (option_map (frozen_in s (frozen_frames s (present_frames p) ss))) none))
+    below_was : (k : ℕ) → below_at s k ≡ frame_at s.saved.frames k
+    below_was k = ap (λ (o : Option FrozenPuts). put_or (frozen_put o k) (frame_at s.saved.frames k)) none
 
--- the same of a store and the value that it is seen as
-module _ {D : Type 0} (disk : D → Disk) (s t : StoreState D) (same : s ≡ t) (is : IsStore (stored_of disk s.durable) s.present s.snapshots) (n : ℕ) where
+    below_now : (k : ℕ) → below_at after k ≡ frame_at (set s.saved.frames n page) k
+    below_now k = ap (λ (o : Option FrozenPuts). put_or (frozen_put o k) (frame_at (set s.saved.frames n page) k)) none
+
+    below_other : (k : ℕ) → k ≢ n → below_at after k ≡ below_at s k
+    below_other k other = below_now k ∙ get_or-set_other s.saved.frames n k page blank_frame other ∙ sym (below_was k)
+
+    below_here : below_at after n ≡ page
+    below_here = below_now n ∙ get_or-set_same s.saved.frames n page blank_frame within
+
+    -- the body that lies below is that of the page now
+    body_here : in_hand m.hand n (below_at after n).content ≡ content_at s m n
+    body_here = hand_none n (below_at after n).content ∙ ap (λ (f : Frame). f.content) below_here ∙ sym (page_is (content_at s m n) holds)
+
+    masked_here : masked (header_at m.headers n).role (content_at s m n) ≡ content_at s m n
+    masked_here = ap (λ (r : Role). masked r (content_at s m n)) role_is
+
+    fresh : (p : Put) → entry_at m.entries n ≡ None → put_at s.working n ≡ p → ((c : Content Cap) → put_body p c ≡ c) → content_at after m n ≡ content_at s m n
+    fresh p at put bare =
+        ap (λ (o : Option Entry). present_body o (header_at m.headers n).role (newest_body after m n)) at
+        ∙ ap (λ (q : Put). masked (header_at m.headers n).role (put_body q (below_body after m n))) put
+        ∙ ap (masked (header_at m.headers n).role) (bare (below_body after m n) ∙ body_here)
+        ∙ masked_here
+
+    here_by : (o : Option Entry) (p : Put) → entry_at m.entries n ≡ o → put_at s.working n ≡ p → content_at after m n ≡ content_at s m n
+    here_by (Some e) p at put =
+        ap (λ (o : Option Entry). present_body o (header_at m.headers n).role (newest_body after m n)) at
+        ∙ sym (ap (λ (o : Option Entry). present_body o (header_at m.headers n).role (newest_body s m n)) at)
+    here_by None (Kept f) at put =
+        ap (λ (q : Put). present_body (entry_at m.entries n) (header_at m.headers n).role (put_body q (below_body after m n))) put
+        ∙ sym (ap (λ (q : Put). present_body (entry_at m.entries n) (header_at m.headers n).role (put_body q (below_body s m n))) put)
+    here_by None Absent at put = fresh Absent at put (λ c. refl)
+    here_by None Broken at put = fresh Broken at put (λ c. refl)
+
+    content_here : content_at after m n ≡ content_at s m n
+    content_here = here_by (entry_at m.entries n) (put_at s.working n) refl refl
+
+    content_same : (k : ℕ) → content_at after m k ≡ content_at s m k
+    content_same k = elim (cases_eq k n) [
+      | inl same ↦ ap (content_at after m) same ∙ content_here ∙ sym (ap (content_at s m) same)
+      | inr other ↦ ap (λ (f : Frame). present_body (entry_at m.entries k) (header_at m.headers k).role (put_body (put_at s.working k) (in_hand m.hand k f.content))) (below_other k other)
+    ]
+
+    present_same : (k : ℕ) → present_at after m k ≡ present_at s m k
+    present_same k = ap (λ (c : Content Cap). record { header = header_at m.headers k; content = c }) (content_same k)
+
+    pub journal_contents : contents_in (stored_after_journal age n (words_in (content_at s m n)) s) m ≡ contents_in s m
+    unfolding contents_in
+    journal_contents = maps_same (content_at after m) (content_at s m) (length m.headers) (λ k below. content_same k)
+
+    -- frozen frames are the saved ones
+    frozen_was : (k : ℕ) → frozen_at s m k ≡ below_at s k
+    frozen_was k = ap (λ (p : Bool). frozen_frame p (header_at m.frozen_headers k) (frozen_body (entry_at m.entries k) (mark_at m.touched k) (below_body s m k)) (below_at s k)) (is.idle none k)
+
+    frozen_now : (k : ℕ) → frozen_at after m k ≡ below_at after k
+    frozen_now k = ap (λ (p : Bool). frozen_frame p (header_at m.frozen_headers k) (frozen_body (entry_at m.entries k) (mark_at m.touched k) (below_body after m k)) (below_at after k)) (is.idle none k)
+
+    -- of a page that wasn't written since, the frame that is saved was that of the page now
+    unwritten_here : n < length m.headers → mark_at m.touched n ≡ false → below_at s n ≡ below_at after n
+    unwritten_here inside untouched =
+        let was : content_at s m n ≡ (frame_at s.saved.frames n).content = ap (λ (f : Frame). f.content) (is.unwritten n inside untouched ∙ frozen_was n ∙ below_was n) in
+        below_was n
+        ∙ ap (λ (c : Content Cap). let f : Frame = record { header = (frame_at s.saved.frames n).header; content = c } in f) (sym was ∙ page_is (content_at s m n) holds)
+        ∙ sym below_here
+
+    pub journal_stands : IsCache (stored_after_journal age n (words_in (content_at s m n)) s) m left count
+    journal_stands = record {
+      headers = is.headers;
+      frozen_headers = is.frozen_headers;
+      marks = is.marks;
+      dirty_marks = is.dirty_marks;
+      pending_marks = is.pending_marks;
+      entries = is.entries;
+      frames = length-set s.saved.frames n page ∙ is.frames;
+      puts = is.puts;
+      counted = is.counted;
+      within = is.within;
+      marked = is.marked;
+      clean = λ k clean touched. is.clean k clean touched ∙ ap Kept (sym (present_same k));
+      unput = is.unput;
+      unwritten = λ k inside untouched.
+          present_same k ∙ is.unwritten k inside untouched ∙ frozen_was k
+          ∙ elim (cases_eq k n) [
+            | inl same ↦ ap (below_at s) same ∙ unwritten_here (subst (λ (i : ℕ). i < length m.headers) same inside) (subst (λ (i : ℕ). mark_at m.touched i ≡ false) same untouched) ∙ sym (ap (below_at after) same)
+            | inr other ↦ sym (below_other k other)
+          ]
+          ∙ sym (frozen_now k);
+      idle = is.idle;
+      running = λ f some. absurd (none-some f (sym none ∙ some));
+      keepable = λ f some. absurd (none-some f (sym none ∙ some));
+      held = is.held;
+      apart = is.apart;
+      freed = is.freed;
+    }
+
+    -- none is seen before and after
+    pub journal_frozen : frozen_seen (stored_after_journal age n (words_in (content_at s m n)) s) m left ≡ frozen_seen s m left
+    journal_frozen =
+        ap (option_map (λ (f : FrozenPuts). record { frames = frozen_in after m; size = f.size; left = left })) none
+        ∙ sym (ap (option_map (λ (f : FrozenPuts). record { frames = frozen_in s m; size = f.size; left = left })) none)
+
+-- an answer tells whether a checkpoint is on its way, and nothing else of it
+pub answer_same : {F : Type 0} (f g : F → ℕ) (o : Option F) (old new : Disk) (saved : SavedFrames) (is_page is_saved : Bool) (r : Result ℕ JournalFault) →
+    journal.IsJournalAnswer old new (option_map f o) saved is_page is_saved r → journal.IsJournalAnswer old new (option_map g o) saved is_page is_saved r
+answer_same f g None old new saved is_page is_saved r told = told
+answer_same f g (Some x) old new saved is_page is_saved (Ok generation) told = absurd (none-some (f x) (sym told.1))
+answer_same f g (Some x) old new saved is_page is_saved (Err fault.CheckpointRunning) told = (told.0, λ e. none-some (g x) (sym e))
+answer_same f g (Some x) old new saved is_page is_saved (Err fault.MigrationPending) told = absurd (none-some (f x) (sym told.1))
+answer_same f g (Some x) old new saved is_page is_saved (Err fault.NotPage) told = absurd (none-some (f x) (sym told.1))
+answer_same f g (Some x) old new saved is_page is_saved (Err fault.Renewed) told = absurd (none-some (f x) (sym told.1))
+answer_same f g (Some x) old new saved is_page is_saved (Err fault.Failed) told = absurd (none-some (f x) (sym told.1))
+
+-- which words it has is asked of a page alone
+next_words : {F : Type 0} (age n : ℕ) (ws vs : List ℕ) (o : Option F) (saved : SavedFrames) (is_page is_saved : Bool) → (o ≡ None → is_page ≡ true → ws ≡ vs) →
+    next_journaled {F = F} age n ws o saved is_page is_saved ≡ next_journaled {F = F} age n vs o saved is_page is_saved
+next_words age n ws vs None saved true is_saved same = ap (λ (xs : List ℕ). journal.saved_next age n xs saved true is_saved) (same refl refl)
+next_words age n ws vs None saved false is_saved same = refl
+next_words age n ws vs (Some f) saved is_page is_saved same = refl
+
+none_in : (o : Option FrozenPuts) → option_map left_of o ≡ None → o ≡ None
+none_in None is = refl
+none_in (Some f) is = absurd (none-some (left_of f) (sym is))
+
+-- the same by what is seen
+module _ {D : Type 0} (disk : D → Disk) (d : DurableState D) (m : Memory) (left count : ℕ) (order : List ℕ) (most_entries : ℕ) (s : StoreState D)
+    (view : cache_of disk d m left order most_entries ≡ s) (is : IsCache (stored_of disk d) m left count) (n : ℕ)
+    (keepable : AreKeepable (stored_of disk s.durable).saved.geometry most (frames_in s.headers s.contents)) where
   abbrev st : Stored
-  st = stored_of disk s.durable
+  st = stored_of disk d
 
-  -- what a page holds is a page
-  pub roles_here : AreKeepable (stored_of disk t.durable).saved.geometry most (present_frames t.present) → (header_at s.present.headers n).role ≡ role.Page → is_page (held_at s.present.contents n) ≡ true
-  roles_here keepable page =
-      let lt = known_page s.present.headers n page in
-      let own : AreKeepable st.saved.geometry most (present_frames s.present) =
-      subst (λ (r : StoreState D). AreKeepable (stored_of disk r.durable).saved.geometry most (present_frames r.present)) (sym same) keepable in
-      let here = frame_in s.present.headers s.present.contents n lt in
-      let kept = (own.each n (omega (arith, lt, is.headers))).kept.role in
-      content_is_page (held_at s.present.contents n)
-      (ap (λ (f : Frame). role_of f.content) (sym here) ∙ sym kept ∙ ap (λ (f : Frame). f.header.role) here ∙ page)
+  abbrev header : ObjectHeader
+  header = header_at m.headers n
 
-  -- the store stands after it, and what is beside the objects is as is said
-  module _ (d : DurableState D) (age : ℕ) (holds : (header_at s.present.headers n).role ≡ role.Page → is_page (held_at s.present.contents n) ≡ true) where
+  known : is_page_role header.role ≡ true → n < length m.headers
+  known page = known_page m.headers n (role_is_page header.role page)
+
+  pub journal_known : is_page_role (header_at m.headers n).role ≡ true → n < length m.entries
+  journal_known page = let within = known page in omega (arith, within, is.headers, is.entries)
+
+  pub journal_object : is_page_role (header_at m.headers n).role ≡ true → n < object_count (stored_of disk d).saved.geometry
+  journal_object page = let within = known page in omega (arith, within, is.headers)
+
+  content_page : is_page_role header.role ≡ true → is_page (content_at st m n) ≡ true
+  content_page page =
+      let within = known page in
+      let own : AreKeepable st.saved.geometry most (frames_in m.headers (contents_in st m)) =
+      subst (λ (t : StoreState D). AreKeepable (stored_of disk t.durable).saved.geometry most (frames_in t.headers t.contents)) (sym view) keepable in
+      let at = frame_in m.headers (contents_in st m) n within in
+      let kept = (own.each n (omega (arith, within, is.headers))).kept.role in
+      content_is_page (content_at st m n)
+      (sym (ap (λ (f : Frame). role_of f.content) at ∙ ap role_of (content_in st m n within)) ∙ sym kept ∙ ap (λ (f : Frame). f.header.role) at ∙ role_is_page header.role page)
+
+  pub journal_page : (stored_of disk d).frozen ≡ None → is_page_role (header_at m.headers n).role ≡ true → is_page (held_now m.entries (stored_of disk d) n) ≡ true
+  journal_page none page = subst (λ (c : Content Cap). is_page c ≡ true) (page_held st m left count is none n (role_is_page header.role page)) (content_page page)
+
+  -- the words are those that are seen
+  held_seen : is_page_role header.role ≡ true → content_at st m n ≡ held_at s.contents n
+  held_seen page = sym (content_in st m n (known page)) ∙ ap (λ (t : StoreState D). held_at t.contents n) view
+
+  words_seen : st.frozen ≡ None → is_page_role header.role ≡ true → words_in (held_now m.entries st n) ≡ words_in (held_at s.contents n)
+  words_seen none page = ap words_in (sym (page_held st m left count is none n (role_is_page header.role page)) ∙ held_seen page)
+
+  module _ (new : DurableState D) (age : ℕ) where
     abbrev IsThere : Type 0
-    IsThere = (option_map left_of st.frozen ≡ None) × (is_page_role (header_at s.present.headers n).role ≡ true)
+    IsThere = (option_map left_of st.frozen ≡ None) × (is_page_role header.role ≡ true)
 
-    none_in : (o : Option FrozenPuts) → option_map left_of o ≡ None → o ≡ None
-    none_in None told = refl
-    none_in (Some f) told = absurd cc
+    abbrev IsDone : Type 0
+    IsDone = stored_of disk new ≡ stored_after_journal age n (words_in (held_now m.entries st n)) st
 
-    pub journal_stands : {T E : Type 0} (r : Result T E) → OnOk r ((option_map left_of (stored_of disk s.durable).frozen ≡ None) × (is_page_role (header_at s.present.headers n).role ≡ true)) →
-        OnOk r (stored_of disk d ≡ stored_after_journal age n (words_in (held_at s.present.contents n)) (stored_of disk s.durable)) → OnErr r (stored_of disk d ≡ stored_of disk s.durable) → IsStore (stored_of disk d) s.present s.snapshots
-    journal_stands (Ok x) there done unchanged =
-        let page = role_is_page _ there.1 in
-        subst (λ (x : Stored). IsStore x s.present s.snapshots) (sym done) (journaled_stands st s.present s.snapshots is age n (none_in st.frozen there.0) page (holds page))
-    journal_stands (Err e) there done unchanged = subst (λ (x : Stored). IsStore x s.present s.snapshots) (sym unchanged) is
+    -- the store is another by a page with the words of now
+    done_is : IsThere → IsDone → stored_of disk new ≡ stored_after_journal age n (words_in (content_at st m n)) st
+    done_is there done =
+        done ∙ ap (λ (c : Content Cap). stored_after_journal age n (words_in c) st)
+        (sym (page_held st m left count is (none_in st.frozen there.0) n (role_is_page header.role there.1)))
 
-    abbrev after : StoreState D
-    after = record { durable = d; present = s.present; snapshots = s.snapshots }
+    pub stands_after : {T E : Type 0} (r : Result T E) → OnOk r IsThere → OnOk r IsDone → OnErr r (stored_of disk new ≡ st) → IsCache (stored_of disk new) m left count
+    stands_after (Ok x) there done undone = subst (λ (t : Stored). IsCache t m left count) (sym (done_is there done))
+        (journal_stands st m left count is (none_in st.frozen there.0) n (role_is_page header.role there.1) age (content_page there.1))
+    stands_after (Err e) there done undone = subst (λ (t : Stored). IsCache t m left count) (sym undone) is
 
-    aside_own : {T E : Type 0} (r : Result T E) → OnOk r IsThere → OnOk r (stored_of disk d ≡ stored_after_journal age n (words_in (held_at s.present.contents n)) st) →
-        OnOk r ((view_of disk after).aside ≡ journal.aside_after_journal age n (words_in (held_at s.present.contents n)) (view_of disk s).aside)
+    pub seen_after : {T E : Type 0} (r : Result T E) → OnOk r IsThere → OnOk r IsDone → OnErr r (stored_of disk new ≡ st) → cache_of disk new m left order most_entries ≡ record s { durable = new }
+    seen_after (Ok x) there done undone =
+        let old = cache_of disk d m left order most_entries in
+        let none = none_in st.frozen there.0 in
+        let page = role_is_page header.role there.1 in
+        ap (λ (t : Stored). record old { durable = new; contents = contents_in t m; frozen = frozen_seen t m left }) (done_is there done)
+        ∙ ap (λ (cs : List (Content Cap)). record old { durable = new; contents = cs; frozen = frozen_seen (stored_after_journal age n (words_in (content_at st m n)) st) m left })
+        (journal_contents st m left count is none n page age (content_page there.1))
+        ∙ ap (λ (o : Option FrozenFrames). record old { durable = new; frozen = o }) (journal_frozen st m left count is none n page age (content_page there.1))
+        ∙ ap (λ (t : StoreState D). record t { durable = new }) view
+    seen_after (Err e) there done undone =
+        let old = cache_of disk d m left order most_entries in
+        ap (λ (t : Stored). record old { durable = new; contents = contents_in t m; frozen = frozen_seen t m left }) undone
+        ∙ ap (λ (t : StoreState D). record t { durable = new }) view
+
+    aside_own : {T E : Type 0} (r : Result T E) → OnOk r IsThere → OnOk r IsDone →
+        OnOk r (aside_of disk (record s { durable = new }) ≡ journal.aside_after_journal age n (words_in (held_at s.contents n)) (aside_of disk s))
     aside_own (Ok x) there done =
-        let page = role_is_page _ there.1 in
-        ap (λ (x : Stored). aside_in x (frozen_frames x (present_frames s.present) s.snapshots)) done
-        ∙ journaled_aside st s.present s.snapshots is age n (none_in st.frozen there.0) page (holds page)
+        ap (λ (t : Stored). let a : Aside = record { frozen = s.frozen; saved = t.saved; to_move = t.to_move } in a) done
+        ∙ ap (λ (ws : List ℕ). journal.aside_after_journal age n ws (record { frozen = s.frozen; saved = st.saved; to_move = st.to_move })) (words_seen (none_in st.frozen there.0) there.1)
+        ∙ ap (λ (t : StoreState D). journal.aside_after_journal age n (words_in (held_at s.contents n)) (record { frozen = s.frozen; saved = (stored_of disk t.durable).saved; to_move = (stored_of disk t.durable).to_move })) view
     aside_own (Err e) there done = tt
 
-    pub journal_aside : {T E : Type 0} (r : Result T E) → OnOk r ((option_map left_of (stored_of disk s.durable).frozen ≡ None) × (is_page_role (header_at s.present.headers n).role ≡ true)) →
-        OnOk r (stored_of disk d ≡ stored_after_journal age n (words_in (held_at s.present.contents n)) (stored_of disk s.durable)) →
-        OnOk r ((view_of disk (record { durable = d; present = s.present; snapshots = s.snapshots })).aside ≡ journal.aside_after_journal age n (words_in (held_at t.present.contents n)) (view_of disk t).aside)
-    journal_aside r there done = subst (λ (x : StoreState D). OnOk r ((view_of disk after).aside ≡ journal.aside_after_journal age n (words_in (held_at x.present.contents n)) (view_of disk x).aside)) same (aside_own r there done)
+    pub aside_after : {T E : Type 0} (r : Result T E) → OnOk r IsThere → OnOk r IsDone → OnErr r (stored_of disk new ≡ st) →
+        OnOk r (aside_of disk (cache_of disk new m left order most_entries) ≡ journal.aside_after_journal age n (words_in (held_at s.contents n)) (aside_of disk s))
+    aside_after r there done undone = subst (λ (t : StoreState D). OnOk r (aside_of disk t ≡ journal.aside_after_journal age n (words_in (held_at s.contents n)) (aside_of disk s)))
+        (sym (seen_after r there done undone)) (aside_own r there done)
 
-    same_aside : {T E : Type 0} (r : Result T E) → OnErr r (stored_of disk d ≡ st) → OnErr r ((view_of disk after).aside ≡ (view_of disk s).aside)
-    same_aside (Ok x) unchanged = tt
-    same_aside (Err e) unchanged = ap (λ (x : Stored). aside_in x (frozen_frames x (present_frames s.present) s.snapshots)) unchanged
+    pub aside_stays : {T E : Type 0} (r : Result T E) → OnErr r (stored_of disk new ≡ stored_of disk d) → OnErr r (aside_of disk (cache_of disk new m left order most_entries) ≡ aside_of disk s)
+    aside_stays (Ok x) undone = tt
+    aside_stays (Err e) undone =
+        ap (λ (t : Stored). let a : Aside = record { frozen = frozen_seen t m left; saved = t.saved; to_move = t.to_move } in a) undone
+        ∙ ap (λ (t : StoreState D). aside_of disk t) view
 
-    pub journal_unchanged : {T E : Type 0} (r : Result T E) → OnErr r (stored_of disk d ≡ stored_of disk s.durable) →
-        OnErr r ((view_of disk (record { durable = d; present = s.present; snapshots = s.snapshots })).aside ≡ (view_of disk t).aside)
-    journal_unchanged r unchanged = subst (λ (x : StoreState D). OnErr r ((view_of disk after).aside ≡ (view_of disk x).aside)) same (same_aside r unchanged)
+    abbrev answer_of : StoreState D → Result ℕ JournalFault → Type 0
+    answer_of t r = journal.IsJournalAnswer (disk t.durable.beneath) (disk new.beneath) (option_map (λ (f : FrozenFrames). f.left) t.frozen) (stored_of disk t.durable).saved
+        (is_page_role (header_at t.headers n).role) (journal.is_same_page (header_at t.headers n).allocations (frame_at (stored_of disk t.durable).saved.frames n)) r
 
-    -- what a crash leaves in its course
-    abbrev moments_of : StoreState D → Type 0
-    moments_of x = LeavesOneOf (disk x.durable.beneath) (disk d.beneath) (view_of disk x).aside.saved
-        (journal.next_journaled age n (words_in (held_at x.present.contents n)) (view_of disk x).aside.frozen (view_of disk x).aside.saved
-        (is_page_role (header_at x.present.headers n).role) (journal.is_same_page (header_at x.present.headers n).allocations (frame_at (view_of disk x).aside.saved.frames n)))
+    -- how many are left of a checkpoint on its way
+    left_seen : (o : Option FrozenPuts) → option_map (λ (f : FrozenFrames). f.left) (option_map (λ (f : FrozenPuts). record { frames = frozen_in st m; size = f.size; left = left }) o) ≡ option_map (λ (f : FrozenPuts). left) o
+    left_seen None = refl
+    left_seen (Some f) = refl
 
-    pub journal_moments : LeavesOneOf (disk s.durable.beneath) (disk d.beneath) (stored_of disk s.durable).saved
-        (journal.next_journaled age n (words_in (held_at s.present.contents n)) (stored_of disk s.durable).frozen (stored_of disk s.durable).saved
-        (is_page_role (header_at s.present.headers n).role) (journal.is_same_page (header_at s.present.headers n).allocations (frame_at (stored_of disk s.durable).saved.frames n))) →
-        LeavesOneOf (disk t.durable.beneath) (disk d.beneath) (view_of disk t).aside.saved
-        (journal.next_journaled age n (words_in (held_at t.present.contents n)) (view_of disk t).aside.frozen (view_of disk t).aside.saved
-        (is_page_role (header_at t.present.headers n).role) (journal.is_same_page (header_at t.present.headers n).allocations (frame_at (view_of disk t).aside.saved.frames n)))
-    journal_moments moments =
-        subst moments_of same
-        (subst (λ (o : Option SavedFrames). LeavesOneOf (disk s.durable.beneath) (disk d.beneath) st.saved o)
-        (sym (next_same age n (frozen_in st (frozen_frames st (present_frames s.present) s.snapshots)) (words_in (held_at s.present.contents n)) st.frozen st.saved
-        (is_page_role (header_at s.present.headers n).role) (journal.is_same_page (header_at s.present.headers n).allocations (frame_at st.saved.frames n)))) moments)
+    pub answer_seen : (r : Result ℕ JournalFault) → journal.IsJournalAnswer (disk d.beneath) (disk new.beneath) (option_map left_of (stored_of disk d).frozen) (stored_of disk d).saved
+        (is_page_role (header_at m.headers n).role) (journal.is_same_page (header_at m.headers n).allocations (frame_at (stored_of disk d).saved.frames n)) r →
+        journal.IsJournalAnswer (disk s.durable.beneath) (disk new.beneath) (option_map (λ (f : FrozenFrames). f.left) s.frozen) (stored_of disk s.durable).saved
+        (is_page_role (header_at s.headers n).role) (journal.is_same_page (header_at s.headers n).allocations (frame_at (stored_of disk s.durable).saved.frames n)) r
+    answer_seen r told =
+        let is_page = is_page_role header.role in
+        let is_saved = journal.is_same_page header.allocations (frame_at st.saved.frames n) in
+        subst (λ (t : StoreState D). answer_of t r) view
+        (subst (λ (o : Option ℕ). journal.IsJournalAnswer (disk d.beneath) (disk new.beneath) o st.saved is_page is_saved r) (sym (left_seen st.frozen))
+        (answer_same left_of (λ (f : FrozenPuts). left) st.frozen (disk d.beneath) (disk new.beneath) st.saved is_page is_saved r told))
+
+    abbrev moments_of : StoreState D → List ℕ → Type 0
+    moments_of t ws = LeavesOneOf (disk t.durable.beneath) (disk new.beneath) (stored_of disk t.durable).saved
+        (next_journaled age n ws t.frozen (stored_of disk t.durable).saved
+        (is_page_role (header_at t.headers n).role) (journal.is_same_page (header_at t.headers n).allocations (frame_at (stored_of disk t.durable).saved.frames n)))
+
+    pub moments_seen : LeavesOneOf (disk d.beneath) (disk new.beneath) (stored_of disk d).saved
+        (next_journaled age n (words_in (held_now m.entries (stored_of disk d) n)) (stored_of disk d).frozen (stored_of disk d).saved
+        (is_page_role (header_at m.headers n).role) (journal.is_same_page (header_at m.headers n).allocations (frame_at (stored_of disk d).saved.frames n))) →
+        LeavesOneOf (disk s.durable.beneath) (disk new.beneath) (stored_of disk s.durable).saved
+        (next_journaled age n (words_in (held_at s.contents n)) s.frozen (stored_of disk s.durable).saved
+        (is_page_role (header_at s.headers n).role) (journal.is_same_page (header_at s.headers n).allocations (frame_at (stored_of disk s.durable).saved.frames n)))
+    moments_seen moments =
+        let is_page = is_page_role header.role in
+        let is_saved = journal.is_same_page header.allocations (frame_at st.saved.frames n) in
+        let seen : FrozenPuts → FrozenFrames = λ (f : FrozenPuts). record { frames = frozen_in st m; size = f.size; left = left } in
+        subst (λ (t : StoreState D). moments_of t (words_in (held_at s.contents n))) view
+        (subst (λ (o : Option SavedFrames). LeavesOneOf (disk d.beneath) (disk new.beneath) st.saved o)
+        (next_words age n (words_in (held_now m.entries st n)) (words_in (held_at s.contents n)) st.frozen st.saved is_page is_saved words_seen
+        ∙ sym (next_same age n seen (words_in (held_at s.contents n)) st.frozen st.saved is_page is_saved)) moments)
+
+-- ---- a page that is read first
+
+words_read : (b : Body) (slots : List Cap) (ws : List ℕ) → is_page (content_of b slots ws) ≡ true → ws ≡ words_in (content_of b slots ws)
+words_read body.Free slots ws page = absurd cc
+words_read body.Page slots ws page = refl
+words_read body.Node slots ws page = absurd cc
+words_read (body.Root root) slots ws page = absurd cc
+words_read body.Annex slots ws page = absurd cc
+words_read (body.Bank limit) slots ws page = absurd cc
+
+pub read_words : (read : ObjectHeader × Body) (room : Room) (f : Frame) → frame_of read room ≡ f → is_page f.content ≡ true → room.words ≡ words_in f.content
+read_words read room f found page =
+    let same : content_of read.1 room.slots room.words ≡ f.content = ap (λ (g : Frame). g.content) found in
+    words_read read.1 room.slots room.words (subst (λ (c : Content Cap). is_page c ≡ true) (sym same) page) ∙ ap words_in same
+
+-- what a crash leaves while it is read, and then is saved
+pub read_first : {D : Type 0} (disk : D → Disk) (a b : DurableState D) (new : Disk) (age n : ℕ) (vs ws : List ℕ) → ReadsStore disk a b → is_sound disk a → vs ≡ ws →
+    LeavesEither (disk b.beneath) new (stored_of disk b).saved (journaled_saved age n vs (stored_of disk b).saved) → LeavesEither (disk a.beneath) new (stored_of disk a).saved (journaled_saved age n ws (stored_of disk a).saved)
+read_first disk a b new age n vs ws reads sound same moments =
+    let size = (disk a.beneath).sectors in
+    let saved = (stored_of disk a).saved in
+    let next = journaled_saved age n ws saved in
+    let after : LeavesEither (disk b.beneath) new saved next =
+    subst (λ (t : Stored). LeavesEither (disk b.beneath) new t.saved (journaled_saved age n ws t.saved)) reads.stored
+    (subst (λ (xs : List ℕ). LeavesEither (disk b.beneath) new (stored_of disk b).saved (journaled_saved age n xs (stored_of disk b).saved)) same moments) in
+    leaves_on {old = disk a.beneath} {mid = disk b.beneath} {new = new} {P = λ (c : Image). Holds size c saved ⊎ Holds size c next}
+    (leaves_weaker {old = disk a.beneath} {new = disk b.beneath} {P = λ (c : Image). Holds size c saved} (λ (c : Image). Holds size c saved ⊎ Holds size c next) (λ c holds. inl holds) (reads.goes_on.any_moment sound))
+    (subst (λ (k : ℕ). LeavesOnly (disk b.beneath) new (λ (c : Image). Holds k c saved ⊎ Holds k c next)) reads.goes_on.size after)

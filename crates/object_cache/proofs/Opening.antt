@@ -1,82 +1,195 @@
--- A device is opened: the frames that were taken are the present ones.
-use Rattle.std.proofs.Common.{◌≡◌, List, [], ◌∷◌, length, map, replicate, refl, ap, ◌∙◌}
-use Rattle.std.specs.Prelude.{None, option_map}
-use Rattle.std.proofs.lemmas.List.{length-map}
+-- A store is made over a device that was opened: all objects are as they are saved.
+use Rattle.std.proofs.Common.{◌≡◌, inl, inr, ℕ, ◌<◌, Bool, false, true≢false, List, [], ◌∷◌, length, replicate, Option, None, option_map, refl, sym, ap, subst, ◌∙◌, arith}
+use Rattle.std.proofs.Math.ListN.{get_or-map}
+use Rattle.std.proofs.lemmas.Bool.{cases_lt}
+use Rattle.std.proofs.lemmas.List.{ext_get_or, get_or-replicate, get_or_past, length-map, length-replicate}
+use Rattle.std.proofs.lemmas.Option.{none-some}
 use Rattle.model.specs.declared.capability.Cap.{Cap}
 use Rattle.model.specs.declared.frame.Frame.{Frame}
 use Rattle.model.specs.declared.frame.ObjectHeader.{ObjectHeader}
 use Rattle.model.specs.declared.object.Content.{Content}
 use Rattle.model.specs.declared.object.Content.TheVariants as content
-use Rattle.model.specs.Frame.{frames_in, headers}
+use Rattle.model.specs.Frame.{blank_frame, frame_at, frames_in, header_at, headers}
 use Rattle.model.specs.Machine.{untouched}
+use Rattle.model.specs.Object.{role_of}
 use Rattle.model.specs.Sound.{object_count}
-use Rattle.device.specs.Disk.{Disk}
+use Rattle.device.specs.Disk.{Image, Disk}
+use Rattle.device.specs.Calls.{Only}
+use Rattle.checkpoint.specs.Opened.{Looks}
+use Rattle.migrator.specs.Put.{Put, Absent, put_at, put_or}
+use Rattle.checkpoint.specs.Saved.{SavedFrames, Holds}
 use Rattle.migrator.specs.Opened.{OpensDurable}
-use Rattle.migrator.specs.Durable.{Stored, DurableState, stored_of}
-use Rattle.capability.specs.Plain.{PlainState}
-use Rattle.object_cache.specs.declared.snapshot.Snapshot.{Snapshot}
-use Rattle.object_cache.specs.declared.snapshot.Snapshot.TheVariants.{Below}
-use Rattle.object_cache.specs.Frozen.{frozen_frames}
+use Rattle.migrator.specs.Durable.{DurableState, FrozenPuts, Stored, below_at, frozen_put, is_sound, stored_of}
+use Rattle.capability.specs.Parts.{HaveTheirRoles}
+use Rattle.capability.proofs.Frames.{frame_in, length_in}
 use Rattle.object_store.specs.Store.{OpensStore}
-use Rattle.object_cache.specs.PlainStore.{IsStore, bodies_of, present_frames, frozen_in, parts_of, view_of}
-use Rattle.object_cache.proofs.Stages.{opened_stands}
+use Rattle.cache_entries.specs.declared.entry.Entry.{Entry}
+use Rattle.cache_entries.specs.Entries.{entry_at, room_of}
+use Rattle.object_cache.specs.Memory.{Memory, memory_of, mark_at, masked, put_body, newest_body, below_body, present_body, content_at, present_at, frozen_body, frozen_frame, frozen_at, contents_in, frozen_in}
+use Rattle.object_cache.specs.StoreState.{StoreState, IsCache, IsFetchedIn, IsJustOpened, IsMadeOver, IsOpenOver, IsWhole, bodies_of, cache_of, frozen_seen, parts_of, seat_at, seats_in, view_of}
+use Rattle.object_cache.proofs.Freezing.{masked_same, none_counted, none_marked, none_put}
+use Rattle.object_cache.proofs.Objects.{content_in, contents_count}
 
--- ---- the present frames are the saved ones
+-- what is held on sectors: each frame has its role, and there is one for each object
+pub held_roles : (size : ℕ) (c : Image) (saved : SavedFrames) → Holds size c saved → HaveTheirRoles saved.frames
+held_roles size c saved holds =
+    subst (λ (t : SavedFrames). HaveTheirRoles t.frames) holds.2 (λ n.
+    elim (cases_lt n (length holds.0.frames)) [
+      | inl lt ↦ (holds.1.each n (omega (arith, lt, holds.1.count))).0.kept.role
+      | inr past ↦ subst (λ (f : Frame). f.header.role ≡ role_of f.content) (sym (get_or_past holds.0.frames n blank_frame past)) refl
+    ])
 
-again : (fs : List Frame) → frames_in (headers fs) (map (λ (f : Frame). f.content) fs) ≡ fs
+pub held_count : (size : ℕ) (c : Image) (saved : SavedFrames) → Holds size c saved → length saved.frames ≡ object_count saved.geometry
+held_count size c saved holds = subst (λ (t : SavedFrames). length t.frames ≡ object_count t.geometry) holds.2 holds.1.count
+
+none_entered : (k n : ℕ) → entry_at (replicate k None) n ≡ None
+none_entered k n = elim (cases_lt n k) [
+  | inl lt ↦ get_or-replicate k n None None lt
+  | inr past ↦ get_or_past (replicate k None) n None (let size = length-replicate {A = Option Entry} k None in omega (arith, size, past))
+]
+
+again : (fs : List Frame) → frames_in (headers fs) (bodies_of fs) ≡ fs
 unfolding frames_in
 again [] = refl
-again (f ∷ fs) = ap (λ (xs : List Frame). f ∷ xs) (again fs)
+again (f ∷ fs) = ap (λ (gs : List Frame). f ∷ gs) (again fs)
 
-module _ {D : Type 0} (disk : D → Disk) (device : D) (d : DurableState D) (p : PlainState) (ss : List Snapshot) (hs : List ObjectHeader) (cs : List (Content Cap)) (opened : OpensDurable disk device d)
-    (headers_taken : hs ≡ headers (stored_of disk d).saved.frames) (contents_taken : cs ≡ bodies_of (stored_of disk d).saved.frames)
-    (count : length (stored_of disk d).saved.frames ≡ object_count (stored_of disk d).saved.geometry)
-    (present : p ≡ record {
-      geometry = (stored_of disk d).saved.geometry;
-      headers = hs;
-      contents = cs;
-      touched = untouched (stored_of disk d).saved.geometry;
-      rooms = replicate (object_count (stored_of disk d).saved.geometry) content.Free;
-    })
-    (blank : ss ≡ replicate (object_count (stored_of disk d).saved.geometry) Below) where
-  headers_are : p.headers ≡ headers (stored_of disk d).saved.frames
-  headers_are = ap (λ (x : PlainState). x.headers) present ∙ headers_taken
+-- what is in memory then: headers, and nothing else
+abbrev pub blank_memory : List ObjectHeader → List ObjectHeader → Memory
+blank_memory hs fh = memory_of hs fh (replicate (length hs) false) (replicate (length hs) false) (replicate (length hs) false) (replicate (length hs) None) None
 
-  contents_are : p.contents ≡ bodies_of (stored_of disk d).saved.frames
-  contents_are = ap (λ (x : PlainState). x.contents) present ∙ contents_taken
+module _ (s : Stored) (hs fh : List ObjectHeader) (fh_count : length fh ≡ length hs) (is : IsJustOpened s hs) where
+  abbrev m : Memory
+  m = blank_memory hs fh
 
-  frames_are : present_frames p ≡ (stored_of disk d).saved.frames
-  frames_are =
-      ap (λ (xs : List ObjectHeader). frames_in xs p.contents) headers_are
-      ∙ ap (λ (ys : List (Content Cap)). frames_in (headers (stored_of disk d).saved.frames) ys) contents_are
-      ∙ again (stored_of disk d).saved.frames
+  each : length hs ≡ length s.saved.frames
+  each = ap length is.headers_are ∙ length-map s.saved.frames (λ (f : Frame). f.header)
 
-  pub open_stands : IsStore (stored_of disk d) p ss
-  open_stands = opened_stands (stored_of disk d) p ss count opened.working opened.frozen (ap (λ (x : PlainState). x.geometry) present) frames_are
-      (ap length headers_are ∙ length-map (stored_of disk d).saved.frames (λ (f : Frame). f.header) ∙ count)
-      (ap length contents_are ∙ length-map (stored_of disk d).saved.frames (λ (f : Frame). f.content) ∙ count)
-      (ap (λ (x : PlainState). x.touched) present) blank
+  unput_here : (n : ℕ) → put_at s.working n ≡ Absent
+  unput_here n = ap (λ (ps : List Put). put_at ps n) is.working ∙ none_put (length s.saved.frames) n
 
-  pub open_opens : OpensStore disk device (parts_of disk (record { durable = d; present = p; snapshots = ss })) (view_of disk (record { durable = d; present = p; snapshots = ss }))
-  open_opens = record {
-    sound = opened.sound;
-    holds = opened.holds;
-    frames = frames_are;
-    touched = ap (λ (x : PlainState). x.touched) present;
-    frozen = none_frozen (stored_of disk d) (frozen_frames (stored_of disk d) (present_frames p) ss) opened.frozen;
-    to_move = opened.to_move;
-    durable = opened.durable;
-    looks = opened.looks;
-    failures = opened.failures;
+  below_is : (n : ℕ) → below_at s n ≡ frame_at s.saved.frames n
+  below_is n = ap (λ (o : Option FrozenPuts). put_or (frozen_put o n) (frame_at s.saved.frames n)) is.idle
+
+  header_is : (n : ℕ) → header_at hs n ≡ (frame_at s.saved.frames n).header
+  header_is n = ap (λ (xs : List ObjectHeader). header_at xs n) is.headers_are ∙ get_or-map (λ (f : Frame). f.header) s.saved.frames n blank_frame
+
+  content_is : (n : ℕ) → content_at s m n ≡ (frame_at s.saved.frames n).content
+  content_is n =
+      ap (λ (o : Option Entry). present_body o (header_at hs n).role (newest_body s m n)) (none_entered (length hs) n)
+      ∙ ap (λ (p : Put). masked (header_at hs n).role (put_body p (below_body s m n))) (unput_here n)
+      ∙ ap (λ (f : Frame). masked (header_at hs n).role f.content) (below_is n)
+      ∙ ap (λ (h : ObjectHeader). masked h.role (frame_at s.saved.frames n).content) (header_is n)
+      ∙ masked_same (frame_at s.saved.frames n).header.role (frame_at s.saved.frames n).content (is.roles n)
+
+  present_is : (n : ℕ) → present_at s m n ≡ frame_at s.saved.frames n
+  present_is n =
+      let was = header_is n in
+      let body = content_is n in
+      λ k. record { header = was k; content = body k }
+
+  frozen_is : (n : ℕ) → frozen_at s m n ≡ frame_at s.saved.frames n
+  frozen_is n =
+      ap (λ (p : Bool). frozen_frame p (header_at fh n) (frozen_body (entry_at m.entries n) (mark_at m.touched n) (below_body s m n)) (below_at s n)) (none_marked (length hs) n)
+      ∙ below_is n
+
+  open_contents : contents_in s m ≡ bodies_of s.saved.frames
+  open_contents = ext_get_or content.Free (contents_in s m) (bodies_of s.saved.frames) (contents_count s m ∙ each ∙ sym (length-map s.saved.frames (λ (f : Frame). f.content)))
+      (λ n lt. content_in s m n (omega (arith, lt, contents_count s m)) ∙ content_is n ∙ sym (get_or-map (λ (f : Frame). f.content) s.saved.frames n blank_frame))
+
+  marks_are : length (replicate (length hs) false) ≡ object_count s.saved.geometry
+  marks_are = length-replicate {A = Bool} (length hs) false ∙ each ∙ is.frames
+
+  pub open_cache : IsCache s (blank_memory hs fh) 0 0
+  open_cache = record {
+    headers = each ∙ is.frames;
+    frozen_headers = fh_count ∙ each ∙ is.frames;
+    marks = marks_are;
+    dirty_marks = marks_are;
+    pending_marks = marks_are;
+    entries = length-replicate {A = Option Entry} (length hs) None ∙ each ∙ is.frames;
+    frames = is.frames;
+    puts = ap length is.working ∙ length-replicate {A = Put} (length s.saved.frames) Absent ∙ is.frames;
+    counted = sym (none_counted (length hs));
+    within = omega arith;
+    marked = λ n dirty. absurd (true≢false (sym dirty ∙ none_marked (length hs) n));
+    clean = λ n clean touched. absurd (true≢false (sym touched ∙ none_marked (length hs) n));
+    unput = λ n untouched. unput_here n;
+    unwritten = λ n inside untouched. present_is n ∙ sym (frozen_is n);
+    idle = λ gone n. none_marked (length hs) n;
+    running = λ f some. absurd (none-some f (sym is.idle ∙ some));
+    keepable = λ f some. absurd (none-some f (sym is.idle ∙ some));
+    held = λ h some. absurd (none-some h some);
+    apart = λ n e some. absurd (none-some e (sym (none_entered (length hs) n) ∙ some));
+    freed = λ n gone pending free. absurd (true≢false (sym pending ∙ none_marked (length hs) n));
+  }
+
+  pub made_over : {D : Type 0} (disk : D → Disk) (d : DurableState D) (most : ℕ) → stored_of disk d ≡ s → IsMadeOver disk d most (cache_of disk d (blank_memory hs fh) 0 [] most)
+  unfolding untouched seats_in
+  made_over disk d most same = record {
+    durable = refl;
+    headers_are = is.headers_are ∙ ap (λ (t : Stored). headers t.saved.frames) (sym same);
+    contents = ap (λ (t : Stored). contents_in t m) same ∙ open_contents ∙ ap (λ (t : Stored). bodies_of t.saved.frames) (sym same);
+    touched = ap (λ (k : ℕ). replicate k false) (each ∙ is.frames) ∙ ap (λ (t : Stored). untouched t.saved.geometry) (sym same);
+    idle = ap (λ (t : Stored). frozen_seen t m 0) same ∙ ap (option_map (λ (f : FrozenPuts). record { frames = frozen_in s m; size = f.size; left = 0 })) is.idle;
+    unseated = unseated_here;
+    order = refl;
+    same_most = refl;
   } where
-    none_frozen : (s : Stored) (fs : List Frame) → s.frozen ≡ None → option_map (frozen_in s fs) s.frozen ≡ None
-    none_frozen s fs none = ap (option_map (frozen_in s fs)) none
+    unseated_here : (n : ℕ) → seat_at (seats_in m.entries) n ≡ None
+    unseated_here n = get_or-map (option_map room_of) m.entries n None ∙ ap (option_map room_of) (none_entered (length hs) n)
 
--- as many objects were taken as there are
-pub headers_count : {D : Type 0} (disk : D → Disk) (d : DurableState D) (hs : List ObjectHeader) → hs ≡ headers (stored_of disk d).saved.frames → length (stored_of disk d).saved.frames ≡ object_count (stored_of disk d).saved.geometry
-    → length hs ≡ object_count (stored_of disk d).saved.geometry
-headers_count disk d hs taken count = ap length taken ∙ length-map (stored_of disk d).saved.frames (λ (f : Frame). f.header) ∙ count
+-- what is in a durable store that was opened
+module _ {D : Type 0} (disk : D → Disk) (device : D) (d : DurableState D) (hs : List ObjectHeader) (opened : OpensDurable disk device d) (took : hs ≡ headers (stored_of disk d).saved.frames) where
+  pub just_opened : IsJustOpened (stored_of disk d) hs
+  just_opened = record {
+    headers_are = took;
+    roles = held_roles (disk device).sectors (disk device).seen (stored_of disk d).saved opened.holds;
+    frames = held_count (disk device).sectors (disk device).seen (stored_of disk d).saved opened.holds;
+    working = opened.working;
+    idle = opened.frozen;
+  }
 
-pub contents_count : {D : Type 0} (disk : D → Disk) (d : DurableState D) (cs : List (Content Cap)) → cs ≡ bodies_of (stored_of disk d).saved.frames → length (stored_of disk d).saved.frames ≡ object_count (stored_of disk d).saved.geometry
-    → length cs ≡ object_count (stored_of disk d).saved.geometry
-contents_count disk d cs taken count = ap length taken ∙ length-map (stored_of disk d).saved.frames (λ (f : Frame). f.content) ∙ count
+  -- and in a store that was made over it
+  pub opens_store : (all : Bool) (most : ℕ) (s : StoreState D) → IsOpenOver all disk d most s → OpensStore disk device (parts_of disk s) (view_of disk s)
+  opens_store all most s over =
+      let same : stored_of disk s.durable ≡ stored_of disk d = ap (stored_of disk) over.durable in record {
+        sound = subst (λ (x : DurableState D). is_sound disk x) (sym over.durable) opened.sound;
+        holds = subst (λ (x : Stored). Holds (disk device).sectors (disk device).seen x.saved) (sym same) opened.holds;
+        frames = frames_are;
+        touched = over.touched ∙ ap (λ (x : Stored). untouched x.saved.geometry) (sym same);
+        frozen = over.idle;
+        to_move = subst (λ (x : Stored). x.to_move ≡ x.saved.entries) (sym same) opened.to_move;
+        durable = subst (λ (x : DurableState D). Only (disk x.beneath).seen (disk x.beneath)) (sym over.durable) opened.durable;
+        looks = subst (λ (x : DurableState D). Looks (disk device) (disk x.beneath)) (sym over.durable) opened.looks;
+        failures = ap (λ (x : DurableState D). (disk x.beneath).failures) over.durable ∙ opened.failures;
+      } where
+        frames_are : frames_in s.headers s.contents ≡ (stored_of disk s.durable).saved.frames
+        frames_are =
+            ap (λ (hs : List ObjectHeader). frames_in hs s.contents) over.headers_are
+            ∙ ap (λ (cs : List (Content Cap)). frames_in (headers (stored_of disk d).saved.frames) cs) over.contents
+            ∙ again (stored_of disk d).saved.frames
+            ∙ ap (λ (x : DurableState D). (stored_of disk x).saved.frames) (sym over.durable)
+
+-- a store is told apart from its making
+module _ {D : Type 0} (disk : D → Disk) where
+  pub over_made : (all : Bool) (d : DurableState D) (most : ℕ) (s : StoreState D) → all ≡ false → IsMadeOver disk d most s → IsOpenOver all disk d most s
+  over_made all d most s few made = record {
+    durable = made.durable;
+    headers_are = made.headers_are;
+    contents = made.contents;
+    touched = made.touched;
+    idle = made.idle;
+    whole = λ is. absurd (true≢false (sym is ∙ few));
+    same_most = made.same_most;
+  }
+
+  pub over_filled : (all : Bool) (d : DurableState D) (most : ℕ) (s t : StoreState D) → t ≡ record s { seats = t.seats; owed = t.owed; order = t.order } → IsWhole t → IsMadeOver disk d most s → IsOpenOver all disk d most t
+  over_filled all d most s t is whole made = record {
+    durable = ap (λ (x : StoreState D). x.durable) is ∙ made.durable;
+    headers_are = ap (λ (x : StoreState D). x.headers) is ∙ made.headers_are;
+    contents = ap (λ (x : StoreState D). x.contents) is ∙ made.contents;
+    touched = ap (λ (x : StoreState D). x.touched) is ∙ made.touched;
+    idle = ap (λ (x : StoreState D). x.frozen) is ∙ made.idle;
+    whole = λ all. whole;
+    same_most = ap (λ (x : StoreState D). x.most) is ∙ made.same_most;
+  }

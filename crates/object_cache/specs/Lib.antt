@@ -1,7 +1,10 @@
-pub use Rattle.capability.specs.Parts
-pub use Rattle.checkpoint.specs.Saved
-pub use Rattle.checkpoint.specs.Opened
-pub mod Frozen
-pub mod PlainStore
-pub mod FrozenLaws
+pub use Rattle.cache_entries.specs.Entries
+pub use Rattle.cache_entries.specs.Order
+pub use Rattle.object_store.specs.Store
+pub mod Memory
+pub mod Hand
+pub mod StoreState
+pub mod Prepared
+pub mod Journaled
+pub mod PresentLaws
 pub mod StoreLaws

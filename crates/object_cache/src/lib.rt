@@ -1,11 +1,21 @@
-//! Object stores over a device: the present objects, those of a checkpoint on its way, and what is
-//! saved.
+//! The store of objects over a device. Its policy says which bodies it keeps in memory: all of them, or those used last.
 #![tactic(auto)]
 
-mod plain_store;
-mod snapshot;
-mod snapshots;
+mod all_objects;
+mod body;
+mod cache;
+mod frozen;
+mod hand;
+mod headers;
+mod held;
+mod owed;
+mod page;
+mod policy;
+mod saved_objects;
+mod store;
 
-pub use checkpoint::{Checkpoint, CheckpointFault, OpenFault, OpenRefused};
-pub use object_store::{JournalFault, ObjectStore};
-pub use plain_store::PlainStore;
+pub use all_objects::AllObjects;
+pub use cache_entries::{Capacity, Entries, Entry};
+pub use held::Held;
+pub use policy::{KeepAll, KeepRecent, Policy};
+pub use store::{BoundedCache, PlainStore, Store};

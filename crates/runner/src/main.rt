@@ -4,7 +4,6 @@
 ghost use Rattle.std.specs.Prelude.{◌≡◌, IfOk};
 ghost use Rattle.file_device.specs.FileDevice.{file_disk};
 
-use bounded_cache::{BoundedCache, Capacity};
 use command_line::{Job, JobFault, Script, job};
 use device::{Device, MAX_SECTORS};
 use file_device::{FileDevice, FileFault};
@@ -14,7 +13,7 @@ use jobs::{
     finish, info_image, reach_image, run_image, run_shell, run_traced, upgrade_opened,
 };
 use memory_device::Fuse;
-use object_cache::PlainStore;
+use object_cache::{BoundedCache, Capacity, PlainStore};
 use object_store::ObjectStore;
 use runs::{ScriptReader, TraceOptions, Tracer};
 use std::fs::{self, File};

@@ -3,10 +3,9 @@ use crate::devices::device_with;
 use crate::stops::run_task;
 use crate::task::{Deed, Task, outcome_of};
 use crate::upgrades::run_upgrade;
-use bounded_cache::BoundedCache;
 use device::Device;
 use memory_device::Outcome;
-use object_cache::PlainStore;
+use object_cache::{BoundedCache, PlainStore};
 use std::alloc::Global;
 use std::io::Write;
 

@@ -9,7 +9,7 @@ mod stops;
 mod task;
 mod upgrades;
 
-use bounded_cache::Capacity;
+use object_cache::Capacity;
 use deeds::{do_whole, stop_at_each, try_outcomes};
 use memory_device::Outcome;
 use std::fs;

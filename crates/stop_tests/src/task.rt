@@ -1,5 +1,5 @@
 // What a run of the program is to do.
-use bounded_cache::Capacity;
+use object_cache::Capacity;
 use memory_device::Outcome;
 
 /// What is done over a device that stops after some calls.

@@ -3,8 +3,7 @@ use Rattle.std.specs.Prelude.{◌≡◌, ◌≢◌, ◌⊎◌, ℕ, ◌<◌, ◌
 use Rattle.checkpoint.specs.declared.open_fault.OpenFault.TheVariants as fault
 use Rattle.recovery.specs.Recovered.{IsBad, IsWhy}
 use Rattle.kernel.specs.Opening.{Opens}
-use Rattle.object_cache.specs.PlainStore as plain
-use Rattle.bounded_cache.specs.Cache as bounded
+use Rattle.object_cache.specs.StoreState as objects
 use Rattle.script.specs.declared.fault.RunFault.{RunFault}
 use Rattle.script.specs.declared.fault.RunFault.TheVariants as run
 use Rattle.vezhnake.specs.declared.host_kernel.HostKernel.{HostKernel}
@@ -19,8 +18,8 @@ use Rattle.vezhnake.specs.Hosting.{HostDevice, IsFresh, RunsText, calls_beneath,
 
 -- a kernel was opened on a device
 abbrev pub OpensOn : HostDevice → HostKernel → Type 0
-OpensOn d (store.Plain k) = Opens host_disk (plain.view_of host_disk) (plain.parts_of host_disk) d k
-OpensOn d (store.Bounded k) = Opens host_disk (bounded.view_of host_disk) (bounded.parts_of host_disk) d k
+OpensOn d (store.Plain k) = Opens host_disk (objects.view_of host_disk) (objects.parts_of host_disk) d k
+OpensOn d (store.Bounded k) = Opens host_disk (objects.view_of host_disk) (objects.parts_of host_disk) d k
 
 -- whether a kernel has all objects in memory
 abbrev pub is_plain : HostKernel → Bool
@@ -66,21 +65,21 @@ pub record OpensSession (bytes : List ℕ) (cache : ℕ) (s : Session) : Type 0 
 
 -- a text was run as a script, over the same kind of kernel
 abbrev pub RunsKernel : HostKernel → HostKernel → List ℕ → List ℕ → List ℕ → Result (Unit {0}) RunFault → Type 0
-RunsKernel (store.Plain old) (store.Plain new) = RunsText (plain.view_of host_disk) (plain.parts_of host_disk) old new
+RunsKernel (store.Plain old) (store.Plain new) = RunsText (objects.view_of host_disk) (objects.parts_of host_disk) old new
 RunsKernel (store.Bounded old) (store.Bounded new) =
-    RunsText (bounded.view_of host_disk) (bounded.parts_of host_disk) old new
+    RunsText (objects.view_of host_disk) (objects.parts_of host_disk) old new
 RunsKernel (store.Plain old) (store.Bounded new) = λ text before after result. ⊥
 RunsKernel (store.Bounded old) (store.Plain new) = λ text before after result. ⊥
 
 -- the calls of the device beneath a kernel
 abbrev pub calls_in : HostKernel → List HostCall
-calls_in (store.Plain k) = calls_beneath (plain.view_of host_disk) k
-calls_in (store.Bounded k) = calls_beneath (bounded.view_of host_disk) k
+calls_in (store.Plain k) = calls_beneath (objects.view_of host_disk) k
+calls_in (store.Bounded k) = calls_beneath (objects.view_of host_disk) k
 
 -- the number of calls before the ones that are kept
 abbrev pub kept_from : HostKernel → ℕ
-kept_from (store.Plain k) = start_beneath (plain.view_of host_disk) k
-kept_from (store.Bounded k) = start_beneath (bounded.view_of host_disk) k
+kept_from (store.Plain k) = start_beneath (objects.view_of host_disk) k
+kept_from (store.Bounded k) = start_beneath (objects.view_of host_disk) k
 
 -- ---- copying out
 

@@ -8,12 +8,11 @@ ghost use Rattle.vezhnake.specs.Statuses.{status_by};
 
 use crate::recorder::Recorder;
 use crate::status::Status;
-use bounded_cache::{BoundedCache, Capacity};
 use checkpoint::OpenFault;
 use device::{MAX_SECTORS, SECTOR_SIZE};
 use file_device::CopiedFile;
 use kernel::Kernel;
-use object_cache::PlainStore;
+use object_cache::{BoundedCache, Capacity, PlainStore};
 use object_store::ObjectStore;
 use runs::{ScriptReader, run};
 use runs_laws::laws::crashes_are_survived;

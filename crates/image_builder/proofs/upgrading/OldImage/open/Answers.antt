@@ -1,4 +1,4 @@
-use Rattle.object_cache.specs.PlainStore.{saved_by}
+use Rattle.object_cache.specs.StoreState.{saved_by}
 use Rattle.image_builder.proofs.Upgrades.{seen_encodes}
 use Rattle.image_builder.proofs.upgrading.OldImage.open.Goals as goal
 

@@ -1,9 +1,0 @@
-use Rattle.std.proofs.Common.{◌≡◌, ◌≢◌, ℕ, ◌<◌, slice_index_or}
-use Rattle.bounded_cache.specs.Memory.{Shared}
-use Rattle.bounded_cache.specs.Cache.{owed_at}
-use Rattle.bounded_cache.proofs.cache.BoundedCache.keep_all_apart.Given as goal
-
-abbrev pub invariant-loop-number : goal.invariant-loop-number
-invariant-loop-number g l =
-    ((k : ℕ) → k < l.number-index → owed_at l.self.owed (slice_index_or l.written k 0) ≢ Shared)
-    × (l.self ≡ record l.fn.self { owed = l.self.owed })

@@ -1,9 +1,0 @@
-use Rattle.bounded_cache.specs.Memory.{memory_of}
-use Rattle.bounded_cache.proofs.Objects.{bounded_seen}
-use Rattle.bounded_cache.proofs.cache.BoundedCache.len.Goals as goal
-
-pub returns-clause-bounded : goal.returns-clause-bounded
-returns-clause-bounded g c =
-    let i = c.self.inside in
-    let m = memory_of i.table i.frozen_headers i.touched i.dirty i.pending i.entries.at i.hand in
-    bounded_seen g.D.Device.disk i.durable m i.left i.entries.order i.entries.most c.args.self.now c.self.view_is c.len.ensures.ordered

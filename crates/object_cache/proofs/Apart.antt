@@ -1,0 +1,110 @@
+-- What an object was frozen as is kept apart from what it holds.
+use Rattle.std.proofs.Common.{◌≡◌, inr, ℕ, ◌<◌, Bool, true, false, List, length, map, set, Option, Some, None, option_map, refl, sym, ap, ◌∙◌, arith, length-set}
+use Rattle.std.proofs.Math.ListN.{get_or-map}
+use Rattle.std.proofs.lemmas.List.{get_or-set_same, get_or-set_other, map-set, set-get_or}
+use Rattle.std.proofs.lemmas.Option.{none-some, same_Some}
+use Rattle.model.specs.declared.capability.Cap.{Cap}
+use Rattle.model.specs.declared.object.Content.{Content}
+use Rattle.model.specs.Frame.{header_at}
+use Rattle.device.specs.Disk.{Disk}
+use Rattle.migrator.specs.Durable.{DurableState, Stored, below_at, stored_of}
+use Rattle.cache_entries.specs.declared.entry.Entry.{Entry}
+use Rattle.cache_entries.specs.Entries.{entry_at, with_entry, keeping, present_of, room_of}
+use Rattle.object_cache.specs.Memory.{Memory, Shared, Apart, mark_at, present_body, newest_body, below_body, apart_body, frozen_body, frozen_frame, owed_of, owed_body, owed_in_memory, owed_in}
+use Rattle.object_cache.specs.StoreState.{StoreState, IsCache, IsFetchedIn, cache_of, owed_at, seats_in}
+use Rattle.cache_entries.proofs.Arenas.{some_of}
+use Rattle.object_cache.proofs.Changing.{with_objects}
+use Rattle.object_cache.proofs.Objects.{has_entry, fetched_known}
+use Rattle.object_cache.proofs.Seating.{Reseats, seated_cache, owed_changed, seen_seated, owed_entry}
+
+-- a body that is both is of an object that is pending and wasn't written since it was frozen
+shared_owed : (e : Entry) (pending touched : Bool) → owed_of (Some e) pending touched ≡ Shared → (pending ≡ true) × (touched ≡ false) × (e.kept ≡ None)
+shared_owed e false touched is = cc
+shared_owed e true touched is = let p = go e.kept touched is in (refl, p.0, p.1)
+  where
+    go : (o : Option (Content Cap)) (t : Bool) → owed_body o t ≡ Shared → (t ≡ false) × (o ≡ None)
+    go (Some c) t same = cc
+    go None true same = cc
+    go None false same = (refl, refl)
+
+room_keeps : (k : Option (Content Cap)) (o : Option Entry) → option_map room_of (option_map (keeping k) o) ≡ option_map room_of o
+room_keeps k None = refl
+room_keeps k (Some e) = refl
+
+pub seats_keep : (k : Option (Content Cap)) (n : ℕ) (es : List (Option Entry)) → seats_in (with_entry (keeping k) n es) ≡ seats_in es
+unfolding seats_in
+seats_keep k n es =
+    map-set (option_map room_of) es n (option_map (keeping k) (entry_at es n))
+    ∙ ap (set (map (option_map room_of) es) n) (room_keeps k (entry_at es n) ∙ sym (get_or-map (option_map room_of) es n None))
+    ∙ set-get_or (map (option_map room_of) es) n None
+
+module _ (s : Stored) (m : Memory) (n : ℕ) (within : n < length m.entries) (e : Entry) (at : entry_at m.entries n ≡ Some e) (shared : owed_in_memory m n ≡ Shared) where
+  abbrev apart : List (Option Entry)
+  apart = with_entry (keeping (Some e.present)) n m.entries
+
+  facts : (mark_at m.pending n ≡ true) × (mark_at m.touched n ≡ false) × (e.kept ≡ None)
+  facts = shared_owed e (mark_at m.pending n) (mark_at m.touched n) (ap (λ (o : Option Entry). owed_of o (mark_at m.pending n) (mark_at m.touched n)) (sym at) ∙ shared)
+
+  now : entry_at apart n ≡ Some (keeping (Some e.present) e)
+  now = get_or-set_same m.entries n (option_map (keeping (Some e.present)) (entry_at m.entries n)) None within ∙ ap (option_map (keeping (Some e.present))) at
+
+  frozen_same : frozen_body (entry_at apart n) (mark_at m.touched n) (below_body s m n) ≡ frozen_body (entry_at m.entries n) (mark_at m.touched n) (below_body s m n)
+  frozen_same =
+      ap (λ (o : Option Entry). frozen_body o (mark_at m.touched n) (below_body s m n)) now
+      ∙ sym (ap (λ (o : Option Entry). frozen_body o (mark_at m.touched n) (below_body s m n)) at
+      ∙ ap (λ (t : Bool). apart_body e.kept t e.present (below_body s m n)) facts.1
+      ∙ ap (λ (k : Option (Content Cap)). apart_body k false e.present (below_body s m n)) facts.2)
+
+  pub keeps_apart : Reseats s m apart n
+  keeps_apart = record {
+    count = length-set m.entries n (option_map (keeping (Some e.present)) (entry_at m.entries n));
+    entries = λ k other. get_or-set_other m.entries n k (option_map (keeping (Some e.present)) (entry_at m.entries n)) None other;
+    content =
+        ap (λ (o : Option Entry). present_body o (header_at m.headers n).role (newest_body s m n)) now
+        ∙ sym (ap (λ (o : Option Entry). present_body o (header_at m.headers n).role (newest_body s m n)) at);
+    frozen = ap (λ (c : Content Cap). frozen_frame (mark_at m.pending n) (header_at m.frozen_headers n) c (below_at s n)) frozen_same;
+    apart = λ f here. inr facts.0;
+    freed = λ none pending free. absurd (none-some (keeping (Some e.present) e) (sym none ∙ now));
+  }
+
+  pub owed_apart : owed_in_memory (with_objects m m.headers apart) n ≡ Apart
+  owed_apart =
+      ap (λ (o : Option Entry). owed_of o (mark_at m.pending n) (mark_at m.touched n)) now
+      ∙ ap (λ (p : Bool). owed_of (Some (keeping (Some e.present) e)) p (mark_at m.touched n)) facts.0
+
+-- the same by what is seen
+module _ {D : Type 0} (disk : D → Disk) (d : DurableState D) (m : Memory) (left count : ℕ) (order : List ℕ) (most_entries : ℕ) (s : StoreState D)
+    (view : cache_of disk d m left order most_entries ≡ s) (is : IsCache (stored_of disk d) m left count) (n : ℕ) (fetched : IsFetchedIn s n) (shared : owed_at s.owed n ≡ Shared)
+    (x : Content Cap) (x_is : option_map present_of (entry_at m.entries n) ≡ Some x) where
+  known_here : n < length m.headers
+  known_here = fetched_known disk d m left order most_entries s view n fetched
+
+  entry_within : n < length m.entries
+  entry_within = omega (arith, known_here, is.headers, is.entries)
+
+  entry_here : (e : Entry) × (entry_at m.entries n ≡ Some e)
+  entry_here = some_of (entry_at m.entries n) (has_entry disk d m left order most_entries s view n fetched)
+
+  body_is : entry_here.0.present ≡ x
+  body_is = same_Some entry_here.0.present x (ap (option_map present_of) (sym entry_here.1) ∙ x_is)
+
+  shared_here : owed_in_memory m n ≡ Shared
+  shared_here = sym (owed_entry m n known_here) ∙ ap (λ (t : StoreState D). owed_at t.owed n) view ∙ shared
+
+  entries_are : with_entry (keeping (Some x)) n m.entries ≡ with_entry (keeping (Some entry_here.0.present)) n m.entries
+  entries_are = ap (λ (c : Content Cap). with_entry (keeping (Some c)) n m.entries) (sym body_is)
+
+  reseats : Reseats (stored_of disk d) m (with_entry (keeping (Some entry_here.0.present)) n m.entries) n
+  reseats = keeps_apart (stored_of disk d) m n entry_within entry_here.0 entry_here.1 shared_here
+
+  pub apart_stands : IsCache (stored_of disk d) (with_objects m m.headers (with_entry (keeping (Some x)) n m.entries)) left count
+  apart_stands = rw entries_are (seated_cache (stored_of disk d) m (with_entry (keeping (Some entry_here.0.present)) n m.entries) n reseats left count is)
+
+  pub apart_seen : cache_of disk d (with_objects m m.headers (with_entry (keeping (Some x)) n m.entries)) left order most_entries ≡ record s { owed = set s.owed n Apart }
+  apart_seen =
+      let es = with_entry (keeping (Some entry_here.0.present)) n m.entries in
+      ap (λ (fs : List (Option Entry)). cache_of disk d (with_objects m m.headers fs) left order most_entries) entries_are
+      ∙ seen_seated disk d m left order most_entries es n reseats (set (owed_in m) n Apart)
+      (owed_changed (stored_of disk d) m es n reseats Apart known_here (owed_apart (stored_of disk d) m n entry_within entry_here.0 entry_here.1 shared_here))
+      ∙ ap (λ (rs : List (Option (Content Cap))). record (cache_of disk d m left order most_entries) { seats = rs; owed = set (owed_in m) n Apart }) (seats_keep (Some entry_here.0.present) n m.entries)
+      ∙ ap (λ (t : StoreState D). record t { owed = set t.owed n Apart }) view

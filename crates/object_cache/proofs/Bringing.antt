@@ -1,0 +1,196 @@
+-- Objects are brought into memory: those used last stay there.
+use Rattle.std.proofs.Common.{◌≡◌, ◌↔◌, inl, inr, ℕ, zero, suc, ◌+◌, ◌<◌, ◌≤◌, nat_eq, Bool, true, false, ◌||◌, true≢false, List, [], ◌∷◌, length, set, take, Option, Some, None, IsSome, is_some, Result, Ok, Err, refl, sym, ap, subst, ◌∙◌, arith}
+use Rattle.std.specs.Prelude.{IsErrOf, OnOk, OnErr, option_map, slice_index_or}
+use Rattle.std.specs.List.{Contains}
+use Rattle.std.proofs.lemmas.Bool.{cases_eq, cases_lt, eq-eqb}
+use Rattle.std.proofs.lemmas.List.{get_or_past, get_or_default, get_or-set_same, get_or-set_other, length-map}
+use Rattle.model.specs.declared.capability.Cap.{Cap}
+use Rattle.model.specs.declared.geometry.Geometry.{Geometry}
+use Rattle.model.specs.declared.object.Content.{Content}
+use Rattle.model.specs.declared.object.Content.TheVariants as content
+use Rattle.model.specs.Keepable.{AreKeepable}
+use Rattle.model.specs.Revoke.{is_member}
+use Rattle.device.specs.Disk.{Image, Disk}
+use Rattle.checkpoint.specs.Saved.{most}
+use Rattle.migrator.specs.Durable.{DurableState, stored_of}
+use Rattle.capability.specs.Parts.{frames_of}
+use Rattle.capability.specs.declared.present.PrepareFault.TheVariants as fault
+use Rattle.object_store.specs.Store.{Aside}
+use Rattle.cache_entries.specs.declared.entry.Entry.{Entry}
+use Rattle.cache_entries.specs.Entries.{room_of}
+use Rattle.object_cache.specs.Memory.{Memory}
+use Rattle.object_cache.proofs.Objects.{contents_count}
+use Rattle.cache_entries.specs.Order.{without}
+use Rattle.object_cache.specs.StoreState.{StoreState, IsCache, IsFetchedIn, GoesOnIn, cache_of, parts_of, seat_at, seats_in, with_seat}
+use Rattle.object_cache.specs.Prepared.{IsRecentIn, on_device_with}
+use Rattle.object_cache.specs.PresentLaws.{goes_on_same}
+use Rattle.object_cache.proofs.Leading.{leads_seats}
+use Rattle.cache_entries.proofs.Recent.{front_without}
+
+-- ---- the front of an order
+
+front_front : (k j : ℕ) (xs : List ℕ) → k ≤ j → take k (take j xs) ≡ take k xs
+front_front zero j xs few = refl
+front_front (suc k) zero xs few = absurd (omega (arith, few))
+front_front (suc k) (suc j) [] few = refl
+front_front (suc k) (suc j) (x ∷ xs) few = ap (λ (ys : List ℕ). x ∷ ys) (front_front k j xs (omega (arith, few)))
+
+front_same : (k j : ℕ) (xs ys : List ℕ) → k ≤ j → take j ys ≡ take j xs → take k ys ≡ take k xs
+front_same k j xs ys few same = sym (front_front k j ys few) ∙ ap (take k) same ∙ front_front k j xs few
+
+or_right : (t a : Bool) → a ≡ true → (t || a) ≡ true
+or_right true a is = refl
+or_right false a is = is
+
+or_keeps : (t a b : Bool) → (a ≡ true → b ≡ true) → (t || a) ≡ true → (t || b) ≡ true
+or_keeps true a b then is = refl
+or_keeps false a b then is = then is
+
+front_within : (k j n : ℕ) (xs : List ℕ) → k ≤ j → is_member (take k xs) n ≡ true → is_member (take j xs) n ≡ true
+front_within zero j n xs few is = absurd (true≢false (sym is))
+front_within (suc k) zero n xs few is = absurd (omega (arith, few))
+front_within (suc k) (suc j) n [] few is = is
+front_within (suc k) (suc j) n (x ∷ xs) few is = or_keeps (nat_eq n x) (is_member (take k xs) n) (is_member (take j xs) n) (front_within k j n xs (omega (arith, few))) is
+
+front_first : (n k : ℕ) (ns : List ℕ) → 0 < k → is_member (take k (n ∷ ns)) n ≡ true
+front_first n zero ns some = absurd (omega (arith, some))
+front_first n (suc k) ns some = ap (λ (t : Bool). t || is_member (take k ns) n) (eq-eqb n n refl)
+
+front_pushed : (n m j k : ℕ) (ns : List ℕ) → j < k → is_member (take j ns) m ≡ true → is_member (take k (n ∷ ns)) m ≡ true
+front_pushed n m j zero ns below is = absurd (omega (arith, below))
+front_pushed n m j (suc k) ns below is = or_right (nat_eq m n) (is_member (take k ns) m) (front_within j k m ns (omega (arith, below)) is)
+
+front_used : (n m j k : ℕ) (ns : List ℕ) → j < k → is_member (take j ns) m ≡ true → is_member (take k (n ∷ without n ns)) m ≡ true
+front_used n m j zero ns below is = absurd (omega (arith, below))
+front_used n m j (suc k) ns below is = elim (cases_eq m n) [
+  | inl same ↦ ap (λ (t : Bool). t || is_member (take k (without n ns)) m) (eq-eqb m n same)
+  | inr other ↦ or_right (nat_eq m n) (is_member (take k (without n ns)) m) (front_within j k m (without n ns) (omega (arith, below)) (front_without n ns j m other is))
+]
+
+-- ---- numbers that have an entry
+
+pub seat_within : (ss : List (Option (Content Cap))) (n : ℕ) → IsSome (seat_at ss n) → n < length ss
+seat_within ss n some = elim (cases_lt n (length ss)) [
+  | inl within ↦ within
+  | inr past ↦ absurd (true≢false (sym some ∙ ap is_some (get_or_past ss n None past)))
+]
+
+pub still_seated : (ss : List (Option (Content Cap))) (n m : ℕ) (c : Content Cap) → IsSome (seat_at ss m) → IsSome (seat_at (set ss n (Some c)) m)
+still_seated ss n m c some = elim (cases_eq m n) [
+  | inl same ↦ subst (λ (k : ℕ). IsSome (seat_at (set ss k (Some c)) m)) same
+      (ap is_some (get_or-set_same ss m (Some c) None (seat_within ss m some)))
+  | inr other ↦ ap is_some (get_or-set_other ss n m (Some c) None other) ∙ some
+]
+
+module _ {D : Type 0} where
+  pub place_recent : (s t : StoreState D) → t ≡ on_device_with s t → take 7 t.order ≡ take 7 s.order →
+      ((n : ℕ) → is_member (take 7 s.order) n ≡ true → seat_at t.seats n ≡ seat_at s.seats n) → (k n : ℕ) → k ≤ 7 → IsRecentIn s k n → IsRecentIn t k n
+  place_recent s t rest order others k n few recent = (
+    record {
+      header = omega (arith, recent.0.header, ap (λ (x : StoreState D). length x.headers) rest);
+      content = omega (arith, recent.0.content, ap (λ (x : StoreState D). length x.contents) rest);
+      seat = ap is_some (others n (front_within k 7 n s.order few recent.1)) ∙ recent.0.seat;
+    },
+    ap (λ (ns : List ℕ). is_member ns n) (front_same k 7 s.order t.order few order) ∙ recent.1,
+  )
+
+  pub use_first : (s : StoreState D) (n k : ℕ) → IsFetchedIn s n → 0 < k → IsRecentIn (record s { order = n ∷ without n s.order }) k n
+  use_first s n k there some = (record { header = there.header; content = there.content; seat = there.seat }, front_first n k (without n s.order) some)
+
+  pub use_recent : (s : StoreState D) (n j k m : ℕ) → j < k → IsRecentIn s j m → IsRecentIn (record s { order = n ∷ without n s.order }) k m
+  use_recent s n j k m below recent = (record { header = recent.0.header; content = recent.0.content; seat = recent.0.seat }, front_used n m j k s.order below recent.1)
+
+  pub read_recent : (s t : StoreState D) (j n : ℕ) → t ≡ record s { durable = t.durable } → IsRecentIn s j n → IsRecentIn t j n
+  read_recent s t j n is recent = (
+    record {
+      header = omega (arith, recent.0.header, ap (λ (x : StoreState D). length x.headers) is);
+      content = omega (arith, recent.0.content, ap (λ (x : StoreState D). length x.contents) is);
+      seat = ap (λ (x : StoreState D). is_some (seat_at x.seats n)) is ∙ recent.0.seat;
+    },
+    ap (λ (x : StoreState D). is_member (take j x.order) n) is ∙ recent.1,
+  )
+
+  -- what was read is in memory
+  pub rest_on : (s t u : StoreState D) → t ≡ on_device_with s t → u ≡ on_device_with t u → u ≡ on_device_with s u
+  rest_on s t u first second = second ∙ ap (λ (x : StoreState D). on_device_with x u) first
+
+  pub rest_read : (s t u : StoreState D) → t ≡ on_device_with s t → u ≡ record t { durable = u.durable } → u ≡ on_device_with s u
+  rest_read s t u first is =
+      is ∙ ap (λ (x : StoreState D). record x { durable = u.durable }) first
+      ∙ ap (λ (x : StoreState D). record (on_device_with s x) { durable = u.durable }) (sym is)
+
+  pub seat_rest : {T E : Type 0} (r : Result T E) (s t : StoreState D) (n : ℕ) → OnOk r (t ≡ with_seat n s) → OnErr r (t ≡ s) → t ≡ on_device_with s t
+  seat_rest (Ok x) s t n ok err = ok ∙ ap (on_device_with s) (sym ok)
+  seat_rest (Err e) s t n ok err = err ∙ ap (on_device_with s) (sym err)
+
+  pub seat_hand : {T E : Type 0} (r : Result T E) (s t : StoreState D) (n : ℕ) → OnOk r (t ≡ with_seat n s) → OnErr r (t ≡ s) → t.hand ≡ s.hand
+  seat_hand (Ok x) s t n ok err = ap (λ (x : StoreState D). x.hand) ok
+  seat_hand (Err e) s t n ok err = ap (λ (x : StoreState D). x.hand) err
+
+  pub seat_first : (s t : StoreState D) (n k : ℕ) → t ≡ with_seat n s → IsFetchedIn t n → 0 < k → IsRecentIn t k n
+  seat_first s t n k is there some = (there, ap (λ (x : StoreState D). is_member (take k x.order) n) is ∙ front_first n k s.order some)
+
+  pub seat_recent : (s t : StoreState D) (n j k m : ℕ) → t ≡ with_seat n s → j < k → IsRecentIn s j m → IsRecentIn t k m
+  seat_recent s t n j k m is below recent = (
+    record {
+      header = omega (arith, recent.0.header, ap (λ (x : StoreState D). length x.headers) is);
+      content = omega (arith, recent.0.content, ap (λ (x : StoreState D). length x.contents) is);
+      seat = ap (λ (x : StoreState D). is_some (seat_at x.seats m)) is ∙ still_seated s.seats n m content.Free recent.0.seat;
+    },
+    ap (λ (x : StoreState D). is_member (take k x.order) m) is ∙ front_pushed n m j k s.order below recent.1,
+  )
+
+seats_count : (es : List (Option Entry)) → length (seats_in es) ≡ length es
+unfolding seats_in
+seats_count es = length-map es (option_map room_of)
+
+module _ {D : Type 0} (disk : D → Disk) (d : DurableState D) (m : Memory) (left count : ℕ) (order : List ℕ) (most_entries : ℕ) (s : StoreState D)
+    (view : cache_of disk d m left order most_entries ≡ s) (is : IsCache (stored_of disk d) m left count) (n : ℕ) (known : n < length s.headers) where
+  known_seat : n < length s.seats
+  known_seat = omega (arith, known, ap (λ (t : StoreState D). length t.headers) view, ap (λ (t : StoreState D). length t.seats) view, seats_count m.entries, is.headers, is.entries)
+
+  pub seat_fetched : IsFetchedIn (with_seat n s) n
+  seat_fetched = record {
+    header = known;
+    content = omega (arith, known, ap (λ (t : StoreState D). length t.headers) view, ap (λ (t : StoreState D). length t.contents) view, contents_count (stored_of disk d) m);
+    seat = ap is_some (get_or-set_same s.seats n (Some content.Free) None known_seat);
+  }
+
+-- ---- what leads on, and why a call failed
+
+module _ {D : Type 0} (disk : D → Disk) where
+  pub seat_leads : ((d : D) (c : Image) → (disk d).left_since (disk d).moment c → (disk d).may_leave c) → {T E : Type 0} (r : Result T E) (s t : StoreState D) (n : ℕ) →
+      OnOk r (t ≡ with_seat n s) → OnErr r (t ≡ s) → GoesOnIn disk s t
+  seat_leads only_now (Ok x) s t n ok err = subst (GoesOnIn disk s) (sym ok)
+      (leads_seats disk s s (with_seat n s).seats (with_seat n s).owed (with_seat n s).order (goes_on_same disk only_now s))
+  seat_leads only_now (Err e) s t n ok err = subst (GoesOnIn disk s) (sym err) (goes_on_same disk only_now s)
+
+  -- what can be kept can be kept once other things are in memory
+  pub keepable_on : (s t : StoreState D) → t ≡ on_device_with s t → GoesOnIn disk s t → AreKeepable (parts_of disk s).geometry most (frames_of (parts_of disk s)) →
+      AreKeepable (parts_of disk t).geometry most (frames_of (parts_of disk t))
+  keepable_on s t rest leads keepable =
+      subst (λ (h : Geometry). AreKeepable h most (frames_of (parts_of disk t))) (sym (ap (λ (a : Aside). a.saved.geometry) leads.aside))
+      (subst (λ (x : StoreState D). AreKeepable (parts_of disk s).geometry most (frames_of (parts_of disk x))) (sym rest) keepable)
+
+-- a call that succeeded had no failure of the device
+pub no_failure : {T : Type 0} (x : T) (a b : ℕ) → (IsErrOf (Ok x) fault.Failed ↔ (a < b)) → a ≤ b → b ≡ a
+no_failure x a b cause later = elim (cases_lt a b) [
+  | inl fell ↦ absurd (ok_not x (cause.1 fell))
+  | inr not ↦ omega (arith, not, later)
+]
+  where
+    ok_not : {T : Type 0} (x : T) → Ok x ≡ Err fault.Failed → ⊥
+    ok_not x is = cc
+
+-- ---- the objects of a list
+
+pub all_listed : (P : ℕ → Type 0) (ns : List ℕ) (i : ℕ) → length ns ≤ i → ((k : ℕ) → k < i → P (slice_index_or ns k 0)) → (n : ℕ) → Contains ns n → P n
+all_listed P ns i done each n has = subst P (get_or_default ns has.0 0 n has.1 ∙ has.2) (each has.0 (omega (arith, has.1, done)))
+
+pub recent_on : {D : Type 0} (t u : StoreState D) (ns : List ℕ) (i : ℕ) → i ≤ 7 → ((j k n : ℕ) → j ≤ 7 → j < k → IsRecentIn t j n → IsRecentIn u k n) →
+    ((k : ℕ) → 0 < k → IsRecentIn u k (slice_index_or ns i 0)) → ((k : ℕ) → k < i → IsRecentIn t i (slice_index_or ns k 0)) →
+    (k : ℕ) → k < i + 1 → IsRecentIn u (i + 1) (slice_index_or ns k 0)
+recent_on t u ns i few recent first before k below = elim (cases_lt k i) [
+  | inl earlier ↦ recent i (i + 1) (slice_index_or ns k 0) few (omega arith) (before k earlier)
+  | inr now ↦ subst (λ (j : ℕ). IsRecentIn u (i + 1) (slice_index_or ns j 0)) (omega (arith, now, below)) (first (i + 1) (omega arith))
+]

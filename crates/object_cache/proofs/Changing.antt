@@ -1,0 +1,196 @@
+-- One object is changed that is to be put: no frozen frame is another, and what always holds still does.
+use Rattle.std.proofs.Common.{◌≡◌, ◌≢◌, ◌⊎◌, inl, inr, ℕ, ◌<◌, Bool, true, false, true≢false, List, length, map, set, Option, Some, None, option_map, refl, sym, ap, subst, ◌∙◌, arith}
+use Rattle.std.specs.List.{range_with_len}
+use Rattle.std.proofs.lemmas.Bool.{cases_eq}
+use Rattle.std.proofs.lemmas.Option.{none-some, same_Some}
+use Rattle.model.specs.declared.capability.Cap.{Cap}
+use Rattle.model.specs.declared.frame.ObjectHeader.{ObjectHeader}
+use Rattle.model.specs.declared.object.Content.{Content}
+use Rattle.model.specs.declared.object.Role.TheVariants as role
+use Rattle.model.specs.Frame.{header_at}
+use Rattle.model.specs.Keepable.{AreKeepable}
+use Rattle.migrator.specs.Put.{Kept}
+use Rattle.checkpoint.specs.Saved.{most}
+use Rattle.migrator.specs.Durable.{Stored, below_at}
+use Rattle.checkpoint.proofs.Lists.{maps_same}
+use Rattle.migrator.proofs.Kept.{map_set}
+use Rattle.cache_entries.specs.declared.entry.Entry.{Entry}
+use Rattle.cache_entries.specs.Entries.{entry_at}
+use Rattle.object_cache.specs.Memory.{Memory, mark_at, present_body, content_at, present_at, newest_body, below_body, apart_body, frozen_body, frozen_frame, frozen_at, owed_of, owed_body, owed_in_memory, contents_in, frozen_in, owed_in}
+use Rattle.object_cache.specs.StoreState.{IsCache}
+
+abbrev pub kept_of : Entry → Option (Content Cap)
+kept_of e = e.kept
+
+-- with other headers and entries
+abbrev pub with_objects : Memory → List ObjectHeader → List (Option Entry) → Memory
+with_objects m hs es = record m { headers = hs; entries = es }
+
+-- one object's header or present body is another: there is an entry where there was one, with the same body kept apart
+pub record Changes (m : Memory) (hs : List ObjectHeader) (es : List (Option Entry)) (n : ℕ) : Type 0 where
+  pub header_count : length hs ≡ length m.headers
+  pub entry_count : length es ≡ length m.entries
+  pub headers : (k : ℕ) → k ≢ n → header_at hs k ≡ header_at m.headers k
+  pub entries : (k : ℕ) → k ≢ n → entry_at es k ≡ entry_at m.entries k
+  pub kept : option_map kept_of (entry_at es n) ≡ option_map kept_of (entry_at m.entries n)
+  pub role : entry_at es n ≡ None → ((header_at hs n).role ≡ (header_at m.headers n).role) ⊎ ((header_at hs n).role ≡ role.Free)
+
+-- of an object written since it was frozen the frozen body isn't the present one
+by_kept : (o p : Option Entry) (below : Content Cap) → option_map kept_of o ≡ option_map kept_of p → frozen_body o true below ≡ frozen_body p true below
+by_kept None None below same = refl
+by_kept None (Some f) below same = absurd (none-some f.kept same)
+by_kept (Some e) None below same = absurd (none-some e.kept (sym same))
+by_kept (Some e) (Some f) below same = kept_alone e.kept f.kept (same_Some e.kept f.kept same)
+  where
+    kept_alone : (a b : Option (Content Cap)) → a ≡ b → apart_body a true e.present below ≡ apart_body b true f.present below
+    kept_alone a b is = ap (λ (o : Option (Content Cap)). apart_body o true e.present below) is ∙ touched_body b
+      where
+        touched_body : (o : Option (Content Cap)) → apart_body o true e.present below ≡ apart_body o true f.present below
+        touched_body None = refl
+        touched_body (Some c) = refl
+
+owed_by_kept : (o p : Option Entry) (pending : Bool) → option_map kept_of o ≡ option_map kept_of p → owed_of o pending true ≡ owed_of p pending true
+owed_by_kept None None pending same = refl
+owed_by_kept None (Some f) pending same = absurd (none-some f.kept same)
+owed_by_kept (Some e) None pending same = absurd (none-some e.kept (sym same))
+owed_by_kept (Some e) (Some f) false same = refl
+owed_by_kept (Some e) (Some f) true same = ap (λ (o : Option (Content Cap)). owed_body o true) (same_Some e.kept f.kept same)
+
+module _ (s : Stored) (m : Memory) (hs : List ObjectHeader) (es : List (Option Entry)) (n : ℕ) (change : Changes m hs es n) where
+  abbrev changed : Memory
+  changed = with_objects m hs es
+
+  pub content_elsewhere : (k : ℕ) → k ≢ n → content_at s changed k ≡ content_at s m k
+  content_elsewhere k other =
+      ap (λ (o : Option Entry). present_body o (header_at hs k).role (newest_body s m k)) (change.entries k other)
+      ∙ ap (λ (h : ObjectHeader). present_body (entry_at m.entries k) h.role (newest_body s m k)) (change.headers k other)
+
+  present_elsewhere : (k : ℕ) → k ≢ n → present_at s changed k ≡ present_at s m k
+  present_elsewhere k other =
+      ap (λ (h : ObjectHeader). record { header = h; content = content_at s changed k }) (change.headers k other)
+      ∙ ap (λ (c : Content Cap). record { header = header_at m.headers k; content = c }) (content_elsewhere k other)
+
+  -- what all objects hold, by what the changed one does
+  pub contents_changed : (c : Content Cap) → n < length m.headers → content_at s changed n ≡ c → contents_in s changed ≡ set (contents_in s m) n c
+  unfolding contents_in
+  contents_changed c within here =
+      ap (λ (k : ℕ). map (content_at s changed) (range_with_len 0 k)) change.header_count
+      ∙ map_set (content_at s m) (content_at s changed) (length m.headers) n c within here (λ k below other. content_elsewhere k other)
+
+  pub contents_same : content_at s changed n ≡ content_at s m n → contents_in s changed ≡ contents_in s m
+  unfolding contents_in
+  contents_same here =
+      ap (λ (k : ℕ). map (content_at s changed) (range_with_len 0 k)) change.header_count
+      ∙ maps_same (content_at s changed) (content_at s m) (length m.headers) (λ k below. elim (cases_eq k n) [
+        | inl same ↦ ap (content_at s changed) same ∙ here ∙ ap (content_at s m) (sym same)
+        | inr other ↦ content_elsewhere k other
+      ])
+
+  module _ (touched : mark_at m.touched n ≡ true) where
+    frozen_here : frozen_at s changed n ≡ frozen_at s m n
+    frozen_here =
+        ap (λ (c : Content Cap). frozen_frame (mark_at m.pending n) (header_at m.frozen_headers n) c (below_at s n))
+        (ap (λ (t : Bool). frozen_body (entry_at es n) t (below_body s m n)) touched
+        ∙ by_kept (entry_at es n) (entry_at m.entries n) (below_body s m n) change.kept
+        ∙ ap (λ (t : Bool). frozen_body (entry_at m.entries n) t (below_body s m n)) (sym touched))
+
+    frozen_stays : (k : ℕ) → frozen_at s changed k ≡ frozen_at s m k
+    frozen_stays k = elim (cases_eq k n) [
+      | inl same ↦ ap (frozen_at s changed) same ∙ frozen_here ∙ ap (frozen_at s m) (sym same)
+      | inr other ↦
+          ap (λ (o : Option Entry). frozen_frame (mark_at m.pending k) (header_at m.frozen_headers k) (frozen_body o (mark_at m.touched k) (below_body s m k)) (below_at s k)) (change.entries k other)
+    ]
+
+    pub frozen_same : frozen_in s changed ≡ frozen_in s m
+    unfolding frozen_in
+    frozen_same =
+        ap (λ (k : ℕ). map (frozen_at s changed) (range_with_len 0 k)) change.header_count
+        ∙ maps_same (frozen_at s changed) (frozen_at s m) (length m.headers) (λ k below. frozen_stays k)
+
+    owed_stays : (k : ℕ) → owed_in_memory changed k ≡ owed_in_memory m k
+    owed_stays k = elim (cases_eq k n) [
+      | inl same ↦
+          ap (owed_in_memory changed) same
+          ∙ ap (owed_of (entry_at es n) (mark_at m.pending n)) touched
+          ∙ owed_by_kept (entry_at es n) (entry_at m.entries n) (mark_at m.pending n) change.kept
+          ∙ ap (owed_of (entry_at m.entries n) (mark_at m.pending n)) (sym touched)
+          ∙ ap (owed_in_memory m) (sym same)
+      | inr other ↦ ap (λ (o : Option Entry). owed_of o (mark_at m.pending k) (mark_at m.touched k)) (change.entries k other)
+    ]
+
+    pub owed_same : owed_in changed ≡ owed_in m
+    unfolding owed_in
+    owed_same =
+        ap (λ (k : ℕ). map (owed_in_memory changed) (range_with_len 0 k)) change.header_count
+        ∙ maps_same (owed_in_memory changed) (owed_in_memory m) (length m.headers) (λ k below. owed_stays k)
+
+  module _ (left count : ℕ) (is : IsCache s m left count) (dirty : mark_at m.dirty n ≡ true) where
+    touched_here : mark_at m.touched n ≡ true
+    touched_here = is.marked n dirty
+
+    -- a number that isn't marked is another
+    unmarked : (marks : List Bool) → mark_at marks n ≡ true → (k : ℕ) → mark_at marks k ≡ false → k ≢ n
+    unmarked marks here k not_here same = true≢false (sym here ∙ ap (mark_at marks) (sym same) ∙ not_here)
+
+    apart_here : (e : Entry) → entry_at es n ≡ Some e → (e.kept ≡ None) ⊎ (mark_at m.pending n ≡ true)
+    apart_here e at = go (entry_at m.entries n) refl (sym (ap (option_map kept_of) at) ∙ change.kept)
+      where
+        go : (o : Option Entry) → entry_at m.entries n ≡ o → Some e.kept ≡ option_map kept_of o → (e.kept ≡ None) ⊎ (mark_at m.pending n ≡ true)
+        go None was same = absurd (none-some e.kept (sym same))
+        go (Some f) was same = elim (is.apart n f was) [
+          | inl none ↦ inl (same_Some e.kept f.kept same ∙ none)
+          | inr pending ↦ inr pending
+        ]
+
+    none_here : entry_at es n ≡ None → entry_at m.entries n ≡ None
+    none_here at = go (entry_at m.entries n) (sym change.kept ∙ ap (option_map kept_of) at)
+      where
+        go : (o : Option Entry) → option_map kept_of o ≡ None → o ≡ None
+        go None same = refl
+        go (Some f) same = absurd (none-some f.kept (sym same))
+
+    pub still_cache : IsCache s changed left count
+    still_cache = record {
+      headers = change.header_count ∙ is.headers;
+      frozen_headers = is.frozen_headers;
+      marks = is.marks;
+      dirty_marks = is.dirty_marks;
+      pending_marks = is.pending_marks;
+      entries = change.entry_count ∙ is.entries;
+      frames = is.frames;
+      puts = is.puts;
+      counted = is.counted;
+      within = is.within;
+      marked = is.marked;
+      clean = λ k clean touched. is.clean k clean touched ∙ ap Kept (sym (present_elsewhere k (unmarked m.dirty dirty k clean)));
+      unput = is.unput;
+      unwritten = λ k below untouched.
+          let other = unmarked m.touched touched_here k untouched in
+          present_elsewhere k other ∙ is.unwritten k (omega (arith, below, change.header_count)) untouched ∙ sym (frozen_stays touched_here k);
+      idle = is.idle;
+      running = is.running;
+      keepable = λ f running. subst (AreKeepable s.saved.geometry most) (sym (frozen_same touched_here)) (is.keepable f running);
+      held = is.held;
+      apart = λ k e at. elim (cases_eq k n) [
+        | inl same ↦ elim (apart_here e (ap (entry_at es) (sym same) ∙ at)) [
+          | inl none ↦ inl none
+          | inr pending ↦ inr (ap (mark_at m.pending) same ∙ pending)
+        ]
+        | inr other ↦ is.apart k e (sym (change.entries k other) ∙ at)
+      ];
+      freed = λ k none pending free. elim (cases_eq k n) [
+        | inl same ↦
+            let none_n = ap (entry_at es) (sym same) ∙ none in
+            elim (is.freed k (ap (entry_at m.entries) same ∙ none_here none_n) pending free) [
+              | inl put ↦ inl put
+              | inr was_free ↦ elim (change.role none_n) [
+                | inl same_role ↦ inr (ap (λ (i : ℕ). (header_at hs i).role) same ∙ same_role ∙ ap (λ (i : ℕ). (header_at m.headers i).role) (sym same) ∙ was_free)
+                | inr free_now ↦ inr (ap (λ (i : ℕ). (header_at hs i).role) same ∙ free_now)
+              ]
+            ]
+        | inr other ↦ elim (is.freed k (sym (change.entries k other) ∙ none) pending free) [
+          | inl put ↦ inl put
+          | inr was_free ↦ inr (ap (λ (h : ObjectHeader). h.role) (change.headers k other) ∙ was_free)
+        ]
+      ];
+    }

@@ -1,0 +1,324 @@
+-- What is saved goes home, or what is frozen is saved: no object is another.
+use Rattle.std.proofs.Common.{◌≡◌, inl, inr, ℕ, zero, suc, ◌+◌, ◌-◌, ◌≤◌, ◌<◌, Bool, true, false, cond, ◌||◌, List, [], ◌∷◌, length, map, Option, Some, None, option_map, Result, Ok, Err, OnOk, OnErr, refl, sym, ap, subst, ◌∙◌, arith}
+use Rattle.std.specs.Prelude.{◌==◌, count_by, slice_index_or}
+use Rattle.std.specs.List.{range_with_len}
+use Rattle.std.proofs.lemmas.Bool.{cases_lt}
+use Rattle.std.proofs.lemmas.List.{length-map, same_lists, get_or_past}
+use Rattle.std.proofs.lemmas.List.FromFn.{length-map-range_with_len, get_or-map-range_with_len}
+use Rattle.std.proofs.lemmas.List.Sums.{sum_by-cons}
+use Rattle.std.proofs.lemmas.Option.{none-some, same_Some}
+use Rattle.model.specs.declared.capability.Cap.{Cap}
+use Rattle.model.specs.declared.frame.Frame.{Frame}
+use Rattle.model.specs.declared.object.Content.{Content}
+use Rattle.model.specs.Frame.{blank_frame, frame_at, header_at}
+use Rattle.model.specs.Keepable.{AreKeepable}
+use Rattle.device.specs.Disk.{Disk}
+use Rattle.migrator.specs.Put.{Put, Absent, Broken, Kept, put_at, put_or, overlaid, kept_count, sum_of}
+use Rattle.checkpoint.specs.Saved.{SavedFrames, LeavesEither, LeavesOneOf, home_saved}
+use Rattle.migrator.specs.Durable as durable
+use Rattle.migrator.specs.Durable.{DurableState, FrozenPuts, Stored, below_at, frozen_put, left_of, moved, stored_after_commit, stored_of}
+use Rattle.checkpoint.proofs.Lists.{maps_same}
+use Rattle.object_store.specs.Store.{FrozenFrames}
+use Rattle.object_store.specs.Store as store
+use Rattle.cache_entries.specs.Entries.{entry_at}
+use Rattle.object_cache.specs.Memory.{Memory, mark_at, in_hand, put_body, present_body, content_at, present_at, frozen_body, frozen_frame, frozen_at, contents_in, frozen_in}
+use Rattle.object_cache.specs.StoreState.{StoreState, IsCache, aside_of, cache_of, frozen_seen, is_kept}
+use Rattle.object_cache.proofs.Puts.{some_touched}
+
+-- ---- what is saved goes home
+
+abbrev pub saved_with : Bool → SavedFrames → SavedFrames
+saved_with b saved = cond b (home_saved saved) saved
+
+abbrev pub stored_with : Stored → Bool → ℕ → Stored
+stored_with s b k = record { working = s.working; frozen = s.frozen; saved = saved_with b s.saved; to_move = k }
+
+module _ (s : Stored) (m : Memory) where
+  pub contents_home : (b : Bool) (k : ℕ) → contents_in (stored_with s b k) m ≡ contents_in s m
+  unfolding contents_in
+  contents_home true k = refl
+  contents_home false k = refl
+
+  pub frozen_home : (b : Bool) (k : ℕ) → frozen_in (stored_with s b k) m ≡ frozen_in s m
+  unfolding frozen_in
+  frozen_home true k = refl
+  frozen_home false k = refl
+
+  pub home_stands : (left count : ℕ) (b : Bool) (k : ℕ) → IsCache s m left count → IsCache (stored_with s b k) m left count
+  unfolding frozen_in
+  home_stands left count true k is = record {
+    headers = is.headers;
+    frozen_headers = is.frozen_headers;
+    marks = is.marks;
+    dirty_marks = is.dirty_marks;
+    pending_marks = is.pending_marks;
+    entries = is.entries;
+    frames = is.frames;
+    puts = is.puts;
+    counted = is.counted;
+    within = is.within;
+    marked = is.marked;
+    clean = is.clean;
+    unput = is.unput;
+    unwritten = is.unwritten;
+    idle = is.idle;
+    running = is.running;
+    keepable = is.keepable;
+    held = is.held;
+    apart = is.apart;
+    freed = is.freed;
+  }
+  home_stands left count false k is = record {
+    headers = is.headers;
+    frozen_headers = is.frozen_headers;
+    marks = is.marks;
+    dirty_marks = is.dirty_marks;
+    pending_marks = is.pending_marks;
+    entries = is.entries;
+    frames = is.frames;
+    puts = is.puts;
+    counted = is.counted;
+    within = is.within;
+    marked = is.marked;
+    clean = is.clean;
+    unput = is.unput;
+    unwritten = is.unwritten;
+    idle = is.idle;
+    running = is.running;
+    keepable = is.keepable;
+    held = is.held;
+    apart = is.apart;
+    freed = is.freed;
+  }
+
+-- the same by what is seen
+module _ {D : Type 0} (disk : D → Disk) (d : DurableState D) (m : Memory) (left count : ℕ) (order : List ℕ) (most_entries : ℕ) (s : StoreState D)
+    (view : cache_of disk d m left order most_entries ≡ s) (is : IsCache (stored_of disk d) m left count) (new : DurableState D) where
+  home_seen : (b : Bool) (k : ℕ) → stored_of disk new ≡ stored_with (stored_of disk d) b k → cache_of disk new m left order most_entries ≡ record s { durable = new }
+  home_seen b k put =
+      let old = cache_of disk d m left order most_entries in
+      ap (λ (t : Stored). record old { durable = new; contents = contents_in t m; frozen = frozen_seen t m left }) put
+      ∙ ap (λ (cs : List (Content Cap)). record old { durable = new; contents = cs; frozen = frozen_seen (stored_with (stored_of disk d) b k) m left }) (contents_home (stored_of disk d) m b k)
+      ∙ ap (λ (fs : List Frame). record old { durable = new; frozen = option_map (λ (f : FrozenPuts). record { frames = fs; size = f.size; left = left }) (stored_of disk d).frozen }) (frozen_home (stored_of disk d) m b k)
+      ∙ ap (λ (t : StoreState D). record t { durable = new }) view
+
+  module _ (amount : ℕ) where
+    pub moved_stands : {T E : Type 0} (r : Result T E) → OnOk r (stored_of disk new ≡ moved amount (stored_of disk d)) →
+        OnErr r ((k : ℕ) × (k ≤ (stored_of disk d).to_move) × (stored_of disk new ≡ record (stored_of disk d) { to_move = k })) → IsCache (stored_of disk new) m left count
+    moved_stands (Ok x) done left_over = subst (λ (t : Stored). IsCache t m left count) (sym done)
+        (home_stands (stored_of disk d) m left count ((stored_of disk d).to_move - amount == 0) ((stored_of disk d).to_move - amount) is)
+    moved_stands (Err e) done left_over = subst (λ (t : Stored). IsCache t m left count) (sym left_over.2) (home_stands (stored_of disk d) m left count false left_over.0 is)
+
+    pub moved_seen : {T E : Type 0} (r : Result T E) → OnOk r (stored_of disk new ≡ moved amount (stored_of disk d)) →
+        OnErr r ((k : ℕ) × (k ≤ (stored_of disk d).to_move) × (stored_of disk new ≡ record (stored_of disk d) { to_move = k })) →
+        cache_of disk new m left order most_entries ≡ record s { durable = new }
+    moved_seen (Ok x) done left_over = home_seen ((stored_of disk d).to_move - amount == 0) ((stored_of disk d).to_move - amount) done
+    moved_seen (Err e) done left_over = home_seen false left_over.0 left_over.2
+
+    pub moved_aside : {T E : Type 0} (r : Result T E) → OnOk r (stored_of disk new ≡ moved amount (stored_of disk d)) → OnOk r (aside_of disk (record s { durable = new }) ≡ store.moved amount (aside_of disk s))
+    moved_aside (Ok x) done =
+        ap (λ (t : Stored). record { frozen = s.frozen; saved = t.saved; to_move = t.to_move }) done
+        ∙ ap (λ (t : StoreState D). store.moved amount (record { frozen = s.frozen; saved = (stored_of disk t.durable).saved; to_move = (stored_of disk t.durable).to_move })) view
+    moved_aside (Err e) done = tt
+
+    pub moved_then : {T E : Type 0} (r : Result T E) → OnOk r (stored_of disk new ≡ moved amount (stored_of disk d)) →
+        OnErr r ((k : ℕ) × (k ≤ (stored_of disk d).to_move) × (stored_of disk new ≡ record (stored_of disk d) { to_move = k })) →
+        OnOk r (aside_of disk (cache_of disk new m left order most_entries) ≡ store.moved amount (aside_of disk s))
+    moved_then r done left_over = subst (λ (t : StoreState D). OnOk r (aside_of disk t ≡ store.moved amount (aside_of disk s))) (sym (moved_seen r done left_over)) (moved_aside r done)
+
+-- ---- what is frozen is saved
+
+kept_marks : (ps : List Put) → count_by (λ b. b) (map is_kept ps) ≡ kept_count ps
+unfolding sum_of
+kept_marks [] = refl
+kept_marks (Absent ∷ ps) = let total = sum_by-cons (λ b. cond b 1 0) false (map is_kept ps) in let rest = kept_marks ps in omega (arith, total, rest)
+kept_marks (Broken ∷ ps) = let total = sum_by-cons (λ b. cond b 1 0) false (map is_kept ps) in let rest = kept_marks ps in omega (arith, total, rest)
+kept_marks (Kept f ∷ ps) = let total = sum_by-cons (λ b. cond b 1 0) true (map is_kept ps) in let rest = kept_marks ps in omega (arith, total, rest)
+
+not_marked : (ts : List Bool) (n : ℕ) → count_by (λ b. b) ts ≡ 0 → mark_at ts n ≡ false
+not_marked ts n none = go (mark_at ts n) refl
+  where
+    go : (b : Bool) → mark_at ts n ≡ b → b ≡ false
+    go true at = let some = some_touched ts n at in absurd (omega (arith, none, some))
+    go false at = refl
+
+module _ (s : Stored) (m : Memory) (count : ℕ) (is : IsCache s m 0 count) (f : FrozenPuts) (f_is : s.frozen ≡ Some f) where
+  pub none_pending : (n : ℕ) → mark_at m.pending n ≡ false
+  none_pending n = let few = (is.running f f_is).few in not_marked m.pending n (omega (arith, few))
+
+  pub all_put : left_of f ≡ 0
+  all_put =
+      let are = is.running f f_is in
+      let same : map (λ n. mark_at m.pending n || is_kept (put_at f.put n)) (range_with_len 0 (length m.pending)) ≡ map is_kept f.put =
+      same_lists (map (λ n. mark_at m.pending n || is_kept (put_at f.put n)) (range_with_len 0 (length m.pending))) (map is_kept f.put)
+      (length-map-range_with_len (λ n. mark_at m.pending n || is_kept (put_at f.put n)) 0 (length m.pending) ∙ sym are.each ∙ sym (length-map f.put is_kept))
+      (λ i b lt.
+      let inside : i < length m.pending = omega (arith, lt, length-map-range_with_len (λ n. mark_at m.pending n || is_kept (put_at f.put n)) 0 (length m.pending)) in
+      get_or-map-range_with_len (λ n. mark_at m.pending n || is_kept (put_at f.put n)) 0 (length m.pending) i i b inside (omega arith)
+      ∙ ap (λ (p : Bool). p || is_kept (put_at f.put i)) (none_pending i)
+      ∙ sym (kept_get f.put i b (omega (arith, inside, are.each)))) in
+      let counted = sym (ap (count_by (λ b. b)) same) ∙ are.size in
+      omega (arith, counted, kept_marks f.put)
+    where
+      kept_get : (ps : List Put) (i : ℕ) (b : Bool) → i < length ps → slice_index_or (map is_kept ps) i b ≡ is_kept (put_at ps i)
+      kept_get [] i b within = absurd (omega (arith, within))
+      kept_get (p ∷ ps) zero b within = refl
+      kept_get (p ∷ ps) (suc i) b within = kept_get ps i b (omega (arith, within))
+
+  -- what is frozen is what was put, over what is saved
+  pub frozen_overlaid : frozen_in s m ≡ overlaid f.put s.saved.frames
+  unfolding frozen_in overlaid
+  frozen_overlaid =
+      ap (λ (k : ℕ). map (frozen_at s m) (range_with_len 0 k)) (is.headers ∙ sym is.frames)
+      ∙ maps_same (frozen_at s m) (λ n. put_or (put_at f.put n) (frame_at s.saved.frames n)) (length s.saved.frames) (λ n below.
+      ap (λ (p : Bool). frozen_frame p (header_at m.frozen_headers n) (frozen_body (entry_at m.entries n) (mark_at m.touched n) (in_hand m.hand n (below_at s n).content)) (below_at s n)) (none_pending n)
+      ∙ ap (λ (o : Option FrozenPuts). put_or (frozen_put o n) (frame_at s.saved.frames n)) f_is)
+
+  module _ (age : ℕ) where
+    abbrev after : Stored
+    after = stored_after_commit age f s
+
+    length_over : length (overlaid f.put s.saved.frames) ≡ length s.saved.frames
+    unfolding overlaid
+    length_over = length-map-range_with_len (λ n. put_or (put_at f.put n) (frame_at s.saved.frames n)) 0 (length s.saved.frames)
+
+    below_stays : (n : ℕ) → below_at after n ≡ below_at s n
+    unfolding overlaid
+    below_stays n = elim (cases_lt n (length s.saved.frames)) [
+      | inl lt ↦
+          get_or-map-range_with_len (λ i. put_or (put_at f.put i) (frame_at s.saved.frames i)) 0 (length s.saved.frames) n n blank_frame lt (omega arith)
+          ∙ sym (ap (λ (o : Option FrozenPuts). put_or (frozen_put o n) (frame_at s.saved.frames n)) f_is)
+      | inr past ↦
+          get_or_past (overlaid f.put s.saved.frames) n blank_frame (omega (arith, past, length_over))
+          ∙ sym (ap (λ (o : Option FrozenPuts). put_or (frozen_put o n) (frame_at s.saved.frames n)) f_is
+          ∙ ap (λ (p : Put). put_or p (frame_at s.saved.frames n)) (get_or_past f.put n Absent (omega (arith, past, is.frames, is.pending_marks, (is.running f f_is).each)))
+          ∙ get_or_past s.saved.frames n blank_frame past)
+    ]
+
+    content_stays : (n : ℕ) → content_at after m n ≡ content_at s m n
+    content_stays n = ap (λ (g : Frame). present_body (entry_at m.entries n) (header_at m.headers n).role (put_body (put_at s.working n) (in_hand m.hand n g.content))) (below_stays n)
+
+    present_stays : (n : ℕ) → present_at after m n ≡ present_at s m n
+    present_stays n = ap (λ (c : Content Cap). record { header = header_at m.headers n; content = c }) (content_stays n)
+
+    frozen_stays : (n : ℕ) → frozen_at after m n ≡ frozen_at s m n
+    frozen_stays n = ap (λ (g : Frame). frozen_frame (mark_at m.pending n) (header_at m.frozen_headers n) (frozen_body (entry_at m.entries n) (mark_at m.touched n) (in_hand m.hand n g.content)) g) (below_stays n)
+
+    pub contents_saved : contents_in after m ≡ contents_in s m
+    unfolding contents_in
+    contents_saved = maps_same (content_at after m) (content_at s m) (length m.headers) (λ n below. content_stays n)
+
+    pub saved_stands : IsCache after m 0 count
+    saved_stands = record {
+      headers = is.headers;
+      frozen_headers = is.frozen_headers;
+      marks = is.marks;
+      dirty_marks = is.dirty_marks;
+      pending_marks = is.pending_marks;
+      entries = is.entries;
+      frames = length_over ∙ is.frames;
+      puts = is.puts;
+      counted = is.counted;
+      within = is.within;
+      marked = is.marked;
+      clean = λ n clean touched. is.clean n clean touched ∙ ap Kept (sym (present_stays n));
+      unput = is.unput;
+      unwritten = λ n below untouched. present_stays n ∙ is.unwritten n below untouched ∙ sym (frozen_stays n);
+      idle = λ none n. none_pending n;
+      running = λ g g_is. absurd (none-some g g_is);
+      keepable = λ g g_is. absurd (none-some g g_is);
+      held = is.held;
+      apart = is.apart;
+      freed = is.freed;
+    }
+
+-- the same by what is seen
+module _ {D : Type 0} (disk : D → Disk) (d : DurableState D) (m : Memory) (left count : ℕ) (order : List ℕ) (most_entries : ℕ) (s : StoreState D)
+    (view : cache_of disk d m left order most_entries ≡ s) (is : IsCache (stored_of disk d) m left count) (f : FrozenFrames) (running : s.frozen ≡ Some f) (stable : f.left ≡ 0) where
+  found : (h : FrozenPuts) × ((stored_of disk d).frozen ≡ Some h) × (record { frames = frozen_in (stored_of disk d) m; size = h.size; left = left } ≡ f)
+  found = go (stored_of disk d).frozen refl (ap (λ (t : StoreState D). t.frozen) view ∙ running)
+    where
+      go : (o : Option FrozenPuts) → (stored_of disk d).frozen ≡ o → option_map (λ (h : FrozenPuts). record { frames = frozen_in (stored_of disk d) m; size = h.size; left = left }) o ≡ Some f →
+          (h : FrozenPuts) × ((stored_of disk d).frozen ≡ Some h) × (record { frames = frozen_in (stored_of disk d) m; size = h.size; left = left } ≡ f)
+      go None at some = absurd (none-some f some)
+      go (Some h) at some = (h, at, same_Some (record { frames = frozen_in (stored_of disk d) m; size = h.size; left = left }) f some)
+
+  none_left : left ≡ 0
+  none_left = ap (λ (g : FrozenFrames). g.left) found.2 ∙ stable
+
+  stands_here : IsCache (stored_of disk d) m 0 count
+  stands_here = subst (λ (k : ℕ). IsCache (stored_of disk d) m k count) none_left is
+
+  frames_are : frozen_in (stored_of disk d) m ≡ f.frames
+  frames_are = ap (λ (g : FrozenFrames). g.frames) found.2
+
+  the_same : (h : FrozenPuts) → (stored_of disk d).frozen ≡ Some h → found.0 ≡ h
+  the_same h at = same_Some found.0 h (sym found.1 ∙ at)
+
+  overlaid_are : (h : FrozenPuts) → (stored_of disk d).frozen ≡ Some h → overlaid h.put (stored_of disk d).saved.frames ≡ f.frames
+  overlaid_are h at = sym (frozen_overlaid (stored_of disk d) m count stands_here h at) ∙ frames_are
+
+  saved_here : (stored_of disk d).saved ≡ (stored_of disk s.durable).saved
+  saved_here = ap (λ (t : StoreState D). (stored_of disk t.durable).saved) view
+
+  pub save_left : option_map left_of (stored_of disk d).frozen ≡ Some 0
+  save_left = ap (option_map left_of) found.1 ∙ ap Some (all_put (stored_of disk d) m count stands_here found.0 found.1)
+
+  module _ (age : ℕ) where
+    pub save_ready : store.MayCommit age f (stored_of disk s.durable).saved → (h : FrozenPuts) → (stored_of disk d).frozen ≡ Some h → durable.MayCommit age h (stored_of disk d).saved
+    save_ready may h at =
+        let here : store.MayCommit age f (stored_of disk d).saved = subst (store.MayCommit age f) (sym saved_here) may in
+        record {
+          later = here.later;
+          most = here.most;
+          keepable = λ none. subst (AreKeepable (stored_of disk d).saved.geometry age) (sym (overlaid_are h at)) here.keepable;
+        }
+
+    next_are : (h : FrozenPuts) → (stored_of disk d).frozen ≡ Some h → durable.next_saved age h (stored_of disk d).saved ≡ store.next_saved age f (stored_of disk s.durable).saved
+    next_are h at =
+        ap (λ (fs : List Frame). record { geometry = (stored_of disk d).saved.geometry; frames = fs; generation = (stored_of disk d).saved.generation + 1; entries = h.size; age = age }) (overlaid_are h at)
+        ∙ ap (λ (k : ℕ). record { geometry = (stored_of disk d).saved.geometry; frames = f.frames; generation = (stored_of disk d).saved.generation + 1; entries = k; age = age })
+        (ap (λ (g : FrozenPuts). g.size) (sym (the_same h at)) ∙ ap (λ (g : FrozenFrames). g.size) found.2)
+        ∙ ap (store.next_saved age f) saved_here
+
+    pub save_moments : (old new : Disk) → LeavesOneOf old new (stored_of disk d).saved (option_map (λ (h : FrozenPuts). durable.next_saved age h (stored_of disk d).saved) (stored_of disk d).frozen) →
+        LeavesEither old new (stored_of disk s.durable).saved (store.next_saved age f (stored_of disk s.durable).saved)
+    save_moments old new moments =
+        subst (λ (next : SavedFrames). LeavesEither old new (stored_of disk s.durable).saved next) (next_are found.0 found.1)
+        (subst (λ (saved : SavedFrames). LeavesEither old new saved (durable.next_saved age found.0 (stored_of disk d).saved)) saved_here
+        (subst (λ (o : Option FrozenPuts). LeavesOneOf old new (stored_of disk d).saved (option_map (λ (h : FrozenPuts). durable.next_saved age h (stored_of disk d).saved) o)) found.1 moments))
+
+    module _ (new : DurableState D) where
+      pub save_stands : {T E : Type 0} (r : Result T E) → ((h : FrozenPuts) → (stored_of disk d).frozen ≡ Some h → OnOk r (stored_of disk new ≡ stored_after_commit age h (stored_of disk d))) →
+          OnErr r (stored_of disk new ≡ stored_of disk d) → IsCache (stored_of disk new) m left count
+      save_stands (Ok x) done undone = subst (λ (t : Stored). IsCache t m left count) (sym (done found.0 found.1))
+          (subst (λ (k : ℕ). IsCache (stored_after_commit age found.0 (stored_of disk d)) m k count) (sym none_left) (saved_stands (stored_of disk d) m count stands_here found.0 found.1 age))
+      save_stands (Err e) done undone = subst (λ (t : Stored). IsCache t m left count) (sym undone) is
+
+      pub save_contents : {T E : Type 0} (r : Result T E) → ((h : FrozenPuts) → (stored_of disk d).frozen ≡ Some h → OnOk r (stored_of disk new ≡ stored_after_commit age h (stored_of disk d))) →
+          OnErr r (stored_of disk new ≡ stored_of disk d) → contents_in (stored_of disk new) m ≡ s.contents
+      save_contents (Ok x) done undone =
+          ap (λ (t : Stored). contents_in t m) (done found.0 found.1)
+          ∙ contents_saved (stored_of disk d) m count stands_here found.0 found.1 age
+          ∙ ap (λ (t : StoreState D). t.contents) view
+      save_contents (Err e) done undone = ap (λ (t : Stored). contents_in t m) undone ∙ ap (λ (t : StoreState D). t.contents) view
+
+      pub save_rest : contents_in (stored_of disk new) m ≡ s.contents → cache_of disk new m left order most_entries ≡ record s { durable = new; frozen = frozen_seen (stored_of disk new) m left }
+      save_rest contents =
+          let old = cache_of disk d m left order most_entries in
+          ap (λ (cs : List (Content Cap)). record old { durable = new; contents = cs; frozen = frozen_seen (stored_of disk new) m left }) contents
+          ∙ ap (λ (t : StoreState D). record t { durable = new; contents = s.contents; frozen = frozen_seen (stored_of disk new) m left }) view
+
+      pub save_aside : {T E : Type 0} (r : Result T E) → ((h : FrozenPuts) → (stored_of disk d).frozen ≡ Some h → OnOk r (stored_of disk new ≡ stored_after_commit age h (stored_of disk d))) →
+          OnOk r (aside_of disk (cache_of disk new m left order most_entries) ≡ store.aside_after_commit age f (aside_of disk s))
+      save_aside (Ok x) done =
+          ap (λ (t : Stored). record { frozen = frozen_seen t m left; saved = t.saved; to_move = t.to_move }) (done found.0 found.1)
+          ∙ ap (λ (saved : SavedFrames). record { frozen = None; saved = saved; to_move = found.0.size }) (next_are found.0 found.1)
+          ∙ ap (λ (g : FrozenFrames). record { frozen = None; saved = store.next_saved age f (stored_of disk s.durable).saved; to_move = g.size }) found.2
+      save_aside (Err e) done = tt
+
+-- a checkpoint on its way, of which none is left, may be committed where each that is may be
+pub ready_of : (o : Option FrozenFrames) (saved : SavedFrames) (age k : ℕ) → option_map (λ (f : FrozenFrames). f.left) o ≡ Some k → k ≡ 0 → ((f : FrozenFrames) → o ≡ Some f → store.MayCommit age f saved) →
+    (f : FrozenFrames) × (o ≡ Some f) × (f.left ≡ 0) × store.MayCommit age f saved
+ready_of None saved age k is none may = absurd (none-some k is)
+ready_of (Some f) saved age k is none may = (f, refl, same_Some f.left k is ∙ none, may f refl)

@@ -1,0 +1,187 @@
+-- Numbers are marked that are to be written: no object and no frozen frame is another.
+use Rattle.std.proofs.Common.{◌≡◌, ◌≢◌, ◌⊎◌, inl, inr, ℕ, zero, suc, ◌<◌, ◌≤◌, Bool, true, false, true≢false, List, [], ◌∷◌, length, set, Option, Some, None, option_map, refl, sym, ap, subst, ◌∙◌, arith, length-set}
+use Rattle.std.specs.Prelude.{slice_index_or}
+use Rattle.std.specs.List.{Contains}
+use Rattle.std.proofs.lemmas.Bool.{cases_eq}
+use Rattle.std.proofs.lemmas.List.{get_or-set_other, get_or_past}
+use Rattle.model.specs.declared.capability.Cap.{Cap}
+use Rattle.model.specs.declared.frame.Frame.{Frame}
+use Rattle.model.specs.declared.frame.ObjectHeader.{ObjectHeader}
+use Rattle.model.specs.declared.object.Content.{Content}
+use Rattle.model.specs.Frame.{header_at}
+use Rattle.model.specs.Keepable.{AreKeepable}
+use Rattle.model.specs.Machine.{touched_count, touching}
+use Rattle.device.specs.Disk.{Disk}
+use Rattle.checkpoint.specs.Saved.{most}
+use Rattle.migrator.specs.Durable.{DurableState, FrozenPuts, Stored, below_at, stored_of}
+use Rattle.checkpoint.proofs.Lists.{maps_same}
+use Rattle.capability.proofs.Touched.{length-touching, set-marked}
+use Rattle.cache_entries.specs.declared.entry.Entry.{Entry}
+use Rattle.cache_entries.specs.Entries.{entry_at}
+use Rattle.object_cache.specs.Memory.{Memory, Owed, Shared, mark_at, apart_body, below_body, frozen_body, frozen_frame, frozen_at, owed_of, owed_body, owed_in_memory, contents_in, frozen_in, owed_in}
+use Rattle.object_cache.specs.StoreState.{StoreState, IsCache, cache_of, owed_at}
+use Rattle.object_cache.proofs.Seating.{owed_entry}
+
+-- a mark is as it was, or is of a number that was listed
+marked_or : (ts : List Bool) (ns : List ℕ) (k : ℕ) → (mark_at (touching ts ns) k ≡ mark_at ts k) ⊎ Contains ns k
+marked_or ts [] k = inl refl
+marked_or ts (n ∷ ns) k = elim (cases_eq k n) [
+  | inl same ↦ inr (0, omega arith, sym same)
+  | inr other ↦ elim (marked_or (set ts n true) ns k) [
+    | inl as_it_was ↦ inl (as_it_was ∙ get_or-set_other ts n k true false other)
+    | inr has ↦ inr (suc has.0, omega (arith, has.1), has.2)
+  ]
+]
+
+-- and what was marked still is
+still_marked : (ts : List Bool) (ns : List ℕ) (k : ℕ) → mark_at ts k ≡ true → mark_at (touching ts ns) k ≡ true
+still_marked ts [] k marked = marked
+still_marked ts (n ∷ ns) k marked = still_marked (set ts n true) ns k (elim (cases_eq k n) [
+  | inl same ↦ here ts n k same marked
+  | inr other ↦ get_or-set_other ts n k true false other ∙ marked
+])
+  where
+    here : (ts : List Bool) (n k : ℕ) → k ≡ n → mark_at ts k ≡ true → mark_at (set ts n true) k ≡ true
+    here [] n k same marked = absurd (true≢false (sym marked ∙ get_or_past [] k false (omega arith)))
+    here (t ∷ ts) zero zero same marked = refl
+    here (t ∷ ts) zero (suc k) same marked = absurd (omega (arith, same))
+    here (t ∷ ts) (suc n) zero same marked = absurd (omega (arith, same))
+    here (t ∷ ts) (suc n) (suc k) same marked = here ts n k (omega (arith, same)) marked
+
+-- what is listed is marked
+listed_first : (ts : List Bool) (n : ℕ) → n < length ts → mark_at (set ts n true) n ≡ true
+listed_first [] n within = absurd (omega (arith, within))
+listed_first (t ∷ ts) zero within = refl
+listed_first (t ∷ ts) (suc n) within = listed_first ts n (omega (arith, within))
+
+listed_by : (ts : List Bool) (ns : List ℕ) (i k : ℕ) → i < length ns → slice_index_or ns i k ≡ k → k < length ts → mark_at (touching ts ns) k ≡ true
+listed_by ts [] i k lt is within = absurd (omega (arith, lt))
+listed_by ts (n ∷ ns) zero k lt is within = still_marked (set ts n true) ns k (subst (λ (j : ℕ). mark_at (set ts n true) j ≡ true) is (listed_first ts n (omega (arith, within, is))))
+listed_by ts (n ∷ ns) (suc i) k lt is within = listed_by (set ts n true) ns i k (omega (arith, lt)) is (omega (arith, within, length-set ts n true))
+
+pub listed_is_marked : (ts : List Bool) (ns : List ℕ) (k : ℕ) → Contains ns k → k < length ts → mark_at (touching ts ns) k ≡ true
+listed_is_marked ts ns k has within = listed_by ts ns has.0 k has.1 has.2 within
+
+-- where what is listed is marked already, nothing changes
+pub all_marked : (ts : List Bool) (ns : List ℕ) → ((k : ℕ) → Contains ns k → mark_at ts k ≡ true) → touching ts ns ≡ ts
+all_marked ts [] marked = refl
+all_marked ts (n ∷ ns) marked =
+    let here = set-marked ts n (marked n (0, omega arith, refl)) in
+    ap (λ (us : List Bool). touching us ns) here
+    ∙ all_marked ts ns (λ k has. marked k (suc has.0, omega (arith, has.1), has.2))
+
+-- the frozen frame of an object doesn't change with its mark, unless its frozen body is the present one as well
+frozen_marked : (o : Option Entry) (pending touched : Bool) (h : ObjectHeader) (below : Content Cap) (under : Frame) → owed_of o pending touched ≢ Shared →
+    frozen_frame pending h (frozen_body o true below) under ≡ frozen_frame pending h (frozen_body o touched below) under
+frozen_marked None pending touched h below under owed = refl
+frozen_marked (Some e) false touched h below under owed = refl
+frozen_marked (Some e) true true h below under owed = refl
+frozen_marked (Some e) true false h below under owed = go e.kept owed
+  where
+    go : (o : Option (Content Cap)) → owed_body o false ≢ Shared → frozen_frame true h (apart_body o true e.present below) under ≡ frozen_frame true h (apart_body o false e.present below) under
+    go (Some c) owed = refl
+    go None owed = absurd (owed refl)
+
+owed_marked : (o : Option Entry) (pending touched : Bool) → owed_of o pending touched ≢ Shared → owed_of o pending true ≡ owed_of o pending touched
+owed_marked None pending touched owed = refl
+owed_marked (Some e) false touched owed = refl
+owed_marked (Some e) true true owed = refl
+owed_marked (Some e) true false owed = go e.kept owed
+  where
+    go : (o : Option (Content Cap)) → owed_body o false ≢ Shared → owed_body o true ≡ owed_body o false
+    go (Some c) owed = refl
+    go None owed = absurd (owed refl)
+
+abbrev pub marking : List ℕ → Memory → Memory
+marking ns m = record m { touched = touching m.touched ns; dirty = touching m.dirty ns }
+
+module _ (s : Stored) (m : Memory) (left count : ℕ) (is : IsCache s m left count) (ns : List ℕ) (known : (n : ℕ) → Contains ns n → n < length m.headers)
+    (apart : (n : ℕ) → Contains ns n → owed_in_memory m n ≢ Shared) where
+  touched_here : (k : ℕ) → Contains ns k → mark_at (touching m.touched ns) k ≡ true
+  touched_here k has = listed_is_marked m.touched ns k has (let there = known k has in omega (arith, there, is.headers, is.marks))
+
+  dirty_here : (k : ℕ) → Contains ns k → mark_at (touching m.dirty ns) k ≡ true
+  dirty_here k has = listed_is_marked m.dirty ns k has (let there = known k has in omega (arith, there, is.headers, is.dirty_marks))
+
+  frozen_stays : (k : ℕ) → frozen_at s (marking ns m) k ≡ frozen_at s m k
+  frozen_stays k = elim (marked_or m.touched ns k) [
+    | inl as_it_was ↦ ap (λ (t : Bool). frozen_frame (mark_at m.pending k) (header_at m.frozen_headers k) (frozen_body (entry_at m.entries k) t (below_body s m k)) (below_at s k)) as_it_was
+    | inr has ↦
+        ap (λ (t : Bool). frozen_frame (mark_at m.pending k) (header_at m.frozen_headers k) (frozen_body (entry_at m.entries k) t (below_body s m k)) (below_at s k)) (touched_here k has)
+        ∙ frozen_marked (entry_at m.entries k) (mark_at m.pending k) (mark_at m.touched k) (header_at m.frozen_headers k) (below_body s m k) (below_at s k) (apart k has)
+  ]
+
+  pub marked_frozen : frozen_in s (marking ns m) ≡ frozen_in s m
+  unfolding frozen_in
+  marked_frozen = maps_same (frozen_at s (marking ns m)) (frozen_at s m) (length m.headers) (λ k below. frozen_stays k)
+
+  pub marked_owed : owed_in (marking ns m) ≡ owed_in m
+  unfolding owed_in
+  marked_owed = maps_same (owed_in_memory (marking ns m)) (owed_in_memory m) (length m.headers) (λ k below. elim (marked_or m.touched ns k) [
+    | inl as_it_was ↦ ap (owed_of (entry_at m.entries k) (mark_at m.pending k)) as_it_was
+    | inr has ↦ ap (owed_of (entry_at m.entries k) (mark_at m.pending k)) (touched_here k has) ∙ owed_marked (entry_at m.entries k) (mark_at m.pending k) (mark_at m.touched k) (apart k has)
+  ])
+
+  -- what isn't marked wasn't
+  unmarked : (ts : List Bool) (k : ℕ) → mark_at (touching ts ns) k ≡ false → mark_at ts k ≡ false
+  unmarked ts k none = go (mark_at ts k) refl
+    where
+      go : (b : Bool) → mark_at ts k ≡ b → b ≡ false
+      go true marked = absurd (true≢false (sym (still_marked ts ns k marked) ∙ none))
+      go false marked = refl
+
+  pub marked_cache : (total : ℕ) → total ≡ touched_count (touching m.touched ns) → total ≤ s.saved.geometry.log → IsCache s (marking ns m) left total
+  marked_cache total counted few = record {
+    headers = is.headers;
+    frozen_headers = is.frozen_headers;
+    marks = length-touching m.touched ns ∙ is.marks;
+    dirty_marks = length-touching m.dirty ns ∙ is.dirty_marks;
+    pending_marks = is.pending_marks;
+    entries = is.entries;
+    frames = is.frames;
+    puts = is.puts;
+    counted = counted;
+    within = few;
+    marked = λ k dirty. elim (marked_or m.dirty ns k) [
+      | inl as_it_was ↦ still_marked m.touched ns k (is.marked k (sym as_it_was ∙ dirty))
+      | inr has ↦ touched_here k has
+    ];
+    clean = λ k clean touched. elim (marked_or m.touched ns k) [
+      | inl as_it_was ↦ is.clean k (unmarked m.dirty k clean) (sym as_it_was ∙ touched)
+      | inr has ↦ absurd (true≢false (sym (dirty_here k has) ∙ clean))
+    ];
+    unput = λ k untouched. is.unput k (unmarked m.touched k untouched);
+    unwritten = λ k below untouched. is.unwritten k below (unmarked m.touched k untouched) ∙ sym (frozen_stays k);
+    idle = is.idle;
+    running = is.running;
+    keepable = λ f running. subst (AreKeepable s.saved.geometry most) (sym marked_frozen) (is.keepable f running);
+    held = is.held;
+    apart = is.apart;
+    freed = is.freed;
+  }
+
+-- the same by what is seen
+module _ {D : Type 0} (disk : D → Disk) (d : DurableState D) (m : Memory) (left count : ℕ) (order : List ℕ) (most_entries : ℕ) (s : StoreState D)
+    (view : cache_of disk d m left order most_entries ≡ s) (is : IsCache (stored_of disk d) m left count) (ns : List ℕ) (known : (n : ℕ) → Contains ns n → n < length s.headers)
+    (apart : (n : ℕ) → Contains ns n → owed_at s.owed n ≢ Shared) where
+  known_here : (n : ℕ) → Contains ns n → n < length m.headers
+  known_here n has = let there = known n has in omega (arith, there, ap (λ (t : StoreState D). length t.headers) view)
+
+  apart_here : (n : ℕ) → Contains ns n → owed_in_memory m n ≢ Shared
+  apart_here n has shared = apart n has (ap (λ (t : StoreState D). owed_at t.owed n) (sym view) ∙ owed_entry m n (known_here n has) ∙ shared)
+
+  pub mark_stands : (total : ℕ) → total ≡ touched_count (touching m.touched ns) → total ≤ (stored_of disk d).saved.geometry.log → IsCache (stored_of disk d) (marking ns m) left total
+  mark_stands = marked_cache (stored_of disk d) m left count is ns known_here apart_here
+
+  pub mark_seen : cache_of disk d (marking ns m) left order most_entries ≡ record s { touched = touching s.touched ns; dirty = touching s.dirty ns }
+  unfolding contents_in
+  mark_seen =
+      let old = cache_of disk d m left order most_entries in
+      ap (λ (fs : List Frame). record old {
+        touched = touching m.touched ns;
+        dirty = touching m.dirty ns;
+        owed = owed_in (marking ns m);
+        frozen = option_map (λ (f : FrozenPuts). record { frames = fs; size = f.size; left = left }) (stored_of disk d).frozen;
+      }) (marked_frozen (stored_of disk d) m left count is ns known_here apart_here)
+      ∙ ap (λ (os : List Owed). record old { touched = touching m.touched ns; dirty = touching m.dirty ns; owed = os }) (marked_owed (stored_of disk d) m left count is ns known_here apart_here)
+      ∙ ap (λ (t : StoreState D). record t { touched = touching t.touched ns; dirty = touching t.dirty ns }) view

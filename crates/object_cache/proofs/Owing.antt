@@ -1,0 +1,144 @@
+-- What entries owe, and which numbers have one, by what is seen.
+use Rattle.std.proofs.Common.{◌≡◌, ◌≢◌, inl, inr, ℕ, zero, suc, ◌-◌, ◌<◌, ◌≤◌, Bool, true, false, true≢false, List, [], ◌∷◌, length, set, take, Option, Some, None, IsSome, is_some, option_map, refl, sym, ap, subst, ◌∙◌, arith, length-set}
+use Rattle.std.specs.List.{slice_get}
+use Rattle.std.proofs.lemmas.List.{get_or_past, get_or-set_same, get_or-set_other}
+use Rattle.std.proofs.lemmas.List.FromFn.{length-map-range_with_len}
+use Rattle.std.proofs.lemmas.Bool.{cases_eq, cases_lt}
+use Rattle.std.proofs.lemmas.Option.{none-some}
+use Rattle.model.specs.declared.capability.Cap.{Cap}
+use Rattle.model.specs.declared.object.Content.{Content}
+use Rattle.model.specs.Revoke.{is_member}
+use Rattle.device.specs.Disk.{Disk}
+use Rattle.migrator.specs.Durable.{DurableState, stored_of}
+use Rattle.cache_entries.specs.declared.entry.Entry.{Entry}
+use Rattle.cache_entries.specs.Entries.{entry_at, room_of}
+use Rattle.object_cache.specs.Memory.{Memory, Owed, Nothing, Shared, Apart, mark_at, is_owing, is_shared, owed_of, content_at, contents_in}
+use Rattle.cache_entries.specs.Order.{AreOrdered, used_longest_ago, without}
+use Rattle.object_cache.specs.StoreState.{StoreState, IsCache, IsFetchedIn, cache_of, owed_at, seat_at}
+use Rattle.cache_entries.proofs.Arenas.{some_within}
+use Rattle.object_cache.proofs.Objects.{seat_in}
+use Rattle.cache_entries.proofs.Orders.{length_without}
+use Rattle.cache_entries.proofs.Recent.{listed_member, front_stays, front_apart}
+use Rattle.object_cache.proofs.Seating.{owed_entry}
+
+pub owing_yes : (o : Owed) (b : Bool) → b ≡ is_owing o → b ≡ true → o ≢ Nothing
+owing_yes o b is marked none = true≢false (sym marked ∙ is ∙ ap is_owing none)
+
+pub owing_none : (o : Owed) (b : Bool) → b ≡ is_owing o → b ≡ false → o ≡ Nothing
+owing_none Nothing b is none = refl
+owing_none Shared b is none = absurd (true≢false (sym is ∙ none))
+owing_none Apart b is none = absurd (true≢false (sym is ∙ none))
+
+pub shared_yes : (o : Owed) (b : Bool) → b ≡ is_shared o → b ≡ true → o ≡ Shared
+shared_yes Nothing b is marked = absurd (true≢false (sym marked ∙ is))
+shared_yes Shared b is marked = refl
+shared_yes Apart b is marked = absurd (true≢false (sym marked ∙ is))
+
+pub shared_none : (o : Owed) (b : Bool) → b ≡ is_shared o → b ≡ false → o ≢ Shared
+shared_none o b is none same = true≢false (sym (is ∙ ap is_shared same) ∙ none)
+
+pub nothing_apart : (o : Owed) → o ≡ Nothing → o ≢ Shared
+nothing_apart o none same = nothing_shared (sym none ∙ same)
+  where
+    nothing_shared : Nothing ≡ Shared → ⊥
+    nothing_shared x = cc
+
+pub seat_gone : (ss : List (Option (Content Cap))) (n : ℕ) → seat_at (set ss n None) n ≡ None
+seat_gone ss n = elim (cases_lt n (length ss)) [
+  | inl within ↦ get_or-set_same ss n None None within
+  | inr past ↦ get_or_past (set ss n None) n None (let size = length-set ss n None in omega (arith, size, past))
+]
+
+pub still_unseated : (ss : List (Option (Content Cap))) (n k : ℕ) → seat_at ss k ≡ None → seat_at (set ss n None) k ≡ None
+still_unseated ss n k none = elim (cases_eq k n) [
+  | inl same ↦ ap (seat_at (set ss n None)) same ∙ seat_gone ss n
+  | inr other ↦ get_or-set_other ss n k None None other ∙ none
+]
+
+pub none_there : (o : Option Entry) → IsSome o → o ≡ None → ⊥
+none_there o some none = true≢false (sym some ∙ ap is_some none)
+
+no_seat : (o : Option Entry) → is_some o ≡ false → option_map room_of o ≡ None
+no_seat None is = refl
+no_seat (Some e) is = absurd (true≢false is)
+
+has_seat : (o : Option Entry) → IsSome o → IsSome (option_map room_of o)
+has_seat None is = is
+has_seat (Some e) is = refl
+
+module _ {D : Type 0} (disk : D → Disk) (d : DurableState D) (m : Memory) (left count : ℕ) (order : List ℕ) (most_entries : ℕ) (s : StoreState D)
+    (view : cache_of disk d m left order most_entries ≡ s) (is : IsCache (stored_of disk d) m left count) (n : ℕ) where
+  module _ (known : n < length s.headers) where
+    pub known_there : n < length m.headers
+    known_there = omega (arith, known, ap (λ (t : StoreState D). length t.headers) view)
+
+    owed_is : owed_of (entry_at m.entries n) (mark_at m.pending n) (mark_at m.touched n) ≡ owed_at s.owed n
+    owed_is = sym (owed_entry m n known_there) ∙ ap (λ (t : StoreState D). owed_at t.owed n) view
+
+    pub owed_by : (e : Entry) → Some e ≡ entry_at m.entries n → (p t : Bool) → p ≡ mark_at m.pending n → t ≡ mark_at m.touched n → owed_of (Some e) p t ≡ owed_at s.owed n
+    owed_by e at p t p_is t_is =
+        ap (λ (x : Bool). owed_of (Some e) x t) p_is
+        ∙ ap (λ (x : Bool). owed_of (Some e) (mark_at m.pending n) x) t_is
+        ∙ ap (λ (o : Option Entry). owed_of o (mark_at m.pending n) (mark_at m.touched n)) at
+        ∙ owed_is
+
+    pub owed_without : None ≡ entry_at m.entries n → owed_at s.owed n ≡ Nothing
+    owed_without at = sym owed_is ∙ ap (λ (o : Option Entry). owed_of o (mark_at m.pending n) (mark_at m.touched n)) (sym at)
+
+    contents_count : length (contents_in (stored_of disk d) m) ≡ length m.headers
+    unfolding contents_in
+    contents_count = length-map-range_with_len (content_at (stored_of disk d) m) 0 (length m.headers)
+
+    pub fetched_by : IsSome (entry_at m.entries n) → IsFetchedIn s n
+    fetched_by some = record {
+      header = known;
+      content = omega (arith, known_there, contents_count, ap (λ (t : StoreState D). length t.contents) view);
+      seat = subst (λ (t : StoreState D). IsSome (seat_at t.seats n)) view (subst IsSome (sym (seat_in m.entries n)) (has_seat (entry_at m.entries n) some));
+    }
+
+  pub unseated_by : is_some (entry_at m.entries n) ≡ false → seat_at s.seats n ≡ None
+  unseated_by none = ap (λ (t : StoreState D). seat_at t.seats n) (sym view) ∙ seat_in m.entries n ∙ no_seat (entry_at m.entries n) none
+
+-- the entry that was used longest ago
+module _ {D : Type 0} (disk : D → Disk) (d : DurableState D) (m : Memory) (left count : ℕ) (order : List ℕ) (most_entries : ℕ) (s : StoreState D)
+    (view : cache_of disk d m left order most_entries ≡ s) (is : IsCache (stored_of disk d) m left count) (least : 8 ≤ most_entries)
+    (ordered : AreOrdered (record { at = m.entries; order = order; most = most_entries })) (full : s.most ≤ length s.order) where
+  long : 8 ≤ length order
+  long = omega (arith, least, full, ap (λ (t : StoreState D). t.most) view, ap (λ (t : StoreState D). length t.order) view)
+
+  no_end : (ns : List ℕ) (i : ℕ) → i < length ns → slice_get ns i ≡ None → ⊥
+  no_end [] i within none = omega (arith, within)
+  no_end (k ∷ ns) zero within none = none-some k (sym none)
+  no_end (k ∷ ns) (suc i) within none = no_end ns i (omega (arith, within)) none
+
+  pub some_least : None ≡ used_longest_ago order → ⊥
+  some_least none = no_end order (length order - 1) (omega (arith, long)) (sym none)
+
+  module _ (n : ℕ) (at : Some n ≡ used_longest_ago order) where
+    listed : is_member order n ≡ true
+    listed = listed_member order (length order - 1) n (sym at)
+
+    has_entry : IsSome (entry_at m.entries n)
+    has_entry = sym (ordered.listed n) ∙ listed
+
+    pub least_known : n < length s.headers
+    least_known = omega (arith, some_within m.entries n has_entry, is.headers, is.entries, ap (λ (t : StoreState D). length t.headers) view)
+
+    pub least_fetched : IsFetchedIn s n
+    least_fetched = fetched_by disk d m left count order most_entries s view is n least_known has_entry
+
+    seen : s.order ≡ order
+    seen = ap (λ (t : StoreState D). t.order) (sym view)
+
+    pub least_room : length (without n s.order) < s.most
+    least_room = omega (arith, ap (λ (ns : List ℕ). length (without n ns)) seen, length_without n order listed, ordered.few, ap (λ (t : StoreState D). t.most) view)
+
+    pub least_order : take 7 (without n s.order) ≡ take 7 s.order
+    least_order =
+        ap (λ (ns : List ℕ). take 7 (without n ns)) seen
+        ∙ front_stays n order (length order - 1) 7 (omega (arith, long)) ordered.once (sym at) (omega (arith, long))
+        ∙ ap (take 7) (sym seen)
+
+    pub least_others : (k : ℕ) → is_member (take 7 s.order) k ≡ true → seat_at (set s.seats n None) k ≡ seat_at s.seats k
+    least_others k recent = get_or-set_other s.seats n k None None
+        (front_apart n order (length order - 1) 7 k (omega (arith, long)) ordered.once (sym at) (omega (arith, long)) (ap (λ (ns : List ℕ). is_member (take 7 ns) k) (sym seen) ∙ recent))

@@ -1,0 +1,108 @@
+-- What an entry owes is paid, its body is put, and it is dropped: what that comes to, call by call.
+use Rattle.std.proofs.Common.{◌≡◌, ◌∙◌, inl, inr, ℕ, Bool, false, cond, List, Result, Ok, Err, Some, None, length, set, refl, sym, ap, subst, arith, length-set}
+use Rattle.std.specs.Prelude.{OnOk, OnErr}
+use Rattle.std.proofs.lemmas.Bool.{cases_lt, eq-eqb}
+use Rattle.std.proofs.lemmas.List.{get_or_past, get_or-set_same}
+use Rattle.model.specs.Frame.{header_at, held_at}
+use Rattle.model.specs.Keepable.{IsKeepable}
+use Rattle.device.specs.Disk.{Disk}
+use Rattle.device.specs.Calls.{Counts}
+use Rattle.checkpoint.specs.Saved.{most}
+use Rattle.migrator.specs.Durable.{stored_of}
+use Rattle.cache_entries.specs.Order.{without}
+use Rattle.object_cache.specs.declared.held.Held.{Held}
+use Rattle.object_cache.specs.Memory.{Owed, Nothing, let_go, mark_at, masked}
+use Rattle.object_cache.specs.StoreState.{StoreState, GoesOnIn, IsFetchedIn, on_device, owed_at, without_seat}
+use Rattle.object_cache.proofs.Freezing.{masked_same}
+use Rattle.object_cache.proofs.Leading.{same_put, geometry_stays}
+
+owed_paid : (os : List Owed) (n : ℕ) → owed_at (set os n Nothing) n ≡ Nothing
+owed_paid os n = elim (cases_lt n (length os)) [
+  | inl within ↦ get_or-set_same os n Nothing Nothing within
+  | inr past ↦ get_or_past (set os n Nothing) n Nothing (let size = length-set os n Nothing in omega (arith, size, past))
+]
+
+mark_gone : (ms : List Bool) (n : ℕ) → mark_at (set ms n false) n ≡ false
+mark_gone ms n = elim (cases_lt n (length ms)) [
+  | inl within ↦ get_or-set_same ms n false false within
+  | inr past ↦ get_or_past (set ms n false) n false (let size = length-set ms n false in omega (arith, size, past))
+]
+
+-- a hand lets go of what it holds
+pub let_go_own : (h : Held) → let_go h.number (Some h) ≡ None
+let_go_own h = ap (λ (b : Bool). cond b None (Some h)) (eq-eqb h.number h.number refl)
+
+-- none is counted where all calls succeeded
+pub ok_counts : {T E : Type 0} {old new : Disk} {value : T} → new.failures ≡ old.failures → Counts {T = T} {E = E} old new (Ok value)
+ok_counts {old = old} {new = new} same = record {
+  never_falls = omega (arith, same);
+  cause = (λ failed. absurd cc, λ rose. absurd (omega (arith, same, rose)));
+}
+
+module _ {D : Type 0} where
+  -- the frozen frame that an entry owes
+  module _ {T E : Type 0} (r : Result T E) (s t : StoreState D) (n : ℕ)
+      (put : OnOk r (t ≡ record s { durable = t.durable; pending = set s.pending n false; owed = set s.owed n Nothing; hand = let_go n s.hand }))
+      (unput : OnErr r (t ≡ record s { durable = t.durable })) where
+    pub paid : OnOk r (owed_at t.owed n ≡ Nothing)
+    paid = go r put where
+      go : (x : Result T E) → OnOk x (t ≡ record s { durable = t.durable; pending = set s.pending n false; owed = set s.owed n Nothing; hand = let_go n s.hand }) → OnOk x (owed_at t.owed n ≡ Nothing)
+      go (Ok x) is = ap (λ (c : StoreState D). owed_at c.owed n) is ∙ owed_paid s.owed n
+      go (Err e) is = tt
+
+    pub paid_put : t ≡ on_device s t
+    paid_put = go r put unput where
+      go : (x : Result T E) → OnOk x (t ≡ record s { durable = t.durable; pending = set s.pending n false; owed = set s.owed n Nothing; hand = let_go n s.hand }) → OnErr x (t ≡ record s { durable = t.durable }) → t ≡ on_device s t
+      go (Ok x) is none = same_put s t s.dirty (set s.pending n false) (set s.owed n Nothing) (let_go n s.hand) is
+      go (Err e) none is = same_put s t s.dirty s.pending s.owed s.hand is
+
+    pub paid_empty : s.hand ≡ None → t.hand ≡ None
+    paid_empty empty = go r put unput where
+      go : (x : Result T E) → OnOk x (t ≡ record s { durable = t.durable; pending = set s.pending n false; owed = set s.owed n Nothing; hand = let_go n s.hand }) → OnErr x (t ≡ record s { durable = t.durable }) → t.hand ≡ None
+      go (Ok x) is none = ap (λ (c : StoreState D). c.hand) is ∙ ap (let_go n) empty
+      go (Err e) none is = ap (λ (c : StoreState D). c.hand) is ∙ empty
+
+  -- the body that it has
+  module _ {T E : Type 0} (r : Result T E) (s t : StoreState D) (n : ℕ)
+      (put : OnOk r (t ≡ record s { durable = t.durable; dirty = set s.dirty n false }))
+      (unput : OnErr r (t ≡ record s { durable = t.durable })) where
+    pub written_clean : OnOk r (mark_at t.dirty n ≡ false)
+    written_clean = go r put where
+      go : (x : Result T E) → OnOk x (t ≡ record s { durable = t.durable; dirty = set s.dirty n false }) → OnOk x (mark_at t.dirty n ≡ false)
+      go (Ok x) is = ap (λ (c : StoreState D). mark_at c.dirty n) is ∙ mark_gone s.dirty n
+      go (Err e) is = tt
+
+    pub written_same : (t.owed ≡ s.owed) × (t.hand ≡ s.hand) × (t ≡ on_device s t)
+    written_same = go r put unput where
+      go : (x : Result T E) → OnOk x (t ≡ record s { durable = t.durable; dirty = set s.dirty n false }) → OnErr x (t ≡ record s { durable = t.durable }) → (t.owed ≡ s.owed) × (t.hand ≡ s.hand) × (t ≡ on_device s t)
+      go (Ok x) is none = (ap (λ (c : StoreState D). c.owed) is, ap (λ (c : StoreState D). c.hand) is, same_put s t (set s.dirty n false) s.pending s.owed s.hand is)
+      go (Err e) none is = (ap (λ (c : StoreState D). c.owed) is, ap (λ (c : StoreState D). c.hand) is, same_put s t s.dirty s.pending s.owed s.hand is)
+
+  -- what it is after the device was written to
+  pub fetched_on : (s t : StoreState D) (n : ℕ) → t ≡ on_device s t → IsFetchedIn s n → IsFetchedIn t n
+  fetched_on s t n is there = subst (λ (c : StoreState D). IsFetchedIn c n) (sym is) (record { header = there.header; content = there.content; seat = there.seat })
+
+  -- and once it is dropped
+  pub away_on : (s t u : StoreState D) (n : ℕ) → t ≡ on_device s t → u ≡ record t { seats = set t.seats n None; order = without n t.order } → u ≡ without_seat n (on_device s u)
+  away_on s t u n put is =
+      is ∙ ap (λ (c : StoreState D). record c { seats = set c.seats n None; order = without n c.order }) put
+      ∙ ap (λ (c : StoreState D). without_seat n (on_device s c)) (sym is)
+
+  -- of what else is in memory entries and their order alone are others
+  pub away_rest : {T E : Type 0} (r : Result T E) (s u : StoreState D) (n : ℕ) → OnOk r (u ≡ without_seat n (on_device s u)) → OnErr r (u ≡ on_device s u) → u ≡ record (on_device s u) { seats = u.seats; order = u.order }
+  away_rest (Ok x) s u n away stays = away ∙ ap (λ (c : StoreState D). record (on_device s u) { seats = c.seats; order = c.order }) (sym away)
+  away_rest (Err e) s u n away stays = stays ∙ ap (λ (c : StoreState D). record (on_device s u) { seats = c.seats; order = c.order }) (sym stays)
+
+module _ {D : Type 0} (disk : D → Disk) where
+  pub keepable_on : (s t : StoreState D) (n : ℕ) → t ≡ on_device s t → GoesOnIn disk s t
+      → IsKeepable (stored_of disk s.durable).saved.geometry most n (record { header = header_at s.headers n; content = held_at s.contents n })
+      → IsKeepable (stored_of disk t.durable).saved.geometry most n (record { header = header_at t.headers n; content = held_at t.contents n })
+  keepable_on s t n put leads keepable =
+      subst (λ (c : StoreState D). IsKeepable (stored_of disk t.durable).saved.geometry most n (record { header = header_at c.headers n; content = held_at c.contents n })) (sym put)
+      (subst (λ g. IsKeepable g most n (record { header = header_at s.headers n; content = held_at s.contents n })) (sym (geometry_stays disk s t leads)) keepable)
+
+  pub masked_on : (s t : StoreState D) (n : ℕ) → t ≡ on_device s t
+      → IsKeepable (stored_of disk s.durable).saved.geometry most n (record { header = header_at s.headers n; content = held_at s.contents n })
+      → masked (header_at t.headers n).role (held_at t.contents n) ≡ held_at t.contents n
+  masked_on s t n put keepable =
+      subst (λ (c : StoreState D). masked (header_at c.headers n).role (held_at c.contents n) ≡ held_at c.contents n) (sym put) (masked_same (header_at s.headers n).role (held_at s.contents n) keepable.kept.role)

@@ -1,0 +1,66 @@
+-- The parts of preparing, one after the other.
+use Rattle.std.proofs.Common.{◌≡◌, ◌∙◌, inl, inr, ℕ, ◌+◌, ◌<◌, ◌≤◌, Bool, List, Result, Ok, Err, sym, ap, subst, arith}
+use Rattle.std.specs.Prelude.{OnOk, OnErr, slice_index_or}
+use Rattle.std.proofs.lemmas.Bool.{cases_lt}
+use Rattle.model.specs.Machine.{touched_count}
+use Rattle.device.specs.Disk.{Disk, Image}
+use Rattle.migrator.specs.Durable.{stored_of}
+use Rattle.object_cache.specs.StoreState.{StoreState, GoesOnIn}
+use Rattle.object_cache.specs.Prepared.{on_device_with, readied}
+use Rattle.object_cache.specs.PresentLaws.{goes_on_same}
+use Rattle.object_cache.proofs.Leading.{geometry_stays, leads_seats}
+
+-- what holds of the items before one holds of those before the next
+pub items_more : (P Q : ℕ → Type 0) (ns : List ℕ) (i : ℕ) → ((n : ℕ) → P n → Q n) → Q (slice_index_or ns i 0) → ((k : ℕ) → k < i → P (slice_index_or ns k 0))
+    → (k : ℕ) → k < i + 1 → Q (slice_index_or ns k 0)
+items_more P Q ns i stays here before k below = elim (cases_lt k i) [
+  | inl earlier ↦ stays (slice_index_or ns k 0) (before k earlier)
+  | inr now ↦ subst (λ (j : ℕ). Q (slice_index_or ns j 0)) (omega (arith, now, below)) here
+]
+
+module _ {D : Type 0} where
+  -- nothing was marked
+  pub rest_alone : (s t : StoreState D) → t ≡ on_device_with s t → t ≡ record (on_device_with s t) { touched = t.touched }
+  rest_alone s t is = is ∙ ap (λ (x : StoreState D). record (on_device_with s t) { touched = x.touched }) (sym is)
+
+  -- what is to be marked was made ready
+  pub rest_ready : (s t : StoreState D) → t ≡ record s { owed = t.owed; seats = t.seats } → t ≡ readied s t
+  rest_ready s t is = is ∙ ap (λ (x : StoreState D). record (readied s t) { touched = x.touched; dirty = x.dirty }) (sym is)
+
+  -- and was marked, or not
+  pub rest_marked : {T E : Type 0} (r : Result T E) (s t u : StoreState D) (ts ds : List Bool) → t ≡ record s { owed = t.owed; seats = t.seats }
+      → OnOk r (u ≡ record t { touched = ts; dirty = ds }) → OnErr r (u ≡ t) → u ≡ readied s u
+  rest_marked (Ok x) s t u ts ds first is none =
+      is ∙ ap (λ (x : StoreState D). record x { touched = ts; dirty = ds }) first
+      ∙ ap (λ (x : StoreState D). readied s x) (sym is)
+  rest_marked (Err e) s t u ts ds first none is = subst (λ (x : StoreState D). x ≡ readied s x) (sym is) (rest_ready s t first)
+
+  -- what was fetched was made ready
+  pub rest_on_ready : (s t u : StoreState D) → t ≡ on_device_with s t → u ≡ readied t u → u ≡ record (on_device_with s u) { touched = u.touched }
+  rest_on_ready s t u first is =
+      is ∙ ap (λ (x : StoreState D). readied x u) first
+      ∙ ap (λ (x : StoreState D). record (on_device_with s x) { touched = u.touched }) (sym is)
+
+  pub seats_on : (s t u : StoreState D) → t ≡ record s { seats = t.seats } → u ≡ record t { seats = u.seats } → u ≡ record s { seats = u.seats }
+  seats_on s t u first is = is ∙ ap (λ (x : StoreState D). record x { seats = u.seats }) first
+
+  pub owed_on : (s t u : StoreState D) → t ≡ record s { owed = t.owed } → u ≡ record t { owed = u.owed } → u ≡ record s { owed = u.owed }
+  owed_on s t u first is = is ∙ ap (λ (x : StoreState D). record x { owed = u.owed }) first
+
+  -- what was used again is only in another order
+  pub rest_used : (s t : StoreState D) → t ≡ record s { order = t.order } → t ≡ on_device_with s t
+  rest_used s t is = is ∙ ap (λ (x : StoreState D). on_device_with s x) (sym is)
+
+module _ {D : Type 0} (disk : D → Disk) where
+  pub within_on : (s t : StoreState D) → t ≡ on_device_with s t → GoesOnIn disk s t
+      → touched_count s.touched ≤ (stored_of disk s.durable).saved.geometry.log → touched_count t.touched ≤ (stored_of disk t.durable).saved.geometry.log
+  within_on s t is leads within =
+      subst (λ (x : StoreState D). touched_count x.touched ≤ (stored_of disk t.durable).saved.geometry.log) (sym is)
+      (subst (λ g. touched_count s.touched ≤ g.log) (sym (geometry_stays disk s t leads)) within)
+
+  pub within_ready : (s t : StoreState D) → t ≡ record s { owed = t.owed; seats = t.seats }
+      → touched_count s.touched ≤ (stored_of disk s.durable).saved.geometry.log → touched_count t.touched ≤ (stored_of disk t.durable).saved.geometry.log
+  within_ready s t is within = subst (λ (x : StoreState D). touched_count x.touched ≤ (stored_of disk x.durable).saved.geometry.log) (sym is) within
+
+  pub leads_ready : ((d : D) (c : Image) → (disk d).left_since (disk d).moment c → (disk d).may_leave c) → (s t : StoreState D) → t ≡ record s { owed = t.owed; seats = t.seats } → GoesOnIn disk s t
+  leads_ready only_now s t is = subst (GoesOnIn disk s) (sym is) (leads_seats disk s s t.seats t.owed s.order (goes_on_same disk only_now s))

@@ -1,0 +1,245 @@
+-- The frozen frame of an object is put of which an entry has the frozen body, or was to be.
+use Rattle.std.proofs.Common.{◌≡◌, ◌≢◌, inl, inr, ℕ, ◌<◌, ◌≤◌, Bool, true, false, true≢false, cond, ◌||◌, List, length, map, set, Option, Some, None, option_map, refl, sym, ap, subst, ◌∙◌, arith, length-set}
+use Rattle.std.specs.Prelude.{count_by}
+use Rattle.std.specs.List.{range_with_len}
+use Rattle.std.proofs.lemmas.Bool.{cases_eq, cases_lt, eq-eqb, ne_eqb}
+use Rattle.std.proofs.lemmas.List.{get_or-set_same, get_or-set_other, get_or_past}
+use Rattle.std.proofs.lemmas.List.FromFn.{length-map-range_with_len, get_or-map-range_with_len}
+use Rattle.std.proofs.lemmas.Option.{none-some, same_Some}
+use Rattle.model.specs.declared.capability.Cap.{Cap}
+use Rattle.model.specs.declared.frame.Frame.{Frame}
+use Rattle.model.specs.declared.frame.ObjectHeader.{ObjectHeader}
+use Rattle.model.specs.declared.object.Content.{Content}
+use Rattle.model.specs.Frame.{blank_frame, header_at}
+use Rattle.model.specs.Keepable.{IsKeepable}
+use Rattle.device.specs.Disk.{Disk}
+use Rattle.migrator.specs.Put.{Put, Absent, Broken, Kept, put_at, HasRoom}
+use Rattle.checkpoint.specs.Saved.{most}
+use Rattle.migrator.specs.Durable.{DurableState, FrozenPuts, Stored, GoesOn, below_at, stored_of, with_frozen}
+use Rattle.object_store.specs.Store.{FrozenFrames}
+use Rattle.cache_entries.specs.declared.entry.Entry.{Entry}
+use Rattle.object_cache.specs.declared.held.Held.{Held}
+use Rattle.cache_entries.specs.Entries.{entry_at, with_entry, keeping}
+use Rattle.object_cache.specs.Memory.{Memory, Owed, Nothing, mark_at, in_hand, let_go, own_body, own_frame, present_body, content_at, newest_body, below_body, apart_body, frozen_body, frozen_frame, frozen_at, owed_of, owed_body, owed_in_memory, contents_in, frozen_in, owed_in}
+use Rattle.object_cache.specs.StoreState.{StoreState, IsCache, IsFetchedIn, GoesOnIn, cache_of, frozen_seen, is_kept, owed_at, seats_in}
+use Rattle.object_cache.proofs.Apart.{seats_keep}
+use Rattle.object_cache.proofs.FrozenPuts.{Releases, one_fewer, with_frame, without_pending, frozen_put_cache, contents_same, frozen_seen_same, owed_now}
+use Rattle.object_cache.proofs.FrozenTorn.{torn_cache, torn_contents_same, torn_seen_same}
+use Rattle.object_cache.proofs.Objects.{fetched_known}
+use Rattle.object_cache.proofs.Puts.{has_room}
+use Rattle.object_cache.proofs.Seating.{owed_entry}
+
+-- ---- what is in the hand, once it has let go of a number
+
+pub let_go_others : (hand : Option Held) (n k : ℕ) (c : Content Cap) → k ≢ n → in_hand (let_go n hand) k c ≡ in_hand hand k c
+let_go_others None n k c other = refl
+let_go_others (Some h) n k c other = elim (cases_eq h.number n) [
+  | inl same ↦
+      ap (λ (b : Bool). in_hand (cond b None (Some h)) k c) (eq-eqb h.number n same)
+      ∙ sym (ap (λ (b : Bool). cond b h.content c) (ne_eqb h.number k (λ is. other (sym is ∙ same))))
+  | inr differs ↦ ap (λ (b : Bool). in_hand (cond b None (Some h)) k c) (ne_eqb h.number n differs)
+]
+
+pub let_go_of : (hand : Option Held) (n : ℕ) (h : Held) → let_go n hand ≡ Some h → (h.number ≢ n) × (hand ≡ Some h)
+let_go_of None n h is = absurd (none-some h is)
+let_go_of (Some g) n h is = elim (cases_eq g.number n) [
+  | inl same ↦ absurd (none-some h (sym (ap (λ (b : Bool). cond b None (Some g)) (eq-eqb g.number n same)) ∙ is))
+  | inr differs ↦
+      let one : Some g ≡ Some h = sym (ap (λ (b : Bool). cond b None (Some g)) (ne_eqb g.number n differs)) ∙ is in
+      ((λ there. differs (ap (λ (x : Held). x.number) (same_Some g h one) ∙ there)), one)
+]
+
+-- ---- a number that is pending
+
+no_put : (pending : Bool) (p : Put) → (pending || is_kept p) ≡ false → (p ≡ Broken → pending ≡ true) → p ≡ Absent
+no_put pending Absent none torn = refl
+no_put true Broken none torn = absurd (true≢false none)
+no_put false Broken none torn = absurd (true≢false (sym (torn refl)))
+no_put true (Kept f) none torn = absurd (true≢false none)
+no_put false (Kept f) none torn = absurd (true≢false none)
+
+module _ {D : Type 0} (disk : D → Disk) (d : DurableState D) (m : Memory) (left count : ℕ) (order : List ℕ) (most_entries : ℕ) (s : StoreState D)
+    (view : cache_of disk d m left order most_entries ≡ s) (is : IsCache (stored_of disk d) m left count) (n : ℕ) (known : n < length m.headers) (pending : mark_at m.pending n ≡ true) where
+  pub running_here : (f : FrozenPuts) × ((stored_of disk d).frozen ≡ Some f)
+  running_here = go (stored_of disk d).frozen refl
+    where
+      go : (o : Option FrozenPuts) → (stored_of disk d).frozen ≡ o → (f : FrozenPuts) × ((stored_of disk d).frozen ≡ Some f)
+      go None none = absurd (true≢false (sym pending ∙ is.idle none n))
+      go (Some f) some = (f, some)
+
+  pub frozen_room : (f : FrozenPuts) → (stored_of disk d).frozen ≡ Some f → HasRoom f.size f.put n
+  frozen_room f f_is =
+      let are = is.running f f_is in
+      let written : ℕ → Bool = (λ k. mark_at m.pending k || is_kept (put_at f.put k)) in
+      let marks = map (λ k. mark_at m.pending k || is_kept (put_at f.put k)) (range_with_len 0 (length m.pending)) in
+      let there : n < length m.pending = omega (arith, known, is.headers, is.pending_marks) in
+      has_room f.size f.put marks n
+      (are.each ∙ sym (length-map-range_with_len (λ k. mark_at m.pending k || is_kept (put_at f.put k)) 0 (length m.pending)))
+      (λ k none. elim (cases_lt k (length m.pending)) [
+        | inl below ↦ no_put (mark_at m.pending k) (put_at f.put k)
+            (sym (get_or-map-range_with_len (λ i. mark_at m.pending i || is_kept (put_at f.put i)) 0 (length m.pending) k k false below (omega arith)) ∙ none) (are.torn k)
+        | inr past ↦ get_or_past f.put k Absent (omega (arith, past, are.each))
+      ])
+      (get_or-map-range_with_len (λ i. mark_at m.pending i || is_kept (put_at f.put i)) 0 (length m.pending) n n false there (omega arith)
+      ∙ ap (λ (b : Bool). b || is_kept (put_at f.put n)) pending)
+      (omega (arith, are.size))
+
+  pub frozen_keepable : IsKeepable (stored_of disk d).saved.geometry most n (frozen_at (stored_of disk d) m n)
+  unfolding frozen_in
+  frozen_keepable =
+      subst (IsKeepable (stored_of disk d).saved.geometry most n)
+      (get_or-map-range_with_len (frozen_at (stored_of disk d) m) 0 (length m.headers) n n blank_frame known (omega arith))
+      ((is.keepable running_here.0 running_here.1).each n (omega (arith, known, is.headers)))
+
+  -- the store goes on while the frozen frame is put
+  pub put_leads : (new : DurableState D) (p : Put) → stored_of disk new ≡ with_frozen n p (stored_of disk d) → GoesOn disk d new → (disk d.beneath).failures ≤ (disk new.beneath).failures →
+      (ps : List Bool) (os : List Owed) (hand : Option Held) → GoesOnIn disk s (record s { durable = new; pending = ps; owed = os; hand = hand })
+  put_leads new p put goes later ps os hand = record {
+    goes_on = subst (λ (t : StoreState D). GoesOn disk t.durable new) view goes;
+    aside =
+        ap (λ (u : Stored). record { frozen = s.frozen; saved = u.saved; to_move = u.to_move }) put
+        ∙ ap (λ (t : StoreState D). record { frozen = s.frozen; saved = (stored_of disk t.durable).saved; to_move = (stored_of disk t.durable).to_move }) view;
+    later = subst (λ (t : StoreState D). (disk t.durable.beneath).failures ≤ (disk new.beneath).failures) view later;
+    grows = omega arith;
+    most = refl;
+    looks = λ none idle. absurd (none-some (record { frames = frozen_in (stored_of disk d) m; size = running_here.0.size; left = left })
+        (sym (sym (ap (option_map (λ (f : FrozenPuts). record { frames = frozen_in (stored_of disk d) m; size = f.size; left = left })) running_here.1) ∙ ap (λ (t : StoreState D). t.frozen) view ∙ idle)));
+  }
+
+-- ---- the body is in an entry
+
+-- what is owed is what the entry has
+owes : (e : Entry) (pending touched : Bool) → owed_of (Some e) pending touched ≢ Nothing → (pending ≡ true) × ((below : Content Cap) → apart_body e.kept touched e.present below ≡ own_body e.kept e.present)
+owes e false touched owed = absurd (owed refl)
+owes e true touched owed = (refl, go e.kept touched owed)
+  where
+    go : (o : Option (Content Cap)) (t : Bool) → owed_body o t ≢ Nothing → (below : Content Cap) → apart_body o t e.present below ≡ own_body o e.present
+    go (Some c) t owed below = refl
+    go None true owed below = absurd (owed refl)
+    go None false owed below = refl
+
+module _ (s : Stored) (m : Memory) (left count : ℕ) (is : IsCache s m left count) (n : ℕ) (within : n < length m.headers) (e : Entry) (at : entry_at m.entries n ≡ Some e) (owed : owed_in_memory m n ≢ Nothing) where
+  pub owed_pending : (mark_at m.pending n ≡ true) × ((below : Content Cap) → apart_body e.kept (mark_at m.touched n) e.present below ≡ own_body e.kept e.present)
+  owed_pending = owes e (mark_at m.pending n) (mark_at m.touched n) (λ none. owed (ap (λ (o : Option Entry). owed_of o (mark_at m.pending n) (mark_at m.touched n)) at ∙ none))
+
+  -- the frozen frame, whatever lies below
+  pub frozen_is_own : (t : Stored) → frozen_at t m n ≡ own_frame (header_at m.frozen_headers n) e
+  frozen_is_own t =
+      ap (λ (o : Option Entry). frozen_frame (mark_at m.pending n) (header_at m.frozen_headers n) (frozen_body o (mark_at m.touched n) (below_body t m n)) (below_at t n)) at
+      ∙ ap (λ (p : Bool). frozen_frame p (header_at m.frozen_headers n) (apart_body e.kept (mark_at m.touched n) e.present (below_body t m n)) (below_at t n)) owed_pending.0
+      ∙ ap (λ (c : Content Cap). frozen_frame true (header_at m.frozen_headers n) c (below_at t n)) (owed_pending.1 (below_body t m n))
+
+  in_entries : n < length m.entries
+  in_entries = omega (arith, within, is.headers, is.entries)
+
+  entry_now : entry_at (with_entry (keeping None) n m.entries) n ≡ Some (keeping None e)
+  entry_now = get_or-set_same m.entries n (option_map (keeping None) (entry_at m.entries n)) None in_entries ∙ ap (option_map (keeping None)) at
+
+  pub releases : Releases s m n (with_entry (keeping None) n m.entries) (let_go n m.hand)
+  releases = record {
+    count = length-set m.entries n (option_map (keeping None) (entry_at m.entries n));
+    entries = λ k other. get_or-set_other m.entries n k (option_map (keeping None) (entry_at m.entries n)) None other;
+    kept = λ g g_is. ap (λ (x : Entry). x.kept) (same_Some g (keeping None e) (sym g_is ∙ entry_now));
+    others = λ k c other. let_go_others m.hand n k c other;
+    let_go = λ h h_is. let was = let_go_of m.hand n h h_is in (was.0, is.held h was.1);
+    content =
+        ap (λ (o : Option Entry). present_body o (header_at m.headers n).role (newest_body (with_frame n s m) (without_pending n (with_entry (keeping None) n m.entries) (let_go n m.hand) m) n)) entry_now
+        ∙ sym (ap (λ (o : Option Entry). present_body o (header_at m.headers n).role (newest_body s m n)) at);
+  }
+
+-- the same by what is seen
+module _ {D : Type 0} (disk : D → Disk) (d : DurableState D) (m : Memory) (left count : ℕ) (order : List ℕ) (most_entries : ℕ) (s : StoreState D)
+    (view : cache_of disk d m left order most_entries ≡ s) (is : IsCache (stored_of disk d) m left count) (n : ℕ) (fetched : IsFetchedIn s n) (owed : owed_at s.owed n ≢ Nothing)
+    (e : Entry) (at : entry_at m.entries n ≡ Some e) (header : ObjectHeader) (header_is : header ≡ header_at m.frozen_headers n) where
+  known_here : n < length m.headers
+  known_here = fetched_known disk d m left order most_entries s view n fetched
+
+  owed_here : owed_in_memory m n ≢ Nothing
+  owed_here none = owed (ap (λ (t : StoreState D). owed_at t.owed n) (sym view) ∙ owed_entry m n known_here ∙ none)
+
+  st : Stored
+  st = stored_of disk d
+
+  pending_here : mark_at m.pending n ≡ true
+  pending_here = (owed_pending (stored_of disk d) m left count is n known_here e at owed_here).0
+
+  frame_is : own_frame header e ≡ frozen_at (stored_of disk d) m n
+  frame_is = ap (λ (h : ObjectHeader). own_frame h e) header_is ∙ sym (frozen_is_own (stored_of disk d) m left count is n known_here e at owed_here (stored_of disk d))
+
+  pub own_running : (f : FrozenPuts) × ((stored_of disk d).frozen ≡ Some f)
+  own_running = running_here disk d m left count order most_entries s view is n known_here pending_here
+
+  pub own_fewer : count_by (λ b. b) (set m.pending n false) < count_by (λ b. b) s.pending
+  own_fewer = omega (arith, one_fewer m.pending n pending_here, ap (λ (t : StoreState D). count_by (λ b. b) t.pending) view)
+
+  pub own_room : (f : FrozenPuts) → (stored_of disk d).frozen ≡ Some f → HasRoom f.size f.put n
+  own_room = frozen_room disk d m left count order most_entries s view is n known_here pending_here
+
+  pub own_keepable : IsKeepable (stored_of disk d).saved.geometry most n (own_frame header e)
+  own_keepable = subst (IsKeepable (stored_of disk d).saved.geometry most n) (sym frame_is) (frozen_keepable disk d m left count order most_entries s view is n known_here pending_here)
+
+  module _ (new : DurableState D) where
+    module _ (put : stored_of disk new ≡ with_frozen n (Kept (own_frame header e)) (stored_of disk d)) where
+      abbrev es : List (Option Entry)
+      es = with_entry (keeping None) n m.entries
+
+      abbrev then : Memory
+      then = without_pending n (with_entry (keeping None) n m.entries) (let_go n m.hand) m
+
+      rest : Releases (stored_of disk d) m n (with_entry (keeping None) n m.entries) (let_go n m.hand)
+      rest = releases (stored_of disk d) m left count is n known_here e at owed_here
+
+      after_is : stored_of disk new ≡ with_frame n (stored_of disk d) m
+      after_is = put ∙ ap (λ (g : Frame). with_frozen n (Kept g) (stored_of disk d)) frame_is
+
+      pub out_stands : IsCache (stored_of disk new) (without_pending n (with_entry (keeping None) n m.entries) (let_go n m.hand) m) left count
+      out_stands = subst (λ (t : Stored). IsCache t then left count) (sym after_is)
+          (frozen_put_cache (stored_of disk d) m left count is n known_here own_running.0 own_running.1 pending_here es (let_go n m.hand) rest)
+
+      pub out_seen : cache_of disk new (without_pending n (with_entry (keeping None) n m.entries) (let_go n m.hand) m) left order most_entries ≡ record s { durable = new; pending = set s.pending n false; owed = set s.owed n Nothing; hand = let_go n s.hand }
+      out_seen =
+          let old = cache_of disk d m left order most_entries in
+          let ps = set m.pending n false in
+          ap (λ (t : Stored). record old { durable = new; contents = contents_in t then; pending = ps; seats = seats_in es; owed = owed_in then; frozen = frozen_seen t then left; hand = let_go n m.hand }) after_is
+          ∙ ap (λ (cs : List (Content Cap)). record old { durable = new; contents = cs; pending = ps; seats = seats_in es; owed = owed_in then; frozen = frozen_seen (with_frame n (stored_of disk d) m) then left; hand = let_go n m.hand })
+          (contents_same (stored_of disk d) m left count is n known_here own_running.0 own_running.1 pending_here es (let_go n m.hand) rest)
+          ∙ ap (λ (fs : Option FrozenFrames). record old { durable = new; pending = ps; seats = seats_in es; owed = owed_in then; frozen = fs; hand = let_go n m.hand })
+          (frozen_seen_same (stored_of disk d) m left count is n known_here own_running.0 own_running.1 pending_here es (let_go n m.hand) rest)
+          ∙ ap (λ (rs : List (Option (Content Cap))). record old { durable = new; pending = ps; seats = rs; owed = owed_in then; hand = let_go n m.hand }) (seats_keep None n m.entries)
+          ∙ ap (λ (os : List Owed). record old { durable = new; pending = ps; owed = os; hand = let_go n m.hand })
+          (owed_now (stored_of disk d) m left count is n known_here own_running.0 own_running.1 pending_here es (let_go n m.hand) rest)
+          ∙ ap (λ (t : StoreState D). record t { durable = new; pending = set t.pending n false; owed = set t.owed n Nothing; hand = let_go n t.hand }) view
+
+      pub out_leads : GoesOn disk d new → (disk d.beneath).failures ≤ (disk new.beneath).failures →
+          GoesOnIn disk s (cache_of disk new (without_pending n (with_entry (keeping None) n m.entries) (let_go n m.hand) m) left order most_entries)
+      out_leads goes later = subst (GoesOnIn disk s) (sym out_seen)
+          (put_leads disk d m left count order most_entries s view is n known_here pending_here new (Kept (own_frame header e)) put goes later (set s.pending n false) (set s.owed n Nothing) (let_go n s.hand))
+
+    module _ (put : stored_of disk new ≡ with_frozen n Broken (stored_of disk d)) where
+      content_torn : content_at (with_frozen n Broken (stored_of disk d)) m n ≡ content_at (stored_of disk d) m n
+      content_torn =
+          ap (λ (o : Option Entry). present_body o (header_at m.headers n).role (newest_body (with_frozen n Broken (stored_of disk d)) m n)) at
+          ∙ sym (ap (λ (o : Option Entry). present_body o (header_at m.headers n).role (newest_body (stored_of disk d) m n)) at)
+
+      frozen_torn : frozen_at (with_frozen n Broken (stored_of disk d)) m n ≡ frozen_at (stored_of disk d) m n
+      frozen_torn =
+          frozen_is_own (stored_of disk d) m left count is n known_here e at owed_here (with_frozen n Broken (stored_of disk d))
+          ∙ sym (frozen_is_own (stored_of disk d) m left count is n known_here e at owed_here (stored_of disk d))
+
+      pub torn_stands : IsCache (stored_of disk new) m left count
+      torn_stands = subst (λ (t : Stored). IsCache t m left count) (sym put)
+          (torn_cache (stored_of disk d) m left count is n known_here own_running.0 own_running.1 pending_here content_torn frozen_torn)
+
+      pub torn_seen : cache_of disk new m left order most_entries ≡ record s { durable = new }
+      torn_seen =
+          let old = cache_of disk d m left order most_entries in
+          ap (λ (t : Stored). record old { durable = new; contents = contents_in t m; frozen = frozen_seen t m left }) put
+          ∙ ap (λ (cs : List (Content Cap)). record old { durable = new; contents = cs; frozen = frozen_seen (with_frozen n Broken (stored_of disk d)) m left })
+          (torn_contents_same (stored_of disk d) m left count is n known_here own_running.0 own_running.1 pending_here content_torn frozen_torn)
+          ∙ ap (λ (fs : Option FrozenFrames). record old { durable = new; frozen = fs })
+          (torn_seen_same (stored_of disk d) m left count is n known_here own_running.0 own_running.1 pending_here content_torn frozen_torn)
+          ∙ ap (λ (t : StoreState D). record t { durable = new }) view
+
+      pub torn_leads : GoesOn disk d new → (disk d.beneath).failures ≤ (disk new.beneath).failures → GoesOnIn disk s (cache_of disk new m left order most_entries)
+      torn_leads goes later = subst (GoesOnIn disk s) (sym torn_seen)
+          (put_leads disk d m left count order most_entries s view is n known_here pending_here new Broken put goes later s.pending s.owed s.hand)

@@ -1,0 +1,136 @@
+-- Frozen frames are put in turn, and as many fewer are said to be left.
+use Rattle.std.proofs.Common.{◌≡◌, ℕ, ◌+◌, ◌-◌, ◌<◌, ◌≤◌, Bool, false, true≢false, List, [], Option, Some, None, option_map, is_some, refl, sym, ap, subst, ◌∙◌, arith}
+use Rattle.std.specs.Prelude.{count_by}
+use Rattle.std.proofs.lemmas.Option.{none-some, same_Some}
+use Rattle.number_set.specs.Marks.{HasNoneMarked}
+use Rattle.model.specs.declared.frame.Frame.{Frame}
+use Rattle.device.specs.Disk.{Image, Disk}
+use Rattle.migrator.specs.Durable.{DurableState, FrozenPuts, stored_of}
+use Rattle.migrator.proofs.Moving.{goes_trans}
+use Rattle.object_store.specs.Store.{FrozenFrames, Aside, stabilized}
+use Rattle.object_cache.specs.declared.held.Held.{Held}
+use Rattle.object_cache.specs.Memory.{Memory, frozen_in}
+use Rattle.object_cache.specs.StoreState.{StoreState, IsCache, AreFrozen, GoesOnIn, PutsBy, aside_of, cache_of, on_device, on_device_frozen, pending_count}
+use Rattle.object_cache.specs.PresentLaws.{goes_on_same}
+use Rattle.object_cache.proofs.Freezing.{fewer_of}
+
+pub empty_of : (o : Option Held) → is_some o ≡ false → o ≡ None
+empty_of None none = refl
+empty_of (Some h) none = absurd (true≢false none)
+
+pub none_marked : (ts : List Bool) → HasNoneMarked ts 0 → count_by (λ b. b) ts ≤ 0
+none_marked ts none = fewer_of ts [] (λ k marked. absurd (true≢false (sym marked ∙ none k (omega arith))))
+
+-- so many may be put where so many are left
+pub asked_by : (o : Option FrozenFrames) (k n : ℕ) → option_map (λ (f : FrozenFrames). f.left) o ≡ Some k → n ≤ k → (f : FrozenFrames) × (o ≡ Some f) × (n ≤ f.left)
+asked_by None k n told within = absurd (none-some k told)
+asked_by (Some f) k n told within = (f, refl, omega (arith, within, same_Some f.left k told))
+
+running_in : (fs : List Frame) (left : ℕ) (o : Option FrozenPuts) (f : FrozenFrames) → option_map (λ (h : FrozenPuts). record { frames = fs; size = h.size; left = left }) o ≡ Some f →
+    (h : FrozenPuts) × (o ≡ Some h) × (record { frames = fs; size = h.size; left = left } ≡ f)
+running_in fs left None f is = absurd (none-some f is)
+running_in fs left (Some h) f is = (h, refl, same_Some (record { frames = fs; size = h.size; left = left }) f is)
+
+abbrev pub one_less_left : FrozenFrames → FrozenFrames
+one_less_left f = record { frames = f.frames; size = f.size; left = f.left - 1 }
+
+module _ {D : Type 0} (disk : D → Disk) where
+  module _ (d : DurableState D) (m : Memory) (left count : ℕ) (order : List ℕ) (most_entries : ℕ) (s : StoreState D)
+      (view : cache_of disk d m left order most_entries ≡ s) (is : IsCache (stored_of disk d) m left count) (f : FrozenFrames) (f_is : s.frozen ≡ Some f) where
+    found : (h : FrozenPuts) × ((stored_of disk d).frozen ≡ Some h) × (record { frames = frozen_in (stored_of disk d) m; size = h.size; left = left } ≡ f)
+    found = running_in (frozen_in (stored_of disk d) m) left (stored_of disk d).frozen f (ap (λ (t : StoreState D). t.frozen) view ∙ f_is)
+
+    pub left_is : left ≡ f.left
+    left_is = ap (λ (h : FrozenFrames). h.left) found.2
+
+    pub few_left : pending_count s ≤ f.left
+    few_left = omega (arith, (is.running found.0 found.1).few, left_is, ap (λ (t : StoreState D). count_by (λ b. b) t.pending) view)
+
+    module _ (fewer : pending_count s ≤ f.left - 1) where
+      few_now : count_by (λ b. b) m.pending ≤ left - 1
+      few_now = omega (arith, fewer, left_is, ap (λ (t : StoreState D). count_by (λ b. b) t.pending) view)
+
+      fewer_frozen : (h : FrozenPuts) → (stored_of disk d).frozen ≡ Some h → AreFrozen h m.pending (left - 1)
+      fewer_frozen h h_is =
+          let was = is.running h h_is in
+          record { each = was.each; size = was.size; torn = was.torn; few = few_now; within = omega (arith, was.within) }
+
+      pub turned_stands : IsCache (stored_of disk d) m (left - 1) count
+      turned_stands = record {
+        headers = is.headers;
+        frozen_headers = is.frozen_headers;
+        marks = is.marks;
+        dirty_marks = is.dirty_marks;
+        pending_marks = is.pending_marks;
+        entries = is.entries;
+        frames = is.frames;
+        puts = is.puts;
+        counted = is.counted;
+        within = is.within;
+        marked = is.marked;
+        clean = is.clean;
+        unput = is.unput;
+        unwritten = is.unwritten;
+        idle = is.idle;
+        running = fewer_frozen;
+        keepable = is.keepable;
+        held = is.held;
+        apart = is.apart;
+        freed = is.freed;
+      }
+
+    turned_seen : cache_of disk d m (left - 1) order most_entries ≡ record s { frozen = Some (one_less_left f) }
+    turned_seen =
+        let old = cache_of disk d m left order most_entries in
+        ap (λ (o : Option FrozenPuts). record old { frozen = option_map (λ (h : FrozenPuts). record { frames = frozen_in (stored_of disk d) m; size = h.size; left = left - 1 }) o }) found.1
+        ∙ ap (λ (x : FrozenFrames). record old { frozen = Some (one_less_left x) }) found.2
+        ∙ ap (λ (t : StoreState D). record t { frozen = Some (one_less_left f) }) view
+
+    -- one was put, and one fewer is left
+    pub turned_puts : (s0 : StoreState D) → s0.frozen ≡ Some f → s ≡ on_device s0 s → GoesOnIn disk s0 s → PutsBy disk s0 (cache_of disk d m (left - 1) order most_entries) 1
+    turned_puts s0 f0 put goes = subst (λ (t : StoreState D). PutsBy disk s0 t 1) (sym turned_seen) (record {
+      aside = λ g g_is.
+          ap (λ (a : Aside). record { frozen = Some (one_less_left f); saved = a.saved; to_move = a.to_move }) goes.aside
+          ∙ ap (λ (x : FrozenFrames). record { frozen = Some (one_less_left x); saved = (aside_of disk s0).saved; to_move = (aside_of disk s0).to_move }) (same_Some f g (sym f0 ∙ g_is));
+      rest = ap (λ (t : StoreState D). record t { frozen = Some (one_less_left f) }) put;
+      goes_on = goes.goes_on;
+    })
+
+  -- none was put
+  pub unturned_puts : (s0 s : StoreState D) → s ≡ on_device s0 s → GoesOnIn disk s0 s → PutsBy disk s0 s 0
+  unturned_puts s0 s put goes = record {
+    aside = λ g g_is.
+        goes.aside
+        ∙ ap (λ (o : Option FrozenFrames). record { frozen = o; saved = (aside_of disk s0).saved; to_move = (aside_of disk s0).to_move }) g_is
+        ∙ ap (λ (k : ℕ). record { frozen = Some (record { frames = g.frames; size = g.size; left = k }); saved = (aside_of disk s0).saved; to_move = (aside_of disk s0).to_move }) (same g.left);
+    rest = put ∙ ap (λ (o : Option FrozenFrames). record (on_device s0 s) { frozen = o }) (sym (ap (λ (t : StoreState D). t.frozen) put));
+    goes_on = goes.goes_on;
+  } where
+    same : (k : ℕ) → k ≡ k - 0
+    same k = omega arith
+
+  pub puts_none : ((d : D) (c : Image) → (disk d).left_since (disk d).moment c → (disk d).may_leave c) → (s : StoreState D) → PutsBy disk s s 0
+  puts_none only_now s = unturned_puts s s refl (goes_on_same disk only_now s)
+
+  pub puts_more : (a b c : StoreState D) (f : FrozenFrames) (i k : ℕ) → a.frozen ≡ Some f → PutsBy disk a b i → PutsBy disk b c k → PutsBy disk a c (i + k)
+  puts_more a b c f i k is_some first second = record {
+    aside = λ g is_g.
+        let mid : FrozenFrames = record { frames = g.frames; size = g.size; left = g.left - i } in
+        let one = first.aside g is_g in
+        second.aside mid (ap (λ (x : Aside). x.frozen) one)
+        ∙ ap (λ (x : Aside). stabilized k mid x) one
+        ∙ ap (λ (n : ℕ). record { frozen = Some (record { frames = g.frames; size = g.size; left = n }); saved = (aside_of disk a).saved; to_move = (aside_of disk a).to_move }) (total g);
+    rest = second.rest ∙ ap (λ (x : StoreState D). on_device_frozen x c) first.rest;
+    goes_on = goes_trans (disk a.durable.beneath) (disk b.durable.beneath) (disk c.durable.beneath) a.durable.books b.durable.books c.durable.books
+        (ap (λ (x : Aside). x.saved) (first.aside f is_some)) first.goes_on second.goes_on;
+  } where
+    total : (g : FrozenFrames) → g.left - i - k ≡ g.left - (i + k)
+    total g = omega arith
+
+  -- the next one may be put
+  pub next_asked : (a b : StoreState D) (count i : ℕ) → ((f : FrozenFrames) × (a.frozen ≡ Some f) × (count ≤ f.left)) → PutsBy disk a b i → i < count → (f : FrozenFrames) × (b.frozen ≡ Some f) × (0 < f.left)
+  next_asked a b count i asked so_far lt = (
+    record { frames = asked.0.frames; size = asked.0.size; left = asked.0.left - i },
+    ap (λ (x : Aside). x.frozen) (so_far.aside asked.0 asked.1),
+    omega (arith, asked.2, lt),
+  )

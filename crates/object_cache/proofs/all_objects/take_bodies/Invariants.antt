@@ -1,0 +1,11 @@
+use Rattle.std.proofs.Common.{◌≡◌, ℕ, ◌<◌, ◌≤◌, Some, length, option_map}
+use Rattle.cache_entries.specs.Entries.{entry_at, present_of}
+use Rattle.model.specs.Frame.{held_at}
+use Rattle.object_cache.proofs.all_objects.take_bodies.Given as goal
+
+abbrev pub invariant-loop-number : goal.invariant-loop-number
+invariant-loop-number l =
+    (length l.entries.at ≡ l.count)
+    × ((n : ℕ) → l.number ≤ n → entry_at l.entries.at n ≡ entry_at l.fn.entries.at n)
+    × (length l.bodies.items ≡ l.number)
+    × ((n : ℕ) → n < l.number → option_map present_of (entry_at l.fn.entries.at n) ≡ Some (held_at l.bodies.items n))

@@ -1,0 +1,54 @@
+use Rattle.std.proofs.Common.{refl, sym}
+use Rattle.model.specs.Machine.{touching}
+use Rattle.object_cache.specs.PresentLaws.{goes_on_same, goes_on_twice}
+use Rattle.object_cache.proofs.Preparing.{leads_ready, rest_marked, rest_ready, within_ready}
+use Rattle.object_cache.proofs.Outcomes.{ok_then}
+use Rattle.object_cache.proofs.cache.Cache.make_writable.Goals as goal
+
+pub returns-then-is_ready-clause-announced : goal.returns-then-is_ready-clause-announced
+returns-then-is_ready-clause-announced g c = c.is_ready.ensures.announced c.if-is_ready.true
+
+pub returns-then-is_ready-clause-touched : goal.returns-then-is_ready-clause-touched
+returns-then-is_ready-clause-touched g c = sym (c.is_ready.ensures.touched c.if-is_ready.true)
+
+pub returns-then-is_ready-clause-within : goal.returns-then-is_ready-clause-within
+returns-then-is_ready-clause-within g c = c.is_ready.ensures.within
+
+pub returns-then-is_ready-clause-rest : goal.returns-then-is_ready-clause-rest
+returns-then-is_ready-clause-rest g c = refl
+
+pub returns-then-is_ready-clause-leads : goal.returns-then-is_ready-clause-leads
+returns-then-is_ready-clause-leads g c = goes_on_same g.D.Device.disk g.met.D.Device.only_now c.args.self.now
+
+pub returns-in_err-make_ready-clause-within : goal.returns-in_err-make_ready-clause-within
+returns-in_err-make_ready-clause-within g c = within_ready g.D.Device.disk c.args.self.now c.make_ready.new.self c.make_ready.ensures.rest c.is_ready.ensures.within
+
+pub returns-in_err-make_ready-clause-rest : goal.returns-in_err-make_ready-clause-rest
+returns-in_err-make_ready-clause-rest g c = rest_ready c.args.self.now c.make_ready.new.self c.make_ready.ensures.rest
+
+pub returns-in_err-make_ready-clause-leads : goal.returns-in_err-make_ready-clause-leads
+returns-in_err-make_ready-clause-leads g c = leads_ready g.D.Device.disk g.met.D.Device.only_now c.args.self.now c.make_ready.new.self c.make_ready.ensures.rest
+
+pub announce-requires-clause-apart : goal.announce-requires-clause-apart
+announce-requires-clause-apart g c = c.in_ok-make_ready.ensures.apart
+
+pub returns-clause-announced : goal.returns-clause-announced
+returns-clause-announced g c =
+    ok_then c.announce.result c.announce.ensures.announced (λ all n has. all n has (c.in_ok-make_ready.ensures.room n has))
+
+pub returns-clause-fetched : goal.returns-clause-fetched
+returns-clause-fetched g c = λ n there. c.announce.ensures.fetched n (c.make_ready.ensures.fetched n there)
+
+pub returns-clause-within : goal.returns-clause-within
+returns-clause-within g c = c.announce.ensures.within
+
+pub returns-clause-rest : goal.returns-clause-rest
+returns-clause-rest g c =
+    rest_marked c.announce.result c.args.self.now c.make_ready.new.self c.announce.new.self
+    (touching c.make_ready.new.self.touched c.args.written.now) (touching c.make_ready.new.self.dirty c.args.written.now)
+    c.make_ready.ensures.rest c.announce.ensures.marked c.announce.ensures.unchanged
+
+pub returns-clause-leads : goal.returns-clause-leads
+returns-clause-leads g c =
+    goes_on_twice g.D.Device.disk g.met.D.Device.counts_now c.args.self.now c.make_ready.new.self c.announce.new.self
+    (leads_ready g.D.Device.disk g.met.D.Device.only_now c.args.self.now c.make_ready.new.self c.make_ready.ensures.rest) c.announce.ensures.leads

@@ -1,0 +1,27 @@
+use Rattle.std.proofs.Common.{sym, subst}
+use Rattle.migrator.specs.Durable.{is_sound}
+use Rattle.object_cache.specs.Memory.{memory_of}
+use Rattle.object_cache.specs.StoreState.{StoreState}
+use Rattle.object_cache.proofs.Homes.{moved_stands, moved_seen, moved_then}
+use Rattle.object_cache.proofs.cache.Cache.migrate.Goals as goal
+
+pub migrate-requires : goal.migrate-requires
+migrate-requires g c = record { sound = subst (λ (t : StoreState g.row.D.Denot). is_sound g.D.Device.disk t.durable) (sym c.self.view_is) c.requires.sound }
+
+pub invariant_of-self : goal.invariant_of-self
+invariant_of-self g c =
+    let i = c.self.inside in
+    let m = memory_of i.table i.frozen_headers i.touched i.dirty i.pending i.entries.at i.hand in
+    (moved_stands g.D.Device.disk i.durable m i.left i.count i.entries.order i.entries.most c.args.self.now c.self.view_is c.self.invariant.0 c.migrate.new.self c.args.count c.migrate.result c.migrate.ensures.moved c.migrate.ensures.unmoved, c.self.invariant.1)
+
+pub returns-clause-rest : goal.returns-clause-rest
+returns-clause-rest g c =
+    let i = c.self.inside in
+    let m = memory_of i.table i.frozen_headers i.touched i.dirty i.pending i.entries.at i.hand in
+    moved_seen g.D.Device.disk i.durable m i.left i.count i.entries.order i.entries.most c.args.self.now c.self.view_is c.self.invariant.0 c.migrate.new.self c.args.count c.migrate.result c.migrate.ensures.moved c.migrate.ensures.unmoved
+
+pub returns-clause-aside : goal.returns-clause-aside
+returns-clause-aside g c =
+    let i = c.self.inside in
+    let m = memory_of i.table i.frozen_headers i.touched i.dirty i.pending i.entries.at i.hand in
+    moved_then g.D.Device.disk i.durable m i.left i.count i.entries.order i.entries.most c.args.self.now c.self.view_is c.self.invariant.0 c.migrate.new.self c.args.count c.migrate.result c.migrate.ensures.moved c.migrate.ensures.unmoved

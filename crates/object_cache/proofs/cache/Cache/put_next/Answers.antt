@@ -1,0 +1,33 @@
+use Rattle.std.proofs.Common.{◌∙◌, true≢false, sym, ap, arith}
+use Rattle.std.specs.Prelude.{is_some}
+use Rattle.object_cache.proofs.Outcomes.{ok_then}
+use Rattle.object_cache.specs.Memory.{memory_of}
+use Rattle.object_cache.specs.StoreState.{StoreState, pending_count}
+use Rattle.object_cache.proofs.Turns.{few_left, none_marked}
+use Rattle.object_cache.proofs.cache.Cache.put_next.Goals as goal
+
+pub returns-in-None-clause-fewer : goal.returns-in-None-clause-fewer
+returns-in-None-clause-fewer g c = omega (arith, none_marked c.self.inside.pending (c.next.ensures.none c.in-None.is), ap (λ (t : StoreState g.row.D.Denot). pending_count t) c.self.view_is)
+
+pub returns-then-is_held-clause-fewer : goal.returns-then-is_held-clause-fewer
+returns-then-is_held-clause-fewer g c =
+    let held = sym (c.is_held.ensures ∙ ap (λ (t : StoreState g.row.D.Denot). is_some t.hand) c.self.view_is) ∙ c.if-is_held.true in
+    ok_then c.empty_hand.result c.empty_hand.ensures.fewer (λ fewer. let less = fewer (λ none. true≢false (sym held ∙ ap is_some none)) in omega (arith, less))
+
+pub returns-then-is_held-clause-few : goal.returns-then-is_held-clause-few
+returns-then-is_held-clause-few g c =
+    let i = c.self.inside in
+    let m = memory_of i.table i.frozen_headers i.touched i.dirty i.pending i.entries.at i.hand in
+    λ f f_is. few_left g.D.Device.disk i.durable m i.left i.count i.entries.order i.entries.most c.args.self.now c.self.view_is c.self.invariant.0 f f_is
+
+pub returns-in-Some-clause-few : goal.returns-in-Some-clause-few
+returns-in-Some-clause-few g c =
+    let i = c.self.inside in
+    let m = memory_of i.table i.frozen_headers i.touched i.dirty i.pending i.entries.at i.hand in
+    λ f f_is. few_left g.D.Device.disk i.durable m i.left i.count i.entries.order i.entries.most c.args.self.now c.self.view_is c.self.invariant.0 f f_is
+
+pub returns-in-None-clause-few : goal.returns-in-None-clause-few
+returns-in-None-clause-few g c =
+    let i = c.self.inside in
+    let m = memory_of i.table i.frozen_headers i.touched i.dirty i.pending i.entries.at i.hand in
+    λ f f_is. few_left g.D.Device.disk i.durable m i.left i.count i.entries.order i.entries.most c.args.self.now c.self.view_is c.self.invariant.0 f f_is

@@ -1,0 +1,49 @@
+use Rattle.object_cache.proofs.Paying.{paid_put}
+use Rattle.object_cache.proofs.Taking.{pending_known}
+use Rattle.object_cache.specs.Memory.{memory_of}
+use Rattle.object_cache.proofs.cache.Cache.put_pending.Goals as goal
+
+pub owes-requires : goal.owes-requires
+owes-requires g c =
+    let i = c.self.inside in
+    let m = memory_of i.table i.frozen_headers i.touched i.dirty i.pending i.entries.at i.hand in
+    pending_known g.D.Device.disk i.durable m i.left i.count i.entries.order i.entries.most c.args.self.now c.self.view_is c.self.invariant.0 c.args.number c.requires.pending
+
+pub put_own_frozen-requires-clause-fetched : goal.put_own_frozen-requires-clause-fetched
+put_own_frozen-requires-clause-fetched g c = c.owes.ensures.fetched c.if-owes.true
+
+pub put_own_frozen-requires-clause-owed : goal.put_own_frozen-requires-clause-owed
+put_own_frozen-requires-clause-owed g c = c.owes.ensures.yes c.if-owes.true
+
+pub returns-then-owes-clause-fewer : goal.returns-then-owes-clause-fewer
+returns-then-owes-clause-fewer g c = c.put_own_frozen.ensures.fewer
+
+pub returns-then-owes-clause-put : goal.returns-then-owes-clause-put
+returns-then-owes-clause-put g c = paid_put c.put_own_frozen.result c.args.self.now c.put_own_frozen.new.self c.args.number c.put_own_frozen.ensures.put c.put_own_frozen.ensures.unput
+
+pub returns-then-owes-clause-leads : goal.returns-then-owes-clause-leads
+returns-then-owes-clause-leads g c = c.put_own_frozen.ensures.leads
+
+pub returns-then-owes-clause-cause : goal.returns-then-owes-clause-cause
+returns-then-owes-clause-cause g c = c.put_own_frozen.ensures.cause
+
+pub put_below-requires-clause-pending : goal.put_below-requires-clause-pending
+put_below-requires-clause-pending g c = c.requires.pending
+
+pub put_below-requires-clause-empty : goal.put_below-requires-clause-empty
+put_below-requires-clause-empty g c = c.requires.empty
+
+pub put_below-requires-clause-owed : goal.put_below-requires-clause-owed
+put_below-requires-clause-owed g c = c.owes.ensures.none c.if-owes.false
+
+pub returns-clause-fewer : goal.returns-clause-fewer
+returns-clause-fewer g c = c.put_below.ensures.fewer
+
+pub returns-clause-put : goal.returns-clause-put
+returns-clause-put g c = c.put_below.ensures.put
+
+pub returns-clause-leads : goal.returns-clause-leads
+returns-clause-leads g c = c.put_below.ensures.leads
+
+pub returns-clause-cause : goal.returns-clause-cause
+returns-clause-cause g c = c.put_below.ensures.cause

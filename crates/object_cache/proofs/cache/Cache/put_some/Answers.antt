@@ -1,0 +1,19 @@
+use Rattle.std.proofs.Common.{rules, ◌∙◌, ◌<◌, ◌+◌, arith}
+use Rattle.device.proofs.Moments.{counted_ok}
+use Rattle.object_cache.proofs.Outcomes.{on_err}
+use Rattle.object_cache.proofs.Turns.{next_asked, puts_more}
+use Rattle.object_cache.proofs.cache.Cache.put_some.Goals as goal
+
+pub put_one-requires : goal.put_one-requires
+put_one-requires g c =
+    let lt : c.loop.counter < c.args.count = search rules in
+    next_asked g.D.Device.disk c.args.self.now c.loop.self c.args.count c.loop.counter c.requires c.loop.invariant.0 lt
+
+pub returns-in_err-put_one-clause-unput : goal.returns-in_err-put_one-clause-unput
+returns-in_err-put_one-clause-unput g c =
+    let lt : c.loop.counter < c.args.count = search rules in
+    on_err c.from_residual.result (c.loop.counter + 0, omega (arith, lt), puts_more g.D.Device.disk c.args.self.now c.loop.self c.put_one.new.self c.requires.0 c.loop.counter 0 c.requires.1 c.loop.invariant.0 c.in_err-put_one.ensures.unput)
+
+pub loop-preserved : goal.loop-preserved
+loop-preserved g c =
+    (puts_more g.D.Device.disk c.args.self.now c.loop.self c.put_one.new.self c.requires.0 c.loop.counter 1 c.requires.1 c.loop.invariant.0 c.in_ok-put_one.ensures.put, counted_ok c.in_ok-put_one.ensures.cause ∙ c.loop.invariant.1)

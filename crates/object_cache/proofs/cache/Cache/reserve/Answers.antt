@@ -1,0 +1,34 @@
+use Rattle.std.proofs.Common.{ap, ◌∙◌, set, Some}
+use Rattle.model.specs.declared.capability.Cap.{Cap}
+use Rattle.model.specs.declared.geometry.Geometry.{Geometry}
+use Rattle.model.specs.declared.object.Content.{Content}
+use Rattle.migrator.specs.Durable.{stored_of}
+use Rattle.capability.specs.Plain.{room_at}
+use Rattle.object_cache.specs.Memory.{memory_of}
+use Rattle.object_cache.specs.StoreState.{StoreState}
+use Rattle.object_cache.proofs.Objects.{has_entry}
+use Rattle.object_cache.proofs.Reserving.{reserve_stands, reserve_seen}
+use Rattle.object_cache.proofs.cache.Cache.reserve.Goals as goal
+
+pub replace_room-requires : goal.replace_room-requires
+replace_room-requires g c =
+    let i = c.self.inside in
+    let m = memory_of i.table i.frozen_headers i.touched i.dirty i.pending i.entries.at i.hand in
+    has_entry g.D.Device.disk i.durable m i.left i.entries.order i.entries.most c.args.self.now c.self.view_is c.args.number c.requires
+
+pub invariant_of-self : goal.invariant_of-self
+invariant_of-self g c =
+    let i = c.self.inside in
+    let m = memory_of i.table i.frozen_headers i.touched i.dirty i.pending i.entries.at i.hand in
+    rw c.replace_room.ensures.entries (reserve_stands g.D.Device.disk i.durable m i.left i.count i.entries.order i.entries.most c.args.self.now c.self.view_is c.self.invariant.0 c.args.number c.requires c.in_ok-room.room, c.self.invariant.1)
+
+pub returns-clause-reserved : goal.returns-clause-reserved
+returns-clause-reserved g c =
+    let i = c.self.inside in
+    let m = memory_of i.table i.frozen_headers i.touched i.dirty i.pending i.entries.at i.hand in
+    rw c.replace_room.ensures.entries
+    (reserve_seen g.D.Device.disk i.durable m i.left i.count i.entries.order i.entries.most c.args.self.now c.self.view_is c.self.invariant.0 c.args.number c.requires c.in_ok-room.room
+    ∙ ap (λ (r : Content Cap). record c.args.self.now { seats = set c.args.self.now.seats c.args.number (Some r) })
+    (c.in_ok-room.ensures
+    ∙ ap (λ (h : Geometry). room_at h c.args.number) c.geometry.ensures.geometry
+    ∙ ap (λ (t : StoreState g.row.D.Denot). room_at (stored_of g.D.Device.disk t.durable).saved.geometry c.args.number) c.self.view_is))

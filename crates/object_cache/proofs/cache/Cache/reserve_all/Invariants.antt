@@ -1,0 +1,10 @@
+use Rattle.std.proofs.Common.{◌≡◌, ℕ, ◌<◌, slice_index_or}
+use Rattle.object_cache.specs.StoreState.{IsFetchedIn}
+use Rattle.object_cache.specs.Prepared.{HasRoomIn}
+use Rattle.object_cache.proofs.cache.Cache.reserve_all.Given as goal
+
+abbrev pub invariant-loop-number : goal.invariant-loop-number
+invariant-loop-number g l =
+    ((k : ℕ) → k < l.number-index → HasRoomIn g.D.Device.disk l.self (slice_index_or l.written k 0))
+    × (l.self ≡ record l.fn.self { seats = l.self.seats })
+    × ((n : ℕ) → IsFetchedIn l.fn.self n → IsFetchedIn l.self n)

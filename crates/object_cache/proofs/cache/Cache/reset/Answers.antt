@@ -1,0 +1,34 @@
+use Rattle.std.proofs.Common.{set, refl, ap, ◌∙◌}
+use Rattle.model.specs.declared.object.Content.TheVariants as content
+use Rattle.model.specs.Frame.{header_at, given_up}
+use Rattle.migrator.specs.Durable.{stored_of}
+use Rattle.object_cache.specs.Memory.{memory_of}
+use Rattle.object_cache.specs.StoreState.{StoreState}
+use Rattle.object_cache.proofs.Objects.{known, free_stands, seen_free}
+use Rattle.object_cache.proofs.cache.Cache.reset.Goals as goal
+
+pub rescind-requires-clause-known : goal.rescind-requires-clause-known
+rescind-requires-clause-known g c =
+    let i = c.self.inside in
+    (known g.D.Device.disk i.durable (memory_of i.table i.frozen_headers i.touched i.dirty i.pending i.entries.at i.hand) i.left i.count i.entries.order i.entries.most c.args.self.now c.self.view_is c.self.invariant.0 c.args.number c.requires.announced).header
+
+pub invariant_of-self : goal.invariant_of-self
+invariant_of-self g c =
+    let i = c.self.inside in
+    let m = memory_of i.table i.frozen_headers i.touched i.dirty i.pending i.entries.at i.hand in
+    let h = given_up (header_at i.table c.args.number) in
+    let k = known g.D.Device.disk i.durable m i.left i.count i.entries.order i.entries.most c.args.self.now c.self.view_is c.self.invariant.0 c.args.number c.requires.announced in
+    (rw (c.rescind.ensures, c.free.ensures) (free_stands (stored_of g.D.Device.disk i.durable) m i.left i.count c.self.invariant.0 c.args.number h k.header k.entry refl k.dirty), rw c.free.ensures c.self.invariant.1)
+
+pub returns : goal.returns
+returns g c =
+    let i = c.self.inside in
+    let m = memory_of i.table i.frozen_headers i.touched i.dirty i.pending i.entries.at i.hand in
+    let h = given_up (header_at i.table c.args.number) in
+    let k = known g.D.Device.disk i.durable m i.left i.count i.entries.order i.entries.most c.args.self.now c.self.view_is c.self.invariant.0 c.args.number c.requires.announced in
+    rw (c.rescind.ensures, c.free.ensures)
+    (seen_free g.D.Device.disk i.durable m i.left i.entries.order i.entries.most c.args.number h k.header k.entry refl k.touched
+    ∙ ap (λ (s : StoreState g.row.D.Denot). record s {
+      headers = set s.headers c.args.number (given_up (header_at s.headers c.args.number));
+      contents = set s.contents c.args.number content.Free;
+    }) c.self.view_is)

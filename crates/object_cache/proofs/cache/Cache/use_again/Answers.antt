@@ -1,0 +1,59 @@
+use Rattle.std.proofs.Common.{arith, ◌≤◌, ◌<◌, length, sym, ap, subst, ◌∙◌}
+use Rattle.std.proofs.lemmas.List.Elements.{All-contains}
+use Rattle.model.specs.Machine.{touched_count}
+use Rattle.migrator.specs.Durable.{stored_of}
+use Rattle.object_cache.specs.Memory.{memory_of}
+use Rattle.cache_entries.specs.Order.{EntriesState, used_in_turn}
+use Rattle.object_cache.specs.StoreState.{StoreState, GoesOnIn, IsCache, IsFetchedIn, cache_of}
+use Rattle.object_cache.specs.PresentLaws.{goes_on_same}
+use Rattle.object_cache.proofs.Leading.{leads_seats}
+use Rattle.object_cache.proofs.Owing.{fetched_by}
+use Rattle.object_cache.proofs.cache.Cache.use_again.Goals as goal
+
+pub invariant_of-self : goal.invariant_of-self
+invariant_of-self g c =
+    let i = c.self.inside in
+    subst (λ (f : EntriesState). IsCache (stored_of g.D.Device.disk i.durable) (memory_of i.table i.frozen_headers i.touched i.dirty i.pending f.at i.hand) i.left i.count × (8 ≤ f.most))
+    (sym c.use_again.ensures.rest) c.self.invariant
+
+pub returns-clause-fetched : goal.returns-clause-fetched
+returns-clause-fetched g c =
+    let i = c.self.inside in
+    let s = c.args.self.now in
+    let e = c.use_again.new.self in
+    let seen = ap (λ (f : EntriesState). cache_of g.D.Device.disk i.durable (memory_of i.table i.frozen_headers i.touched i.dirty i.pending f.at i.hand) i.left f.order f.most) c.use_again.ensures.rest
+    ∙ ap (λ (t : StoreState g.row.D.Denot). record t { order = e.order }) c.self.view_is in
+    let m = memory_of i.table i.frozen_headers i.touched i.dirty i.pending i.entries.at i.hand in
+    λ all n has.
+    let known = All-contains (λ k. k < length s.headers) c.args.numbers.now n c.requires has in
+    let there = fetched_by g.D.Device.disk i.durable m i.left i.count i.entries.order i.entries.most s c.self.view_is c.self.invariant.0 n known (c.use_again.ensures.held all n has) in
+    subst (λ (t : StoreState g.row.D.Denot). IsFetchedIn t n) (sym seen) (record { header = there.header; content = there.content; seat = there.seat })
+
+pub returns-clause-used : goal.returns-clause-used
+returns-clause-used g c =
+    λ all. c.use_again.ensures.used all ∙ ap (λ (t : StoreState g.row.D.Denot). used_in_turn c.args.numbers.now t.order) c.self.view_is
+
+pub returns-clause-rest : goal.returns-clause-rest
+returns-clause-rest g c =
+    let i = c.self.inside in
+    let s = c.args.self.now in
+    let e = c.use_again.new.self in
+    let seen = ap (λ (f : EntriesState). cache_of g.D.Device.disk i.durable (memory_of i.table i.frozen_headers i.touched i.dirty i.pending f.at i.hand) i.left f.order f.most) c.use_again.ensures.rest
+    ∙ ap (λ (t : StoreState g.row.D.Denot). record t { order = e.order }) c.self.view_is in
+    seen
+
+pub returns-clause-leads : goal.returns-clause-leads
+returns-clause-leads g c =
+    let i = c.self.inside in
+    let s = c.args.self.now in
+    let e = c.use_again.new.self in
+    let seen = ap (λ (f : EntriesState). cache_of g.D.Device.disk i.durable (memory_of i.table i.frozen_headers i.touched i.dirty i.pending f.at i.hand) i.left f.order f.most) c.use_again.ensures.rest
+    ∙ ap (λ (t : StoreState g.row.D.Denot). record t { order = e.order }) c.self.view_is in
+    subst (GoesOnIn g.D.Device.disk s) (sym seen)
+    (leads_seats g.D.Device.disk s s s.seats s.owed e.order (goes_on_same g.D.Device.disk g.met.D.Device.only_now s))
+
+pub returns-clause-within : goal.returns-clause-within
+returns-clause-within g c =
+    let i = c.self.inside in
+    subst (λ (t : StoreState g.row.D.Denot). touched_count t.touched ≤ (stored_of g.D.Device.disk t.durable).saved.geometry.log) c.self.view_is
+    (omega (arith, c.self.invariant.0.within, c.self.invariant.0.counted))

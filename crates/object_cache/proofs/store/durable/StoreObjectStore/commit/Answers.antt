@@ -1,0 +1,10 @@
+use Rattle.std.proofs.Common.{◌≡◌, Some, sym, subst}
+use Rattle.object_store.specs.Store.{FrozenFrames, MayCommit}
+use Rattle.object_cache.specs.StoreState.{StoreState, view_of}
+use Rattle.object_cache.proofs.store.durable.StoreObjectStore.commit.Goals as goal
+
+pub commit-requires-clause-ready : goal.commit-requires-clause-ready
+commit-requires-clause-ready g c =
+    let disk = g.D.Device.disk in
+    subst (λ (s : StoreState g.row.D.Denot). (f : FrozenFrames) → (view_of disk s).aside.frozen ≡ Some f → MayCommit c.args.age f (view_of disk s).aside.saved)
+    (sym c.self.view_is) c.requires.ready

@@ -1,0 +1,23 @@
+use Rattle.std.proofs.Common.{◌≡◌, ◌≤◌, ℕ, Some, sym, subst}
+use Rattle.std.specs.Prelude.{OnErr}
+use Rattle.checkpoint.specs.Saved.{LeavesSaved}
+use Rattle.object_store.specs.Store.{FrozenFrames, stabilized}
+use Rattle.object_cache.specs.StoreState.{StoreState, view_of}
+use Rattle.object_cache.proofs.store.durable.StoreObjectStore.stabilize.Goals as goal
+
+pub returns-clause-stopped : goal.returns-clause-stopped
+returns-clause-stopped g c =
+    let disk = g.D.Device.disk in
+    let t = c.stabilize.new.self in
+    subst (λ (s : StoreState g.row.D.Denot). (f : FrozenFrames) → (view_of disk s).aside.frozen ≡ Some f → OnErr c.stabilize.result ((k : ℕ) × (k ≤ c.args.count) × ((view_of disk t).aside ≡ stabilized k f (view_of disk s).aside)))
+    c.self.view_is c.stabilize.ensures.stopped
+
+pub returns-clause-sound : goal.returns-clause-sound
+returns-clause-sound g c = λ sound. c.stabilize.ensures.sound (subst (λ (s : StoreState g.row.D.Denot). (view_of g.D.Device.disk s).is_sound) (sym c.self.view_is) sound)
+
+pub returns-clause-any_moment : goal.returns-clause-any_moment
+returns-clause-any_moment g c =
+    let disk = g.D.Device.disk in
+    let t = c.stabilize.new.self in
+    subst (λ (s : StoreState g.row.D.Denot). (view_of disk s).is_sound → LeavesSaved (disk s.durable.beneath) (disk t.durable.beneath) (view_of disk s).aside.saved)
+    c.self.view_is c.stabilize.ensures.any_moment

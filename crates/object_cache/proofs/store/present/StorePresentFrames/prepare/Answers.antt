@@ -1,0 +1,11 @@
+use Rattle.std.proofs.Common.{◌∙◌, ◌<◌, length, sym, subst}
+use Rattle.std.proofs.lemmas.List.Elements.{All-contains}
+use Rattle.object_cache.specs.StoreState.{StoreState}
+use Rattle.object_cache.proofs.Outcomes.{on_ok}
+use Rattle.object_cache.proofs.store.present.StorePresentFrames.prepare.Goals as goal
+
+pub returns-then-KEEPS_ALL-clause-fetched : goal.returns-then-KEEPS_ALL-clause-fetched
+returns-then-KEEPS_ALL-clause-fetched g c =
+    on_ok c.make_writable.result (λ n has. c.make_writable.ensures.fetched n
+    (c.self.invariant (sym c.KEEPS_ALL.ensures ∙ c.if-KEEPS_ALL.true) n
+    (subst (λ (t : StoreState g.row.D.Denot). n < length t.headers) (sym c.self.view_is) (All-contains (λ k. k < length c.args.self.now.headers) c.args.fetched.now n c.requires.known has))))

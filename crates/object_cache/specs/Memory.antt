@@ -1,0 +1,149 @@
+-- Where the bodies of objects are: in an entry, in the hand, or on the device.
+use Rattle.std.specs.Prelude.{◌==◌, if◌then◌else◌, ℕ, Bool, true, false, Option, Some, None, List, length, map, slice_index_or}
+use Rattle.std.specs.List.{range_with_len}
+use Rattle.model.specs.declared.capability.Cap.{Cap}
+use Rattle.model.specs.declared.frame.Frame.{Frame}
+use Rattle.model.specs.declared.frame.ObjectHeader.{ObjectHeader}
+use Rattle.model.specs.declared.object.Content.{Content}
+use Rattle.model.specs.declared.object.Content.TheVariants as content
+use Rattle.model.specs.declared.object.Role.{Role}
+use Rattle.model.specs.declared.object.Role.TheVariants as role
+use Rattle.model.specs.Frame.{header_at}
+use Rattle.migrator.specs.Put.{Put, Absent, Broken, Kept, put_at}
+use Rattle.migrator.specs.Durable.{Stored, below_at}
+use Rattle.cache_entries.specs.declared.entry.Entry.{Entry}
+use Rattle.object_cache.specs.declared.held.Held.{Held}
+use Rattle.cache_entries.specs.Entries.{entry_at}
+
+-- What a bounded cache has in memory beside the durable store: headers, and those that were frozen; which numbers were
+-- written since the last checkpoint began, which of them weren't put since they were, and which have a frozen frame that
+-- isn't in its slot; the entries, and a body that was read so that its frozen frame can be written again.
+pub record Memory : Type 0 where
+  pub headers : List ObjectHeader
+  pub frozen_headers : List ObjectHeader
+  pub touched : List Bool
+  pub dirty : List Bool
+  pub pending : List Bool
+  pub entries : List (Option Entry)
+  pub hand : Option Held
+
+abbrev pub memory_of : List ObjectHeader → List ObjectHeader → List Bool → List Bool → List Bool → List (Option Entry) → Option Held → Memory
+memory_of headers frozen_headers touched dirty pending entries hand = record {
+  headers = headers;
+  frozen_headers = frozen_headers;
+  touched = touched;
+  dirty = dirty;
+  pending = pending;
+  entries = entries;
+  hand = hand;
+}
+
+abbrev pub mark_at : List Bool → ℕ → Bool
+mark_at marks n = slice_index_or marks n false
+
+-- nothing where the object is free
+abbrev pub masked : Role → Content Cap → Content Cap
+masked role.Free c = content.Free
+masked _ c = c
+
+-- the body in the hand, if it is of the number, or else another
+abbrev pub in_hand : Option Held → ℕ → Content Cap → Content Cap
+in_hand None n c = c
+in_hand (Some h) n c = if h.number == n then h.content else c
+
+-- the hand once it has let go of a number
+abbrev pub let_go : ℕ → Option Held → Option Held
+let_go n None = None
+let_go n (Some h) = if h.number == n then None else Some h
+
+-- the body that was put, or else another
+abbrev pub put_body : Put → Content Cap → Content Cap
+put_body Absent c = c
+put_body Broken c = c
+put_body (Kept f) c = f.content
+
+-- the body that lies below the ones in entries: in the hand, or else the frozen one that was put, or the saved one
+abbrev pub below_body : Stored → Memory → ℕ → Content Cap
+below_body s m n = in_hand m.hand n (below_at s n).content
+
+-- the newest body without those in entries
+abbrev pub newest_body : Stored → Memory → ℕ → Content Cap
+newest_body s m n = put_body (put_at s.working n) (below_body s m n)
+
+-- what an object holds now, by its entry, its role, and the newest body without it
+abbrev pub present_body : Option Entry → Role → Content Cap → Content Cap
+present_body None r newest = masked r newest
+present_body (Some e) r newest = e.present
+
+abbrev pub content_at : Stored → Memory → ℕ → Content Cap
+content_at s m n = present_body (entry_at m.entries n) (header_at m.headers n).role (newest_body s m n)
+
+abbrev pub present_at : Stored → Memory → ℕ → Frame
+present_at s m n = record { header = header_at m.headers n; content = content_at s m n }
+
+-- the frozen body of an object with an entry: kept apart; or what lies below, if it was written since; or the present one
+abbrev pub apart_body : Option (Content Cap) → Bool → Content Cap → Content Cap → Content Cap
+apart_body (Some c) touched present below = c
+apart_body None true present below = below
+apart_body None false present below = present
+
+abbrev pub frozen_body : Option Entry → Bool → Content Cap → Content Cap
+frozen_body None touched below = below
+frozen_body (Some e) touched below = apart_body e.kept touched e.present below
+
+-- the frozen body that an entry has, if it has one: kept apart, or else the present one
+abbrev pub own_body : Option (Content Cap) → Content Cap → Content Cap
+own_body (Some c) present = c
+own_body None present = present
+
+-- and the frame of it, under the header that was frozen
+abbrev pub own_frame : ObjectHeader → Entry → Frame
+own_frame h e = record { header = h; content = masked h.role (own_body e.kept e.present) }
+
+-- the frozen frame of an object, whether or not it is in its slot
+abbrev pub frozen_frame : Bool → ObjectHeader → Content Cap → Frame → Frame
+frozen_frame false h body below = below
+frozen_frame true h body below = record { header = h; content = masked h.role body }
+
+abbrev pub frozen_at : Stored → Memory → ℕ → Frame
+frozen_at s m n = frozen_frame (mark_at m.pending n) (header_at m.frozen_headers n)
+    (frozen_body (entry_at m.entries n) (mark_at m.touched n) (below_body s m n)) (below_at s n)
+
+-- what all objects hold, and all frozen frames
+unfoldable pub contents_in : Stored → Memory → List (Content Cap)
+contents_in s m = map (content_at s m) (range_with_len 0 (length m.headers))
+
+unfoldable pub frozen_in : Stored → Memory → List Frame
+frozen_in s m = map (frozen_at s m) (range_with_len 0 (length m.headers))
+
+-- what an entry has of the frozen frame that is still to be written: nothing, the present body, or one that is kept apart
+pub data Owed : Type 0 where
+  Nothing : Owed
+  Shared : Owed
+  Apart : Owed
+
+abbrev pub is_owing : Owed → Bool
+is_owing Nothing = false
+is_owing Shared = true
+is_owing Apart = true
+
+abbrev pub is_shared : Owed → Bool
+is_shared Nothing = false
+is_shared Shared = true
+is_shared Apart = false
+
+abbrev pub owed_body : Option (Content Cap) → Bool → Owed
+owed_body (Some c) touched = Apart
+owed_body None true = Nothing
+owed_body None false = Shared
+
+abbrev pub owed_of : Option Entry → Bool → Bool → Owed
+owed_of None pending touched = Nothing
+owed_of (Some e) false touched = Nothing
+owed_of (Some e) true touched = owed_body e.kept touched
+
+abbrev pub owed_in_memory : Memory → ℕ → Owed
+owed_in_memory m n = owed_of (entry_at m.entries n) (mark_at m.pending n) (mark_at m.touched n)
+
+unfoldable pub owed_in : Memory → List Owed
+owed_in m = map (owed_in_memory m) (range_with_len 0 (length m.headers))

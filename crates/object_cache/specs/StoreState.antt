@@ -1,0 +1,256 @@
+-- The store of objects: what is seen of it, and what always holds.
+use Rattle.std.specs.Prelude.{◌≡◌, ◌⊎◌, ℕ, ◌<◌, ◌≤◌, Bool, true, false, Option, Some, None, IsSome, is_some, option_map, count_by, List, [], ◌∷◌, length, map, replicate, slice_index_or, slice_set, ◌||◌}
+use Rattle.std.specs.List.{range_with_len}
+use Rattle.model.specs.declared.capability.Cap.{Cap}
+use Rattle.model.specs.declared.frame.ObjectHeader.{ObjectHeader}
+use Rattle.model.specs.declared.object.Content.{Content}
+use Rattle.model.specs.declared.object.Content.TheVariants as content
+use Rattle.model.specs.declared.object.Role.TheVariants as role
+use Rattle.model.specs.declared.frame.Frame.{Frame}
+use Rattle.model.specs.Frame.{header_at, headers}
+use Rattle.model.specs.Keepable.{AreKeepable}
+use Rattle.model.specs.Machine.{touched_count, untouched}
+use Rattle.model.specs.Revoke.{is_member}
+use Rattle.model.specs.Sound.{object_count}
+use Rattle.device.specs.Disk.{Disk}
+use Rattle.device.specs.Moments.{Peeks}
+use Rattle.migrator.specs.Put.{Put, Absent, Broken, Kept, put_at}
+use Rattle.checkpoint.specs.Saved.{most}
+use Rattle.migrator.specs.Durable.{DurableState, FrozenPuts, Stored, GoesOn, saved_state, seen_of, stored_of, is_sound}
+use Rattle.layout.specs.Image.{SavedState}
+use Rattle.capability.specs.Parts.{Parts, HaveTheirRoles}
+use Rattle.capability.specs.Plain.{room_at}
+use Rattle.object_store.specs.Store.{FrozenFrames, Aside, View, stabilized}
+use Rattle.cache_entries.specs.declared.entry.Entry.{Entry}
+use Rattle.object_cache.specs.declared.held.Held.{Held}
+use Rattle.object_cache.specs.declared.all_objects.AllObjects.{AllObjects}
+use Rattle.cache_entries.specs.Entries.{entry_at, room_of}
+use Rattle.cache_entries.specs.Order.{AllDiffer, without}
+use Rattle.object_cache.specs.Memory.{Memory, Owed, Nothing, owed_body, mark_at, present_at, frozen_at, contents_in, frozen_in, owed_in}
+
+-- ---- what is seen of it
+
+-- what the fields of entries are seen as: by number, the room of the entry, if there is one
+unfoldable pub seats_in : List (Option Entry) → List (Option (Content Cap))
+seats_in es = map (option_map room_of) es
+
+pub record StoreState (D : Type 0) : Type 0 where
+  pub durable : DurableState D
+  pub headers : List ObjectHeader
+  pub contents : List (Content Cap)
+  pub touched : List Bool
+  pub dirty : List Bool
+  pub pending : List Bool
+  pub seats : List (Option (Content Cap))
+  pub owed : List Owed
+  pub frozen : Option FrozenFrames
+  pub hand : Option Held
+  pub order : List ℕ
+  pub most : ℕ
+
+-- the frozen frames of a checkpoint on its way, of which so many are said to be left
+abbrev pub frozen_seen : Stored → Memory → ℕ → Option FrozenFrames
+frozen_seen s m left = option_map (λ (f : FrozenPuts). record { frames = frozen_in s m; size = f.size; left = left }) s.frozen
+
+module _ {D : Type 0} (disk : D → Disk) where
+  abbrev pub cache_of : DurableState D → Memory → ℕ → List ℕ → ℕ → StoreState D
+  cache_of d m left order most = record {
+    durable = d;
+    headers = m.headers;
+    contents = contents_in (stored_of disk d) m;
+    touched = m.touched;
+    dirty = m.dirty;
+    pending = m.pending;
+    seats = seats_in m.entries;
+    owed = owed_in m;
+    frozen = frozen_seen (stored_of disk d) m left;
+    hand = m.hand;
+    order = order;
+    most = most;
+  }
+
+  -- the present objects, and how often the device failed
+  abbrev pub parts_of : StoreState D → Parts
+  parts_of s = record {
+    geometry = (stored_of disk s.durable).saved.geometry;
+    headers = s.headers;
+    contents = s.contents;
+    touched = s.touched;
+    failures = (disk s.durable.beneath).failures;
+  }
+
+  -- the checkpoint that is saved
+  abbrev pub saved_by : StoreState D → SavedState
+  saved_by s = saved_state (seen_of disk s.durable) s.durable.books
+
+  abbrev pub aside_of : StoreState D → Aside
+  aside_of s = record { frozen = s.frozen; saved = (stored_of disk s.durable).saved; to_move = (stored_of disk s.durable).to_move }
+
+  abbrev pub view_of : StoreState D → View D
+  view_of s = record { beneath = s.durable.beneath; aside = aside_of s; is_sound = is_sound disk s.durable }
+
+  -- the present objects went on, and nothing else that is seen of the store: the device went on from what is saved, and
+  -- was only read where nothing was written since and no checkpoint is on its way
+  pub record GoesOnIn (s t : StoreState D) : Type 0 where
+    pub goes_on : GoesOn disk s.durable t.durable
+    pub aside : aside_of t ≡ aside_of s
+    pub later : (disk s.durable.beneath).failures ≤ (disk t.durable.beneath).failures
+    pub grows : touched_count s.touched ≤ touched_count t.touched
+    pub most : t.most ≡ s.most
+    pub looks : touched_count t.touched ≡ 0 → s.frozen ≡ None → Peeks (disk s.durable.beneath) (disk t.durable.beneath)
+
+abbrev pub seat_at : List (Option (Content Cap)) → ℕ → Option (Content Cap)
+seat_at seats n = slice_index_or seats n None
+
+-- the number of entries is at most the capacity: each number with an entry stands once in the order of use
+pub record IsBounded {D : Type 0} (s : StoreState D) : Type 0 where
+  pub listed : (n : ℕ) → is_member s.order n ≡ is_some (seat_at s.seats n)
+  pub once : AllDiffer s.order
+  pub few : length s.order ≤ s.most
+
+abbrev pub owed_at : List Owed → ℕ → Owed
+owed_at owed n = slice_index_or owed n Nothing
+
+-- what a new entry has of the frozen frame: the object is as it was frozen if it wasn't written since
+abbrev pub newly_owed : Bool → Bool → Owed
+newly_owed false touched = Nothing
+newly_owed true touched = owed_body None touched
+
+-- how many frozen frames aren't in their slots
+abbrev pub pending_count : {D : Type 0} → StoreState D → ℕ
+pending_count s = count_by (λ b. b) s.pending
+
+-- a number that had no entry has one, which was used last
+abbrev pub with_seat : {D : Type 0} → ℕ → StoreState D → StoreState D
+with_seat n s = record s {
+  seats = slice_set s.seats n (Some content.Free);
+  owed = slice_set s.owed n (newly_owed (mark_at s.pending n) (mark_at s.touched n));
+  order = n ∷ s.order;
+}
+
+-- what is on the device of the one, and all else of the other
+abbrev pub on_device : {D : Type 0} → StoreState D → StoreState D → StoreState D
+on_device s t = record s { durable = t.durable; dirty = t.dirty; pending = t.pending; owed = t.owed; hand = t.hand }
+
+-- the same, where so many frozen frames more are in the log
+abbrev pub on_device_frozen : {D : Type 0} → StoreState D → StoreState D → StoreState D
+on_device_frozen s t = record (on_device s t) { frozen = t.frozen }
+
+-- so many more of the frozen frames are in the log, and nothing else that is seen is another
+pub record PutsBy {D : Type 0} (disk : D → Disk) (s t : StoreState D) (k : ℕ) : Type 0 where
+  pub aside : (f : FrozenFrames) → s.frozen ≡ Some f → aside_of disk t ≡ stabilized k f (aside_of disk s)
+  pub rest : t ≡ on_device_frozen s t
+  pub goes_on : GoesOn disk s.durable t.durable
+
+-- without the entry of a number
+abbrev pub without_seat : {D : Type 0} → ℕ → StoreState D → StoreState D
+without_seat n s = record s { seats = slice_set s.seats n None; order = without n s.order }
+
+-- a number is fetched where it has an entry
+pub record IsFetchedIn {D : Type 0} (s : StoreState D) (n : ℕ) : Type 0 where
+  pub header : n < length s.headers
+  pub content : n < length s.contents
+  pub seat : IsSome (seat_at s.seats n)
+
+-- a number may be written where it is to be put, and where a free one with an entry has room
+pub record IsAnnouncedIn {D : Type 0} (disk : D → Disk) (s : StoreState D) (n : ℕ) : Type 0 where
+  pub header : n < length s.headers
+  pub content : n < length s.contents
+  pub dirty : mark_at s.dirty n ≡ true
+  pub room : (header_at s.headers n).role ≡ role.Free → IsSome (seat_at s.seats n) → seat_at s.seats n ≡ Some (room_at (stored_of disk s.durable).saved.geometry n)
+
+-- every object has an entry
+abbrev pub IsWhole : {D : Type 0} → StoreState D → Type 0
+IsWhole s = (n : ℕ) → n < length s.headers → IsFetchedIn s n
+
+-- the present objects went on; a store that keeps all of them made no call of the device
+pub record LeadsIn {D : Type 0} (all : Bool) (disk : D → Disk) (s t : StoreState D) : Type 0 where
+  pub goes_on : GoesOnIn disk s t
+  pub still : all ≡ true → t.durable ≡ s.durable
+
+abbrev pub with_content_in : {D : Type 0} → StoreState D → ℕ → Content Cap → StoreState D
+with_content_in s n c = record s { contents = slice_set s.contents n c }
+
+-- ---- opening
+
+-- the bodies of frames
+abbrev pub bodies_of : List Frame → List (Content Cap)
+bodies_of fs = map (λ (f : Frame). f.content) fs
+
+-- a durable store was opened: it holds what is saved, which has these headers
+pub record IsJustOpened (s : Stored) (hs : List ObjectHeader) : Type 0 where
+  pub headers_are : hs ≡ headers s.saved.frames
+  pub roles : HaveTheirRoles s.saved.frames
+  pub frames : length s.saved.frames ≡ object_count s.saved.geometry
+  pub working : s.working ≡ replicate (length s.saved.frames) Absent
+  pub idle : s.frozen ≡ None
+
+-- the present objects are the saved ones, and none has an entry
+pub record IsMadeOver {D : Type 0} (disk : D → Disk) (d : DurableState D) (most : ℕ) (s : StoreState D) : Type 0 where
+  pub durable : s.durable ≡ d
+  pub headers_are : s.headers ≡ headers (stored_of disk d).saved.frames
+  pub contents : s.contents ≡ bodies_of (stored_of disk d).saved.frames
+  pub touched : s.touched ≡ untouched (stored_of disk d).saved.geometry
+  pub idle : s.frozen ≡ None
+  pub unseated : (n : ℕ) → seat_at s.seats n ≡ None
+  pub order : s.order ≡ []
+  pub same_most : s.most ≡ most
+
+-- the same, and each has an entry if all are kept
+pub record IsOpenOver {D : Type 0} (all : Bool) (disk : D → Disk) (d : DurableState D) (most : ℕ) (s : StoreState D) : Type 0 where
+  pub durable : s.durable ≡ d
+  pub headers_are : s.headers ≡ headers (stored_of disk d).saved.frames
+  pub contents : s.contents ≡ bodies_of (stored_of disk d).saved.frames
+  pub touched : s.touched ≡ untouched (stored_of disk d).saved.geometry
+  pub idle : s.frozen ≡ None
+  pub whole : all ≡ true → IsWhole s
+  pub same_most : s.most ≡ most
+
+-- all present objects of a store, as many bodies as headers
+pub record AreObjectsOf {D : Type 0} (s : StoreState D) (os : AllObjects) : Type 0 where
+  pub headers_are : os.headers.items ≡ s.headers
+  pub contents : os.contents.items ≡ s.contents
+  pub each : length s.contents ≡ length s.headers
+
+-- ---- what always holds
+
+abbrev pub is_kept : Put → Bool
+is_kept Absent = false
+is_kept Broken = false
+is_kept (Kept f) = true
+
+-- the frames of a checkpoint on its way: each of those that it writes is pending or was put, a slot that was torn is of a
+-- pending one, and so many are said to be left
+pub record AreFrozen (f : FrozenPuts) (pending : List Bool) (left : ℕ) : Type 0 where
+  pub each : length f.put ≡ length pending
+  pub size : count_by (λ b. b) (map (λ n. mark_at pending n || is_kept (put_at f.put n)) (range_with_len 0 (length pending))) ≡ f.size
+  pub torn : (n : ℕ) → put_at f.put n ≡ Broken → mark_at pending n ≡ true
+  pub few : count_by (λ b. b) pending ≤ left
+  pub within : left ≤ f.size
+
+pub record IsCache (s : Stored) (m : Memory) (left count : ℕ) : Type 0 where
+  pub headers : length m.headers ≡ object_count s.saved.geometry
+  pub frozen_headers : length m.frozen_headers ≡ object_count s.saved.geometry
+  pub marks : length m.touched ≡ object_count s.saved.geometry
+  pub dirty_marks : length m.dirty ≡ object_count s.saved.geometry
+  pub pending_marks : length m.pending ≡ object_count s.saved.geometry
+  pub entries : length m.entries ≡ object_count s.saved.geometry
+  pub frames : length s.saved.frames ≡ object_count s.saved.geometry
+  pub puts : length s.working ≡ object_count s.saved.geometry
+  pub counted : count ≡ touched_count m.touched
+  pub within : count ≤ s.saved.geometry.log
+  -- what is to be put was written since, and all else that was is put
+  pub marked : (n : ℕ) → mark_at m.dirty n ≡ true → mark_at m.touched n ≡ true
+  pub clean : (n : ℕ) → mark_at m.dirty n ≡ false → mark_at m.touched n ≡ true → put_at s.working n ≡ Kept (present_at s m n)
+  -- what wasn't written since wasn't put, and is as it is frozen or saved
+  pub unput : (n : ℕ) → mark_at m.touched n ≡ false → put_at s.working n ≡ Absent
+  pub unwritten : (n : ℕ) → n < length m.headers → mark_at m.touched n ≡ false → present_at s m n ≡ frozen_at s m n
+  -- frozen frames
+  pub idle : s.frozen ≡ None → (n : ℕ) → mark_at m.pending n ≡ false
+  pub running : (f : FrozenPuts) → s.frozen ≡ Some f → AreFrozen f m.pending left
+  pub keepable : (f : FrozenPuts) → s.frozen ≡ Some f → AreKeepable s.saved.geometry most (frozen_in s m)
+  pub held : (h : Held) → m.hand ≡ Some h → mark_at m.pending h.number ≡ true
+  pub apart : (n : ℕ) (e : Entry) → entry_at m.entries n ≡ Some e → (e.kept ≡ None) ⊎ (mark_at m.pending n ≡ true)
+  -- a body on the device that is frozen as free isn't wanted
+  pub freed : (n : ℕ) → entry_at m.entries n ≡ None → mark_at m.pending n ≡ true → (header_at m.frozen_headers n).role ≡ role.Free →
+      (is_kept (put_at s.working n) ≡ true) ⊎ ((header_at m.headers n).role ≡ role.Free)

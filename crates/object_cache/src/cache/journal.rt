@@ -1,0 +1,191 @@
+// One page is saved beside the checkpoints.
+ghost use Rattle.std.specs.Prelude.{◌≡◌, ◌⊎◌, ◌+◌, ◌<◌, ◌≤◌, ◌^◌, None, length, option_map, true, IfOk, OnOk, OnErr, IsErrOf};
+ghost use Rattle.model.specs.declared.object.Role.TheVariants as role;
+ghost use Rattle.model.specs.Frame.{frame_at, header_at};
+ghost use Rattle.model.specs.Keepable.{AreKeepable};
+ghost use Rattle.model.specs.Object.{is_page, words_in};
+ghost use Rattle.model.specs.Sound.{object_count};
+ghost use Rattle.device.specs.Calls.{Counts};
+ghost use Rattle.capability.specs.Parts.{frames_of};
+ghost use Rattle.checkpoint.specs.Saved.{LeavesEither, LeavesOneOf, journaled_saved};
+ghost use Rattle.migrator.specs.Durable.{stored_of, is_sound, left_of, newest, stored_after_journal};
+ghost use Rattle.object_store.specs.Journal.{IsJournalAnswer, IsTurnedAway, aside_after_journal, is_page_now, is_page_role, is_same_page, is_still_saved, next_journaled, words_now};
+ghost use Rattle.object_store.specs.Store.{left_in};
+ghost use Rattle.object_cache.specs.Journaled.{held_now};
+ghost use Rattle.object_cache.specs.StoreState.{parts_of, view_of};
+
+use crate::cache::Cache;
+use crate::page::{may_journal, save_content, save_words};
+use cache_entries::Entries;
+use capability::ObjectTable;
+use device::{Device, Failed};
+use layout::Room;
+use migrator::Durable;
+use object_store::JournalFault;
+
+// Saves a page with the words that it has on the device. Fails exactly where the device does.
+fn save_read<D: Device>(
+    durable: &mut Durable<D>,
+    room: &mut Room,
+    number: u64,
+    age: u64,
+) -> Result<u64, Failed>
+    requires object { number < object_count durable.old.books.plan.geometry }
+    requires page { is_page (newest (stored_of D.disk durable.old) number).content ≡ true }
+    requires free { (stored_of D.disk durable.old).frozen ≡ None }
+    requires home { (stored_of D.disk durable.old).saved.entries ≡ 0 }
+    requires saved { (frame_at (stored_of D.disk durable.old).saved.frames number).header.role
+        ≡ role.Page }
+    requires sound { is_sound D.disk durable.old }
+    requires later { (stored_of D.disk durable.old).saved.age < age }
+    requires most { age ≤ 2 ^ 62 }
+    ensures journaled { OnOk result (stored_of D.disk durable.new ≡ stored_after_journal age number
+        (words_in (newest (stored_of D.disk durable.old) number).content) (stored_of D.disk durable.old)) }
+    ensures unchanged { OnErr result (stored_of D.disk durable.new ≡ stored_of D.disk durable.old) }
+    ensures plan { durable.new.books.plan ≡ durable.old.books.plan }
+    ensures generation { IfOk result (λ generation. generation
+        ≡ (stored_of D.disk durable.old).saved.generation + 2) }
+    ensures sound { OnOk result (is_sound D.disk durable.new) }
+    ensures size { (D.disk durable.new.beneath).sectors ≡ (D.disk durable.old.beneath).sectors }
+    ensures any_moment { LeavesEither (D.disk durable.old.beneath) (D.disk durable.new.beneath)
+        (stored_of D.disk durable.old).saved (journaled_saved age number
+        (words_in (newest (stored_of D.disk durable.old) number).content)
+        (stored_of D.disk durable.old).saved) }
+    ensures cause { Counts (D.disk durable.old.beneath) (D.disk durable.new.beneath) result }
+{
+    match durable.fetch(number, room) {
+        Ok(_) => save_words(durable, &room.words, number, age),
+        Err(_) => Err(Failed),
+    }
+}
+
+// Saves a page with the words that it has now: they are in its entry, or are read.
+fn save_present<D: Device>(
+    durable: &mut Durable<D>,
+    entries: &Entries,
+    room: &mut Room,
+    number: u64,
+    age: u64,
+) -> Result<u64, Failed>
+    requires known { number < length entries.now.at }
+    requires object { number < object_count durable.old.books.plan.geometry }
+    requires page { is_page (held_now entries.now.at (stored_of D.disk durable.old) number) ≡ true }
+    requires free { (stored_of D.disk durable.old).frozen ≡ None }
+    requires home { (stored_of D.disk durable.old).saved.entries ≡ 0 }
+    requires saved { (frame_at (stored_of D.disk durable.old).saved.frames number).header.role
+        ≡ role.Page }
+    requires sound { is_sound D.disk durable.old }
+    requires later { (stored_of D.disk durable.old).saved.age < age }
+    requires most { age ≤ 2 ^ 62 }
+    ensures journaled { OnOk result (stored_of D.disk durable.new ≡ stored_after_journal age number
+        (words_in (held_now entries.now.at (stored_of D.disk durable.old) number))
+        (stored_of D.disk durable.old)) }
+    ensures unchanged { OnErr result (stored_of D.disk durable.new ≡ stored_of D.disk durable.old) }
+    ensures plan { durable.new.books.plan ≡ durable.old.books.plan }
+    ensures generation { IfOk result (λ generation. generation
+        ≡ (stored_of D.disk durable.old).saved.generation + 2) }
+    ensures sound { OnOk result (is_sound D.disk durable.new) }
+    ensures size { (D.disk durable.new.beneath).sectors ≡ (D.disk durable.old.beneath).sectors }
+    ensures any_moment { LeavesEither (D.disk durable.old.beneath) (D.disk durable.new.beneath)
+        (stored_of D.disk durable.old).saved (journaled_saved age number
+        (words_in (held_now entries.now.at (stored_of D.disk durable.old) number))
+        (stored_of D.disk durable.old).saved) }
+    ensures cause { Counts (D.disk durable.old.beneath) (D.disk durable.new.beneath) result }
+{
+    match entries.get(number) {
+        Some(entry) => save_content(durable, &entry.present, number, age),
+        None => save_read(durable, room, number, age),
+    }
+}
+
+// Saves a page with the words that it has now, where nothing refuses it.
+fn journal_page<D: Device>(
+    durable: &mut Durable<D>,
+    table: &ObjectTable,
+    entries: &Entries,
+    room: &mut Room,
+    number: u64,
+    age: u64,
+) -> Result<u64, JournalFault>
+    requires known { is_page_role (header_at table.now number).role ≡ true → number < length entries.now.at }
+    requires object { is_page_role (header_at table.now number).role ≡ true
+        → number < object_count durable.old.books.plan.geometry }
+    requires page { (stored_of D.disk durable.old).frozen ≡ None → is_page_role (header_at table.now number).role ≡ true
+        → is_page (held_now entries.now.at (stored_of D.disk durable.old) number) ≡ true }
+    requires sound { is_sound D.disk durable.old }
+    requires later { (stored_of D.disk durable.old).saved.age < age }
+    requires most { age ≤ 2 ^ 62 }
+    ensures journaled { OnOk result (stored_of D.disk durable.new ≡ stored_after_journal age number
+        (words_in (held_now entries.now.at (stored_of D.disk durable.old) number))
+        (stored_of D.disk durable.old)) }
+    ensures unchanged { OnErr result (stored_of D.disk durable.new ≡ stored_of D.disk durable.old) }
+    ensures turned_away { IsTurnedAway result → durable.new ≡ durable.old }
+    ensures plan { durable.new.books.plan ≡ durable.old.books.plan }
+    ensures answer { IsJournalAnswer (D.disk durable.old.beneath) (D.disk durable.new.beneath)
+        (option_map left_of (stored_of D.disk durable.old).frozen)
+        (stored_of D.disk durable.old).saved (is_page_role (header_at table.now number).role)
+        (is_same_page (header_at table.now number).allocations
+        (frame_at (stored_of D.disk durable.old).saved.frames number)) result }
+    ensures sound { IsErrOf result JournalFault.Failed ⊎ is_sound D.disk durable.new }
+    ensures size { (D.disk durable.new.beneath).sectors ≡ (D.disk durable.old.beneath).sectors }
+    ensures any_moment { LeavesOneOf (D.disk durable.old.beneath) (D.disk durable.new.beneath)
+        (stored_of D.disk durable.old).saved (next_journaled age number
+        (words_in (held_now entries.now.at (stored_of D.disk durable.old) number))
+        (stored_of D.disk durable.old).frozen (stored_of D.disk durable.old).saved
+        (is_page_role (header_at table.now number).role) (is_same_page (header_at table.now number).allocations
+        (frame_at (stored_of D.disk durable.old).saved.frames number))) }
+{
+    let header = table.header(number);
+    match may_journal(durable, header, number) {
+        Ok(()) => match save_present(durable, entries, room, number, age) {
+            Ok(generation) => Ok(generation),
+            Err(_) => Err(JournalFault::Failed),
+        },
+        Err(fault) => Err(fault),
+    }
+}
+
+impl<D: Device> Cache<D> {
+    /// Saves a page with the words that it has now, at an age; of the page nothing else, and of the
+    /// other objects what was saved. Answers the new generation. It takes no memory: where the page
+    /// isn't in memory its words are read into room that was taken at the opening.
+    ///
+    /// It is refused by `CheckpointRunning` exactly where a checkpoint is on its way, else by
+    /// `MigrationPending` exactly where something saved isn't home, else by `NotPage` exactly where
+    /// the number isn't that of a page, else by `Renewed` exactly where no page is saved, or the
+    /// one that is was given up since. `Failed` is told exactly where the device failed.
+    pub fn journal(&mut self, number: u64, age: u64) -> Result<u64, JournalFault>
+        requires keepable { AreKeepable (parts_of D.disk self.old).geometry u64.MAX
+            (frames_of (parts_of D.disk self.old)) }
+        requires sound { (view_of D.disk self.old).is_sound }
+        requires later { (view_of D.disk self.old).aside.saved.age < age }
+        requires most { age ≤ 2 ^ 62 }
+        ensures answer { IsJournalAnswer (D.disk self.old.durable.beneath) (D.disk self.new.durable.beneath)
+            (left_in (view_of D.disk self.old).aside) (view_of D.disk self.old).aside.saved
+            (is_page_now (parts_of D.disk self.old) number)
+            (is_still_saved (parts_of D.disk self.old) (view_of D.disk self.old).aside.saved number) result }
+        ensures turned_away { IsTurnedAway result → self.new ≡ self.old }
+        ensures rest { self.new ≡ record self.old { durable = self.new.durable } }
+        ensures geometry { (stored_of D.disk self.new.durable).saved.geometry
+            ≡ (stored_of D.disk self.old.durable).saved.geometry }
+        ensures aside { OnOk result ((view_of D.disk self.new).aside ≡ aside_after_journal age number
+            (words_now (parts_of D.disk self.old) number) (view_of D.disk self.old).aside) }
+        ensures unchanged { OnErr result ((view_of D.disk self.new).aside ≡ (view_of D.disk self.old).aside) }
+        ensures sound { IsErrOf result JournalFault.Failed ⊎ (view_of D.disk self.new).is_sound }
+        ensures size { (D.disk self.new.durable.beneath).sectors ≡ (D.disk self.old.durable.beneath).sectors }
+        ensures any_moment { LeavesOneOf (D.disk self.old.durable.beneath) (D.disk self.new.durable.beneath)
+            (view_of D.disk self.old).aside.saved (next_journaled age number
+            (words_now (parts_of D.disk self.old) number) (view_of D.disk self.old).aside.frozen
+            (view_of D.disk self.old).aside.saved (is_page_now (parts_of D.disk self.old) number)
+            (is_still_saved (parts_of D.disk self.old) (view_of D.disk self.old).aside.saved number)) }
+    {
+        journal_page(
+            &mut self.durable,
+            &self.table,
+            &self.entries,
+            &mut self.room,
+            number,
+            age,
+        )
+    }
+}

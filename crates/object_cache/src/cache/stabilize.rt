@@ -1,0 +1,141 @@
+// Frozen frames are put in turn.
+ghost use Rattle.std.specs.Prelude.{◌≡◌, ◌≢◌, ◌⊎◌, ℕ, ◌-◌, ◌<◌, ◌≤◌, None, Some, true, IfErr, OnOk, OnErr};
+ghost use Rattle.device.specs.Calls.{Counts};
+ghost use Rattle.migrator.specs.Durable.{is_sound};
+ghost use Rattle.checkpoint.specs.Refused.{IsRefused};
+ghost use Rattle.checkpoint.specs.Saved.{LeavesSaved};
+ghost use Rattle.object_store.specs.Store.{FrozenFrames, IsStabilizeAnswer, left_in, stabilized};
+ghost use Rattle.object_cache.specs.declared.held.Held.{Held};
+ghost use Rattle.object_cache.specs.Memory.{Nothing, mark_at};
+ghost use Rattle.object_cache.specs.StoreState.{GoesOnIn, PutsBy, on_device, on_device_frozen, owed_at, parts_of, pending_count, view_of};
+
+use crate::cache::Cache;
+use checkpoint::CheckpointFault;
+use device::{Device, Failed};
+
+impl<D: Device> Cache<D> {
+    // Takes the frozen body of an object up of which no entry has anything. At `Failed` all stays.
+    fn take_below(&mut self, number: u64) -> Result<(), Failed>
+        requires pending { mark_at self.old.pending number ≡ true }
+        requires empty { self.old.hand ≡ None }
+        ensures held { OnOk result ((h : Held) × (self.new.hand ≡ Some h) × (h.number ≡ number)) }
+        ensures rest { self.new ≡ record self.old { durable = self.new.durable; hand = self.new.hand } }
+        ensures leads { GoesOnIn D.disk self.old self.new }
+        ensures cause { Counts (D.disk self.old.durable.beneath) (D.disk self.new.durable.beneath) result }
+    {
+        let read = self.durable.fetch_below(number, &mut self.room)?;
+        self.hand.take_up(number, read.1, &mut self.room);
+        Ok(())
+    }
+
+    // Puts the frozen frame of an object of which no entry has anything. At `Failed` its body is in
+    // the hand, or where it was.
+    fn put_below(&mut self, number: u64) -> Result<(), Failed>
+        requires pending { mark_at self.old.pending number ≡ true }
+        requires empty { self.old.hand ≡ None }
+        requires owed { owed_at self.old.owed number ≡ Nothing }
+        ensures fewer { OnOk result (pending_count self.new < pending_count self.old) }
+        ensures put { self.new ≡ on_device self.old self.new }
+        ensures leads { GoesOnIn D.disk self.old self.new }
+        ensures cause { Counts (D.disk self.old.durable.beneath) (D.disk self.new.durable.beneath) result }
+    {
+        self.take_below(number)?;
+        self.put_held()
+    }
+
+    // Puts the frozen frame of an object, where no body is in the hand.
+    fn put_pending(&mut self, number: u64) -> Result<(), Failed>
+        requires pending { mark_at self.old.pending number ≡ true }
+        requires empty { self.old.hand ≡ None }
+        ensures fewer { OnOk result (pending_count self.new < pending_count self.old) }
+        ensures put { self.new ≡ on_device self.old self.new }
+        ensures leads { GoesOnIn D.disk self.old self.new }
+        ensures cause { Counts (D.disk self.old.durable.beneath) (D.disk self.new.durable.beneath) result }
+    {
+        let _ = &self.durable;
+        if self.owes(number) {
+            return self.put_own_frozen(number);
+        }
+        self.put_below(number)
+    }
+
+    // Puts one more frozen frame that isn't in its slot, if there is one: that of the body in the
+    // hand first.
+    fn put_next(&mut self) -> Result<(), Failed>
+        ensures fewer { OnOk result (pending_count self.new ≤ pending_count self.old - 1) }
+        ensures few { (f : FrozenFrames) → self.old.frozen ≡ Some f → pending_count self.old ≤ f.left }
+        ensures put { self.new ≡ on_device self.old self.new }
+        ensures leads { GoesOnIn D.disk self.old self.new }
+        ensures cause { Counts (D.disk self.old.durable.beneath) (D.disk self.new.durable.beneath) result }
+    {
+        if self.hand.is_held() {
+            return self.empty_hand();
+        }
+        match self.pending.next(0) {
+            Some(number) => self.put_pending(number as u64),
+            None => Ok(()),
+        }
+    }
+
+    // Puts one more, and says that one fewer is left.
+    fn put_one(&mut self) -> Result<(), CheckpointFault>
+        requires { (f : FrozenFrames) × (self.old.frozen ≡ Some f) × (0 < f.left) }
+        ensures put { OnOk result (PutsBy D.disk self.old self.new 1) }
+        ensures unput { OnErr result (PutsBy D.disk self.old self.new 0) }
+        ensures failed { IfErr result (λ e. e ≡ CheckpointFault.Failed) }
+        ensures cause { Counts (D.disk self.old.durable.beneath) (D.disk self.new.durable.beneath) result }
+    {
+        match self.put_next() {
+            Ok(()) => {
+                self.left -= 1;
+                Ok(())
+            }
+            Err(_) => Err(CheckpointFault::Failed),
+        }
+    }
+
+    // Puts so many more.
+    fn put_some(&mut self, count: u64) -> Result<(), CheckpointFault>
+        requires { (f : FrozenFrames) × (self.old.frozen ≡ Some f) × (count ≤ f.left) }
+        ensures put { OnOk result (PutsBy D.disk self.old self.new count) }
+        ensures unput { OnErr result ((k : ℕ) × (k ≤ count) × PutsBy D.disk self.old self.new k) }
+        ensures failed { IfErr result (λ e. e ≡ CheckpointFault.Failed) }
+        ensures cause { Counts (D.disk self.old.durable.beneath) (D.disk self.new.durable.beneath) result }
+    {
+        for _ in 0..count {
+            self.put_one()?;
+        }
+        Ok(())
+    }
+
+    /// Writes so many of the frozen objects to the log, and answers how many are said to be left.
+    /// One that was written already, when its object was put out of memory, is counted as any other.
+    ///
+    /// It is refused by `NoCheckpoint` exactly where none is on its way, and changes nothing then.
+    /// At `Failed`, which is told exactly where the device failed, some were written, no more than
+    /// so many. It takes no memory.
+    pub fn stabilize(&mut self, count: u64) -> Result<u64, CheckpointFault>
+        ensures answer { IsStabilizeAnswer (D.disk self.old.durable.beneath) (D.disk self.new.durable.beneath)
+            (left_in (view_of D.disk self.old).aside) count result }
+        ensures unchanged { IsRefused result → self.new ≡ self.old }
+        ensures rest { self.new ≡ on_device_frozen self.old self.new }
+        ensures geometry { (parts_of D.disk self.new).geometry ≡ (parts_of D.disk self.old).geometry }
+        ensures aside { (f : FrozenFrames) → (view_of D.disk self.old).aside.frozen ≡ Some f
+            → OnOk result ((view_of D.disk self.new).aside ≡ stabilized count f (view_of D.disk self.old).aside) }
+        ensures stopped { (f : FrozenFrames) → (view_of D.disk self.old).aside.frozen ≡ Some f
+            → OnErr result ((k : ℕ) × (k ≤ count)
+            × ((view_of D.disk self.new).aside ≡ stabilized k f (view_of D.disk self.old).aside)) }
+        ensures sound { (view_of D.disk self.old).is_sound → (view_of D.disk self.new).is_sound }
+        ensures size { (D.disk self.new.durable.beneath).sectors ≡ (D.disk self.old.durable.beneath).sectors }
+        ensures any_moment { (view_of D.disk self.old).is_sound
+            → LeavesSaved (D.disk self.old.durable.beneath) (D.disk self.new.durable.beneath)
+            (view_of D.disk self.old).aside.saved }
+    {
+        let Some(left) = self.left() else {
+            return Err(CheckpointFault::NoCheckpoint);
+        };
+        let some = if count < left { count } else { left };
+        self.put_some(some)?;
+        Ok(left - some)
+    }
+}

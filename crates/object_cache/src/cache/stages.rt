@@ -1,0 +1,191 @@
+// The stages of a checkpoint.
+ghost use Rattle.std.specs.Prelude.{◌≡◌, ◌-◌, Some, IfOk, OnOk, OnErr};
+ghost use Rattle.model.specs.Keepable.{AreKeepable};
+ghost use Rattle.model.specs.Machine.{touched_count, untouched};
+ghost use Rattle.device.specs.Calls.{Counts};
+ghost use Rattle.capability.specs.Parts.{frames_of};
+ghost use Rattle.checkpoint.specs.Saved.{most, LeavesEither};
+ghost use Rattle.migrator.specs.Durable.{stored_of, is_sound};
+ghost use Rattle.checkpoint.specs.Refused.{IsCommitAnswer, IsFreezeAnswer, IsRefused};
+ghost use Rattle.object_store.specs.Store.{FrozenFrames, MayCommit, aside_after_commit, freezing, left_in, moved, moved_saved, next_saved};
+ghost use Rattle.object_cache.specs.StoreState.{AreObjectsOf, IsWhole, parts_of, view_of};
+
+use crate::all_objects::{AllObjects, take_bodies};
+use crate::cache::Cache;
+use checkpoint::{Checkpoint, CheckpointFault};
+use device::{Device, Failed};
+use layout::Superblock;
+use migrator::Durable;
+use std::alloc::{AllocError, Global};
+use std::mem;
+
+impl<D: Device> Cache<D> {
+    // Gives the durable store back, and nothing of what is in memory.
+    fn into_durable(self) -> Durable<D>
+        ensures { result ≡ self.durable }
+    {
+        self.durable
+    }
+
+    /// The durable store below, and all present objects if each has an entry.
+    pub(crate) fn into_parts(self, alloc: Global) -> (Durable<D>, Result<AllObjects, AllocError>)
+        requires { IsWhole self }
+        ensures durable { result.0 ≡ self.durable }
+        ensures objects { IfOk result.1 (λ objects. AreObjectsOf self objects) }
+    {
+        let Cache {
+            durable,
+            table,
+            entries,
+            ..
+        } = self;
+        let headers = table.into_headers();
+        match take_bodies(alloc, entries, headers.len()) {
+            Ok(contents) => (durable, Ok(AllObjects { headers, contents })),
+            Err(_) => (durable, Err(AllocError)),
+        }
+    }
+
+    /// The superblock of the device.
+    pub fn superblock(&self) -> &Superblock
+        ensures { result.now ≡ self.now.durable.books.plan }
+    {
+        self.durable.superblock()
+    }
+
+    /// The device beneath, on which no call is made.
+    pub fn device(&self) -> &D
+        ensures { result.now ≡ self.now.durable.beneath }
+    {
+        self.durable.device()
+    }
+
+    /// Gives the device back, and makes no call of it.
+    pub fn into_device(self) -> D
+        ensures { result ≡ self.durable.beneath }
+    {
+        self.into_durable().into_device()
+    }
+
+    /// What is told of the committed checkpoint.
+    pub fn saved(&self) -> Checkpoint
+        ensures generation { result.generation ≡ (view_of D.disk self.now).aside.saved.generation }
+        ensures age { result.age ≡ (view_of D.disk self.now).aside.saved.age }
+        ensures entries { result.entries ≡ (view_of D.disk self.now).aside.saved.entries }
+    {
+        self.durable.saved()
+    }
+
+    /// How many objects of a checkpoint on its way are said to be left, where there is one.
+    pub fn left(&self) -> Option<u64>
+        ensures { result ≡ left_in (view_of D.disk self.now).aside }
+    {
+        match self.durable.left() {
+            Some(_) => Some(self.left),
+            None => None,
+        }
+    }
+
+    /// Commits the checkpoint on its way at an age, and answers its generation. It is refused by
+    /// `NoCheckpoint` exactly where none is on its way, and else by `NotStable(left)` exactly where
+    /// so many of its objects are said to be left, and changes nothing then.
+    pub fn commit(&mut self, age: u64) -> Result<u64, CheckpointFault>
+        requires sound { (view_of D.disk self.old).is_sound }
+        requires ready { (f : FrozenFrames) → (view_of D.disk self.old).aside.frozen ≡ Some f
+            → MayCommit age f (view_of D.disk self.old).aside.saved }
+        ensures answer { IsCommitAnswer (D.disk self.old.durable.beneath) (D.disk self.new.durable.beneath)
+            (left_in (view_of D.disk self.old).aside) (view_of D.disk self.old).aside.saved.generation result }
+        ensures unchanged { IsRefused result → self.new ≡ self.old }
+        ensures rest { self.new ≡ record self.old { durable = self.new.durable; frozen = self.new.frozen } }
+        ensures geometry { (parts_of D.disk self.new).geometry ≡ (parts_of D.disk self.old).geometry }
+        ensures aside { (f : FrozenFrames) → (view_of D.disk self.old).aside.frozen ≡ Some f
+            → OnOk result ((view_of D.disk self.new).aside ≡ aside_after_commit age f (view_of D.disk self.old).aside) }
+        ensures sound { OnOk result ((view_of D.disk self.new).is_sound) }
+        ensures size { (D.disk self.new.durable.beneath).sectors ≡ (D.disk self.old.durable.beneath).sectors }
+        ensures any_moment { (f : FrozenFrames) → (view_of D.disk self.old).aside.frozen ≡ Some f → f.left ≡ 0
+            → LeavesEither (D.disk self.old.durable.beneath) (D.disk self.new.durable.beneath)
+            (view_of D.disk self.old).aside.saved (next_saved age f (view_of D.disk self.old).aside.saved) }
+    {
+        let Some(left) = self.left() else {
+            return Err(CheckpointFault::NoCheckpoint);
+        };
+        if left != 0 {
+            return Err(CheckpointFault::NotStable(left));
+        }
+        self.save(age)
+    }
+
+    // Saves what is frozen, all of which is in the log.
+    fn save(&mut self, age: u64) -> Result<u64, CheckpointFault>
+        requires sound { (view_of D.disk self.old).is_sound }
+        requires ready { (f : FrozenFrames) × ((view_of D.disk self.old).aside.frozen ≡ Some f)
+            × (f.left ≡ 0) × MayCommit age f (view_of D.disk self.old).aside.saved }
+        ensures answer { IsCommitAnswer (D.disk self.old.durable.beneath) (D.disk self.new.durable.beneath)
+            (Some 0) (view_of D.disk self.old).aside.saved.generation result }
+        ensures unchanged { IsRefused result → self.new ≡ self.old }
+        ensures rest { self.new ≡ record self.old { durable = self.new.durable; frozen = self.new.frozen } }
+        ensures geometry { (parts_of D.disk self.new).geometry ≡ (parts_of D.disk self.old).geometry }
+        ensures aside { (f : FrozenFrames) → (view_of D.disk self.old).aside.frozen ≡ Some f
+            → OnOk result ((view_of D.disk self.new).aside ≡ aside_after_commit age f (view_of D.disk self.old).aside) }
+        ensures sound { OnOk result ((view_of D.disk self.new).is_sound) }
+        ensures size { (D.disk self.new.durable.beneath).sectors ≡ (D.disk self.old.durable.beneath).sectors }
+        ensures any_moment { (f : FrozenFrames) → (view_of D.disk self.old).aside.frozen ≡ Some f
+            → LeavesEither (D.disk self.old.durable.beneath) (D.disk self.new.durable.beneath)
+            (view_of D.disk self.old).aside.saved (next_saved age f (view_of D.disk self.old).aside.saved) }
+    {
+        self.durable.commit(age)
+    }
+
+    /// Begins a checkpoint: all objects are frozen as they are. Answers how many were written since
+    /// the last one began. It takes no memory, and makes no call of the device. It is refused by
+    /// `CheckpointRunning` exactly where one is on its way, and else by `MigrationPending` exactly
+    /// where something saved isn't home, and changes nothing then.
+    pub fn freeze(&mut self) -> Result<u64, CheckpointFault>
+        requires keepable { AreKeepable (parts_of D.disk self.old).geometry most
+            (frames_of (parts_of D.disk self.old)) }
+        ensures answer { IsFreezeAnswer (left_in (view_of D.disk self.old).aside)
+            (view_of D.disk self.old).aside.saved.entries result }
+        ensures unchanged { OnErr result (self.new ≡ self.old) }
+        ensures size { IfOk result (λ n. n ≡ touched_count self.old.touched) }
+        ensures most { self.new.most ≡ self.old.most }
+        ensures seats { self.new.seats ≡ self.old.seats }
+        ensures headers { self.new.headers ≡ self.old.headers }
+        ensures contents { self.new.contents ≡ self.old.contents }
+        ensures touched { OnOk result (self.new.touched ≡ untouched (parts_of D.disk self.old).geometry) }
+        ensures aside { OnOk result ((view_of D.disk self.new).aside
+            ≡ freezing (frames_of (parts_of D.disk self.old)) (touched_count self.old.touched) (view_of D.disk self.old).aside) }
+        ensures saved { (view_of D.disk self.new).aside.saved ≡ (view_of D.disk self.old).aside.saved }
+        ensures beneath { self.new.durable.beneath ≡ self.old.durable.beneath }
+        ensures sound { (view_of D.disk self.old).is_sound → (view_of D.disk self.new).is_sound }
+    {
+        let size = self.count;
+        self.durable.freeze(size)?;
+        self.frozen_headers.take_marked(&self.table, &self.dirty);
+        mem::swap(&mut self.pending, &mut self.dirty);
+        self.dirty.clear();
+        self.touched.clear();
+        self.count = 0;
+        self.left = size;
+        Ok(size)
+    }
+
+    /// Copies so many of the saved objects home, and answers how many are left. Where all of it is
+    /// home already, it makes no call of the device.
+    pub fn migrate(&mut self, count: u64) -> Result<u64, Failed>
+        requires sound { (view_of D.disk self.old).is_sound }
+        ensures rest { self.new ≡ record self.old { durable = self.new.durable } }
+        ensures left { IfOk result (λ n. n ≡ (view_of D.disk self.old).aside.to_move - count) }
+        ensures aside { OnOk result ((view_of D.disk self.new).aside
+            ≡ moved count (view_of D.disk self.old).aside) }
+        ensures untouched { (view_of D.disk self.old).aside.saved.entries ≡ 0 → self.new ≡ self.old }
+        ensures sound { OnOk result ((view_of D.disk self.new).is_sound) }
+        ensures geometry { (stored_of D.disk self.new.durable).saved.geometry
+            ≡ (stored_of D.disk self.old.durable).saved.geometry }
+        ensures size { (D.disk self.new.durable.beneath).sectors ≡ (D.disk self.old.durable.beneath).sectors }
+        ensures any_moment { LeavesEither (D.disk self.old.durable.beneath) (D.disk self.new.durable.beneath)
+            (view_of D.disk self.old).aside.saved (moved_saved count (view_of D.disk self.old).aside) }
+        ensures cause { Counts (D.disk self.old.durable.beneath) (D.disk self.new.durable.beneath) result }
+    {
+        self.durable.migrate(count)
+    }
+}

@@ -1,0 +1,69 @@
+// The headers of objects as they were frozen.
+ghost use Rattle.std.specs.Prelude.{◌≡◌, ℕ, ◌<◌, length, true, IfOk};
+ghost use Rattle.model.specs.Frame.{header_at};
+ghost use Rattle.object_cache.specs.Memory.{mark_at};
+
+use capability::ObjectTable;
+use model::ObjectHeader;
+use number_set::NumberSet;
+use std::alloc::{AllocError, Global};
+use std::marker::Model;
+
+/// The headers of all objects, by number, of which those of a checkpoint's objects are as they were
+/// frozen.
+#[derive(Drop)]
+pub(crate) struct Headers {
+    items: Vec<ObjectHeader>,
+}
+
+impl Model for Headers {
+    ghost use Rattle.std.specs.Prelude.{List};
+    ghost use Rattle.model.specs.declared.frame.ObjectHeader.{ObjectHeader};
+
+    ghost Value = { List ObjectHeader };
+
+    ghost view = { λ h. h.items.items };
+}
+
+// Copies the headers of marked numbers.
+fn copy_marked(frozen: &mut [ObjectHeader], table: &ObjectTable, marks: &NumberSet)
+    requires each { length marks.now ≡ length frozen.old }
+    ensures count { length frozen.new ≡ length frozen.old }
+    ensures marked { (n : ℕ) → mark_at marks.now n ≡ true
+        → header_at frozen.new n ≡ header_at table.now n }
+{
+    let mut from = 0;
+    while let Some(number) = marks.next(from) {
+        frozen[number] = table.header(number as u64);
+        from = number + 1;
+    }
+}
+
+impl Headers {
+    /// The same headers again. Fails only where memory runs out.
+    pub(crate) fn new(alloc: Global, headers: &[ObjectHeader]) -> Result<Headers, AllocError>
+        ensures { IfOk result (λ frozen. frozen ≡ headers.now) }
+    {
+        Ok(Headers {
+            items: headers.to_vec(alloc)?,
+        })
+    }
+
+    /// The header of an object.
+    pub(crate) fn header(&self, number: u64) -> ObjectHeader
+        requires { number < length self.now }
+        ensures { result ≡ header_at self.now number }
+    {
+        self.items[number as usize]
+    }
+
+    /// Freezes the headers of marked numbers.
+    pub(crate) fn take_marked(&mut self, table: &ObjectTable, marks: &NumberSet)
+        requires each { length marks.now ≡ length self.old }
+        ensures count { length self.new ≡ length self.old }
+        ensures marked { (n : ℕ) → mark_at marks.now n ≡ true
+            → header_at self.new n ≡ header_at table.now n }
+    {
+        copy_marked(&mut self.items, table, marks);
+    }
+}

@@ -1,0 +1,111 @@
+// The store of objects over a device.
+ghost use Rattle.std.specs.Prelude.{◌≡◌, ◌≤◌, true, length, IfOk, IfErr};
+ghost use Rattle.migrator.specs.Durable.{stored_of};
+ghost use Rattle.object_cache.specs.StoreState.{AreObjectsOf, IsBounded, IsJustOpened, IsMadeOver, IsOpenOver, bodies_of};
+
+use crate::all_objects::AllObjects;
+use crate::cache::Cache;
+use crate::policy::{KeepAll, KeepRecent, Policy};
+use crate::saved_objects::SavedObjects;
+use device::Device;
+use layout::Superblock;
+use migrator::Durable;
+use model::{Cap, Content};
+use std::alloc::{AllocError, Global};
+use std::marker::{Model, PhantomData};
+
+mod durable;
+mod present;
+
+/// The objects over a device. The headers of all objects are always in memory; the policy says which bodies are.
+#[derive(Drop)]
+pub struct Store<D: Device, P: Policy> {
+    cache: Cache<D>,
+    policy: PhantomData<P>,
+}
+
+/// The store that keeps every body in memory, from opening on.
+pub type PlainStore<D> = Store<D, KeepAll>;
+
+/// The store that keeps no more bodies in memory than its capacity.
+pub type BoundedCache<D> = Store<D, KeepRecent>;
+
+impl<D: Device, P: Policy> Model for Store<D, P> {
+    ghost use Rattle.std.specs.Prelude.{◌≡◌, true};
+    ghost use Rattle.object_cache.specs.StoreState.{StoreState, IsWhole};
+
+    ghost Value = { StoreState D };
+
+    ghost view = { λ s. s.cache };
+
+    ghost invariant = { λ s. P.KEEPS_ALL ≡ true → IsWhole s.cache };
+}
+
+// Gives each object its body, if the policy keeps every body.
+fn fill<D: Device, P: Policy>(cache: Cache<D>, bodies: Vec<Content<Cap>>) -> Result<Cache<D>, D>
+    requires made { IsMadeOver D.disk cache.durable cache.most cache }
+    requires bodies { P.KEEPS_ALL ≡ true → bodies.items ≡ bodies_of (stored_of D.disk cache.durable).saved.frames }
+    requires room { P.KEEPS_ALL ≡ true → length cache.headers ≤ cache.most }
+    ensures filled { IfOk result (λ filled. IsOpenOver P.KEEPS_ALL D.disk cache.durable cache.most filled) }
+    ensures back { IfErr result (λ device. device ≡ cache.durable.beneath) }
+{
+    let mut cache = cache;
+    if !P::KEEPS_ALL {
+        return Ok(cache);
+    }
+    match cache.fill(bodies) {
+        Ok(()) => Ok(cache),
+        Err(_) => Err(cache.into_device()),
+    }
+}
+
+// The cache of a store that was just opened. If memory runs out, it gives the device back.
+fn cache_over<D: Device, P: Policy>(
+    alloc: Global,
+    durable: Durable<D>,
+    saved: SavedObjects<P>,
+    setting: P::Setting,
+) -> Result<Cache<D>, D>
+    requires opened { IsJustOpened (stored_of D.disk durable) saved.headers.items }
+    requires bodies { P.KEEPS_ALL ≡ true → saved.bodies.items ≡ bodies_of (stored_of D.disk durable).saved.frames }
+    ensures made { IfOk result (λ cache. IsOpenOver P.KEEPS_ALL D.disk durable (P.most_for setting (length saved.headers.items)) cache) }
+    ensures back { IfErr result (λ device. device ≡ durable.beneath) }
+{
+    let SavedObjects {
+        headers,
+        bodies,
+        ..
+    } = saved;
+    let capacity = P::capacity(setting, headers.len());
+    match Cache::new(alloc, durable, headers, capacity) {
+        Ok(cache) => fill::<D, P>(cache, bodies),
+        Err(durable) => Err(durable.into_device()),
+    }
+}
+
+impl<D: Device, P: Policy> Store<D, P> {
+    /// The superblock of the device.
+    pub fn superblock(&self) -> &Superblock
+        ensures { result.now ≡ self.now.durable.books.plan }
+    {
+        self.cache.superblock()
+    }
+
+    /// The durable store below, which has what is saved, and all present objects. It makes no call of
+    /// the device. The objects are lacking only if memory runs out.
+    pub fn into_parts(self, alloc: Global) -> (Durable<D>, Result<AllObjects, AllocError>)
+        requires { P.KEEPS_ALL ≡ true }
+        ensures durable { result.0 ≡ self.durable }
+        ensures objects { IfOk result.1 (λ objects. AreObjectsOf self objects) }
+    {
+        self.cache.into_parts(alloc)
+    }
+
+    /// The number of objects in memory: never more than the capacity that the store was opened with.
+    pub fn len(&self) -> usize
+        ensures count { result ≡ length self.now.order }
+        ensures bounded { IsBounded self.now }
+    {
+        self.cache.len()
+    }
+}

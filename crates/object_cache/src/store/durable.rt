@@ -1,0 +1,119 @@
+// A store of objects over a device.
+ghost use Rattle.std.specs.Prelude.{◌≡◌, ◌<◌, None, false, length, IfOk, IfErr, OnOk};
+ghost use Rattle.capability.specs.Parts.{frames_of};
+ghost use Rattle.checkpoint.specs.Opened.{Refuses};
+ghost use Rattle.checkpoint.specs.Saved.{most};
+ghost use Rattle.device.specs.Calls.{Counts};
+ghost use Rattle.model.specs.Keepable.{AreKeepable};
+ghost use Rattle.object_store.specs.Store.{OpensStore};
+ghost use Rattle.object_cache.specs.StoreState.{LeadsIn, on_device, parts_of, seat_at, view_of};
+
+use crate::policy::Policy;
+use crate::saved_objects::SavedObjects;
+use crate::store::{Store, cache_over};
+use checkpoint::{Checkpoint, CheckpointFault, OpenFault, OpenRefused};
+use device::{Device, Failed};
+use migrator::{Durable, Opened};
+use object_store::{JournalFault, ObjectStore};
+use std::alloc::Global;
+use std::marker::PhantomData;
+
+impl<D: Device, P: Policy> ObjectStore<D> for Store<D, P> {
+    type Setting = P::Setting;
+
+    ghost view = { view_of D.disk };
+
+    /// Memory is wanted for the headers, and for as many bodies as the policy keeps. If it keeps all,
+    /// they are read now.
+    fn open(alloc: Global, device: D, setting: P::Setting) -> Result<Self, OpenRefused<D>>
+        ensures opened { IfOk result (λ s. OpensStore D.disk device (parts_of D.disk s) (view_of D.disk s)) }
+        ensures bound { IfOk result (λ s. s.most ≡ P.most_for setting (length s.headers)) }
+        ensures refused { IfErr result (λ r. Refuses D.disk device r.device r.fault) }
+    {
+        match Durable::open::<SavedObjects<P>>(alloc, device) {
+            Ok(opened) => {
+                let Opened { store, taken } = opened;
+                match cache_over(alloc, store, taken, setting) {
+                    Ok(cache) => Ok(Store {
+                        cache,
+                        policy: PhantomData,
+                    }),
+                    Err(device) => Err(OpenRefused {
+                        fault: OpenFault::NoMemory,
+                        device,
+                    }),
+                }
+            }
+            Err(refused) => Err(refused),
+        }
+    }
+
+    fn device(&self) -> &D {
+        self.cache.device()
+    }
+
+    fn into_device(self) -> D {
+        self.cache.into_device()
+    }
+
+    fn saved(&self) -> Checkpoint {
+        self.cache.saved()
+    }
+
+    fn left(&self) -> Option<u64> {
+        self.cache.left()
+    }
+
+    /// Puts what an object holds out of memory, unless the policy keeps every body. Fails exactly
+    /// where the device does.
+    fn evict(&mut self, number: u64) -> Result<(), Failed>
+        requires known { number < length self.old.headers }
+        requires keepable { AreKeepable (parts_of D.disk self.old).geometry most
+            (frames_of (parts_of D.disk self.old)) }
+        ensures gone { OnOk result (P.KEEPS_ALL ≡ false → seat_at self.new.seats number ≡ None) }
+        ensures rest { self.new ≡ record (on_device self.old self.new) {
+          seats = self.new.seats;
+          order = self.new.order;
+        } }
+        ensures leads { LeadsIn P.KEEPS_ALL D.disk self.old self.new }
+        ensures cause { Counts (D.disk self.old.durable.beneath) (D.disk self.new.durable.beneath) result }
+    {
+        if P::KEEPS_ALL {
+            return Ok(());
+        }
+        self.cache.evict(number)
+    }
+
+    fn freeze(&mut self) -> Result<u64, CheckpointFault> {
+        self.cache.freeze()
+    }
+
+    fn stabilize(&mut self, count: u64) -> Result<u64, CheckpointFault> {
+        self.cache.stabilize(count)
+    }
+
+    fn commit(&mut self, age: u64) -> Result<u64, CheckpointFault> {
+        self.cache.commit(age)
+    }
+
+    fn migrate(&mut self, count: u64) -> Result<u64, Failed> {
+        self.cache.migrate(count)
+    }
+
+    fn journal(&mut self, number: u64, age: u64) -> Result<u64, JournalFault> {
+        self.cache.journal(number, age)
+    }
+
+    ghost use Rattle.std.proofs.Common.{refl};
+    ghost use Rattle.object_cache.specs.StoreLaws.{leads_by, holds_by};
+
+    ghost leads = { λ s t h. leads_by D.disk s t h.goes_on };
+
+    ghost leads_peeks = { λ s t h none idle. h.goes_on.looks none idle };
+
+    ghost sound_holds = { λ s c sound left. holds_by D.disk s c sound left };
+
+    ghost failures_are = { λ s. refl };
+
+    ghost geometry_is = { λ s. refl };
+}
