@@ -1,5 +1,6 @@
 pub mod Explained
 pub mod Faults
+pub mod Growing
 pub mod Images
 pub mod Info
 pub mod Laws

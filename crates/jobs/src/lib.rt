@@ -27,6 +27,7 @@ pub use done::Done;
 pub use drawing::draw_image;
 pub use explaining::explain_description;
 pub use fault::Fault;
+pub use image_describer::Sizes;
 pub use inspecting::info_image;
 pub use output::finish;
 pub use reaching::reach_image;

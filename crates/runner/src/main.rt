@@ -298,15 +298,16 @@ fn upgrade(
     Ok(upgrade_opened(rt.alloc(), image, &mut upgraded, writer, errors))
 }
 
-// Describes an image, and gives the status.
+// Describes an image for other sizes, and gives the status.
 fn describe(
     rt: &HostRuntime,
     image: &str,
+    sizes: Sizes,
     writer: &mut BufWriter<Stdout>,
     errors: &mut Stderr,
 ) -> Result<u8, Fault> {
     let device = open_to_read(rt, image)?;
-    let done = describe_image(rt.alloc(), device, writer, errors);
+    let done = describe_image(rt.alloc(), device, sizes, writer, errors);
     Ok(done.status)
 }
 
