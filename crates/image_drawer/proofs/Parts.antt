@@ -16,7 +16,7 @@ use Rattle.image_describer.proofs.Pairs.{zip_map}
 use Rattle.image_drawer.specs.declared.arrow.Arrow.{Arrow}
 use Rattle.image_drawer.specs.declared.arrow.Place.{Place}
 use Rattle.image_drawer.specs.declared.arrow.Place.TheVariants as place
-use Rattle.image_drawer.specs.Graph.{arrow_of, arrow_to, arrows, arrows_at, boxes, joined, node_arrows, owners, process_arrows}
+use Rattle.image_drawer.specs.Graph.{arrow_of, arrow_to, arrows_at, joined, node_arrows, process_arrows}
 use Rattle.image_drawer.specs.Part.{IsPart, IsPartOfNode, IsPartOfProcess, PartIsShown, is_inside, leads_inside, space_inside}
 
 -- Lists
@@ -80,9 +80,9 @@ module _ (inside : ℕ → Bool) where
   process_kept p q part =
       ap (λ (n : ℕ). arrow_of n place.Space (unwrap_or q.space Void) ++ arrows_at n place.Register q.registers.items) part.root
       ∙ ap (λ (c : Option Capability). arrow_of p.root place.Space (unwrap_or c Void) ++ arrows_at p.root place.Register q.registers.items) part.space
-      ∙ ap (λ (as : List Arrow). as ++ arrows_at p.root place.Register q.registers.items) (space_kept p.root p.space)
+      ∙ ap (λ (vs : List Arrow). vs ++ arrows_at p.root place.Register q.registers.items) (space_kept p.root p.space)
       ∙ ap (λ (es : List SlotEntry). filter ends (arrow_of p.root place.Space (unwrap_or p.space Void)) ++ arrows_at p.root place.Register es) part.registers
-      ∙ ap (λ (as : List Arrow). filter ends (arrow_of p.root place.Space (unwrap_or p.space Void)) ++ as) (slots_kept p.root place.Register p.registers.items)
+      ∙ ap (λ (vs : List Arrow). filter ends (arrow_of p.root place.Space (unwrap_or p.space Void)) ++ vs) (slots_kept p.root place.Register p.registers.items)
       ∙ sym (filter-append ends (arrow_of p.root place.Space (unwrap_or p.space Void)) (arrows_at p.root place.Register p.registers.items))
 
   node_kept : (m n : NodeEntry) → IsPartOfNode inside m n → node_arrows n ≡ filter ends (node_arrows m)
@@ -104,13 +104,13 @@ module _ (inside : ℕ → Bool) where
   slots_both h true is at (s ∷ slots) =
       let first : List Arrow = arrow_of h (at s.index) (unwrap_or s.capability Void) in
       filter-append both first (arrows_at h at slots)
-      ∙ ap (λ (as : List Arrow). as ++ filter both (arrows_at h at slots)) (one_both h true is (at s.index) (unwrap_or s.capability Void) (named (unwrap_or s.capability Void)))
-      ∙ ap (λ (as : List Arrow). filter ends first ++ as) (slots_both h true is at slots)
+      ∙ ap (λ (vs : List Arrow). vs ++ filter both (arrows_at h at slots)) (one_both h true is (at s.index) (unwrap_or s.capability Void) (named (unwrap_or s.capability Void)))
+      ∙ ap (λ (vs : List Arrow). filter ends first ++ vs) (slots_both h true is at slots)
       ∙ sym (filter-append ends first (arrows_at h at slots))
   slots_both h false is at (s ∷ slots) =
       let first : List Arrow = arrow_of h (at s.index) (unwrap_or s.capability Void) in
       filter-append both first (arrows_at h at slots)
-      ∙ ap (λ (as : List Arrow). as ++ filter both (arrows_at h at slots)) (one_both h false is (at s.index) (unwrap_or s.capability Void) (named (unwrap_or s.capability Void)))
+      ∙ ap (λ (vs : List Arrow). vs ++ filter both (arrows_at h at slots)) (one_both h false is (at s.index) (unwrap_or s.capability Void) (named (unwrap_or s.capability Void)))
       ∙ slots_both h false is at slots
 
   process_both : (p : ProcessEntry) (b : Bool) → inside p.root ≡ b → filter both (process_arrows p) ≡ (if b then filter ends (process_arrows p) else [])
@@ -118,14 +118,14 @@ module _ (inside : ℕ → Bool) where
       let first : List Arrow = arrow_of p.root place.Space (unwrap_or p.space Void) in
       let rest : List Arrow = arrows_at p.root place.Register p.registers.items in
       filter-append both first rest
-      ∙ ap (λ (as : List Arrow). as ++ filter both rest) (one_both p.root true is place.Space (unwrap_or p.space Void) (named (unwrap_or p.space Void)))
-      ∙ ap (λ (as : List Arrow). filter ends first ++ as) (slots_both p.root true is place.Register p.registers.items)
+      ∙ ap (λ (vs : List Arrow). vs ++ filter both rest) (one_both p.root true is place.Space (unwrap_or p.space Void) (named (unwrap_or p.space Void)))
+      ∙ ap (λ (vs : List Arrow). filter ends first ++ vs) (slots_both p.root true is place.Register p.registers.items)
       ∙ sym (filter-append ends first rest)
   process_both p false is =
       let first : List Arrow = arrow_of p.root place.Space (unwrap_or p.space Void) in
       let rest : List Arrow = arrows_at p.root place.Register p.registers.items in
       filter-append both first rest
-      ∙ ap (λ (as : List Arrow). as ++ filter both rest) (one_both p.root false is place.Space (unwrap_or p.space Void) (named (unwrap_or p.space Void)))
+      ∙ ap (λ (vs : List Arrow). vs ++ filter both rest) (one_both p.root false is place.Space (unwrap_or p.space Void) (named (unwrap_or p.space Void)))
       ∙ slots_both p.root false is place.Register p.registers.items
 
   -- Owners
@@ -169,13 +169,13 @@ module _ (inside : ℕ → Bool) where
     process_owners : flat_map (λ p. joined p.owner p.root) e.processes.items ≡ filter (λ (p : ℕ × ℕ). inside p.1) (flat_map (λ p. joined p.owner p.root) d.processes.items)
     process_owners =
         zip_flat (IsPartOfProcess inside) (λ (p : ProcessEntry). joined p.owner p.root) (λ (p : ProcessEntry). joined p.owner p.root)
-            (λ p q is. ap (λ (o : ℕ). joined o q.root) is.owner ∙ ap (λ (n : ℕ). joined p.owner n) is.root) ps e.processes.items part.processes
+        (λ p q is. ap (λ (o : ℕ). joined o q.root) is.owner ∙ ap (λ (n : ℕ). joined p.owner n) is.root) ps e.processes.items part.processes
         ∙ kept_flat (λ (p : ProcessEntry). inside p.root) (λ (p : ℕ × ℕ). inside p.1) (λ (p : ProcessEntry). joined p.owner p.root) (λ (p : ProcessEntry). joined p.owner p.root) (λ p. owner_kept p.owner p.root) d.processes.items
 
     node_owners : flat_map (λ n. joined n.owner n.number) e.nodes.items ≡ filter (λ (p : ℕ × ℕ). inside p.1) (flat_map (λ n. joined n.owner n.number) d.nodes.items)
     node_owners =
         zip_flat (IsPartOfNode inside) (λ (n : NodeEntry). joined n.owner n.number) (λ (n : NodeEntry). joined n.owner n.number)
-            (λ m n is. ap (λ (o : ℕ). joined o n.number) is.owner ∙ ap (λ (k : ℕ). joined m.owner k) is.number) ns e.nodes.items part.nodes
+        (λ m n is. ap (λ (o : ℕ). joined o n.number) is.owner ∙ ap (λ (k : ℕ). joined m.owner k) is.number) ns e.nodes.items part.nodes
         ∙ kept_flat (λ (n : NodeEntry). inside n.number) (λ (p : ℕ × ℕ). inside p.1) (λ (n : NodeEntry). joined n.owner n.number) (λ (n : NodeEntry). joined n.owner n.number) (λ n. owner_kept n.owner n.number) d.nodes.items
 
     page_owners : flat_map (λ p. joined p.owner p.number) e.pages.items ≡ filter (λ (p : ℕ × ℕ). inside p.1) (flat_map (λ p. joined p.owner p.number) d.pages.items)
@@ -192,10 +192,10 @@ module _ (inside : ℕ → Bool) where
         zip_flat (IsPartOfNode inside) node_arrows (λ (n : NodeEntry). filter ends (node_arrows n)) node_kept ns e.nodes.items part.nodes
         ∙ kept_flat (λ (n : NodeEntry). inside n.number) both node_arrows (λ (n : NodeEntry). filter ends (node_arrows n)) (λ n. slots_both n.number (inside n.number) refl place.Slot n.slots.items) d.nodes.items
 
-  four : {X : Type 0} (q : X → Bool) (as bs cs ds ws xs ys zs : List X) → as ≡ filter q ws → bs ≡ filter q xs → cs ≡ filter q ys → ds ≡ filter q zs → as ++ bs ++ cs ++ ds ≡ filter q (ws ++ xs ++ ys ++ zs)
-  four {X} q as bs cs ds ws xs ys zs one two three four =
+  four : {X : Type 0} (q : X → Bool) (ks bs cs ds ws xs ys zs : List X) → ks ≡ filter q ws → bs ≡ filter q xs → cs ≡ filter q ys → ds ≡ filter q zs → ks ++ bs ++ cs ++ ds ≡ filter q (ws ++ xs ++ ys ++ zs)
+  four {X} q ks bs cs ds ws xs ys zs one two three last =
       ap (λ (us : List X). us ++ bs ++ cs ++ ds) one ∙ ap (λ (us : List X). filter q ws ++ us ++ cs ++ ds) two
-      ∙ ap (λ (us : List X). filter q ws ++ filter q xs ++ us ++ ds) three ∙ ap (λ (us : List X). filter q ws ++ filter q xs ++ filter q ys ++ us) four
+      ∙ ap (λ (us : List X). filter q ws ++ filter q xs ++ us ++ ds) three ∙ ap (λ (us : List X). filter q ws ++ filter q xs ++ filter q ys ++ us) last
       ∙ ap (λ (us : List X). us ++ filter q ys ++ filter q zs) (sym (filter-append q ws xs))
       ∙ ap (λ (us : List X). us ++ filter q zs) (sym (filter-append q (ws ++ xs) ys)) ∙ sym (filter-append q (ws ++ xs ++ ys) zs)
 
@@ -203,7 +203,7 @@ pub part_is_shown : PartIsShown
 part_is_shown inside d e part = record {
   boxes = four inside inside _ _ _ _ _ _ _ _ (bank_boxes inside d e part) (process_boxes inside d e part) (node_boxes inside d e part) (page_boxes inside d e part);
   owners = four inside (λ (p : ℕ × ℕ). inside p.1) _ _ _ _ _ _ _ _ (bank_owners inside d e part) (process_owners inside d e part) (node_owners inside d e part) (page_owners inside d e part);
-  arrows = ap (λ (as : List Arrow). as ++ flat_map node_arrows e.nodes.items) (process_part inside d e part)
-      ∙ ap (λ (as : List Arrow). filter (both inside) (flat_map process_arrows d.processes.items) ++ as) (node_part inside d e part)
+  arrows = ap (λ (vs : List Arrow). vs ++ flat_map node_arrows e.nodes.items) (process_part inside d e part)
+      ∙ ap (λ (vs : List Arrow). filter (both inside) (flat_map process_arrows d.processes.items) ++ vs) (node_part inside d e part)
       ∙ sym (filter-append (both inside) (flat_map process_arrows d.processes.items) (flat_map node_arrows d.nodes.items));
 }

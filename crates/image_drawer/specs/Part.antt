@@ -1,5 +1,5 @@
 -- The part of a description that is drawn.
-use Rattle.std.specs.Prelude.{◌≡◌, ℕ, ◌==◌, ◌&&◌, ◌||◌, Bool, true, false, if◌then◌else◌, Option, None, Some, List, [], ◌∷◌, ◌++◌, map, unwrap_or}
+use Rattle.std.specs.Prelude.{◌≡◌, ℕ, ◌==◌, ◌&&◌, ◌||◌, Bool, true, false, if◌then◌else◌, Option, None, Some, List, ◌∷◌, ◌++◌, map, unwrap_or}
 use Rattle.std.specs.List.{AllZip, filter, list_any}
 use Rattle.model.specs.declared.capability.Capability.{Capability}
 use Rattle.model.specs.declared.capability.Capability.TheVariants.{Void}
@@ -9,7 +9,6 @@ use Rattle.description.specs.declared.entry.NodeEntry.{NodeEntry}
 use Rattle.description.specs.declared.entry.ProcessEntry.{ProcessEntry}
 use Rattle.description.specs.declared.entry.SlotEntry.{SlotEntry}
 use Rattle.image_drawer.specs.Graph.{arrows, boxes, owners}
-use Rattle.image_drawer.specs.declared.arrow.Arrow.{Arrow}
 
 -- a capability names nothing, or an object of a set
 abbrev pub is_inside : (ℕ → Bool) → Option ℕ → Bool

@@ -1,10 +1,13 @@
 // Who holds an object.
-ghost use Rattle.std.specs.Prelude.{◌≡◌, ◌<◌, ◌||◌, ℕ, map, length, IfOk};
-ghost use Rattle.std.specs.List.{All, filter};
+ghost use Rattle.std.specs.Prelude.{◌≡◌, ◌<◌, ◌^◌, ◌||◌, ◌==◌, ℕ, map, length, IfOk, IsTrue};
+ghost use Rattle.std.specs.List.{All, filter, list_any};
 ghost use Rattle.number_set.specs.Marks.{is_marked};
+ghost use Rattle.model.specs.Sound.{object_count};
+ghost use Rattle.described_world.specs.Described.{HasNumbers};
+ghost use Rattle.image_drawer.specs.Graph.{boxes};
 ghost use Rattle.image_drawer.specs.Part.{holders, holds_in, is_listed, names};
 
-use description::{Description, NodeEntry, ProcessEntry, SlotEntry};
+use description::{BankEntry, Description, NodeEntry, PageEntry, ProcessEntry, SlotEntry};
 use model::Capability;
 use number_set::NumberSet;
 use std::alloc::{AllocError, Global};
@@ -58,8 +61,8 @@ fn node_holders(alloc: Global, object: u64, nodes: &[NodeEntry]) -> Result<Vec<u
     Ok(numbers)
 }
 
-/// An object, and the processes and nodes that hold a capability to it. Fails only if memory runs out.
-pub fn holders(
+// An object, and the processes and nodes that hold a capability to it. Fails only if memory runs out.
+fn holder_numbers(
     alloc: Global,
     description: &Description,
     object: u64,
@@ -75,8 +78,8 @@ pub fn holders(
     Ok(numbers)
 }
 
-/// The set of some numbers below `count`. Fails only if memory runs out.
-pub fn set_of(alloc: Global, count: u64, numbers: &[u64]) -> Result<NumberSet, AllocError>
+// The set of some numbers below `count`.
+fn set_of(alloc: Global, count: u64, numbers: &[u64]) -> Result<NumberSet, AllocError>
     requires { All (λ n. n < count) numbers.now }
     ensures { IfOk result (λ inside. (n : ℕ) → is_marked inside n ≡ is_listed n numbers.now) }
 {
@@ -85,4 +88,57 @@ pub fn set_of(alloc: Global, count: u64, numbers: &[u64]) -> Result<NumberSet, A
         inside.set(*number as usize, true);
     }
     Ok(inside)
+}
+
+fn has_bank(banks: &[BankEntry], number: u64) -> bool
+    ensures { result ≡ list_any (λ b. b.number == number) banks.now }
+{
+    banks.iter().any(|bank| bank.number == number)
+}
+
+fn has_process(processes: &[ProcessEntry], number: u64) -> bool
+    ensures { result ≡ list_any (λ p. p.root == number) processes.now }
+{
+    processes.iter().any(|process| process.root == number)
+}
+
+fn has_node(nodes: &[NodeEntry], number: u64) -> bool
+    ensures { result ≡ list_any (λ n. n.number == number) nodes.now }
+{
+    nodes.iter().any(|node| node.number == number)
+}
+
+fn has_page(pages: &[PageEntry], number: u64) -> bool
+    ensures { result ≡ list_any (λ p. p.number == number) pages.now }
+{
+    pages.iter().any(|page| page.number == number)
+}
+
+/// Whether the graph of a description has a box for a number.
+#[tactic(auto, using(crate::proofs::Listed::box_listed))]
+pub fn has_box(description: &Description, number: u64) -> bool
+    ensures { result ≡ is_listed number (boxes description.now) }
+{
+    let is_bank = has_bank(&description.banks, number);
+    let is_process = has_process(&description.processes, number);
+    let is_node = has_node(&description.nodes, number);
+    let is_page = has_page(&description.pages, number);
+    is_bank || is_process || is_node || is_page
+}
+
+/// The set of an object that has a box, and of the processes and nodes that hold a capability to it.
+/// Fails only if memory runs out.
+pub fn holders(
+    alloc: Global,
+    description: &Description,
+    object: u64,
+) -> Result<NumberSet, AllocError>
+    requires few { object_count description.now.geometry < 2 ^ 64 }
+    requires numbers { HasNumbers description.now }
+    requires drawn { IsTrue (is_listed object (boxes description.now)) }
+    ensures { IfOk result (λ inside. (n : ℕ) → is_marked inside n ≡ is_listed n (holders object description.now)) }
+{
+    let numbers = holder_numbers(alloc, description, object)?;
+    let count = description.geometry.nodes + description.geometry.pages;
+    set_of(alloc, count, &numbers)
 }

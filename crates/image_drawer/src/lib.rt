@@ -12,5 +12,5 @@ mod restricting;
 mod slots;
 
 pub use drawing::draw;
-pub use holding::{holders, set_of};
+pub use holding::{has_box, holders};
 pub use restricting::restrict;

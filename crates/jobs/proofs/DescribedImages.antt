@@ -95,29 +95,6 @@ module _ {D : Type 0} (disk : D → Disk) (device back : D) (d : Description) (s
   pub has_text : CanBeSpelled d
   has_text = described_has_text saved.state.plan saved.state.header.age saved.state.frames d saved.encodes.plan.fits saved.sound saved.whole.describes saved.whole.ranges saved.whole.layout
 
-  -- its text tells all
-  pub tells : (text : List ℕ) (table : Members) → parse_document text ≡ Some table → IsDescription table d → text ≡ description_text d → (Told : List ℕ → Type 0) → Told text → TellsWhole disk device back Told
-  tells text table read said spelled Told told = record {
-    state = saved.state;
-    encodes = saved.encodes;
-    sound = saved.sound;
-    text = text;
-    whole = record {
-      table = table;
-      read = read;
-      description = d;
-      said = said;
-      spelled = spelled;
-      describes = saved.whole.describes;
-      brief = saved.whole.brief;
-      ranges = saved.whole.ranges;
-      layout = saved.whole.layout;
-    };
-    told = told;
-    failures = saved.failures;
-    looks = saved.looks;
-  }
-
 -- What is built of the text denotes the world that it was told of.
 pub described_is_denoted : DescribedIsDenoted
 described_is_denoted p age frames text table e saved size c sound told read said built holds =

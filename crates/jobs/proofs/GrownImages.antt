@@ -1,6 +1,7 @@
 -- What a description for other sizes is built as.
-use Rattle.std.proofs.Common.{◌≡◌, ◌<◌, ◌≤◌, ◌&&◌, ℕ, Bool, true, List, Some, map, if◌then◌else◌, refl, sym, ap, ◌∙◌, subst, arith}
+use Rattle.std.proofs.Common.{◌≡◌, ◌<◌, ◌≤◌, ◌&&◌, ℕ, Bool, true, List, Option, Some, Result, Ok, Err, map, if◌then◌else◌, refl, sym, ap, ◌∙◌, subst, arith}
 use Rattle.std.specs.Prelude.{◌==◌}
+use Rattle.std.specs.Io.KnownBytes.{Appends}
 use Rattle.std.proofs.lemmas.Bool.Decides.{nat_tests}
 use Rattle.std.proofs.lemmas.Option.{same_Some}
 use Rattle.toml.specs.Data.{Members}
@@ -13,6 +14,7 @@ use Rattle.model.specs.Machine.{Saved}
 use Rattle.model.specs.Sound.{IsSound}
 use Rattle.model.specs.World.{World}
 use Rattle.device.specs.Disk.{Disk}
+use Rattle.checkpoint.specs.declared.open_fault.OpenFault.TheVariants as opening
 use Rattle.checkpoint.specs.Saved.{Holds, SavedFrames}
 use Rattle.image_writer.specs.declared.number_range.NumberRange.{NumberRange}
 use Rattle.image_writer.specs.Laid.{MayBeLaid, numbers_of}
@@ -32,8 +34,11 @@ use Rattle.image_describer.proofs.GrownFits.{not_suited}
 use Rattle.image_describer.proofs.GrownLaws.{grown_is_described, grown_to_itself}
 use Rattle.image_describer.proofs.Plain.{objects_plain}
 use Rattle.image_describer.proofs.SameTables.{same_described}
-use Rattle.jobs.specs.Growing.{IsGrownFrom, TellsText}
-use Rattle.jobs.specs.Images.{DescribesSaved, IsDescribedIn, IsDescriptionOf, IsTextIn, ReadsSaved, RefusesSizes, TellsWhole}
+use Rattle.script.specs.Writing.{AppendsFront}
+use Rattle.jobs.specs.declared.fault.Fault.{Fault}
+use Rattle.jobs.specs.declared.fault.Fault.TheVariants as fault
+use Rattle.jobs.specs.Growing.{IsGrownFrom, TellsGrown, TellsText}
+use Rattle.jobs.specs.Images.{DescribesImage, DescribesSaved, IsDescribedIn, IsDescriptionOf, IsTextIn, ReadsSaved, RefusesSizes, TellsWhole}
 use Rattle.jobs.specs.Laws.{GrownIsDenoted, UnsizedIsWhole}
 
 pub grown_is_denoted : GrownIsDenoted
@@ -138,3 +143,23 @@ module _ {D : Type 0} (disk : D → Disk) (device back : D) (d : Description) (s
     not_suited g (grown_geometry g sizes) d w saved.whole.describes why
         (subst (λ (h : Geometry). IsNotRenumbered d (grown_geometry h sizes) why) geometry_is broken),
   )
+
+  -- what is told of it
+  module _ (output output_left : Option (List ℕ)) where
+    pub describes_image : (outcome : Result (Unit {0}) Fault) → TellsGrown d sizes output output_left outcome → DescribesImage disk sizes device back output output_left outcome
+    describes_image (Ok a) tells = tells_grown tells.0 tells.1 (Appends output output_left) tells.2
+    describes_image (Err fault.CannotReadDescription) tells = absurd tells
+    describes_image (Err fault.NotToml) tells = absurd tells
+    describes_image (Err fault.CannotWriteImage) tells = absurd tells
+    describes_image (Err fault.CannotOpenImage) tells = absurd tells
+    describes_image (Err fault.CannotReadScript) tells = absurd tells
+    describes_image (Err fault.CannotWriteOutput) tells = tells_grown tells.0 tells.1 (AppendsFront output output_left) tells.2
+    describes_image (Err fault.NoMemory) tells = absurd tells
+    describes_image (Err (fault.Build why)) tells = absurd tells
+    describes_image (Err (fault.Open opening.Failed)) tells = absurd tells
+    describes_image (Err (fault.Open opening.NoMemory)) tells = (record { is_why = saved.failures; looks = saved.looks }, tells)
+    describes_image (Err (fault.Open (opening.Bad reason))) tells = absurd tells
+    describes_image (Err (fault.Upgrade why)) tells = absurd tells
+    describes_image (Err (fault.Stopped stop)) tells = absurd tells
+    describes_image (Err (fault.NoProcess p)) tells = absurd tells
+    describes_image (Err (fault.Sizes why)) tells = (refuses_sizes why tells.0, tells.1)

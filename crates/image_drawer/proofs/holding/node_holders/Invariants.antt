@@ -1,7 +1,6 @@
 use Rattle.std.proofs.Common.{◌≡◌, map, take}
-use Rattle.std.specs.Prelude.{◌||◌}
 use Rattle.std.specs.List.{filter}
-use Rattle.image_drawer.specs.Part.{holds_in, names}
+use Rattle.image_drawer.specs.Part.{holds_in}
 use Rattle.image_drawer.proofs.holding.node_holders.Given as goal
 
 abbrev pub invariant-loop-node : goal.invariant-loop-node
