@@ -161,5 +161,6 @@ module _ {D : Type 0} (disk : D → Disk) (device back : D) (d : Description) (s
     describes_image (Err (fault.Open (opening.Bad reason))) tells = absurd tells
     describes_image (Err (fault.Upgrade why)) tells = absurd tells
     describes_image (Err (fault.Stopped stop)) tells = absurd tells
+    describes_image (Err (fault.NoObject o)) tells = absurd tells
     describes_image (Err (fault.NoProcess p)) tells = absurd tells
     describes_image (Err (fault.Sizes why)) tells = (refuses_sizes why tells.0, tells.1)

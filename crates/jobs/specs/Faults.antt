@@ -72,6 +72,7 @@ fault_text (fault.Build why) = build_text why
 fault_text (fault.Open why) = open_text why
 fault_text (fault.Upgrade why) = upgrade_text why
 fault_text (fault.Stopped stop) = stop_text stop
+fault_text (fault.NoObject o) = spaced (codes "eros: no object" ∷ decimal o ∷ [])
 fault_text (fault.Sizes why) = sizes_text why
 fault_text (fault.NoProcess p) = spaced (codes "eros: no process" ∷ decimal p ∷ [])
 

@@ -34,7 +34,6 @@ use Rattle.image_describer.specs.declared.sizes.Sizes.{Sizes}
 use Rattle.image_describer.specs.Describes.{Describes, IsBrief}
 use Rattle.image_describer.specs.Grown.{IsGrown, IsUnsuited, grown_geometry, grown_ranges}
 use Rattle.image_describer.specs.Text.{description_text}
-use Rattle.image_drawer.specs.Graph.{graph_text}
 use Rattle.image_builder.specs.Upgraded.{IsNotUpgraded, Upgrades}
 use Rattle.runs.specs.declared.cause.Stop.{Stop}
 use Rattle.runs.specs.KernelRuns.{RunsOver, RunsSeen}
@@ -222,16 +221,3 @@ DescribesImage disk sizes device back output output_left (Err fault.CannotWriteO
 DescribesImage disk sizes device back output output_left (Err (fault.Sizes why)) = RefusesSizes disk sizes device back why × (output_left ≡ output)
 DescribesImage disk sizes device back output output_left (Err (fault.Open why)) = RefusesToOpen disk device back why × (output_left ≡ output)
 DescribesImage disk sizes device back output output_left (Err _) = ⊥
-
--- so it was, and the graph of what is saved on it was told
-pub record TellsGraph {D : Type 0} (disk : D → Disk) (device back : D) (Told : List ℕ → Type 0) : Type 0 where
-  pub description : Description
-  pub saved : DescribesSaved disk device back description
-  pub told : Told (graph_text description)
-
--- so it was; or that couldn't be written whole; or the device wasn't opened, or memory ran out
-abbrev pub DrawsImage : {D : Type 0} → (D → Disk) → D → D → Option (List ℕ) → Option (List ℕ) → Result (Unit {0}) Fault → Type 0
-DrawsImage disk device back output output_left (Ok a) = TellsGraph disk device back (Appends output output_left)
-DrawsImage disk device back output output_left (Err fault.CannotWriteOutput) = TellsGraph disk device back (AppendsFront output output_left)
-DrawsImage disk device back output output_left (Err (fault.Open why)) = RefusesToOpen disk device back why × (output_left ≡ output)
-DrawsImage disk device back output output_left (Err _) = ⊥

@@ -1,3 +1,4 @@
+pub mod Drawing
 pub mod Explained
 pub mod Faults
 pub mod Growing

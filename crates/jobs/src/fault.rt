@@ -39,6 +39,8 @@ pub enum Fault {
     Stopped(Stop),
     /// This number isn't the number of a process.
     NoProcess(u64),
+    /// No object with this number is drawn.
+    NoObject(u64),
     /// There is no image of these sizes for what is saved.
     Sizes(GrowthFault),
 }
@@ -157,6 +159,7 @@ impl Fault {
             Fault::Upgrade(fault) => upgrade_line(fault),
             Fault::Stopped(stop) => stop_line(stop),
             Fault::NoProcess(number) => LineText::numbered(b"eros: no process", number),
+            Fault::NoObject(number) => LineText::numbered(b"eros: no object", number),
             Fault::Sizes(fault) => sizes_line(fault),
         }
     }
