@@ -6,13 +6,14 @@ use Rattle.model.specs.Sound.{object_count}
 use Rattle.device.specs.Disk.{Disk}
 use Rattle.checkpoint.specs.declared.open_fault.OpenFault.{OpenFault}
 use Rattle.checkpoint.specs.declared.open_fault.OpenFault.TheVariants as opening
+use Rattle.description.specs.declared.entry.Description.{Description}
 use Rattle.described_world.specs.Described.{HasNumbers}
 use Rattle.reach.specs.Reached.{AreSoundObjects}
 use Rattle.jobs.specs.declared.drawing.Focus.{Focus}
 use Rattle.jobs.specs.declared.fault.Fault.{Fault}
 use Rattle.jobs.specs.declared.fault.Fault.TheVariants as fault
-use Rattle.jobs.specs.declared.saved.Whole.{Whole}
-use Rattle.jobs.specs.Drawing.{DrawsImage, DrawsPart, OfWhole, OpensWhole}
+use Rattle.jobs.specs.declared.whole.Whole.{Whole}
+use Rattle.jobs.specs.Drawing.{DrawsImage, DrawsPart, IsHeldTo, KeepsPart, KeepsReached, OfWhole, OpensWhole}
 use Rattle.jobs.specs.Images.{DescribesSaved}
 use Rattle.jobs.specs.Reaching.{HoldsOfSaved}
 use Rattle.jobs.proofs.ReachedImages.{objects_sound}
@@ -60,3 +61,23 @@ module _ {D : Type 0} (disk : D → Disk) (device back : D) (whole : Whole)
     draws_image (Err (fault.NoObject o)) draws = of_whole (Err (fault.NoObject o)) draws
     draws_image (Err (fault.NoProcess p)) draws = of_whole (Err (fault.NoProcess p)) draws
     draws_image (Err (fault.Sizes why)) draws = absurd draws.0
+
+-- A description is restricted twice.
+pub keeps_both : (os : List Object) (focus : Focus) (d m e : Description) → IsHeldTo focus.to d m → (outcome : Result (Unit {0}) Fault) → KeepsReached os focus.from m e outcome → KeepsPart os focus d e outcome
+keeps_both os focus d m e held (Ok a) keeps = (m, held, keeps)
+keeps_both os focus d m e held (Err fault.CannotReadDescription) keeps = keeps
+keeps_both os focus d m e held (Err fault.NotToml) keeps = keeps
+keeps_both os focus d m e held (Err fault.CannotWriteImage) keeps = keeps
+keeps_both os focus d m e held (Err fault.CannotOpenImage) keeps = keeps
+keeps_both os focus d m e held (Err fault.CannotReadScript) keeps = keeps
+keeps_both os focus d m e held (Err fault.CannotWriteOutput) keeps = keeps
+keeps_both os focus d m e held (Err fault.NoMemory) keeps = keeps
+keeps_both os focus d m e held (Err (fault.Build why)) keeps = keeps
+keeps_both os focus d m e held (Err (fault.Open opening.Failed)) keeps = keeps
+keeps_both os focus d m e held (Err (fault.Open opening.NoMemory)) keeps = keeps
+keeps_both os focus d m e held (Err (fault.Open (opening.Bad reason))) keeps = keeps
+keeps_both os focus d m e held (Err (fault.Upgrade why)) keeps = keeps
+keeps_both os focus d m e held (Err (fault.Stopped stop)) keeps = keeps
+keeps_both os focus d m e held (Err (fault.NoObject o)) keeps = absurd keeps
+keeps_both os focus d m e held (Err (fault.NoProcess p)) keeps = keeps
+keeps_both os focus d m e held (Err (fault.Sizes why)) keeps = keeps

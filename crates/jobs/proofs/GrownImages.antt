@@ -24,20 +24,23 @@ use Rattle.description.specs.declared.entry.Description.{Description}
 use Rattle.description.specs.Reading.{IsDescription}
 use Rattle.description.specs.Laws.{IsSame}
 use Rattle.description.proofs.Once.{description_once}
+use Rattle.described_world.specs.Described.{HasFields}
 use Rattle.described_world.proofs.DescribedOnce.{described_once}
 use Rattle.image_describer.specs.declared.sizes.GrowthFault.{GrowthFault}
 use Rattle.image_describer.specs.declared.sizes.Sizes.{Sizes}
 use Rattle.image_describer.specs.Describes.{Describes, plain_frames}
 use Rattle.image_describer.specs.Grown.{IsGrown, IsNotRenumbered, grown_geometry, grown_ranges}
-use Rattle.image_describer.proofs.GrownDescription.{brief_grown}
+use Rattle.image_describer.specs.Spelled.{CanBeSpelled}
+use Rattle.image_describer.proofs.GrownDescription.{brief_grown, fields_grown}
 use Rattle.image_describer.proofs.GrownFits.{not_suited}
 use Rattle.image_describer.proofs.GrownLaws.{grown_is_described, grown_to_itself}
+use Rattle.image_describer.proofs.GrownText.{grown_spelled}
 use Rattle.image_describer.proofs.Plain.{objects_plain}
 use Rattle.image_describer.proofs.SameTables.{same_described}
 use Rattle.script.specs.Writing.{AppendsFront}
 use Rattle.jobs.specs.declared.fault.Fault.{Fault}
 use Rattle.jobs.specs.declared.fault.Fault.TheVariants as fault
-use Rattle.jobs.specs.Growing.{IsGrownFrom, TellsGrown, TellsText}
+use Rattle.jobs.specs.Growing.{IsGrownFrom, TellsDescription, TellsGrown, TellsText}
 use Rattle.jobs.specs.Images.{DescribesImage, DescribesSaved, IsDescribedIn, IsDescriptionOf, IsTextIn, ReadsSaved, RefusesSizes, TellsWhole}
 use Rattle.jobs.specs.Laws.{GrownIsDenoted, UnsizedIsWhole}
 
@@ -51,8 +54,8 @@ grown_is_denoted p g age frames text table e saved size c told read said built h
     let frames_are : plain_frames v.objects ≡ gs = described_once d (plain_frames v.objects) gs told.whole.describes.frames (same_described d e same gs built.1) in
     let age_is : e.age ≡ v.age = sym same.age ∙ told.whole.describes.age in
     let world : world_at e.age gs ≡ v =
-        ap (λ (n : ℕ). world_at n gs) age_is ∙ ap (λ (hs : List Frame). world_at v.age hs) (sym frames_are)
-        ∙ ap (λ (os : List Object). let w : World = record { objects = os; age = v.age } in w) (objects_plain v.objects) in
+    ap (λ (n : ℕ). world_at n gs) age_is ∙ ap (λ (hs : List Frame). world_at v.age hs) (sym frames_are)
+    ∙ ap (λ (os : List Object). let w : World = record { objects = os; age = v.age } in w) (objects_plain v.objects) in
     let geometry : e.geometry ≡ g = sym same.geometry ∙ told.whole.describes.geometry in (
       v,
       told.whole.grown,
@@ -107,7 +110,7 @@ module _ {D : Type 0} (disk : D → Disk) (device back : D) (d : Description) (s
     in_it : IsDescribedIn saved.state.plan (grown_geometry g sizes) saved.state.header.age saved.state.frames e
     in_it =
         let described = grown_is_described w d e (subst (λ (h : Geometry). IsSound h w) (sym geometry_is) saved.sound.sound)
-            (subst (λ (h : Geometry). Describes h w d) (sym geometry_is) saved.whole.describes) grown.same grown.nodes grown.pages in
+        (subst (λ (h : Geometry). Describes h w d) (sym geometry_is) saved.whole.describes) grown.same grown.nodes grown.pages in
         let v : World = described.0 in
         record {
           world = v;
@@ -164,3 +167,31 @@ module _ {D : Type 0} (disk : D → Disk) (device back : D) (d : Description) (s
     describes_image (Err (fault.NoObject o)) tells = absurd tells
     describes_image (Err (fault.NoProcess p)) tells = absurd tells
     describes_image (Err (fault.Sizes why)) tells = (refuses_sizes why tells.0, tells.1)
+
+-- The text of a description that was renumbered.
+module _ (sizes : Sizes) (d e : Description) (grown : IsGrownFrom sizes d e) where
+  pub grown_has_fields : HasFields d → HasFields e
+  grown_has_fields fields = fields_grown d e grown.same fields
+
+  pub grown_has_text : MayBeLaid d.geometry d.ranges.items → CanBeSpelled d → CanBeSpelled e
+  grown_has_text may spelled = grown_spelled d e grown.same grown.limits (omega (arith, may.geometry.most_nodes, may.geometry.most_pages)) grown.pages spelled
+
+  module _ (output output_left : Option (List ℕ)) where
+    pub tells_text : (outcome : Result (Unit {0}) Fault) → TellsDescription e output output_left outcome → TellsGrown d sizes output output_left outcome
+    tells_text (Ok a) tells = (e, grown, tells)
+    tells_text (Err fault.CannotReadDescription) tells = tells
+    tells_text (Err fault.NotToml) tells = tells
+    tells_text (Err fault.CannotWriteImage) tells = tells
+    tells_text (Err fault.CannotOpenImage) tells = tells
+    tells_text (Err fault.CannotReadScript) tells = tells
+    tells_text (Err fault.CannotWriteOutput) tells = (e, grown, tells)
+    tells_text (Err fault.NoMemory) tells = tells
+    tells_text (Err (fault.Build why)) tells = tells
+    tells_text (Err (fault.Open opening.Failed)) tells = tells
+    tells_text (Err (fault.Open opening.NoMemory)) tells = tells
+    tells_text (Err (fault.Open (opening.Bad reason))) tells = tells
+    tells_text (Err (fault.Upgrade why)) tells = tells
+    tells_text (Err (fault.Stopped stop)) tells = tells
+    tells_text (Err (fault.NoObject o)) tells = tells
+    tells_text (Err (fault.NoProcess p)) tells = tells
+    tells_text (Err (fault.Sizes why)) tells = absurd tells

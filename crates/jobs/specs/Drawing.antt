@@ -16,7 +16,7 @@ use Rattle.reach.specs.Reached.{IsReach}
 use Rattle.jobs.specs.declared.drawing.Focus.{Focus}
 use Rattle.jobs.specs.declared.fault.Fault.{Fault}
 use Rattle.jobs.specs.declared.fault.Fault.TheVariants as fault
-use Rattle.jobs.specs.declared.saved.Whole.{Whole}
+use Rattle.jobs.specs.declared.whole.Whole.{Whole}
 use Rattle.jobs.specs.Images.{DescribesSaved}
 use Rattle.jobs.specs.Reaching.{HoldsOfSaved}
 

@@ -53,11 +53,7 @@ fn tell_description<W: Write>(
 }
 
 // Renumbers a description for other sizes.
-fn grow_description(
-    alloc: Global,
-    description: &mut Description,
-    sizes: Sizes,
-) -> Result<(), Fault>
+fn grow_description(alloc: Global, description: &mut Description, sizes: Sizes) -> Result<(), Fault>
     requires { MayBeLaid description.old.geometry description.old.ranges.items }
     ensures { GrowsDescription sizes description.old description.new result }
 {

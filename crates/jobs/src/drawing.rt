@@ -10,7 +10,7 @@ ghost use Rattle.jobs.specs.Faults.{IsTold, status_of};
 
 use crate::done::Done;
 use crate::fault::{Fault, status};
-use crate::saved::{Whole, read_whole};
+use crate::whole::{Whole, read_whole};
 use checkpoint::OpenFault;
 use description::Description;
 use device::Device;
@@ -40,11 +40,7 @@ fn draw_whole<W: Write>(description: Description, writer: &mut W) -> Result<(), 
 }
 
 // Restricts a description to an object and its holders, if one is named.
-fn keep_holders(
-    alloc: Global,
-    to: Option<u64>,
-    description: &mut Description,
-) -> Result<(), Fault>
+fn keep_holders(alloc: Global, to: Option<u64>, description: &mut Description) -> Result<(), Fault>
     requires few { object_count description.old.geometry < 2 ^ 64 }
     requires numbers { HasNumbers description.old }
     ensures { KeepsHolders to description.old description.new result }

@@ -19,6 +19,7 @@ mod running;
 mod saved;
 mod shell;
 mod upgrading;
+mod whole;
 
 pub use building::build_image;
 pub use checking::check_image;

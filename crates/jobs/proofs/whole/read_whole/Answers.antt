@@ -1,7 +1,7 @@
 use Rattle.std.proofs.Common.{ap, ◌∙◌}
 use Rattle.migrator.specs.Durable.{DurableState}
 use Rattle.jobs.proofs.DescribedImages.{read, saved}
-use Rattle.jobs.proofs.saved.read_whole.Goals as goal
+use Rattle.jobs.proofs.whole.read_whole.Goals as goal
 
 pub returns-in-Ok-read : goal.returns-in-Ok-read
 returns-in-Ok-read g c =
