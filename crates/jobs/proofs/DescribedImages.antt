@@ -1,8 +1,7 @@
 -- What the command that describes comes to, and what its text is built as.
-use Rattle.std.proofs.Common.{◌≡◌, ℕ, List, Some, Result, Ok, refl, sym, ap, ◌∙◌, subst}
+use Rattle.std.proofs.Common.{◌≡◌, ℕ, List, Result, Ok, refl, sym, ap, ◌∙◌, subst}
 use Rattle.std.proofs.lemmas.Option.{same_Some}
 use Rattle.toml.specs.Data.{Members}
-use Rattle.toml.specs.Parse.{parse_document}
 use Rattle.model.specs.declared.frame.Frame.{Frame}
 use Rattle.model.specs.declared.geometry.Geometry.{Geometry}
 use Rattle.model.specs.declared.object.Object.{Object}
@@ -29,9 +28,8 @@ use Rattle.image_describer.proofs.Plain.{described_is_same}
 use Rattle.image_describer.proofs.Short.{described_has_text}
 use Rattle.image_describer.proofs.SameTables.{same_described}
 use Rattle.image_describer.specs.Spelled.{CanBeSpelled}
-use Rattle.image_describer.specs.Text.{description_text}
 use Rattle.object_cache.specs.PlainStore.{StoreState, parts_of, view_of}
-use Rattle.jobs.specs.Images.{DescribesSaved, IsDescriptionOf, OpensAndDescribes, TellsWhole}
+use Rattle.jobs.specs.Images.{DescribesSaved, IsDescriptionOf, OpensAndDescribes}
 use Rattle.jobs.specs.Laws.{DescribedIsDenoted}
 use Rattle.jobs.specs.Reaching.{HoldsOfSaved}
 

@@ -1,6 +1,5 @@
 -- What a description for other sizes is built as.
-use Rattle.std.proofs.Common.{◌≡◌, ◌<◌, ◌≤◌, ◌&&◌, ℕ, Bool, true, List, Option, Some, Result, Ok, Err, map, if◌then◌else◌, refl, sym, ap, ◌∙◌, subst, arith}
-use Rattle.std.specs.Prelude.{◌==◌}
+use Rattle.std.proofs.Common.{◌≡◌, ℕ, List, Option, Result, Ok, Err, map, sym, ap, ◌∙◌, subst, arith}
 use Rattle.std.specs.Io.KnownBytes.{Appends}
 use Rattle.std.proofs.lemmas.Bool.Decides.{nat_tests}
 use Rattle.std.proofs.lemmas.Option.{same_Some}
@@ -8,7 +7,6 @@ use Rattle.toml.specs.Data.{Members}
 use Rattle.model.specs.declared.frame.Frame.{Frame}
 use Rattle.model.specs.declared.geometry.Geometry.{Geometry}
 use Rattle.model.specs.declared.object.Object.{Object}
-use Rattle.model.specs.Frame.{objects_of}
 use Rattle.model.specs.Keepable.{IsSoundFrames, world_at}
 use Rattle.model.specs.Machine.{Saved}
 use Rattle.model.specs.Sound.{IsSound}
@@ -41,7 +39,7 @@ use Rattle.script.specs.Writing.{AppendsFront}
 use Rattle.jobs.specs.declared.fault.Fault.{Fault}
 use Rattle.jobs.specs.declared.fault.Fault.TheVariants as fault
 use Rattle.jobs.specs.Growing.{IsGrownFrom, TellsDescription, TellsGrown, TellsText}
-use Rattle.jobs.specs.Images.{DescribesImage, DescribesSaved, IsDescribedIn, IsDescriptionOf, IsTextIn, ReadsSaved, RefusesSizes, TellsWhole}
+use Rattle.jobs.specs.Images.{DescribesImage, DescribesSaved, IsDescribedIn, ReadsSaved, RefusesSizes, TellsWhole}
 use Rattle.jobs.specs.Laws.{GrownIsDenoted, UnsizedIsWhole}
 
 pub grown_is_denoted : GrownIsDenoted

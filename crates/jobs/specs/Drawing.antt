@@ -1,7 +1,6 @@
 -- What the command that draws says of an image.
-use Rattle.std.specs.Prelude.{◌≡◌, ℕ, Bool, true, false, Option, None, Some, List, [], ◌∷◌, Result, Ok, Err, IsTrue}
+use Rattle.std.specs.Prelude.{◌≡◌, ℕ, Bool, true, false, Option, None, Some, List, [], ◌∷◌, Result, Ok, Err}
 use Rattle.std.specs.Io.KnownBytes.{Appends}
-use Rattle.number_set.specs.Marks.{is_marked}
 use Rattle.model.specs.declared.object.Object.{Object}
 use Rattle.model.specs.World.{is_process}
 use Rattle.device.specs.Disk.{Disk}

@@ -1,5 +1,4 @@
 use Rattle.std.proofs.Common.{List, ◌≡◌, IfOk, ap, subst, ◌∙◌}
-use Rattle.layout.specs.Superblock.{Plan}
 use Rattle.migrator.specs.Durable.{DurableState, stored_of}
 use Rattle.object_cache.specs.PlainStore.{saved_by}
 use Rattle.capability.specs.Plain.{PlainState}
