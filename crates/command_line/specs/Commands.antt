@@ -79,13 +79,13 @@ reach_app = with_rule (with_rule (reading_app (codes "reach")) processes_rule) (
 abbrev pub upgrade_app : App
 upgrade_app = with_rule (with_rule (new_app (codes "upgrade")) (file_rule (codes "OLD"))) (file_rule (codes "NEW"))
 
--- eros describe IMAGE
+-- eros describe [--nodes N] [--pages P] [--log R] IMAGE
 abbrev pub describe_app : App
-describe_app = reading_app (codes "describe")
+describe_app = with_rule (with_rule (with_rule (reading_app (codes "describe")) (number_rule (codes "nodes"))) (number_rule (codes "pages"))) (number_rule (codes "log"))
 
--- eros draw IMAGE
+-- eros draw [--from P] [--to O] IMAGE
 abbrev pub draw_app : App
-draw_app = reading_app (codes "draw")
+draw_app = with_rule (with_rule (reading_app (codes "draw")) (number_rule (codes "from"))) (number_rule (codes "to"))
 
 -- the name alone, which has a version, and wants a subcommand
 abbrev pub bare_app : App

@@ -6,6 +6,7 @@ use Rattle.command_line.specs.declared.asked.Job.{Job}
 use Rattle.command_line.specs.declared.asked.Job.TheVariants as job
 use Rattle.command_line.specs.declared.asked.Script.{Script}
 use Rattle.command_line.specs.declared.asked.Script.TheVariants as script
+use Rattle.command_line.specs.declared.asked.Sizes.{Sizes}
 
 -- standard input is named by a hyphen, and a file by any other word
 abbrev pub IsScript : Text → Script → Type 0
@@ -15,6 +16,11 @@ IsScript word (script.File name) = (name.now ≡ word) × (word ≢ codes "-")
 -- the capacity that `--cache` gives, if any
 abbrev pub IsCache : List Row → Option ℕ → Type 0
 IsCache rows cache = IsOption rows (codes "cache") 8 8192 cache
+
+-- the sizes that the options give, if any
+abbrev pub AreSizes : List Row → Sizes → Type 0
+AreSizes rows sizes = IsNumberOption rows (codes "nodes") sizes.nodes
+    × IsNumberOption rows (codes "pages") sizes.pages × IsNumberOption rows (codes "log") sizes.log
 
 -- the subcommand of this name, with these arguments, is the job
 abbrev pub IsJob : Text → List Row → Job → Type 0
@@ -32,8 +38,9 @@ IsJob name rows (job.Reach image processes shows) = (name ≡ codes "reach") × 
     × AreNumbers rows (codes "P") processes.items × IsNumberOption rows (codes "shows") shows
 IsJob name rows (job.Upgrade old new) = (name ≡ codes "upgrade")
     × IsGiven rows (codes "OLD") old.now × IsGiven rows (codes "NEW") new.now × (old.now ≢ new.now)
-IsJob name rows (job.Describe image) = (name ≡ codes "describe") × IsGiven rows (codes "IMAGE") image.now
-IsJob name rows (job.Draw image) = (name ≡ codes "draw") × IsGiven rows (codes "IMAGE") image.now
+IsJob name rows (job.Describe image sizes) = (name ≡ codes "describe") × IsGiven rows (codes "IMAGE") image.now × AreSizes rows sizes
+IsJob name rows (job.Draw image from to) = (name ≡ codes "draw") × IsGiven rows (codes "IMAGE") image.now
+    × IsNumberOption rows (codes "from") from × IsNumberOption rows (codes "to") to
 
 -- the subcommand that was met, if any, is the job
 abbrev pub NamesJob : Option (Text × List Row) → Job → Type 0

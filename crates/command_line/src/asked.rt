@@ -4,13 +4,13 @@ ghost use Rattle.clap.specs.Words.{found_of, kind_of, rows_of, subcommand_of, su
 ghost use Rattle.clap.specs.declared.error.kind.ErrorKind.TheVariants.{OutOfMemory};
 ghost use Rattle.command_line.specs.Arguments.{AreNumbers, GivesNoNumber, IsNumberOption};
 ghost use Rattle.command_line.specs.Commands.{IsCommand, eros_app, greatest_number};
-ghost use Rattle.command_line.specs.Jobs.{IsCache, IsJob, IsNoJob, IsScript, NamesJob, NamesNone};
+ghost use Rattle.command_line.specs.Jobs.{AreSizes, IsCache, IsJob, IsNoJob, IsScript, NamesJob, NamesNone};
 ghost use Rattle.command_line.specs.Refusals.{Explains};
 
 use crate::arguments::{flag_of, numbers_in, option_of};
 use crate::subcommands::{
-    CACHE, DESCRIPTION, FILE, GREATEST_CAPACITY, IMAGE, LEAST_CAPACITY, NEW, OLD, PROCESS, SCRIPT,
-    SHOWS, STOP_AFTER, STRICT, TRACE,
+    CACHE, DESCRIPTION, FILE, FROM, GREATEST_CAPACITY, IMAGE, LEAST_CAPACITY, LOG, NEW, NODES, OLD,
+    PAGES, PROCESS, SCRIPT, SHOWS, STOP_AFTER, STRICT, TO, TRACE,
 };
 use clap::error::ErrorKind;
 use clap::{ArgMatches, Command, Error};
@@ -24,6 +24,17 @@ pub enum Script<'a> {
     Input,
     /// From the file of this name.
     File(&'a str),
+}
+
+/// The sizes of an image. `None` keeps the image's own.
+#[derive(Drop)]
+pub struct Sizes {
+    /// The number of nodes.
+    pub nodes: Option<u64>,
+    /// The number of pages.
+    pub pages: Option<u64>,
+    /// The number of slots of the checkpoint log.
+    pub log: Option<u64>,
 }
 
 /// What `eros` does, with the names of the files.
@@ -81,10 +92,15 @@ pub enum Job<'a> {
     /// Describes what an image saves.
     Describe {
         image: &'a str,
+        sizes: Sizes,
     },
     /// Draws what an image saves.
     Draw {
         image: &'a str,
+        /// Draws only what this process reaches.
+        from: Option<u64>,
+        /// Draws only what leads to this object.
+        to: Option<u64>,
     },
 }
 
@@ -227,22 +243,37 @@ fn upgrade_of<'a>(inner: &ArgMatches<'a>) -> Option<Job<'a>>
     Some(Job::Upgrade { old, new })
 }
 
-// The description that the matches name, or `None` where the image is missing.
+// The sizes that the matches give, or `None` where one is no number.
+fn sizes_of(inner: &ArgMatches<'_>) -> Option<Sizes>
+    ensures named { IfSome result (AreSizes (rows_of (found_of inner.now))) }
+    ensures none { IsNone result → IsNoJob (codes "describe") (rows_of (found_of inner.now)) }
+{
+    Some(Sizes {
+        nodes: number_of(inner, NODES)?,
+        pages: number_of(inner, PAGES)?,
+        log: number_of(inner, LOG)?,
+    })
+}
+
+// The description that the matches name, or `None` where the image is missing or a size is no number.
 fn describe_of<'a>(inner: &ArgMatches<'a>) -> Option<Job<'a>>
     ensures named { IfSome result (IsJob (codes "describe") (rows_of (found_of inner.now))) }
     ensures none { IsNone result → IsNoJob (codes "describe") (rows_of (found_of inner.now)) }
 {
     let image = inner.get_str(IMAGE)?;
-    Some(Job::Describe { image })
+    let sizes = sizes_of(inner)?;
+    Some(Job::Describe { image, sizes })
 }
 
-// The drawing that the matches name, or `None` where the image is missing.
+// The drawing that the matches name, or `None` where the image is missing or an option gives no number.
 fn draw_of<'a>(inner: &ArgMatches<'a>) -> Option<Job<'a>>
     ensures named { IfSome result (IsJob (codes "draw") (rows_of (found_of inner.now))) }
     ensures none { IsNone result → IsNoJob (codes "draw") (rows_of (found_of inner.now)) }
 {
     let image = inner.get_str(IMAGE)?;
-    Some(Job::Draw { image })
+    let from = number_of(inner, FROM)?;
+    let to = number_of(inner, TO)?;
+    Some(Job::Draw { image, from, to })
 }
 
 // The job of a subcommand that needs no memory, or `None`.

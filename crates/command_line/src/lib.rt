@@ -7,6 +7,6 @@ mod fault;
 mod subcommands;
 mod words;
 
-pub use asked::{Job, Script};
+pub use asked::{Job, Script, Sizes};
 pub use fault::JobFault;
 pub use words::job;

@@ -33,6 +33,16 @@ pub(crate) const TRACE: &str = "trace";
 
 pub(crate) const STRICT: &str = "strict";
 
+pub(crate) const NODES: &str = "nodes";
+
+pub(crate) const PAGES: &str = "pages";
+
+pub(crate) const LOG: &str = "log";
+
+pub(crate) const FROM: &str = "from";
+
+pub(crate) const TO: &str = "to";
+
 pub(crate) const STOP_AFTER: &str = "stop-after";
 
 /// What `eros --version` prints behind the name.
@@ -248,7 +258,25 @@ fn describe<'a>(alloc: Global) -> Result<Command<'a>, AllocError>
         alloc,
         "describe",
         "Prints the description of what an image saves, in TOML",
-    )
+    )?
+    .arg(number(
+        alloc,
+        NODES,
+        "N",
+        "Renumbers the description for an image of N nodes, as --nodes 64",
+    ))?
+    .arg(number(
+        alloc,
+        PAGES,
+        "P",
+        "Renumbers the description for an image of P pages",
+    ))?
+    .arg(number(
+        alloc,
+        LOG,
+        "R",
+        "Gives the image a checkpoint log of R sectors",
+    ))
 }
 
 fn draw<'a>(alloc: Global) -> Result<Command<'a>, AllocError>
@@ -258,7 +286,19 @@ fn draw<'a>(alloc: Global) -> Result<Command<'a>, AllocError>
         alloc,
         "draw",
         "Prints what an image saves as a graph, in DOT: who owns what, and who holds which capability",
-    )
+    )?
+    .arg(number(
+        alloc,
+        FROM,
+        "P",
+        "Draws only what process P reaches by capabilities, as --from 3",
+    ))?
+    .arg(number(
+        alloc,
+        TO,
+        "O",
+        "Draws only the objects that lead to object O, as --to 7",
+    ))
 }
 
 // The program, with no subcommand yet.
@@ -280,7 +320,9 @@ fn bare<'a>(alloc: Global) -> Result<Command<'a>, AllocError>
              eros shell first.image                              reads commands from the terminal\n  \
              eros upgrade first.image second.image               prints: upgraded 399 sectors\n  \
              eros describe first.image                           prints the description of what it saves\n  \
-             eros draw first.image                               prints a graph of what it saves\n\n\
+             eros describe --nodes 64 first.image                prints it for an image of 64 nodes\n  \
+             eros draw first.image                               prints a graph of what it saves\n  \
+             eros draw --from 3 first.image                      prints what process 3 reaches as a graph\n\n\
              The status is 0, whatever the answers are; 1 after a fault, of which one line is told on standard\n\
              error; and 2 where the command line isn't understood.",
         )

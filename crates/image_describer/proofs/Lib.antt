@@ -3,17 +3,25 @@ mod Assembled
 mod Chains
 mod Covers
 mod Filled
+pub mod GrownDescription
+pub mod GrownFits
+pub mod GrownLaws
+pub mod GrownRanges
+pub mod GrownText
+pub mod GrownWorld
 mod Lines
 mod Looking
+mod Moved
 mod Naming
+pub mod Pairs
 pub mod Plain
 mod Puts
 mod Quoted
 mod ReadBack
 mod Rising
 mod Said
+pub mod SameTables
 pub mod Short
 mod Spaces
-pub mod SameTables
 mod Telling
 mod Written

@@ -5,7 +5,7 @@ use Rattle.std.proofs.lemmas.List.Elements.{recursion_from_All}
 use Rattle.toml_parser.specs.Lexical.{first}
 use Rattle.toml_writer.specs.Text.{key_text}
 use Rattle.toml.specs.Data.{Members, no_members}
-use Rattle.toml.specs.Parse.{lines, parse_document, skip_bom}
+use Rattle.toml.specs.Parse.{parse_document, skip_bom}
 use Rattle.toml.specs.Tables.{Document, Expression, Nodes, along_header, close, no_nodes}
 use Rattle.toml.specs.Text.{IsLinesText, elements, pairs}
 use Rattle.toml.proofs.Fill.{run-append, run_pairs}

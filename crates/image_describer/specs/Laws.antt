@@ -3,6 +3,8 @@ use Rattle.std.specs.Prelude.{◌≡◌, ℕ, List, map, Some}
 use Rattle.model.specs.declared.frame.Frame.{Frame}
 use Rattle.model.specs.declared.geometry.Geometry.{Geometry}
 use Rattle.model.specs.Keepable.{IsSoundFrames, world_at}
+use Rattle.model.specs.Sound.{IsSound}
+use Rattle.model.specs.World.{World}
 use Rattle.toml.specs.Data.{Members}
 use Rattle.toml.specs.Parse.{parse_document}
 use Rattle.layout.specs.Superblock.{IsPlan, Plan, version_number}
@@ -13,6 +15,7 @@ use Rattle.described_world.specs.Described.{HasFields, IsDescribed, IsWorldFault
 use Rattle.described_world.specs.declared.fault.WorldFault.{WorldFault}
 use Rattle.described_world.specs.declared.fault.WorldFault.TheVariants.{NoMemory}
 use Rattle.image_describer.specs.Describes.{Describes}
+use Rattle.image_describer.specs.Grown.{IsGrown, IsRenumbered, NamesNodes, NamesPages}
 use Rattle.image_describer.specs.Spelled.{CanBeSpelled}
 use Rattle.image_describer.specs.Text.{description_text}
 
@@ -33,3 +36,12 @@ DescribedHasText = (p : Plan) (age : ℕ) (fs : List Frame) (d : Description) �
 -- What is read from the text of a description is that description.
 abbrev pub TextIsRead : Type 0
 TextIsRead = (d : Description) → HasFields d → CanBeSpelled d → (table : Members) × (parse_document (description_text d) ≡ Some table) × IsDescription table d
+
+-- The description of a sound world, renumbered for an image of other sizes, is that of its objects there.
+abbrev pub GrownIsDescribed : Type 0
+GrownIsDescribed = (w : World) (d e : Description) → IsSound d.geometry w → Describes d.geometry w d → IsRenumbered d e → NamesNodes e.geometry.nodes d → NamesPages d.geometry e.geometry d →
+    (v : World) × IsGrown d.geometry e.geometry w v × Describes e.geometry v e
+
+-- A sound world in an image of the same sizes is the same world.
+abbrev pub GrownToItself : Type 0
+GrownToItself = (g : Geometry) (w v : World) → IsSound g w → IsGrown g g w v → v ≡ w

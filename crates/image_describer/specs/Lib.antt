@@ -1,4 +1,5 @@
 pub mod Describes
+pub mod Grown
 pub mod Laws
 pub mod Spelled
 pub mod Text

@@ -1,6 +1,6 @@
 //! Laws of descriptions of worlds, each the contract of a function that does nothing.
 
-ghost use Rattle.image_describer.specs.Laws.{DescribedHasText, DescribedIsLaid, DescribedIsSame, TextIsRead};
+ghost use Rattle.image_describer.specs.Laws.{DescribedHasText, DescribedIsLaid, DescribedIsSame, GrownIsDescribed, GrownToItself, TextIsRead};
 
 /// The frames of a world's description stand for the same world, at its age, and are sound.
 pub fn described_is_same()
@@ -20,4 +20,14 @@ pub fn described_has_text()
 /// The text of a description is read as that description.
 pub fn text_is_read()
     ensures { TextIsRead }
+{}
+
+/// The description of a world, renumbered for an image of other sizes, is that of its objects there.
+pub fn grown_is_described()
+    ensures { GrownIsDescribed }
+{}
+
+/// In an image of the same sizes a world stays the same.
+pub fn grown_to_itself()
+    ensures { GrownToItself }
 {}

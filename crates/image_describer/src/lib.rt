@@ -6,12 +6,16 @@ mod adding;
 mod describing;
 mod entries;
 mod fields;
+mod growing;
 pub mod laws;
 mod objects;
 mod ranges;
+mod sizes;
 mod text;
 mod values;
 
 pub use describing::describe;
+pub use growing::grow;
 pub use ranges::ranges_of;
+pub use sizes::{GrowthFault, Sizes};
 pub use text::text_of;

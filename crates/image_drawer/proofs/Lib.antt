@@ -1,5 +1,7 @@
 pub mod Arrows
 pub mod Boxes
+pub mod Listed
 pub mod Once
+mod Parts
 pub mod Texts
 pub mod Told

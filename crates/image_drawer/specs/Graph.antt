@@ -130,7 +130,7 @@ arrow_lines d = flat_map arrow_line (arrows d)
 
 -- how all is drawn: from left to right, in small letters
 abbrev pub head_lines : List ℕ
-head_lines = line_of (codes "digraph eros {") ++ line_of (codes "graph [rankdir=LR]")
+head_lines = line_of (codes "digraph eros {") ++ line_of (codes "graph [rankdir=LR newrank=true]")
     ++ line_of (codes "node [fontsize=10 height=0 margin=0.05]") ++ line_of (codes "edge [fontsize=8]")
 
 -- the whole graph

@@ -1,2 +1,3 @@
 pub mod Graph
 pub mod Laws
+pub mod Part

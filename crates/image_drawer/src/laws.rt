@@ -1,6 +1,7 @@
 //! Laws of graphs, each the contract of a function that does nothing.
 
 ghost use Rattle.image_drawer.specs.Laws.{ArrowsAreHeld, BoxesAreObjects, OwnersAreOwners};
+ghost use Rattle.image_drawer.specs.Part.{PartIsShown};
 
 /// In the graph of the description of a world each object that isn't free has one box, an annex that of its root, and
 /// nothing else has one.
@@ -17,4 +18,10 @@ pub fn owners_are_owners()
 /// no other arrows.
 pub fn arrows_are_held()
     ensures { ArrowsAreHeld }
+{}
+
+/// In the graph of a description that `restrict` restricted to a set, the boxes are those of the set, and the arrows those
+/// between them.
+pub fn part_is_shown()
+    ensures { PartIsShown }
 {}

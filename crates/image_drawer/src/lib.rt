@@ -3,10 +3,14 @@
 
 mod arrow;
 mod drawing;
+mod holding;
 pub mod laws;
 mod lines;
 mod owner;
 mod part;
+mod restricting;
 mod slots;
 
 pub use drawing::draw;
+pub use holding::{has_box, holders};
+pub use restricting::restrict;

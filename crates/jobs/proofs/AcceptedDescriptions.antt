@@ -1,5 +1,5 @@
 -- The description of a world is built.
-use Rattle.std.proofs.Common.{◌≡◌, ℕ, ◌^◌, ◌≤◌, sym, subst}
+use Rattle.std.proofs.Common.{ℕ, ◌^◌, ◌≤◌, sym, subst}
 use Rattle.model.specs.Frame.{objects_of}
 use Rattle.consistency.proofs.Unsound.{sound_banked, sound_named}
 use Rattle.image_builder.specs.declared.fault.BuildFault.TheVariants as build

@@ -1,8 +1,7 @@
 -- What the command that describes comes to, and what its text is built as.
-use Rattle.std.proofs.Common.{◌≡◌, ℕ, List, Some, Result, Ok, refl, sym, ap, ◌∙◌, subst}
+use Rattle.std.proofs.Common.{◌≡◌, ℕ, List, Result, Ok, refl, sym, ap, ◌∙◌, subst}
 use Rattle.std.proofs.lemmas.Option.{same_Some}
 use Rattle.toml.specs.Data.{Members}
-use Rattle.toml.specs.Parse.{parse_document}
 use Rattle.model.specs.declared.frame.Frame.{Frame}
 use Rattle.model.specs.declared.geometry.Geometry.{Geometry}
 use Rattle.model.specs.declared.object.Object.{Object}
@@ -29,9 +28,8 @@ use Rattle.image_describer.proofs.Plain.{described_is_same}
 use Rattle.image_describer.proofs.Short.{described_has_text}
 use Rattle.image_describer.proofs.SameTables.{same_described}
 use Rattle.image_describer.specs.Spelled.{CanBeSpelled}
-use Rattle.image_describer.specs.Text.{description_text}
 use Rattle.object_cache.specs.StoreState.{StoreState, parts_of, view_of}
-use Rattle.jobs.specs.Images.{DescribesSaved, IsDescriptionOf, OpensAndDescribes, TellsWhole}
+use Rattle.jobs.specs.Images.{DescribesSaved, IsDescriptionOf, OpensAndDescribes}
 use Rattle.jobs.specs.Laws.{DescribedIsDenoted}
 use Rattle.jobs.specs.Reaching.{HoldsOfSaved}
 
@@ -94,29 +92,6 @@ module _ {D : Type 0} (disk : D → Disk) (device back : D) (d : Description) (s
   -- it has a text
   pub has_text : CanBeSpelled d
   has_text = described_has_text saved.state.plan saved.state.header.age saved.state.frames d saved.encodes.plan.fits saved.sound saved.whole.describes saved.whole.ranges saved.whole.layout
-
-  -- its text tells all
-  pub tells : (text : List ℕ) (table : Members) → parse_document text ≡ Some table → IsDescription table d → text ≡ description_text d → (Told : List ℕ → Type 0) → Told text → TellsWhole disk device back Told
-  tells text table read said spelled Told told = record {
-    state = saved.state;
-    encodes = saved.encodes;
-    sound = saved.sound;
-    text = text;
-    whole = record {
-      table = table;
-      read = read;
-      description = d;
-      said = said;
-      spelled = spelled;
-      describes = saved.whole.describes;
-      brief = saved.whole.brief;
-      ranges = saved.whole.ranges;
-      layout = saved.whole.layout;
-    };
-    told = told;
-    failures = saved.failures;
-    looks = saved.looks;
-  }
 
 -- What is built of the text denotes the world that it was told of.
 pub described_is_denoted : DescribedIsDenoted

@@ -1,6 +1,8 @@
 mod AcceptedDescriptions
 mod BuiltImages
 mod DescribedImages
+mod DrawnImages
+mod GrownImages
 mod Observed
 mod ReachedImages
 mod RunImages

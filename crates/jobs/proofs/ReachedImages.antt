@@ -46,5 +46,7 @@ module _ {D : Type 0} (disk : D → Disk) (device back : D) (objects : List Obje
     reaches_image (Err (fault.Open opening.NoMemory)) tells = (record { is_why = read.failures; looks = read.looks }, tells)
     reaches_image (Err (fault.Open (opening.Bad reason))) tells = absurd tells
     reaches_image (Err (fault.Upgrade why)) tells = absurd tells
+    reaches_image (Err (fault.NoObject o)) tells = absurd tells
     reaches_image (Err (fault.NoProcess p)) tells = told_of_saved (Err (fault.NoProcess p)) tells
+    reaches_image (Err (fault.Sizes why)) tells = absurd tells
     reaches_image (Err (fault.Stopped stop)) tells = absurd tells

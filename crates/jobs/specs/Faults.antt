@@ -10,6 +10,8 @@ use Rattle.image_builder.specs.declared.fault.BuildFault.TheVariants as build
 use Rattle.image_builder.specs.declared.upgrade_fault.UpgradeFault.{UpgradeFault}
 use Rattle.image_builder.specs.declared.upgrade_fault.UpgradeFault.TheVariants as upgrade
 use Rattle.image_builder.specs.Built.{fault_number}
+use Rattle.image_describer.specs.declared.sizes.GrowthFault.{GrowthFault}
+use Rattle.image_describer.specs.declared.sizes.GrowthFault.TheVariants as growth
 use Rattle.runs.specs.declared.cause.Stop.{Stop}
 use Rattle.runs.specs.Tracing.{cause_text}
 use Rattle.script.specs.declared.fault.RunFault.{RunFault}
@@ -52,6 +54,12 @@ upgrade_text upgrade.NoMemory = codes "eros: no memory"
 abbrev pub stop_text : Stop → List ℕ
 stop_text stop = spaced (codes "eros: stopped at line" ∷ (decimal stop.line ++ codes ":") ∷ cause_text stop.cause ∷ [])
 
+abbrev pub sizes_text : GrowthFault → List ℕ
+sizes_text growth.Limits = codes "eros: no image has these sizes"
+sizes_text growth.Nodes = codes "eros: too few nodes"
+sizes_text growth.Pages = codes "eros: too few pages"
+sizes_text growth.NoMemory = codes "eros: no memory"
+
 abbrev pub fault_text : Fault → List ℕ
 fault_text fault.CannotReadDescription = codes "eros: cannot read description"
 fault_text fault.NotToml = codes "eros: bad description"
@@ -64,6 +72,8 @@ fault_text (fault.Build why) = build_text why
 fault_text (fault.Open why) = open_text why
 fault_text (fault.Upgrade why) = upgrade_text why
 fault_text (fault.Stopped stop) = stop_text stop
+fault_text (fault.NoObject o) = spaced (codes "eros: no object" ∷ decimal o ∷ [])
+fault_text (fault.Sizes why) = sizes_text why
 fault_text (fault.NoProcess p) = spaced (codes "eros: no process" ∷ decimal p ∷ [])
 
 -- a run that was ended by its observer has a place where it was

@@ -7,6 +7,7 @@ use Rattle.model.specs.declared.frame.Frame.{Frame}
 use Rattle.model.specs.declared.geometry.Geometry.{Geometry}
 use Rattle.model.specs.Keepable.{IsSoundFrames, world_at}
 use Rattle.model.specs.Machine.{Saved}
+use Rattle.model.specs.World.{World}
 use Rattle.model.specs.Run.{Turn}
 use Rattle.model.specs.Text.{line_of, spaced}
 use Rattle.device.specs.Disk.{Disk}
@@ -29,9 +30,11 @@ use Rattle.description.specs.Reading.{IsDescription}
 use Rattle.image_builder.specs.declared.fault.BuildFault.TheVariants as build
 use Rattle.image_builder.specs.declared.upgrade_fault.UpgradeFault.TheVariants as upgrade
 use Rattle.image_builder.specs.Built.{BuildsFrom, Refuses, plan_for}
+use Rattle.image_describer.specs.declared.sizes.GrowthFault.{GrowthFault}
+use Rattle.image_describer.specs.declared.sizes.Sizes.{Sizes}
 use Rattle.image_describer.specs.Describes.{Describes, IsBrief}
+use Rattle.image_describer.specs.Grown.{IsGrown, IsUnsuited, grown_geometry, grown_ranges}
 use Rattle.image_describer.specs.Text.{description_text}
-use Rattle.image_drawer.specs.Graph.{graph_text}
 use Rattle.image_builder.specs.Upgraded.{IsNotUpgraded, Upgrades}
 use Rattle.runs.specs.declared.cause.Stop.{Stop}
 use Rattle.runs.specs.KernelRuns.{RunsOver, RunsSeen}
@@ -158,6 +161,25 @@ abbrev pub OpensAndDescribes : {D : Type 0} → (D → Disk) → D → D → Res
 OpensAndDescribes disk device back (Ok description) = DescribesSaved disk device back description
 OpensAndDescribes disk device back (Err why) = RefusesToOpen disk device back why
 
+-- A description tells each object that frames stand for, at their age, in an image of these sizes, and nothing else:
+-- nothing at its default, numbers in order, the home ranges there, and the version of a plan.
+pub record IsDescribedIn (p : Plan) (g : Geometry) (age : ℕ) (frames : List Frame) (description : Description) : Type 0 where
+  pub world : World
+  pub grown : IsGrown p.geometry g (world_at age frames) world
+  pub describes : Describes g world description
+  pub brief : IsBrief description
+  pub ranges : description.ranges.items ≡ grown_ranges p.geometry g (map numbers_of p.ranges)
+  pub layout : description.layout ≡ version_number p.version
+
+-- A text is that of such a description: the one text of it, and it is read as it.
+pub record IsTextIn (p : Plan) (g : Geometry) (age : ℕ) (frames : List Frame) (text : List ℕ) : Type 0 where
+  pub table : Members
+  pub read : parse_document text ≡ Some table
+  pub description : Description
+  pub said : IsDescription table description
+  pub spelled : text ≡ description_text description
+  pub whole : IsDescribedIn p g age frames description
+
 -- A text is that of a description which tells each object that frames stand for as it is, at their age, and nothing else:
 -- nothing at its default, numbers in order, and the home ranges and the version of a plan. It is the one text of that
 -- description, and is read as it.
@@ -172,33 +194,31 @@ pub record IsTextOf (p : Plan) (age : ℕ) (frames : List Frame) (text : List �
   pub ranges : description.ranges.items ≡ map numbers_of p.ranges
   pub layout : description.layout ≡ version_number p.version
 
--- a device was opened with no failure, nothing was written to it at any moment, and all that is saved on it was told
-pub record TellsWhole {D : Type 0} (disk : D → Disk) (device back : D) (Told : List ℕ → Type 0) : Type 0 where
-  pub state : SavedState
+-- a device was opened with no failure, nothing was written to it at any moment, and this is what it saves
+pub record ReadsSaved {D : Type 0} (disk : D → Disk) (device back : D) (state : SavedState) : Type 0 where
   pub encodes : Encodes (disk device).seen (disk device).sectors state
   pub sound : IsSoundFrames state.plan.geometry state.header.age state.frames
-  pub text : List ℕ
-  pub whole : IsTextOf state.plan state.header.age state.frames text
-  pub told : Told text
   pub failures : (disk back).failures ≡ (disk device).failures
   pub looks : Looks (disk device) (disk back)
 
--- so it was; or that couldn't be written whole; or the device wasn't opened, or memory ran out
-abbrev pub DescribesImage : {D : Type 0} → (D → Disk) → D → D → Option (List ℕ) → Option (List ℕ) → Result (Unit {0}) Fault → Type 0
-DescribesImage disk device back output output_left (Ok a) = TellsWhole disk device back (Appends output output_left)
-DescribesImage disk device back output output_left (Err fault.CannotWriteOutput) = TellsWhole disk device back (AppendsFront output output_left)
-DescribesImage disk device back output output_left (Err (fault.Open why)) = RefusesToOpen disk device back why × (output_left ≡ output)
-DescribesImage disk device back output output_left (Err _) = ⊥
+-- so it was, and all that is saved was told for an image of these sizes
+pub record TellsWhole {D : Type 0} (disk : D → Disk) (sizes : Sizes) (device back : D) (Told : List ℕ → Type 0) : Type 0 where
+  pub state : SavedState
+  pub saved : ReadsSaved disk device back state
+  pub text : List ℕ
+  pub whole : IsTextIn state.plan (grown_geometry state.plan.geometry sizes) state.header.age state.frames text
+  pub told : Told text
 
--- so it was, and the graph of what is saved on it was told
-pub record TellsGraph {D : Type 0} (disk : D → Disk) (device back : D) (Told : List ℕ → Type 0) : Type 0 where
-  pub description : Description
-  pub saved : DescribesSaved disk device back description
-  pub told : Told (graph_text description)
+-- so it was, and there is no image of these sizes for it
+abbrev pub RefusesSizes : {D : Type 0} → (D → Disk) → Sizes → D → D → GrowthFault → Type 0
+RefusesSizes disk sizes device back why =
+    (state : SavedState) × ReadsSaved disk device back state
+    × IsUnsuited state.plan.geometry (grown_geometry state.plan.geometry sizes) (world_at state.header.age state.frames) why
 
--- so it was; or that couldn't be written whole; or the device wasn't opened, or memory ran out
-abbrev pub DrawsImage : {D : Type 0} → (D → Disk) → D → D → Option (List ℕ) → Option (List ℕ) → Result (Unit {0}) Fault → Type 0
-DrawsImage disk device back output output_left (Ok a) = TellsGraph disk device back (Appends output output_left)
-DrawsImage disk device back output output_left (Err fault.CannotWriteOutput) = TellsGraph disk device back (AppendsFront output output_left)
-DrawsImage disk device back output output_left (Err (fault.Open why)) = RefusesToOpen disk device back why × (output_left ≡ output)
-DrawsImage disk device back output output_left (Err _) = ⊥
+-- all was told; or that couldn't be written whole; or there is no such image; or the device wasn't opened, or memory ran out
+abbrev pub DescribesImage : {D : Type 0} → (D → Disk) → Sizes → D → D → Option (List ℕ) → Option (List ℕ) → Result (Unit {0}) Fault → Type 0
+DescribesImage disk sizes device back output output_left (Ok a) = TellsWhole disk sizes device back (Appends output output_left)
+DescribesImage disk sizes device back output output_left (Err fault.CannotWriteOutput) = TellsWhole disk sizes device back (AppendsFront output output_left)
+DescribesImage disk sizes device back output output_left (Err (fault.Sizes why)) = RefusesSizes disk sizes device back why × (output_left ≡ output)
+DescribesImage disk sizes device back output output_left (Err (fault.Open why)) = RefusesToOpen disk device back why × (output_left ≡ output)
+DescribesImage disk sizes device back output output_left (Err _) = ⊥

@@ -6,6 +6,7 @@ use Rattle.model.specs.declared.frame.Frame.{Frame}
 use Rattle.model.specs.declared.geometry.Geometry.{Geometry}
 use Rattle.model.specs.Keepable.{IsSoundFrames, world_at}
 use Rattle.model.specs.Machine.{Saved}
+use Rattle.model.specs.World.{World}
 use Rattle.device.specs.Disk.{Image}
 use Rattle.layout.specs.declared.version.Version.{Version}
 use Rattle.layout.specs.Superblock.{Plan, version_number}
@@ -17,7 +18,8 @@ use Rattle.description.specs.declared.entry.Description.{Description}
 use Rattle.description.specs.Reading.{IsDescription}
 use Rattle.image_builder.specs.Built.{IsAccepted, IsSavedOf, plan_for}
 use Rattle.image_describer.specs.Describes.{Describes}
-use Rattle.jobs.specs.Images.{IsTextOf}
+use Rattle.image_describer.specs.Grown.{IsGrown}
+use Rattle.jobs.specs.Images.{IsTextIn, IsTextOf}
 
 -- what holds the frames of a built image denotes the world that they stand for, of generation 0 and with nothing in the
 -- log: none of the ten reasons to refuse it holds
@@ -40,3 +42,14 @@ DescribedIsDenoted = (p : Plan) (age : ℕ) (frames : List Frame) (text : List �
 abbrev pub DescribedIsAccepted : Type 0
 DescribedIsAccepted = (g : Geometry) (age : ℕ) (fs : List Frame) (d : Description) (v : Version) (sectors : ℕ) → IsSoundFrames g age fs → Describes g (world_at age fs) d →
     d.layout ≡ version_number v → MayBeLaid d.geometry d.ranges.items → (plan_for d).total ≤ sectors → IsAccepted d sectors
+
+-- What holds frames that are saved as `build` does of a text told of an image for other sizes denotes the objects of that
+-- image, each at its number there, of generation 0 and with nothing in the log.
+abbrev pub GrownIsDenoted : Type 0
+GrownIsDenoted = (p : Plan) (g : Geometry) (age : ℕ) (frames : List Frame) (text : List ℕ) (table : Members) (d : Description) (saved : SavedFrames) (size : ℕ) (c : Image) →
+    IsTextIn p g age frames text → parse_document text ≡ Some table → IsDescription table d → IsSavedOf d saved → Holds size c saved →
+    (w : World) × IsGrown p.geometry g (world_at age frames) w × Denotes g size c (record { world = w; generation = 0; entries = 0 })
+
+-- A text for an image's own sizes is that of its description.
+abbrev pub UnsizedIsWhole : Type 0
+UnsizedIsWhole = (p : Plan) (age : ℕ) (frames : List Frame) (text : List ℕ) → IsSoundFrames p.geometry age frames → IsTextIn p p.geometry age frames text → IsTextOf p age frames text

@@ -1,5 +1,7 @@
+pub mod Drawing
 pub mod Explained
 pub mod Faults
+pub mod Growing
 pub mod Images
 pub mod Info
 pub mod Laws

@@ -1,12 +1,14 @@
 // The command that tells what an image holds.
-ghost use Rattle.std.specs.Prelude.{◌≡◌, Some, Result, IfOk, string_bytes};
+ghost use Rattle.std.specs.Prelude.{◌≡◌, Some, Result, IfErr, IfOk, OnOk, string_bytes};
 ghost use Rattle.toml.specs.Data.{Members};
 ghost use Rattle.toml.specs.Parse.{parse_document};
+ghost use Rattle.image_writer.specs.Laid.{MayBeLaid};
 ghost use Rattle.description.specs.Reading.{IsDescription};
 ghost use Rattle.described_world.specs.Described.{HasFields};
 ghost use Rattle.image_describer.specs.Spelled.{CanBeSpelled};
 ghost use Rattle.image_describer.specs.Text.{description_text};
 ghost use Rattle.jobs.specs.Faults.{IsTold, status_of};
+ghost use Rattle.jobs.specs.Growing.{GrowsDescription, TellsDescription, TellsGrown};
 ghost use Rattle.jobs.specs.Images.{DescribesImage};
 
 use crate::done::Done;
@@ -15,7 +17,7 @@ use crate::saved::describe_saved;
 use checkpoint::OpenFault;
 use description::Description;
 use device::Device;
-use image_describer::text_of;
+use image_describer::{GrowthFault, Sizes, grow, text_of};
 use script::write_fully;
 use std::alloc::{AllocError, Global};
 use std::io::Write;
@@ -31,44 +33,94 @@ fn text_of_whole(alloc: Global, description: Description) -> Result<String, Allo
     text_of(alloc, &description)
 }
 
-// Opens a device, tells all that is saved on it, and gives it back.
+// Writes the text of a description, which is let go.
+fn tell_description<W: Write>(
+    alloc: Global,
+    description: Description,
+    writer: &mut W,
+) -> Result<(), Fault>
+    requires fields { HasFields description }
+    requires spelled { CanBeSpelled description }
+    ensures { TellsDescription description (W.contents writer.old) (W.contents writer.new) result }
+{
+    match text_of_whole(alloc, description) {
+        Ok(text) => match write_fully(writer, text.as_bytes()) {
+            Ok(()) => Ok(()),
+            Err(_) => Err(Fault::CannotWriteOutput),
+        },
+        Err(_) => Err(Fault::Open(OpenFault::NoMemory)),
+    }
+}
+
+// Renumbers a description for other sizes.
+fn grow_description(alloc: Global, description: &mut Description, sizes: Sizes) -> Result<(), Fault>
+    requires { MayBeLaid description.old.geometry description.old.ranges.items }
+    ensures { GrowsDescription sizes description.old description.new result }
+{
+    match grow(alloc, description, sizes.over(description.geometry)) {
+        Ok(()) => Ok(()),
+        Err(GrowthFault::NoMemory) => Err(Fault::Open(OpenFault::NoMemory)),
+        Err(fault) => Err(Fault::Sizes(fault)),
+    }
+}
+
+// Writes the text of a description, renumbered for other sizes, and lets it go.
+fn tell_grown<W: Write>(
+    alloc: Global,
+    description: Description,
+    sizes: Sizes,
+    writer: &mut W,
+) -> Result<(), Fault>
+    requires laid { MayBeLaid description.geometry description.ranges.items }
+    requires fields { HasFields description }
+    requires spelled { CanBeSpelled description }
+    ensures { TellsGrown description sizes (W.contents writer.old) (W.contents writer.new) result }
+{
+    let mut description = description;
+    match grow_description(alloc, &mut description, sizes) {
+        Ok(()) => tell_description(alloc, description, writer),
+        Err(fault) => Err(fault),
+    }
+}
+
+// Opens a device, tells all that is saved on it, renumbered for other sizes, and gives it back.
 fn describe_and_tell<D: Device, W: Write>(
     alloc: Global,
     device: D,
+    sizes: Sizes,
     writer: &mut W,
 ) -> (Result<(), Fault>, D)
-    ensures { DescribesImage D.disk device result.1 (W.contents writer.old) (W.contents writer.new) result.0 }
+    ensures { DescribesImage D.disk sizes device result.1 (W.contents writer.old) (W.contents writer.new) result.0 }
 {
     let (described, device) = describe_saved(alloc, device);
     match described {
-        Ok(description) => match text_of_whole(alloc, description) {
-            Ok(text) => match write_fully(writer, text.as_bytes()) {
-                Ok(()) => (Ok(()), device),
-                Err(_) => (Err(Fault::CannotWriteOutput), device),
-            },
-            Err(_) => (Err(Fault::Open(OpenFault::NoMemory)), device),
-        },
+        Ok(description) => (tell_grown(alloc, description, sizes, writer), device),
         Err(fault) => (Err(Fault::Open(fault)), device),
     }
 }
 
 /// Opens a device as a run does, and writes the description of all that the checkpoint that it holds
-/// saves: what is built of this text holds the same world. Then the status is 0. After a fault one line
-/// is written to `errors`, and the status is 1: `bad image` with a number from 1 to 10, `device failed`
-/// or `no memory`, and `cannot write output` where the writer fails.
+/// saves, renumbered for an image of other sizes: what is built of this text holds the same world, each
+/// object at its number there. Then the status is 0. With no sizes all numbers stay.
+///
+/// After a fault one line is written to `errors`, and the status is 1:
+/// - `bad image` with a number from 1 to 10, `device failed` or `no memory`;
+/// - `no image has these sizes`, or `too few nodes` or `too few pages` for what is saved;
+/// - `cannot write output` if the writer fails.
 ///
 /// The device is given back, and nothing was written to it, at no moment.
 pub fn describe_image<D: Device, W: Write, V: Write>(
     alloc: Global,
     device: D,
+    sizes: Sizes,
     writer: &mut W,
     errors: &mut V,
 ) -> Done<D>
     ensures { (outcome : Result (Unit {0}) Fault) × (result.status ≡ status_of outcome)
         × IsTold outcome (V.contents errors.old) (V.contents errors.new)
-        × DescribesImage D.disk device result.device (W.contents writer.old) (W.contents writer.new) outcome }
+        × DescribesImage D.disk sizes device result.device (W.contents writer.old) (W.contents writer.new) outcome }
 {
-    let (outcome, device) = describe_and_tell(alloc, device, writer);
+    let (outcome, device) = describe_and_tell(alloc, device, sizes, writer);
     Done {
         status: status(outcome, errors),
         device,

@@ -1,19 +1,35 @@
 // The command that draws what an image holds.
-ghost use Rattle.std.specs.Prelude.{◌≡◌, Result};
+ghost use Rattle.std.specs.Prelude.{◌≡◌, ◌<◌, ◌^◌, Result};
 ghost use Rattle.script.specs.Writing.{Writes};
+ghost use Rattle.model.specs.Sound.{object_count};
+ghost use Rattle.described_world.specs.Described.{HasNumbers};
 ghost use Rattle.image_drawer.specs.Graph.{graph_text};
+ghost use Rattle.reach.specs.Reached.{AreSoundObjects};
+ghost use Rattle.jobs.specs.Drawing.{DrawsImage, DrawsPart, KeepsHolders, KeepsPart, KeepsReached};
 ghost use Rattle.jobs.specs.Faults.{IsTold, status_of};
-ghost use Rattle.jobs.specs.Images.{DrawsImage};
 
 use crate::done::Done;
 use crate::fault::{Fault, status};
-use crate::saved::describe_saved;
+use crate::whole::{Whole, read_whole};
+use checkpoint::OpenFault;
 use description::Description;
 use device::Device;
-use image_drawer::draw;
+use image_drawer::{draw, has_box, holders, restrict};
+use model::Object;
+use number_set::NumberSet;
+use reach::{missing_process, reach};
 use script::RunFault;
 use std::alloc::Global;
 use std::io::Write;
+
+/// Which part of what an image saves is drawn. All of it, if both are `None`; with both, what both name.
+#[derive(Clone, Copy)]
+pub struct Focus {
+    /// Only what this process reaches: the least closed set.
+    pub from: Option<u64>,
+    /// Only this object, and the processes and nodes that hold a capability to it.
+    pub to: Option<u64>,
+}
 
 // Draws a description, and lets it go.
 fn draw_whole<W: Write>(description: Description, writer: &mut W) -> Result<(), RunFault>
@@ -23,41 +39,134 @@ fn draw_whole<W: Write>(description: Description, writer: &mut W) -> Result<(), 
     draw(&description, writer)
 }
 
-// Opens a device, draws all that is saved on it, and gives it back.
+// Restricts a description to an object and its holders, if one is named.
+fn keep_holders(alloc: Global, to: Option<u64>, description: &mut Description) -> Result<(), Fault>
+    requires few { object_count description.old.geometry < 2 ^ 64 }
+    requires numbers { HasNumbers description.old }
+    ensures { KeepsHolders to description.old description.new result }
+{
+    let Some(object) = to else {
+        return Ok(());
+    };
+    if !has_box(description, object) {
+        return Err(Fault::NoObject(object));
+    }
+    match holders(alloc, description, object) {
+        Ok(inside) => {
+            restrict(description, &inside);
+            Ok(())
+        }
+        Err(_) => Err(Fault::Open(OpenFault::NoMemory)),
+    }
+}
+
+// Restricts a description to what a process reaches, if one is named.
+fn keep_reached(
+    alloc: Global,
+    objects: &[Object],
+    from: Option<u64>,
+    description: &mut Description,
+) -> Result<(), Fault>
+    requires { AreSoundObjects objects.now }
+    ensures { KeepsReached objects.now from description.old description.new result }
+{
+    let Some(process) = from else {
+        return Ok(());
+    };
+    if missing_process(objects, &[process]).is_some() {
+        return Err(Fault::NoProcess(process));
+    }
+    match reach(alloc, objects, &[process]) {
+        Ok(inside) => {
+            restrict(description, &inside);
+            Ok(())
+        }
+        Err(_) => Err(Fault::Open(OpenFault::NoMemory)),
+    }
+}
+
+// Restricts a description to what is to be drawn.
+fn keep_part(
+    alloc: Global,
+    objects: &[Object],
+    focus: Focus,
+    description: &mut Description,
+) -> Result<(), Fault>
+    requires few { object_count description.old.geometry < 2 ^ 64 }
+    requires numbers { HasNumbers description.old }
+    requires sound { AreSoundObjects objects.now }
+    ensures { KeepsPart objects.now focus description.old description.new result }
+{
+    match keep_holders(alloc, focus.to, description) {
+        Ok(()) => keep_reached(alloc, objects, focus.from, description),
+        Err(fault) => Err(fault),
+    }
+}
+
+// Draws a part of what is saved, and lets it go.
+fn draw_part<W: Write>(
+    alloc: Global,
+    whole: Whole,
+    focus: Focus,
+    writer: &mut W,
+) -> Result<(), Fault>
+    requires few { object_count whole.description.geometry < 2 ^ 64 }
+    requires numbers { HasNumbers whole.description }
+    requires sound { AreSoundObjects whole.objects.items }
+    ensures { DrawsPart whole.objects.items focus whole.description (W.contents writer.old) (W.contents writer.new) result }
+{
+    let Whole {
+        description,
+        objects,
+    } = whole;
+    let mut description = description;
+    match keep_part(alloc, &objects, focus, &mut description) {
+        Ok(()) => match draw_whole(description, writer) {
+            Ok(()) => Ok(()),
+            Err(_) => Err(Fault::CannotWriteOutput),
+        },
+        Err(fault) => Err(fault),
+    }
+}
+
+// Opens a device, draws a part of all that is saved on it, and gives it back.
 fn draw_and_tell<D: Device, W: Write>(
     alloc: Global,
     device: D,
+    focus: Focus,
     writer: &mut W,
 ) -> (Result<(), Fault>, D)
-    ensures { DrawsImage D.disk device result.1 (W.contents writer.old) (W.contents writer.new) result.0 }
+    ensures { DrawsImage D.disk focus device result.1 (W.contents writer.old) (W.contents writer.new) result.0 }
 {
-    let (described, device) = describe_saved(alloc, device);
-    match described {
-        Ok(description) => match draw_whole(description, writer) {
-            Ok(()) => (Ok(()), device),
-            Err(_) => (Err(Fault::CannotWriteOutput), device),
-        },
+    let (read, device) = read_whole(alloc, device);
+    match read {
+        Ok(whole) => (draw_part(alloc, whole, focus, writer), device),
         Err(fault) => (Err(Fault::Open(fault)), device),
     }
 }
 
-/// Opens a device as a run does, and writes the graph of all that the checkpoint that it holds saves, in DOT: each object,
-/// who owns it, and each capability that names one. Then the status is 0. After a fault one line is written to `errors`,
-/// and the status is 1: `bad image` with a number from 1 to 10, `device failed` or `no memory`, and `cannot write output`
-/// where the writer fails.
+/// Opens a device as a run does, and writes the graph of what the checkpoint that it holds saves, in
+/// DOT: each object, who owns it, and each capability that names one. With a focus it leaves out all
+/// other objects, and the capabilities that name one. Then the status is 0.
+///
+/// After a fault one line is written to `errors`, and the status is 1:
+/// - `bad image` with a number from 1 to 10, `device failed` or `no memory`;
+/// - `no object` or `no process` with the number in the focus, if that is none;
+/// - `cannot write output` if the writer fails.
 ///
 /// The device is given back, and nothing was written to it, at no moment.
 pub fn draw_image<D: Device, W: Write, V: Write>(
     alloc: Global,
     device: D,
+    focus: Focus,
     writer: &mut W,
     errors: &mut V,
 ) -> Done<D>
     ensures { (outcome : Result (Unit {0}) Fault) × (result.status ≡ status_of outcome)
         × IsTold outcome (V.contents errors.old) (V.contents errors.new)
-        × DrawsImage D.disk device result.device (W.contents writer.old) (W.contents writer.new) outcome }
+        × DrawsImage D.disk focus device result.device (W.contents writer.old) (W.contents writer.new) outcome }
 {
-    let (outcome, device) = draw_and_tell(alloc, device, writer);
+    let (outcome, device) = draw_and_tell(alloc, device, focus, writer);
     Done {
         status: status(outcome, errors),
         device,

@@ -2,10 +2,11 @@
 ghost use Rattle.std.specs.Prelude.{◌≡◌, ◌≤◌, length};
 ghost use Rattle.model.specs.Text.{line_of};
 ghost use Rattle.script.specs.Writing.{Writes};
-ghost use Rattle.jobs.specs.Faults.{HasStop, IsRunEnd, IsTold, build_text, fault_text, open_text, reason_number, status_of, stop_text, upgrade_text};
+ghost use Rattle.jobs.specs.Faults.{HasStop, IsRunEnd, IsTold, build_text, fault_text, open_text, reason_number, sizes_text, status_of, stop_text, upgrade_text};
 
 use checkpoint::OpenFault;
 use image_builder::{BuildFault, UpgradeFault};
+use image_describer::GrowthFault;
 use layout::BadImage;
 use runs::Stop;
 use script::{LineText, RunFault};
@@ -38,6 +39,10 @@ pub enum Fault {
     Stopped(Stop),
     /// This number isn't the number of a process.
     NoProcess(u64),
+    /// No object with this number is drawn.
+    NoObject(u64),
+    /// There is no image of these sizes for what is saved.
+    Sizes(GrowthFault),
 }
 
 /// The end of a run, where the device was opened, as a fault of the command. A run that its observer
@@ -111,6 +116,19 @@ fn upgrade_line(fault: UpgradeFault) -> LineText
     }
 }
 
+// What is told where no description is renumbered.
+fn sizes_line(fault: GrowthFault) -> LineText
+    ensures text { result ≡ sizes_text fault }
+    ensures short { length result ≤ 60 }
+{
+    match fault {
+        GrowthFault::Limits => LineText::new(b"eros: no image has these sizes"),
+        GrowthFault::Nodes => LineText::new(b"eros: too few nodes"),
+        GrowthFault::Pages => LineText::new(b"eros: too few pages"),
+        GrowthFault::NoMemory => LineText::new(b"eros: no memory"),
+    }
+}
+
 // The line of a strict run that ended.
 fn stop_line(stop: Stop) -> LineText
     ensures text { result ≡ stop_text stop }
@@ -141,6 +159,8 @@ impl Fault {
             Fault::Upgrade(fault) => upgrade_line(fault),
             Fault::Stopped(stop) => stop_line(stop),
             Fault::NoProcess(number) => LineText::numbered(b"eros: no process", number),
+            Fault::NoObject(number) => LineText::numbered(b"eros: no object", number),
+            Fault::Sizes(fault) => sizes_line(fault),
         }
     }
 

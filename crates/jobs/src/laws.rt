@@ -1,6 +1,6 @@
 //! Laws of images, each the contract of a function that does nothing.
 
-ghost use Rattle.jobs.specs.Laws.{BuiltIsDenoted, DescribedIsAccepted, DescribedIsDenoted};
+ghost use Rattle.jobs.specs.Laws.{BuiltIsDenoted, DescribedIsAccepted, DescribedIsDenoted, GrownIsDenoted, UnsizedIsWhole};
 
 /// What `build_image` leaves on a device, and what each crash leaves of it, can be opened and run: it
 /// denotes the described world, of generation 0 and with nothing in the log.
@@ -18,4 +18,15 @@ pub fn described_is_denoted()
 /// wherever there are enough sectors.
 pub fn described_is_accepted()
     ensures { DescribedIsAccepted }
+{}
+
+/// What `build_image` leaves on a device of the text that `describe_image` wrote for other sizes, and
+/// what each crash leaves of it, denotes the same objects, each at its number there.
+pub fn grown_is_denoted()
+    ensures { GrownIsDenoted }
+{}
+
+/// With no other sizes `describe_image` writes the description of what the image saves.
+pub fn unsized_is_whole()
+    ensures { UnsizedIsWhole }
 {}

@@ -19,14 +19,16 @@ mod running;
 mod saved;
 mod shell;
 mod upgrading;
+mod whole;
 
 pub use building::build_image;
 pub use checking::check_image;
 pub use describing::describe_image;
 pub use done::Done;
-pub use drawing::draw_image;
+pub use drawing::{Focus, draw_image};
 pub use explaining::explain_description;
 pub use fault::Fault;
+pub use image_describer::Sizes;
 pub use inspecting::info_image;
 pub use output::finish;
 pub use reaching::reach_image;

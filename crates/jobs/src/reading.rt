@@ -1,6 +1,6 @@
 // The objects that are saved on a device.
 ghost use Rattle.std.specs.Prelude.{◌≡◌, IfOk};
-ghost use Rattle.capability.specs.Parts.{AreSound, objects_in};
+ghost use Rattle.capability.specs.Parts.{AreSound, frames_of, objects_in};
 ghost use Rattle.object_cache.specs.StoreState.{parts_of};
 ghost use Rattle.jobs.specs.Reaching.{OpensAndReads};
 
@@ -13,14 +13,15 @@ use reach::read_objects;
 use recovery::recover;
 use std::alloc::{AllocError, Global};
 
-// The objects of a store. Fails only if memory runs out: nothing is asked of the device.
-fn objects_of<D: Device>(
+/// The objects of a store. Fails only if memory runs out: nothing is asked of the device.
+pub(crate) fn objects_of<D: Device>(
     alloc: Global,
     store: &mut PlainStore<D>,
 ) -> Result<Vec<Object>, AllocError>
     requires { AreSound (parts_of D.disk store.old) }
     ensures objects { IfOk result (λ objects. objects.items ≡ objects_in (parts_of D.disk store.old)) }
     ensures same { store.new.durable ≡ store.old.durable }
+    ensures frames { frames_of (parts_of D.disk store.new) ≡ frames_of (parts_of D.disk store.old) }
 {
     match read_objects(alloc, store) {
         Ok(objects) => Ok(objects),

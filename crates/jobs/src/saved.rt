@@ -14,9 +14,9 @@ use object_store::ObjectStore;
 use recovery::recover;
 use std::alloc::{AllocError, Global};
 
-// The description of the objects of a store, which are sound at an age, with the ranges and the version that its plan has.
-// Fails only where memory runs out: nothing is asked of the device.
-fn description_in<D: Device>(
+/// The description of the objects of a store, which are sound at an age, with the ranges and the version that its plan has.
+/// Fails only where memory runs out: nothing is asked of the device.
+pub(crate) fn description_in<D: Device>(
     alloc: Global,
     store: &mut PlainStore<D>,
     age: u64,

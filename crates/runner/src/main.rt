@@ -9,8 +9,9 @@ use device::{Device, MAX_SECTORS};
 use file_device::{FileDevice, FileFault};
 use image_builder::{Blueprint, OldImage};
 use jobs::{
-    Fault, ShellInput, build_image, check_image, describe_image, draw_image, explain_description,
-    finish, info_image, reach_image, run_image, run_shell, run_traced, upgrade_opened,
+    Fault, Focus, ShellInput, Sizes, build_image, check_image, describe_image, draw_image,
+    explain_description, finish, info_image, reach_image, run_image, run_shell, run_traced,
+    upgrade_opened,
 };
 use memory_device::Fuse;
 use object_cache::{BoundedCache, Capacity, PlainStore};
@@ -297,27 +298,29 @@ fn upgrade(
     Ok(upgrade_opened(rt.alloc(), image, &mut upgraded, writer, errors))
 }
 
-// Describes an image, and gives the status.
+// Describes an image for other sizes, and gives the status.
 fn describe(
     rt: &HostRuntime,
     image: &str,
+    sizes: Sizes,
     writer: &mut BufWriter<Stdout>,
     errors: &mut Stderr,
 ) -> Result<u8, Fault> {
     let device = open_to_read(rt, image)?;
-    let done = describe_image(rt.alloc(), device, writer, errors);
+    let done = describe_image(rt.alloc(), device, sizes, writer, errors);
     Ok(done.status)
 }
 
-// Draws an image, and gives the status.
+// Draws a part of an image, and gives the status.
 fn draw(
     rt: &HostRuntime,
     image: &str,
+    focus: Focus,
     writer: &mut BufWriter<Stdout>,
     errors: &mut Stderr,
 ) -> Result<u8, Fault> {
     let device = open_to_read(rt, image)?;
-    let done = draw_image(rt.alloc(), device, writer, errors);
+    let done = draw_image(rt.alloc(), device, focus, writer, errors);
     Ok(done.status)
 }
 
@@ -448,8 +451,21 @@ fn serve(
         },
         Job::Check { image } => check(rt, image, writer, errors),
         Job::Upgrade { old, new } => upgrade(rt, old, new, writer, errors),
-        Job::Describe { image } => describe(rt, image, writer, errors),
-        Job::Draw { image } => draw(rt, image, writer, errors),
+        Job::Describe { image, sizes } => {
+            let sizes = Sizes {
+                nodes: sizes.nodes,
+                pages: sizes.pages,
+                log: sizes.log,
+            };
+            describe(rt, image, sizes, writer, errors)
+        }
+        Job::Draw { image, from, to } => {
+            let focus = Focus {
+                from: *from,
+                to: *to,
+            };
+            draw(rt, image, focus, writer, errors)
+        }
         Job::Explain { file } => explain(rt, file, writer, errors),
         Job::Info { image } => info(rt, image, writer, errors),
         Job::Reach {

@@ -1,6 +1,7 @@
 use Rattle.std.proofs.Common.{rules, codes, refl}
 use Rattle.clap.specs.Words.{found_of, rows_of}
-use Rattle.command_line.proofs.Getters.{given, missing}
+use Rattle.command_line.specs.Jobs.{AreSizes}
+use Rattle.command_line.proofs.Getters.{given, held, missing}
 use Rattle.command_line.proofs.Lacking.{lacks}
 use Rattle.command_line.proofs.asked.describe_of.Goals as goal
 
@@ -9,4 +10,8 @@ returns-in_err-image-clause-none c = λ _. lacks (codes "describe") (codes "IMAG
     (missing (found_of c.args.inner.now) (codes "IMAGE") _ c.get_str.ensures (search rules))
 
 pub returns-clause-named : goal.returns-clause-named
-returns-clause-named c = (refl, given (found_of c.args.inner.now) (codes "IMAGE") c.get_str.result c.in_ok-image.image c.get_str.ensures (search rules))
+returns-clause-named c = (
+  refl,
+  given (found_of c.args.inner.now) (codes "IMAGE") c.get_str.result c.in_ok-image.image c.get_str.ensures (search rules),
+  held (AreSizes (rows_of (found_of c.args.inner.now))) c.sizes_of.result c.in_ok-sizes.sizes c.sizes_of.ensures.named (search rules),
+)

@@ -1,16 +1,23 @@
-use Rattle.jobs.proofs.DescribedImages.{described}
+use Rattle.jobs.proofs.DrawnImages.{draws_image, few, numbers, sound, whole_read}
 use Rattle.jobs.proofs.drawing.draw_and_tell.Goals as goal
 
-pub returns-in-Ok-draw_whole : goal.returns-in-Ok-draw_whole
-returns-in-Ok-draw_whole g c = record {
-  description = c.in-Ok.description;
-  saved = described g.D.Device.disk c.args.device c.describe_saved-described.result.1 c.describe_saved-described.result.0 c.in-Ok.description c.in-Ok.is c.describe_saved-described.ensures;
-  told = c.in-Ok-draw_whole.ensures;
-}
+pub returns-in-Ok : goal.returns-in-Ok
+returns-in-Ok g c =
+    draws_image g.D.Device.disk c.args.device c.read_whole-read.result.1 c.in-Ok.whole
+    (whole_read g.D.Device.disk c.args.device c.read_whole-read.result.1 c.read_whole-read.result.0 c.in-Ok.whole c.in-Ok.is c.read_whole-read.ensures)
+    c.args.focus (g.W.Write.contents c.args.writer.now) (g.W.Write.contents c.draw_part.new.writer) c.draw_part.result c.draw_part.ensures
 
-pub returns-in-Err-draw_whole : goal.returns-in-Err-draw_whole
-returns-in-Err-draw_whole g c = record {
-  description = c.in-Ok.description;
-  saved = described g.D.Device.disk c.args.device c.describe_saved-described.result.1 c.describe_saved-described.result.0 c.in-Ok.description c.in-Ok.is c.describe_saved-described.ensures;
-  told = c.in-Err-draw_whole.ensures.1;
-}
+pub draw_part-requires-clause-few : goal.draw_part-requires-clause-few
+draw_part-requires-clause-few g c =
+    few g.D.Device.disk c.args.device c.read_whole-read.result.1 c.in-Ok.whole
+    (whole_read g.D.Device.disk c.args.device c.read_whole-read.result.1 c.read_whole-read.result.0 c.in-Ok.whole c.in-Ok.is c.read_whole-read.ensures)
+
+pub draw_part-requires-clause-numbers : goal.draw_part-requires-clause-numbers
+draw_part-requires-clause-numbers g c =
+    numbers g.D.Device.disk c.args.device c.read_whole-read.result.1 c.in-Ok.whole
+    (whole_read g.D.Device.disk c.args.device c.read_whole-read.result.1 c.read_whole-read.result.0 c.in-Ok.whole c.in-Ok.is c.read_whole-read.ensures)
+
+pub draw_part-requires-clause-sound : goal.draw_part-requires-clause-sound
+draw_part-requires-clause-sound g c =
+    sound g.D.Device.disk c.args.device c.read_whole-read.result.1 c.in-Ok.whole
+    (whole_read g.D.Device.disk c.args.device c.read_whole-read.result.1 c.read_whole-read.result.0 c.in-Ok.whole c.in-Ok.is c.read_whole-read.ensures)

@@ -1,0 +1,180 @@
+-- Numbers and capabilities in an image of other sizes.
+use Rattle.std.proofs.Common.{◌≡◌, ◌≢◌, ℕ, ◌+◌, ◌-◌, ◌<◌, ◌≤◌, if◌then◌else◌, Bool, true, false, List, [], ◌∷◌, map, Option, Some, None, unwrap_or, refl, sym, ap, ◌∙◌, subst, arith}
+use Rattle.std.specs.Prelude.{◌==◌, IfSome, option_map}
+use Rattle.std.specs.List.{All}
+use Rattle.std.proofs.lemmas.Bool.Decides.{nat_tests}
+use Rattle.std.proofs.lemmas.List.{length-map}
+use Rattle.std.proofs.lemmas.List.Elements.{All-map, All-weaker}
+use Rattle.std.proofs.lemmas.Option.{slice_get-map}
+use Rattle.model.specs.declared.capability.Cap.{Cap}
+use Rattle.model.specs.declared.capability.Capability.{Capability}
+use Rattle.model.specs.declared.capability.Capability.TheVariants.{Void, Number, Page, Node, Space, Process, Start, Resume, Bank, Discrim}
+use Rattle.model.specs.declared.frame.Frame.{Frame}
+use Rattle.model.specs.declared.geometry.Geometry.{Geometry}
+use Rattle.model.specs.declared.object.Content.{Content}
+use Rattle.model.specs.declared.object.Content.TheVariants as content
+use Rattle.model.specs.declared.object.Object.{Object}
+use Rattle.model.specs.Capability.{IsWellFormed, named}
+use Rattle.model.specs.Object.{map_content}
+use Rattle.model.specs.Sound.{IsSpace, object_count}
+use Rattle.capability.specs.Plain.{fresh_cap}
+use Rattle.description.specs.declared.entry.SlotEntry.{SlotEntry}
+use Rattle.described_world.specs.Described.{AreDistinct, AreSlots, HoldsNamed, IsSomeCapability, IsSpaceEntry, named_at}
+use Rattle.image_describer.specs.Describes.{AreBriefSlots, AreRising, plain_frame}
+use Rattle.image_describer.specs.Grown.{moved, moved_capability, moved_held, moved_object, moved_slot}
+use Rattle.image_describer.specs.Spelled.{IsWide, NamesWide, SpellsSlot}
+
+-- Numbers
+
+pub node_stays : (old new : Geometry) (n : ℕ) → n < old.nodes → moved old new n ≡ n
+node_stays old new n below = grind (arith, nat_tests)
+
+pub page_moves : (old new : Geometry) (n : ℕ) → old.nodes ≤ n → n < object_count old → moved old new n ≡ n - old.nodes + new.nodes
+page_moves old new n above below = grind (arith, nat_tests)
+
+pub stays_itself : (g : Geometry) (n : ℕ) → moved g g n ≡ n
+stays_itself g n = grind (arith, nat_tests)
+
+-- the numbers of an image of few objects stay of 64 bits
+pub moved_wide : (old new : Geometry) (n : ℕ) → object_count old ≤ 8192 → new.nodes ≤ 4096 → IsWide n → IsWide (moved old new n)
+moved_wide old new n few also wide = grind (arith, nat_tests)
+
+-- Capabilities
+
+module _ (at : ℕ → ℕ) where
+  pub well_formed_moved : (c : Capability) → IsWellFormed c → IsWellFormed (moved_capability at c)
+  well_formed_moved Void h = tt
+  well_formed_moved (Number n) h = h
+  well_formed_moved (Page o a) h = h
+  well_formed_moved (Node o a) h = h
+  well_formed_moved (Space o k a) h = h
+  well_formed_moved (Process p) h = tt
+  well_formed_moved (Start p key) h = h
+  well_formed_moved (Resume p) h = tt
+  well_formed_moved (Bank b) h = tt
+  well_formed_moved Discrim h = tt
+
+  pub space_moved : (c : Capability) → IsSpace c → IsSpace (moved_capability at c)
+  space_moved Void h = tt
+  space_moved (Number n) h = absurd h
+  space_moved (Page o a) h = tt
+  space_moved (Node o a) h = absurd h
+  space_moved (Space o k a) h = tt
+  space_moved (Process p) h = absurd h
+  space_moved (Start p key) h = absurd h
+  space_moved (Resume p) h = absurd h
+  space_moved (Bank b) h = absurd h
+  space_moved Discrim h = absurd h
+
+  pub void_moved : (c : Capability) → moved_capability at c ≡ Void → c ≡ Void
+  void_moved Void h = refl
+  void_moved (Number n) h = absurd cc
+  void_moved (Page o a) h = absurd cc
+  void_moved (Node o a) h = absurd cc
+  void_moved (Space o k a) h = absurd cc
+  void_moved (Process p) h = absurd cc
+  void_moved (Start p key) h = absurd cc
+  void_moved (Resume p) h = absurd cc
+  void_moved (Bank b) h = absurd cc
+  void_moved Discrim h = absurd cc
+
+  pub named_moved : ((n : ℕ) → IsWide n → IsWide (at n)) → (c : Capability) → IfSome (named c) IsWide → IfSome (named (moved_capability at c)) IsWide
+  named_moved on Void h = tt
+  named_moved on (Number n) h = tt
+  named_moved on (Page o a) h = on o h
+  named_moved on (Node o a) h = on o h
+  named_moved on (Space o k a) h = on o h
+  named_moved on (Process p) h = on p h
+  named_moved on (Start p key) h = on p h
+  named_moved on (Resume p) h = on p h
+  named_moved on (Bank b) h = on b h
+  named_moved on Discrim h = tt
+
+  -- those that may be absent
+  pub held_moved : (o : Option Capability) → unwrap_or (moved_held at o) Void ≡ moved_capability at (unwrap_or o Void)
+  held_moved None = refl
+  held_moved (Some c) = refl
+
+  pub some_moved : (o : Option Capability) → IsSomeCapability o → IsSomeCapability (moved_held at o)
+  some_moved None h = h
+  some_moved (Some c) h = well_formed_moved c h
+
+  pub space_entry_moved : (o : Option Capability) → IsSpaceEntry o → IsSpaceEntry (moved_held at o)
+  space_entry_moved None h = h
+  space_entry_moved (Some c) h = (well_formed_moved c h.0, space_moved c h.1)
+
+  pub wide_moved : ((n : ℕ) → IsWide n → IsWide (at n)) → (o : Option Capability) → NamesWide o → NamesWide (moved_held at o)
+  wide_moved on None h = tt
+  wide_moved on (Some c) h = named_moved on c h
+
+  pub not_void_moved : (o : Option Capability) → o ≢ Some Void → moved_held at o ≢ Some Void
+  not_void_moved None h is = absurd cc
+  not_void_moved (Some c) h is =
+      let same : moved_capability at c ≡ Void = ap (λ (p : Option Capability). unwrap_or p Void) is in
+      h (ap (λ (d : Capability). Some d) (void_moved c same))
+
+  -- those of slots
+  pub indexes_moved : (es : List SlotEntry) → map (λ s. s.index) (map (moved_slot at) es) ≡ map (λ s. s.index) es
+  indexes_moved [] = refl
+  indexes_moved (e ∷ es) = ap (λ (ns : List ℕ). e.index ∷ ns) (indexes_moved es)
+
+  pub slots_moved : (first : ℕ) (es : List SlotEntry) → AreSlots first es → AreSlots first (map (moved_slot at) es)
+  slots_moved first es are = record {
+    places = All-map (λ (s : SlotEntry). (first ≤ s.index) × (s.index < 32)) (moved_slot at) es are.places;
+    distinct = subst AreDistinct (sym (indexes_moved es)) are.distinct;
+    held = All-map (λ (s : SlotEntry). IsSomeCapability s.capability) (moved_slot at) es
+        (All-weaker (λ (s : SlotEntry). IsSomeCapability s.capability) (λ (s : SlotEntry). IsSomeCapability (moved_held at s.capability)) (λ s h. some_moved s.capability h) es are.held);
+  }
+
+  pub spelled_moved : ((n : ℕ) → IsWide n → IsWide (at n)) → (es : List SlotEntry) → All SpellsSlot es → All SpellsSlot (map (moved_slot at) es)
+  spelled_moved on es all =
+      All-map SpellsSlot (moved_slot at) es (All-weaker SpellsSlot (λ (s : SlotEntry). SpellsSlot (moved_slot at s)) (λ s h. (h.0, wide_moved on s.capability h.1)) es all)
+
+  pub brief_moved : (es : List SlotEntry) → AreBriefSlots es → AreBriefSlots (map (moved_slot at) es)
+  brief_moved es brief = (
+    subst AreRising (sym (indexes_moved es)) brief.0,
+    All-map (λ (s : SlotEntry). s.capability ≢ Some Void) (moved_slot at) es
+        (All-weaker (λ (s : SlotEntry). s.capability ≢ Some Void) (λ (s : SlotEntry). moved_held at s.capability ≢ Some Void) (λ s h. not_void_moved s.capability h) es brief.1),
+  )
+
+  chosen : (b : Bool) (c d : Capability) (o : Option Capability) → c ≡ moved_capability at d → (if b then unwrap_or (moved_held at o) Void else c) ≡ moved_capability at (if b then unwrap_or o Void else d)
+  chosen true c d o is = held_moved o
+  chosen false c d o is = is
+
+  pub named_at_moved : (es : List SlotEntry) (i : ℕ) → named_at (map (moved_slot at) es) i ≡ moved_capability at (named_at es i)
+  named_at_moved [] i = refl
+  named_at_moved (e ∷ es) i = chosen (e.index == i) (named_at (map (moved_slot at) es) i) (named_at es i) e.capability (named_at_moved es i)
+
+  -- Frames
+
+  abbrev pub moved_cap : Cap → Cap
+  moved_cap c = record { what = moved_capability at c.what; count = c.count }
+
+  abbrev pub moved_frame : Frame → Frame
+  moved_frame f = record { header = f.header; content = map_content moved_cap f.content }
+
+  pub holds_moved : (es : List SlotEntry) (slots : List Cap) → HoldsNamed es slots → HoldsNamed (map (moved_slot at) es) (map moved_cap slots)
+  holds_moved es slots holds = record {
+    count = length-map slots moved_cap ∙ holds.count;
+    each = λ i inside.
+        slice_get-map moved_cap slots i ∙ ap (λ (o : Option Cap). option_map moved_cap o) (holds.each i inside)
+        ∙ ap (λ (c : Capability). Some (fresh_cap c)) (sym (named_at_moved es i));
+  }
+
+  fresh_moved : (cs : List Capability) → map fresh_cap (map (moved_capability at) cs) ≡ map moved_cap (map fresh_cap cs)
+  fresh_moved [] = refl
+  fresh_moved (c ∷ cs) = ap (λ (ds : List Cap). fresh_cap (moved_capability at c) ∷ ds) (fresh_moved cs)
+
+  plain_content : (owner : ℕ) (c : Content Capability)
+      → plain_frame (record { owner = owner; content = map_content (moved_capability at) c }) ≡ moved_frame (plain_frame (record { owner = owner; content = c }))
+  plain_content owner content.Free = refl
+  plain_content owner (content.Page words) = refl
+  plain_content owner (content.Node slots) =
+      ap (λ (cs : List Cap). let f : Frame = record { header = (plain_frame (record { owner = owner; content = content.Node slots })).header; content = content.Node cs } in f) (fresh_moved slots)
+  plain_content owner (content.Root r) = refl
+  plain_content owner (content.Annex registers) =
+      ap (λ (cs : List Cap). let f : Frame = record { header = (plain_frame (record { owner = owner; content = content.Annex registers })).header; content = content.Annex cs } in f) (fresh_moved registers)
+  plain_content owner (content.Bank limit) = refl
+
+  pub plain_moved : (o : Object) → plain_frame (moved_object at o) ≡ moved_frame (plain_frame o)
+  plain_moved o = plain_content o.owner o.content

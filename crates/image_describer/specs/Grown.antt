@@ -1,0 +1,132 @@
+-- An image of other sizes: nodes keep their numbers, and pages follow the nodes.
+use Rattle.std.specs.Prelude.{◌≡◌, ◌≢◌, ℕ, ◌+◌, ◌-◌, ◌<◌, ◌≤◌, ◌==◌, ◌&&◌, nat_lt, if◌then◌else◌, false, Option, None, Some, List, map, length, unwrap_or}
+use Rattle.std.specs.List.{All, AllZip}
+use Rattle.image_writer.specs.declared.number_range.NumberRange.{NumberRange}
+use Rattle.layout.specs.Superblock.{IsGeometry}
+use Rattle.model.specs.declared.capability.Capability.{Capability}
+use Rattle.model.specs.declared.capability.Capability.TheVariants.{Void, Number, Page, Node, Space, Process, Start, Resume, Bank, Discrim}
+use Rattle.model.specs.declared.geometry.Geometry.{Geometry}
+use Rattle.model.specs.declared.object.Object.{Object}
+use Rattle.model.specs.Object.{free, is_free, map_content}
+use Rattle.model.specs.Sound.{object_count}
+use Rattle.model.specs.World.{World, content_at, object_at}
+use Rattle.description.specs.declared.entry.Description.{Description}
+use Rattle.description.specs.declared.entry.NodeEntry.{NodeEntry}
+use Rattle.description.specs.declared.entry.PageEntry.{PageEntry}
+use Rattle.description.specs.declared.entry.ProcessEntry.{ProcessEntry}
+use Rattle.description.specs.declared.entry.SlotEntry.{SlotEntry}
+use Rattle.description.specs.Reading.{whole_ranges}
+use Rattle.image_describer.specs.declared.sizes.GrowthFault.{GrowthFault}
+use Rattle.image_describer.specs.declared.sizes.GrowthFault.TheVariants as fault
+use Rattle.image_describer.specs.declared.sizes.Sizes.{Sizes}
+
+-- sizes, and an image's own where there are none
+abbrev pub grown_geometry : Geometry → Sizes → Geometry
+grown_geometry own sizes = record {
+  nodes = unwrap_or sizes.nodes own.nodes;
+  pages = unwrap_or sizes.pages own.pages;
+  log = unwrap_or sizes.log own.log;
+}
+
+-- the number of an object in the other image: that of a page moves with the number of nodes
+abbrev pub moved : Geometry → Geometry → ℕ → ℕ
+moved old new n = if nat_lt n old.nodes then n else if nat_lt n (object_count old) then n - old.nodes + new.nodes else n
+
+-- a capability that names the object at its number in the other image
+abbrev pub moved_capability : (ℕ → ℕ) → Capability → Capability
+moved_capability at Void = Void
+moved_capability at (Number n) = Number n
+moved_capability at (Page o a) = Page (at o) a
+moved_capability at (Node o a) = Node (at o) a
+moved_capability at (Space o h a) = Space (at o) h a
+moved_capability at (Process p) = Process (at p)
+moved_capability at (Start p key) = Start (at p) key
+moved_capability at (Resume p) = Resume (at p)
+moved_capability at (Bank b) = Bank (at b)
+moved_capability at Discrim = Discrim
+
+-- an object whose capabilities do so
+abbrev pub moved_object : (ℕ → ℕ) → Object → Object
+moved_object at o = record { owner = o.owner; content = map_content (moved_capability at) o.content }
+
+-- The objects of a world in an image of other sizes: each at its number there, with its capabilities renumbered, and all
+-- else free.
+pub record IsGrown (old new : Geometry) (w v : World) : Type 0 where
+  pub count : length v.objects ≡ object_count new
+  pub age : v.age ≡ w.age
+  pub each : (n : ℕ) → is_free (content_at w.objects n) ≡ false → object_at v.objects (moved old new n) ≡ moved_object (moved old new) (object_at w.objects n)
+  pub others : (m : ℕ) → ((n : ℕ) → is_free (content_at w.objects n) ≡ false → moved old new n ≢ m) → object_at v.objects m ≡ free
+
+-- each object has a number in the other image
+abbrev pub NodesFit : Geometry → Geometry → World → Type 0
+NodesFit old new w = (n : ℕ) → is_free (content_at w.objects n) ≡ false → n < old.nodes → n < new.nodes
+
+abbrev pub PagesFit : Geometry → Geometry → World → Type 0
+PagesFit old new w = (n : ℕ) → is_free (content_at w.objects n) ≡ false → old.nodes ≤ n → moved old new n < object_count new
+
+-- the least reason why a world has no image of other sizes; the last isn't one
+abbrev pub IsUnsuited : Geometry → Geometry → World → GrowthFault → Type 0
+IsUnsuited old new w fault.Limits = IsGeometry new → ⊥
+IsUnsuited old new w fault.Nodes = IsGeometry new × (NodesFit old new w → ⊥)
+IsUnsuited old new w fault.Pages = IsGeometry new × NodesFit old new w × (PagesFit old new w → ⊥)
+IsUnsuited old new w fault.NoMemory = Unit {0}
+
+-- The same of a description.
+
+-- home ranges stay where the numbers of nodes and pages do; else they are one of all nodes and one of all pages
+abbrev pub grown_ranges : Geometry → Geometry → List NumberRange → List NumberRange
+grown_ranges old new ranges = if old.nodes == new.nodes && old.pages == new.pages then ranges else whole_ranges new
+
+abbrev pub moved_held : (ℕ → ℕ) → Option Capability → Option Capability
+moved_held at None = None
+moved_held at (Some c) = Some (moved_capability at c)
+
+abbrev pub moved_slot : (ℕ → ℕ) → SlotEntry → SlotEntry
+moved_slot at s = record { index = s.index; capability = moved_held at s.capability }
+
+-- entries that name the same, with their numbers and capabilities renumbered
+pub record IsMovedProcess (at : ℕ → ℕ) (p q : ProcessEntry) : Type 0 where
+  pub root : q.root ≡ p.root
+  pub annex : q.annex ≡ p.annex
+  pub owner : q.owner ≡ p.owner
+  pub state : q.state ≡ p.state
+  pub key : q.key ≡ p.key
+  pub words : q.words ≡ p.words
+  pub space : q.space ≡ moved_held at p.space
+  pub registers : q.registers.items ≡ map (moved_slot at) p.registers.items
+
+pub record IsMovedNode (at : ℕ → ℕ) (m n : NodeEntry) : Type 0 where
+  pub number : n.number ≡ m.number
+  pub owner : n.owner ≡ m.owner
+  pub slots : n.slots.items ≡ map (moved_slot at) m.slots.items
+
+pub record IsMovedPage (at : ℕ → ℕ) (p q : PageEntry) : Type 0 where
+  pub number : q.number ≡ at p.number
+  pub owner : q.owner ≡ p.owner
+  pub words : q.words ≡ p.words
+
+-- a description is another's, renumbered for its own sizes
+pub record IsRenumbered (d e : Description) : Type 0 where
+  pub layout : e.layout ≡ d.layout
+  pub age : e.age ≡ d.age
+  pub ranges : e.ranges.items ≡ grown_ranges d.geometry e.geometry d.ranges.items
+  pub banks : e.banks ≡ d.banks
+  pub processes : AllZip (IsMovedProcess (moved d.geometry e.geometry)) d.processes.items e.processes.items
+  pub nodes : AllZip (IsMovedNode (moved d.geometry e.geometry)) d.nodes.items e.nodes.items
+  pub pages : AllZip (IsMovedPage (moved d.geometry e.geometry)) d.pages.items e.pages.items
+
+-- the numbers of nodes that it names are numbers of nodes there, and those of pages numbers of pages
+pub record NamesNodes (count : ℕ) (d : Description) : Type 0 where
+  pub banks : All (λ b. b.number < count) d.banks.items
+  pub processes : All (λ p. (p.root < count) × (p.annex < count)) d.processes.items
+  pub nodes : All (λ n. n.number < count) d.nodes.items
+
+abbrev pub NamesPages : Geometry → Geometry → Description → Type 0
+NamesPages old new d = All (λ p. moved old new p.number < object_count new) d.pages.items
+
+-- the least reason why a description isn't renumbered
+abbrev pub IsNotRenumbered : Description → Geometry → GrowthFault → Type 0
+IsNotRenumbered d new fault.Limits = IsGeometry new → ⊥
+IsNotRenumbered d new fault.Nodes = IsGeometry new × (NamesNodes new.nodes d → ⊥)
+IsNotRenumbered d new fault.Pages = IsGeometry new × NamesNodes new.nodes d × (NamesPages d.geometry new d → ⊥)
+IsNotRenumbered d new fault.NoMemory = Unit {0}

@@ -1,0 +1,258 @@
+// A description, renumbered for an image of other sizes.
+ghost use Rattle.std.specs.Prelude.{◌≡◌, ◌+◌, ◌≤◌, ◌<◌, ◌↔◌, map, IfErr, IfOk, IsTrue, OnErr, OnOk};
+ghost use Rattle.std.specs.List.{All, AllZip};
+ghost use Rattle.layout.specs.Superblock.{IsGeometry};
+ghost use Rattle.model.specs.Sound.{object_count};
+ghost use Rattle.image_writer.specs.Laid.{MayBeLaid};
+ghost use Rattle.image_describer.specs.Grown.{IsMovedNode, IsMovedPage, IsMovedProcess, IsNotRenumbered, IsRenumbered, NamesNodes, NamesPages, grown_ranges, moved, moved_capability, moved_held, moved_slot};
+
+use crate::sizes::GrowthFault;
+use description::{Description, NodeEntry, PageEntry, ProcessEntry, SlotEntry};
+use image_writer::{NumberRange, lay_out};
+use layout::Version;
+use model::{Capability, Geometry};
+use std::alloc::{AllocError, Global};
+
+// The number of an object in an image of other sizes.
+fn moved(old: Geometry, new: Geometry, number: u64) -> u64
+    requires old { object_count old ≤ 8192 }
+    requires new { new.nodes ≤ 4096 }
+    ensures { result ≡ moved old new number }
+{
+    if number < old.nodes || number >= old.nodes + old.pages {
+        number
+    } else {
+        number - old.nodes + new.nodes
+    }
+}
+
+// A capability that names the object at its number there.
+fn moved_capability(old: Geometry, new: Geometry, capability: Capability) -> Capability
+    requires old { object_count old ≤ 8192 }
+    requires new { new.nodes ≤ 4096 }
+    ensures { result ≡ moved_capability (moved old new) capability }
+{
+    match capability {
+        Capability::Void => Capability::Void,
+        Capability::Number(number) => Capability::Number(number),
+        Capability::Page { object, access } => Capability::Page {
+            object: moved(old, new, object),
+            access,
+        },
+        Capability::Node { object, access } => Capability::Node {
+            object: moved(old, new, object),
+            access,
+        },
+        Capability::Space {
+            object,
+            height,
+            access,
+        } => Capability::Space {
+            object: moved(old, new, object),
+            height,
+            access,
+        },
+        Capability::Process(process) => Capability::Process(moved(old, new, process)),
+        Capability::Start { process, key } => Capability::Start {
+            process: moved(old, new, process),
+            key,
+        },
+        Capability::Resume(process) => Capability::Resume(moved(old, new, process)),
+        Capability::Bank(bank) => Capability::Bank(moved(old, new, bank)),
+        Capability::Discrim => Capability::Discrim,
+    }
+}
+
+// The same of a capability that may be absent.
+fn moved_held(old: Geometry, new: Geometry, capability: Option<Capability>) -> Option<Capability>
+    requires old { object_count old ≤ 8192 }
+    requires new { new.nodes ≤ 4096 }
+    ensures { result ≡ moved_held (moved old new) capability }
+{
+    match capability {
+        Some(capability) => Some(moved_capability(old, new, capability)),
+        None => None,
+    }
+}
+
+// Renumbers the capabilities of slots.
+fn move_slots(old: Geometry, new: Geometry, slots: &mut [SlotEntry])
+    requires old { object_count old ≤ 8192 }
+    requires new { new.nodes ≤ 4096 }
+    ensures { slots.new ≡ map (moved_slot (moved old new)) slots.old }
+{
+    for slot in slots.iter_mut() {
+        slot.capability = moved_held(old, new, slot.capability);
+    }
+}
+
+// Renumbers the capabilities of a process.
+fn move_process(old: Geometry, new: Geometry, process: &mut ProcessEntry)
+    requires old { object_count old ≤ 8192 }
+    requires new { new.nodes ≤ 4096 }
+    ensures { IsMovedProcess (moved old new) process.old process.new }
+{
+    process.space = moved_held(old, new, process.space);
+    move_slots(old, new, process.registers.as_mut_slice());
+}
+
+fn move_processes(old: Geometry, new: Geometry, processes: &mut [ProcessEntry])
+    requires old { object_count old ≤ 8192 }
+    requires new { new.nodes ≤ 4096 }
+    ensures { AllZip (IsMovedProcess (moved old new)) processes.old processes.new }
+{
+    for process in processes.iter_mut() {
+        move_process(old, new, process);
+    }
+}
+
+// Renumbers the capabilities of a node.
+fn move_node(old: Geometry, new: Geometry, node: &mut NodeEntry)
+    requires old { object_count old ≤ 8192 }
+    requires new { new.nodes ≤ 4096 }
+    ensures { IsMovedNode (moved old new) node.old node.new }
+{
+    move_slots(old, new, node.slots.as_mut_slice());
+}
+
+fn move_nodes(old: Geometry, new: Geometry, nodes: &mut [NodeEntry])
+    requires old { object_count old ≤ 8192 }
+    requires new { new.nodes ≤ 4096 }
+    ensures { AllZip (IsMovedNode (moved old new)) nodes.old nodes.new }
+{
+    for node in nodes.iter_mut() {
+        move_node(old, new, node);
+    }
+}
+
+// Renumbers a page.
+fn move_page(old: Geometry, new: Geometry, page: &mut PageEntry)
+    requires old { object_count old ≤ 8192 }
+    requires new { new.nodes ≤ 4096 }
+    ensures { IsMovedPage (moved old new) page.old page.new }
+{
+    page.number = moved(old, new, page.number);
+}
+
+fn move_pages(old: Geometry, new: Geometry, pages: &mut [PageEntry])
+    requires old { object_count old ≤ 8192 }
+    requires new { new.nodes ≤ 4096 }
+    ensures { AllZip (IsMovedPage (moved old new)) pages.old pages.new }
+{
+    for page in pages.iter_mut() {
+        move_page(old, new, page);
+    }
+}
+
+// Whether banks, processes and nodes have numbers below a count.
+fn names_nodes(count: u64, description: &Description) -> bool
+    ensures { IsTrue result ↔ NamesNodes count description.now }
+{
+    description.banks.iter().all(|bank| bank.number < count)
+        && description
+            .processes
+            .iter()
+            .all(|process| process.root < count && process.annex < count)
+        && description.nodes.iter().all(|node| node.number < count)
+}
+
+// Whether pages have numbers in an image of other sizes.
+fn names_pages(new: Geometry, description: &Description) -> bool
+    requires old { object_count description.now.geometry ≤ 8192 }
+    requires new { object_count new ≤ 8192 }
+    requires nodes { new.nodes ≤ 4096 }
+    ensures { IsTrue result ↔ NamesPages description.now.geometry new description.now }
+{
+    let old = description.geometry;
+    let end = new.nodes + new.pages;
+    description
+        .pages
+        .iter()
+        .all(|page| moved(old, new, page.number) < end)
+}
+
+// The home ranges of an image of other sizes.
+fn grown_ranges(
+    alloc: Global,
+    old: Geometry,
+    new: Geometry,
+    ranges: &[NumberRange],
+) -> Result<Vec<NumberRange>, AllocError>
+    requires { object_count old ≤ 8192 }
+    ensures { IfOk result (λ grown. grown.items ≡ grown_ranges old new ranges.now) }
+{
+    if old.nodes == new.nodes && old.pages == new.pages {
+        return Ok(ranges.to_vec(alloc)?);
+    }
+    let mut grown = Vec::new(alloc);
+    grown.push(NumberRange {
+        first: 0,
+        count: new.nodes,
+    })?;
+    grown.push(NumberRange {
+        first: new.nodes,
+        count: new.pages,
+    })?;
+    Ok(grown)
+}
+
+// The home ranges of an image of other sizes, if a description can be renumbered for it.
+fn suited_ranges(
+    alloc: Global,
+    description: &Description,
+    new: Geometry,
+) -> Result<Vec<NumberRange>, GrowthFault>
+    requires { MayBeLaid description.now.geometry description.now.ranges.items }
+    ensures ranges { IfOk result (λ ranges.
+        ranges.items ≡ grown_ranges description.now.geometry new description.now.ranges.items) }
+    ensures limits { OnOk result (IsGeometry new) }
+    ensures nodes { OnOk result (NamesNodes new.nodes description.now) }
+    ensures pages { OnOk result (NamesPages description.now.geometry new description.now) }
+    ensures refused { IfErr result (λ fault. IsNotRenumbered description.now new fault) }
+{
+    let Ok(ranges) = grown_ranges(alloc, description.geometry, new, &description.ranges) else {
+        return Err(GrowthFault::NoMemory);
+    };
+    if let Err(_) = lay_out(Version::One, new, &ranges) {
+        return Err(GrowthFault::Limits);
+    }
+    if !names_nodes(new.nodes, description) {
+        return Err(GrowthFault::Nodes);
+    }
+    if !names_pages(new, description) {
+        return Err(GrowthFault::Pages);
+    }
+    Ok(ranges)
+}
+
+/// Renumbers a description for an image of other sizes. Nodes keep their numbers. The number of a page
+/// moves with the number of nodes: as an object, and in each capability. Home ranges stay if the
+/// numbers of nodes and pages do. Otherwise they are one of all nodes and one of all pages.
+///
+/// Errors, the least first; then nothing has changed:
+/// - `Limits` if no image has these sizes;
+/// - `Nodes` if a bank, a process or a node has no number there;
+/// - `Pages` if a page has none;
+/// - `NoMemory` if memory ran out.
+pub fn grow(
+    alloc: Global,
+    description: &mut Description,
+    geometry: Geometry,
+) -> Result<(), GrowthFault>
+    requires { MayBeLaid description.old.geometry description.old.ranges.items }
+    ensures geometry { OnOk result (description.new.geometry ≡ geometry) }
+    ensures renumbered { OnOk result (IsRenumbered description.old description.new) }
+    ensures limits { OnOk result (IsGeometry geometry) }
+    ensures nodes { OnOk result (NamesNodes geometry.nodes description.old) }
+    ensures pages { OnOk result (NamesPages description.old.geometry geometry description.old) }
+    ensures refused { IfErr result (λ fault. IsNotRenumbered description.old geometry fault) }
+    ensures same { OnErr result (description.new ≡ description.old) }
+{
+    let old = description.geometry;
+    description.ranges = suited_ranges(alloc, description, geometry)?;
+    description.geometry = geometry;
+    move_processes(old, geometry, description.processes.as_mut_slice());
+    move_nodes(old, geometry, description.nodes.as_mut_slice());
+    move_pages(old, geometry, description.pages.as_mut_slice());
+    Ok(())
+}

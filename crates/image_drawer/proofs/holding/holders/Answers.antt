@@ -1,0 +1,10 @@
+use Rattle.std.proofs.Common.{ℕ, List, ◌<◌, subst, sym, ◌∙◌}
+use Rattle.std.specs.List.{All}
+use Rattle.model.specs.Sound.{object_count}
+use Rattle.image_drawer.proofs.Listed.{holders_below}
+use Rattle.image_drawer.proofs.holding.holders.Goals as goal
+
+pub set_of-requires : goal.set_of-requires
+set_of-requires c =
+    subst (λ (ns : List ℕ). All (λ n. n < object_count c.args.description.now.geometry) ns) (sym (c.deref.ensures.value ∙ c.in_ok-numbers.ensures))
+    (holders_below c.args.description.now c.requires.numbers c.args.object c.requires.drawn)

@@ -1,0 +1,7 @@
+use Rattle.std.proofs.Common.{◌≡◌, map, take}
+use Rattle.std.specs.List.{filter}
+use Rattle.image_drawer.specs.Part.{holds_in}
+use Rattle.image_drawer.proofs.holding.node_holders.Given as goal
+
+abbrev pub invariant-loop-node : goal.invariant-loop-node
+invariant-loop-node l = l.numbers.items ≡ map (λ n. n.number) (filter (λ n. holds_in l.object n.slots.items) (take l.node-index l.nodes))

@@ -1,0 +1,7 @@
+use Rattle.number_set.specs.Marks.{is_marked}
+use Rattle.image_describer.proofs.Pairs.{ZipBelow}
+use Rattle.image_drawer.specs.Part.{IsPartOfProcess}
+use Rattle.image_drawer.proofs.restricting.restrict_processes.Given as goal
+
+abbrev pub invariant-loop-process : goal.invariant-loop-process
+invariant-loop-process l = ZipBelow (IsPartOfProcess (is_marked l.inside)) l.process-index l.fn.processes l.processes

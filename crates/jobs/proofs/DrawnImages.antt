@@ -1,0 +1,83 @@
+-- What the command that draws comes to.
+use Rattle.std.proofs.Common.{◌≡◌, ℕ, ◌<◌, ◌^◌, List, Option, Result, Ok, Err, sym, subst, arith}
+use Rattle.model.specs.declared.geometry.Geometry.{Geometry}
+use Rattle.model.specs.declared.object.Object.{Object}
+use Rattle.model.specs.Sound.{object_count}
+use Rattle.device.specs.Disk.{Disk}
+use Rattle.checkpoint.specs.declared.open_fault.OpenFault.{OpenFault}
+use Rattle.checkpoint.specs.declared.open_fault.OpenFault.TheVariants as opening
+use Rattle.description.specs.declared.entry.Description.{Description}
+use Rattle.described_world.specs.Described.{HasNumbers}
+use Rattle.reach.specs.Reached.{AreSoundObjects}
+use Rattle.jobs.specs.declared.drawing.Focus.{Focus}
+use Rattle.jobs.specs.declared.fault.Fault.{Fault}
+use Rattle.jobs.specs.declared.fault.Fault.TheVariants as fault
+use Rattle.jobs.specs.declared.whole.Whole.{Whole}
+use Rattle.jobs.specs.Drawing.{DrawsImage, DrawsPart, IsHeldTo, KeepsPart, KeepsReached, OfWhole, OpensWhole}
+use Rattle.jobs.specs.Images.{DescribesSaved}
+use Rattle.jobs.specs.Reaching.{HoldsOfSaved}
+use Rattle.jobs.proofs.ReachedImages.{objects_sound}
+
+-- what was answered is all that is saved
+pub whole_read : {D : Type 0} (disk : D → Disk) (device back : D) (answer : Result Whole OpenFault) (whole : Whole) → answer ≡ Ok whole → OpensWhole disk device back answer
+    → DescribesSaved disk device back whole.description × HoldsOfSaved disk device back (λ os. whole.objects.items ≡ os)
+whole_read disk device back answer whole is read = subst (λ (r : Result Whole OpenFault). OpensWhole disk device back r) is read
+
+module _ {D : Type 0} (disk : D → Disk) (device back : D) (whole : Whole)
+    (opened : DescribesSaved disk device back whole.description × HoldsOfSaved disk device back (λ os. whole.objects.items ≡ os)) where
+  pub few : object_count whole.description.geometry < 2 ^ 64
+  few =
+      let saved = opened.0 in
+      let limits = saved.encodes.plan.fits.geometry in
+      let below : object_count saved.state.plan.geometry < 2 ^ 64 = omega (arith, limits.most_nodes, limits.most_pages) in
+      subst (λ (g : Geometry). object_count g < 2 ^ 64) (sym saved.whole.describes.geometry) below
+
+  pub numbers : HasNumbers whole.description
+  numbers = opened.0.whole.describes.numbers
+
+  pub sound : AreSoundObjects whole.objects.items
+  sound = objects_sound disk device back whole.objects.items opened.1
+
+  module _ (focus : Focus) (output output_left : Option (List ℕ)) where
+    of_whole : (outcome : Result (Unit {0}) Fault) → DrawsPart whole.objects.items focus whole.description output output_left outcome
+        → OfWhole disk device back (λ os d. DrawsPart os focus d output output_left outcome)
+    of_whole outcome draws = record { description = whole.description; saved = opened.0; objects = whole.objects.items; read = opened.1; told = draws }
+
+    pub draws_image : (outcome : Result (Unit {0}) Fault) → DrawsPart whole.objects.items focus whole.description output output_left outcome → DrawsImage disk focus device back output output_left outcome
+    draws_image (Ok a) draws = of_whole (Ok a) draws
+    draws_image (Err fault.CannotReadDescription) draws = absurd draws.0
+    draws_image (Err fault.NotToml) draws = absurd draws.0
+    draws_image (Err fault.CannotWriteImage) draws = absurd draws.0
+    draws_image (Err fault.CannotOpenImage) draws = absurd draws.0
+    draws_image (Err fault.CannotReadScript) draws = absurd draws.0
+    draws_image (Err fault.CannotWriteOutput) draws = of_whole (Err fault.CannotWriteOutput) draws
+    draws_image (Err fault.NoMemory) draws = absurd draws.0
+    draws_image (Err (fault.Build why)) draws = absurd draws.0
+    draws_image (Err (fault.Open opening.Failed)) draws = absurd draws.0
+    draws_image (Err (fault.Open opening.NoMemory)) draws = (record { is_why = opened.0.failures; looks = opened.0.looks }, draws)
+    draws_image (Err (fault.Open (opening.Bad reason))) draws = absurd draws.0
+    draws_image (Err (fault.Upgrade why)) draws = absurd draws.0
+    draws_image (Err (fault.Stopped stop)) draws = absurd draws.0
+    draws_image (Err (fault.NoObject o)) draws = of_whole (Err (fault.NoObject o)) draws
+    draws_image (Err (fault.NoProcess p)) draws = of_whole (Err (fault.NoProcess p)) draws
+    draws_image (Err (fault.Sizes why)) draws = absurd draws.0
+
+-- A description is restricted twice.
+pub keeps_both : (os : List Object) (focus : Focus) (d m e : Description) → IsHeldTo focus.to d m → (outcome : Result (Unit {0}) Fault) → KeepsReached os focus.from m e outcome → KeepsPart os focus d e outcome
+keeps_both os focus d m e held (Ok a) keeps = (m, held, keeps)
+keeps_both os focus d m e held (Err fault.CannotReadDescription) keeps = keeps
+keeps_both os focus d m e held (Err fault.NotToml) keeps = keeps
+keeps_both os focus d m e held (Err fault.CannotWriteImage) keeps = keeps
+keeps_both os focus d m e held (Err fault.CannotOpenImage) keeps = keeps
+keeps_both os focus d m e held (Err fault.CannotReadScript) keeps = keeps
+keeps_both os focus d m e held (Err fault.CannotWriteOutput) keeps = keeps
+keeps_both os focus d m e held (Err fault.NoMemory) keeps = keeps
+keeps_both os focus d m e held (Err (fault.Build why)) keeps = keeps
+keeps_both os focus d m e held (Err (fault.Open opening.Failed)) keeps = keeps
+keeps_both os focus d m e held (Err (fault.Open opening.NoMemory)) keeps = keeps
+keeps_both os focus d m e held (Err (fault.Open (opening.Bad reason))) keeps = keeps
+keeps_both os focus d m e held (Err (fault.Upgrade why)) keeps = keeps
+keeps_both os focus d m e held (Err (fault.Stopped stop)) keeps = keeps
+keeps_both os focus d m e held (Err (fault.NoObject o)) keeps = absurd keeps
+keeps_both os focus d m e held (Err (fault.NoProcess p)) keeps = keeps
+keeps_both os focus d m e held (Err (fault.Sizes why)) keeps = keeps

@@ -1,0 +1,195 @@
+-- What a description for other sizes is built as.
+use Rattle.std.proofs.Common.{◌≡◌, ℕ, List, Option, Result, Ok, Err, map, sym, ap, ◌∙◌, subst, arith}
+use Rattle.std.specs.Io.KnownBytes.{Appends}
+use Rattle.std.proofs.lemmas.Bool.Decides.{nat_tests}
+use Rattle.std.proofs.lemmas.Option.{same_Some}
+use Rattle.toml.specs.Data.{Members}
+use Rattle.model.specs.declared.frame.Frame.{Frame}
+use Rattle.model.specs.declared.geometry.Geometry.{Geometry}
+use Rattle.model.specs.declared.object.Object.{Object}
+use Rattle.model.specs.Keepable.{IsSoundFrames, world_at}
+use Rattle.model.specs.Machine.{Saved}
+use Rattle.model.specs.Sound.{IsSound}
+use Rattle.model.specs.World.{World}
+use Rattle.device.specs.Disk.{Disk}
+use Rattle.checkpoint.specs.declared.open_fault.OpenFault.TheVariants as opening
+use Rattle.checkpoint.specs.Saved.{Holds, SavedFrames}
+use Rattle.image_writer.specs.declared.number_range.NumberRange.{NumberRange}
+use Rattle.image_writer.specs.Laid.{MayBeLaid, numbers_of}
+use Rattle.image_writer.specs.Written.{first_saved}
+use Rattle.image_writer.proofs.LaidAgain.{may_be_laid}
+use Rattle.description.specs.declared.entry.Description.{Description}
+use Rattle.description.specs.Reading.{IsDescription}
+use Rattle.description.specs.Laws.{IsSame}
+use Rattle.description.proofs.Once.{description_once}
+use Rattle.described_world.specs.Described.{HasFields}
+use Rattle.described_world.proofs.DescribedOnce.{described_once}
+use Rattle.image_describer.specs.declared.sizes.GrowthFault.{GrowthFault}
+use Rattle.image_describer.specs.declared.sizes.Sizes.{Sizes}
+use Rattle.image_describer.specs.Describes.{Describes, plain_frames}
+use Rattle.image_describer.specs.Grown.{IsGrown, IsNotRenumbered, grown_geometry, grown_ranges}
+use Rattle.image_describer.specs.Spelled.{CanBeSpelled}
+use Rattle.image_describer.proofs.GrownDescription.{brief_grown, fields_grown}
+use Rattle.image_describer.proofs.GrownFits.{not_suited}
+use Rattle.image_describer.proofs.GrownLaws.{grown_is_described, grown_to_itself}
+use Rattle.image_describer.proofs.GrownText.{grown_spelled}
+use Rattle.image_describer.proofs.Plain.{objects_plain}
+use Rattle.image_describer.proofs.SameTables.{same_described}
+use Rattle.script.specs.Writing.{AppendsFront}
+use Rattle.jobs.specs.declared.fault.Fault.{Fault}
+use Rattle.jobs.specs.declared.fault.Fault.TheVariants as fault
+use Rattle.jobs.specs.Growing.{IsGrownFrom, TellsDescription, TellsGrown, TellsText}
+use Rattle.jobs.specs.Images.{DescribesImage, DescribesSaved, IsDescribedIn, ReadsSaved, RefusesSizes, TellsWhole}
+use Rattle.jobs.specs.Laws.{GrownIsDenoted, UnsizedIsWhole}
+
+pub grown_is_denoted : GrownIsDenoted
+grown_is_denoted p g age frames text table e saved size c told read said built holds =
+    let d = told.description in
+    let v : World = told.whole.world in
+    let gs : List Frame = built.0 in
+    let tables : told.table ≡ table = same_Some told.table table (sym told.read ∙ read) in
+    let same : IsSame d e = description_once table d e (subst (λ (ms : Members). IsDescription ms d) tables told.said) said in
+    let frames_are : plain_frames v.objects ≡ gs = described_once d (plain_frames v.objects) gs told.whole.describes.frames (same_described d e same gs built.1) in
+    let age_is : e.age ≡ v.age = sym same.age ∙ told.whole.describes.age in
+    let world : world_at e.age gs ≡ v =
+    ap (λ (n : ℕ). world_at n gs) age_is ∙ ap (λ (hs : List Frame). world_at v.age hs) (sym frames_are)
+    ∙ ap (λ (os : List Object). let w : World = record { objects = os; age = v.age } in w) (objects_plain v.objects) in
+    let geometry : e.geometry ≡ g = sym same.geometry ∙ told.whole.describes.geometry in (
+      v,
+      told.whole.grown,
+      record {
+        frames = first_saved e.geometry e.age gs;
+        holds = subst (λ (s : SavedFrames). Holds size c s) built.3 holds;
+        sound = record { geometry = geometry; sound = subst (λ (h : Geometry). IsSoundFrames h e.age gs) geometry built.2 };
+        stands = ap (λ (w : World). let s : Saved = record { world = w; generation = 0; entries = 0 } in s) world;
+      },
+    )
+
+same_ranges : (g : Geometry) (rs : List NumberRange) → grown_ranges g g rs ≡ rs
+same_ranges g rs = grind (arith, nat_tests)
+
+pub unsized_is_whole : UnsizedIsWhole
+unsized_is_whole p age frames text sound told =
+    let same : told.whole.world ≡ world_at age frames = grown_to_itself p.geometry (world_at age frames) told.whole.world sound.sound told.whole.grown in
+    record {
+      table = told.table;
+      read = told.read;
+      description = told.description;
+      said = told.said;
+      spelled = told.spelled;
+      describes = subst (λ (w : World). Describes p.geometry w told.description) same told.whole.describes;
+      brief = told.whole.brief;
+      ranges = told.whole.ranges ∙ same_ranges p.geometry (map numbers_of p.ranges);
+      layout = told.whole.layout;
+    }
+
+-- A description of what is saved, renumbered.
+module _ {D : Type 0} (disk : D → Disk) (device back : D) (d : Description) (sizes : Sizes) (saved : DescribesSaved disk device back d) where
+  abbrev g : Geometry
+  g = saved.state.plan.geometry
+
+  abbrev w : World
+  w = world_at saved.state.header.age saved.state.frames
+
+  geometry_is : d.geometry ≡ g
+  geometry_is = saved.whole.describes.geometry
+
+  pub reads : ReadsSaved disk device back saved.state
+  reads = record { encodes = saved.encodes; sound = saved.sound; failures = saved.failures; looks = saved.looks }
+
+  pub laid : MayBeLaid d.geometry d.ranges.items
+  laid = subst (λ (h : Geometry). MayBeLaid h d.ranges.items) (sym geometry_is)
+      (subst (λ (rs : List NumberRange). MayBeLaid g rs) (sym saved.whole.ranges) (may_be_laid saved.state.plan saved.encodes.plan.fits))
+
+  module _ (e : Description) (grown : IsGrownFrom sizes d e) where
+    new_is : e.geometry ≡ grown_geometry g sizes
+    new_is = grown.geometry ∙ ap (λ (h : Geometry). grown_geometry h sizes) geometry_is
+
+    in_it : IsDescribedIn saved.state.plan (grown_geometry g sizes) saved.state.header.age saved.state.frames e
+    in_it =
+        let described = grown_is_described w d e (subst (λ (h : Geometry). IsSound h w) (sym geometry_is) saved.sound.sound)
+        (subst (λ (h : Geometry). Describes h w d) (sym geometry_is) saved.whole.describes) grown.same grown.nodes grown.pages in
+        let v : World = described.0 in
+        record {
+          world = v;
+          grown = subst (λ (h : Geometry). IsGrown g h w v) new_is (subst (λ (h : Geometry). IsGrown h e.geometry w v) geometry_is described.1);
+          describes = subst (λ (h : Geometry). Describes h v e) new_is described.2;
+          brief = brief_grown d e grown.same saved.whole.describes.numbers saved.whole.brief;
+          ranges = grown.same.ranges ∙ ap (λ (h : Geometry). grown_ranges h e.geometry d.ranges.items) geometry_is
+              ∙ ap (λ (h : Geometry). grown_ranges g h d.ranges.items) new_is
+              ∙ ap (λ (rs : List NumberRange). grown_ranges g (grown_geometry g sizes) rs) saved.whole.ranges;
+          layout = grown.same.layout ∙ saved.whole.layout;
+        }
+
+    pub tells_grown : (Told : List ℕ → Type 0) → TellsText e Told → TellsWhole disk sizes device back Told
+    tells_grown Told told = record {
+      state = saved.state;
+      saved = reads;
+      text = told.0;
+      whole = record {
+        table = told.1.table;
+        read = told.1.read;
+        description = e;
+        said = told.1.said;
+        spelled = told.1.spelled;
+        whole = in_it;
+      };
+      told = told.2;
+    }
+
+  pub refuses_sizes : (why : GrowthFault) → IsNotRenumbered d (grown_geometry d.geometry sizes) why → RefusesSizes disk sizes device back why
+  refuses_sizes why broken = (
+    saved.state,
+    reads,
+    not_suited g (grown_geometry g sizes) d w saved.whole.describes why
+        (subst (λ (h : Geometry). IsNotRenumbered d (grown_geometry h sizes) why) geometry_is broken),
+  )
+
+  -- what is told of it
+  module _ (output output_left : Option (List ℕ)) where
+    pub describes_image : (outcome : Result (Unit {0}) Fault) → TellsGrown d sizes output output_left outcome → DescribesImage disk sizes device back output output_left outcome
+    describes_image (Ok a) tells = tells_grown tells.0 tells.1 (Appends output output_left) tells.2
+    describes_image (Err fault.CannotReadDescription) tells = absurd tells
+    describes_image (Err fault.NotToml) tells = absurd tells
+    describes_image (Err fault.CannotWriteImage) tells = absurd tells
+    describes_image (Err fault.CannotOpenImage) tells = absurd tells
+    describes_image (Err fault.CannotReadScript) tells = absurd tells
+    describes_image (Err fault.CannotWriteOutput) tells = tells_grown tells.0 tells.1 (AppendsFront output output_left) tells.2
+    describes_image (Err fault.NoMemory) tells = absurd tells
+    describes_image (Err (fault.Build why)) tells = absurd tells
+    describes_image (Err (fault.Open opening.Failed)) tells = absurd tells
+    describes_image (Err (fault.Open opening.NoMemory)) tells = (record { is_why = saved.failures; looks = saved.looks }, tells)
+    describes_image (Err (fault.Open (opening.Bad reason))) tells = absurd tells
+    describes_image (Err (fault.Upgrade why)) tells = absurd tells
+    describes_image (Err (fault.Stopped stop)) tells = absurd tells
+    describes_image (Err (fault.NoObject o)) tells = absurd tells
+    describes_image (Err (fault.NoProcess p)) tells = absurd tells
+    describes_image (Err (fault.Sizes why)) tells = (refuses_sizes why tells.0, tells.1)
+
+-- The text of a description that was renumbered.
+module _ (sizes : Sizes) (d e : Description) (grown : IsGrownFrom sizes d e) where
+  pub grown_has_fields : HasFields d → HasFields e
+  grown_has_fields fields = fields_grown d e grown.same fields
+
+  pub grown_has_text : MayBeLaid d.geometry d.ranges.items → CanBeSpelled d → CanBeSpelled e
+  grown_has_text may spelled = grown_spelled d e grown.same grown.limits (omega (arith, may.geometry.most_nodes, may.geometry.most_pages)) grown.pages spelled
+
+  module _ (output output_left : Option (List ℕ)) where
+    pub tells_text : (outcome : Result (Unit {0}) Fault) → TellsDescription e output output_left outcome → TellsGrown d sizes output output_left outcome
+    tells_text (Ok a) tells = (e, grown, tells)
+    tells_text (Err fault.CannotReadDescription) tells = tells
+    tells_text (Err fault.NotToml) tells = tells
+    tells_text (Err fault.CannotWriteImage) tells = tells
+    tells_text (Err fault.CannotOpenImage) tells = tells
+    tells_text (Err fault.CannotReadScript) tells = tells
+    tells_text (Err fault.CannotWriteOutput) tells = (e, grown, tells)
+    tells_text (Err fault.NoMemory) tells = tells
+    tells_text (Err (fault.Build why)) tells = tells
+    tells_text (Err (fault.Open opening.Failed)) tells = tells
+    tells_text (Err (fault.Open opening.NoMemory)) tells = tells
+    tells_text (Err (fault.Open (opening.Bad reason))) tells = tells
+    tells_text (Err (fault.Upgrade why)) tells = tells
+    tells_text (Err (fault.Stopped stop)) tells = tells
+    tells_text (Err (fault.NoObject o)) tells = tells
+    tells_text (Err (fault.NoProcess p)) tells = tells
+    tells_text (Err (fault.Sizes why)) tells = absurd tells

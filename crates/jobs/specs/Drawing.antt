@@ -1,0 +1,89 @@
+-- What the command that draws says of an image.
+use Rattle.std.specs.Prelude.{◌≡◌, ℕ, Bool, true, false, Option, None, Some, List, [], ◌∷◌, Result, Ok, Err}
+use Rattle.std.specs.Io.KnownBytes.{Appends}
+use Rattle.model.specs.declared.object.Object.{Object}
+use Rattle.model.specs.World.{is_process}
+use Rattle.device.specs.Disk.{Disk}
+use Rattle.checkpoint.specs.declared.open_fault.OpenFault.{OpenFault}
+use Rattle.checkpoint.specs.declared.open_fault.OpenFault.TheVariants as opening
+use Rattle.recovery.specs.Recovered.{RefusesToOpen}
+use Rattle.script.specs.Writing.{AppendsFront}
+use Rattle.description.specs.declared.entry.Description.{Description}
+use Rattle.image_drawer.specs.Graph.{boxes, graph_text}
+use Rattle.image_drawer.specs.Part.{IsPart, holders, is_listed}
+use Rattle.reach.specs.Reached.{IsReach}
+use Rattle.jobs.specs.declared.drawing.Focus.{Focus}
+use Rattle.jobs.specs.declared.fault.Fault.{Fault}
+use Rattle.jobs.specs.declared.fault.Fault.TheVariants as fault
+use Rattle.jobs.specs.declared.whole.Whole.{Whole}
+use Rattle.jobs.specs.Images.{DescribesSaved}
+use Rattle.jobs.specs.Reaching.{HoldsOfSaved}
+
+-- a description is restricted to an object, which has a box, and to its holders, if one is named
+abbrev pub IsHeldTo : Option ℕ → Description → Description → Type 0
+IsHeldTo None d e = e ≡ d
+IsHeldTo (Some o) d e = (is_listed o (boxes d) ≡ true) × (inside : ℕ → Bool) × ((n : ℕ) → inside n ≡ is_listed n (holders o d)) × IsPart inside d e
+
+-- and to what a process reaches, if one is named
+abbrev pub IsReachedFrom : List Object → Option ℕ → Description → Description → Type 0
+IsReachedFrom os None d e = e ≡ d
+IsReachedFrom os (Some p) d e = (is_process os p ≡ true) × (inside : ℕ → Bool) × IsReach os (p ∷ []) inside × IsPart inside d e
+
+-- to both
+abbrev pub IsFocus : List Object → Focus → Description → Description → Type 0
+IsFocus os focus d e = (m : Description) × IsHeldTo focus.to d m × IsReachedFrom os focus.from m e
+
+-- so it was; or the number has no box; or memory ran out
+abbrev pub KeepsHolders : Option ℕ → Description → Description → Result (Unit {0}) Fault → Type 0
+KeepsHolders to d e (Ok a) = IsHeldTo to d e
+KeepsHolders to d e (Err (fault.NoObject o)) = (to ≡ Some o) × (is_listed o (boxes d) ≡ false)
+KeepsHolders to d e (Err (fault.Open opening.NoMemory)) = Unit {0}
+KeepsHolders to d e (Err _) = ⊥
+
+-- so it was; or the number isn't that of a process; or memory ran out
+abbrev pub KeepsReached : List Object → Option ℕ → Description → Description → Result (Unit {0}) Fault → Type 0
+KeepsReached os from d e (Ok a) = IsReachedFrom os from d e
+KeepsReached os from d e (Err (fault.NoProcess p)) = (from ≡ Some p) × (is_process os p ≡ false)
+KeepsReached os from d e (Err (fault.Open opening.NoMemory)) = Unit {0}
+KeepsReached os from d e (Err _) = ⊥
+
+-- a number of a focus is none of an object with a box, or of a process
+abbrev pub IsNoFocus : List Object → Focus → Description → Fault → Type 0
+IsNoFocus os focus d (fault.NoObject o) = (focus.to ≡ Some o) × (is_listed o (boxes d) ≡ false)
+IsNoFocus os focus d (fault.NoProcess p) = (focus.from ≡ Some p) × (is_process os p ≡ false)
+IsNoFocus os focus d _ = ⊥
+
+abbrev pub KeepsPart : List Object → Focus → Description → Description → Result (Unit {0}) Fault → Type 0
+KeepsPart os focus d e (Ok a) = IsFocus os focus d e
+KeepsPart os focus d e (Err (fault.Open opening.NoMemory)) = Unit {0}
+KeepsPart os focus d e (Err why) = IsNoFocus os focus d why
+
+-- the graph of a part was told
+abbrev pub TellsPart : List Object → Focus → Description → (List ℕ → Type 0) → Type 0
+TellsPart os focus d Told = (e : Description) × IsFocus os focus d e × Told (graph_text e)
+
+abbrev pub DrawsPart : List Object → Focus → Description → Option (List ℕ) → Option (List ℕ) → Result (Unit {0}) Fault → Type 0
+DrawsPart os focus d output output_left (Ok a) = TellsPart os focus d (Appends output output_left)
+DrawsPart os focus d output output_left (Err fault.CannotWriteOutput) = TellsPart os focus d (AppendsFront output output_left)
+DrawsPart os focus d output output_left (Err (fault.Open opening.NoMemory)) = output_left ≡ output
+DrawsPart os focus d output output_left (Err why) = IsNoFocus os focus d why × (output_left ≡ output)
+
+-- a device was opened with no failure, nothing was written to it at any moment, and these are the description and the
+-- objects that are saved on it; or it wasn't opened, or memory ran out
+abbrev pub OpensWhole : {D : Type 0} → (D → Disk) → D → D → Result Whole OpenFault → Type 0
+OpensWhole disk device back (Ok whole) = DescribesSaved disk device back whole.description × HoldsOfSaved disk device back (λ os. whole.objects.items ≡ os)
+OpensWhole disk device back (Err why) = RefusesToOpen disk device back why
+
+-- it was opened so, and this was told of what is saved
+pub record OfWhole {D : Type 0} (disk : D → Disk) (device back : D) (Told : List Object → Description → Type 0) : Type 0 where
+  pub description : Description
+  pub saved : DescribesSaved disk device back description
+  pub objects : List Object
+  pub read : HoldsOfSaved disk device back (λ os. objects ≡ os)
+  pub told : Told objects description
+
+-- the graph of a part of what is saved was told; or that couldn't be written whole; or a number of the focus is wrong; or
+-- the device wasn't opened, or memory ran out
+abbrev pub DrawsImage : {D : Type 0} → (D → Disk) → Focus → D → D → Option (List ℕ) → Option (List ℕ) → Result (Unit {0}) Fault → Type 0
+DrawsImage disk focus device back output output_left (Err (fault.Open why)) = RefusesToOpen disk device back why × (output_left ≡ output)
+DrawsImage disk focus device back output output_left outcome = OfWhole disk device back (λ os d. DrawsPart os focus d output output_left outcome)

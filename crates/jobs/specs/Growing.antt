@@ -1,0 +1,58 @@
+-- A description that is told, renumbered for other sizes.
+use Rattle.std.specs.Prelude.{◌≡◌, ℕ, List, Some, Option, Result, Ok, Err}
+use Rattle.std.specs.Io.KnownBytes.{Appends}
+use Rattle.toml.specs.Data.{Members}
+use Rattle.toml.specs.Parse.{parse_document}
+use Rattle.layout.specs.Superblock.{IsGeometry}
+use Rattle.checkpoint.specs.declared.open_fault.OpenFault.TheVariants as opening
+use Rattle.script.specs.Writing.{AppendsFront}
+use Rattle.description.specs.declared.entry.Description.{Description}
+use Rattle.description.specs.Reading.{IsDescription}
+use Rattle.image_describer.specs.declared.sizes.Sizes.{Sizes}
+use Rattle.image_describer.specs.Grown.{IsNotRenumbered, IsRenumbered, NamesNodes, NamesPages, grown_geometry}
+use Rattle.image_describer.specs.Text.{description_text}
+use Rattle.jobs.specs.declared.fault.Fault.{Fault}
+use Rattle.jobs.specs.declared.fault.Fault.TheVariants as fault
+
+-- a text is that of a description, and is read as it
+pub record IsSpelling (d : Description) (text : List ℕ) : Type 0 where
+  pub table : Members
+  pub read : parse_document text ≡ Some table
+  pub said : IsDescription table d
+  pub spelled : text ≡ description_text d
+
+abbrev pub TellsText : Description → (List ℕ → Type 0) → Type 0
+TellsText d Told = (text : List ℕ) × IsSpelling d text × Told text
+
+-- the text of a description was told; or that couldn't be written whole; or memory ran out
+abbrev pub TellsDescription : Description → Option (List ℕ) → Option (List ℕ) → Result (Unit {0}) Fault → Type 0
+TellsDescription d output output_left (Ok a) = TellsText d (Appends output output_left)
+TellsDescription d output output_left (Err fault.CannotWriteOutput) = TellsText d (AppendsFront output output_left)
+TellsDescription d output output_left (Err (fault.Open opening.NoMemory)) = output_left ≡ output
+TellsDescription d output output_left (Err _) = ⊥
+
+-- a description is another's, renumbered for sizes that have a number for each object
+pub record IsGrownFrom (sizes : Sizes) (d e : Description) : Type 0 where
+  pub geometry : e.geometry ≡ grown_geometry d.geometry sizes
+  pub limits : IsGeometry e.geometry
+  pub same : IsRenumbered d e
+  pub nodes : NamesNodes e.geometry.nodes d
+  pub pages : NamesPages d.geometry e.geometry d
+
+-- so it was; or there are no such sizes; or memory ran out
+abbrev pub GrowsDescription : Sizes → Description → Description → Result (Unit {0}) Fault → Type 0
+GrowsDescription sizes d e (Ok a) = IsGrownFrom sizes d e
+GrowsDescription sizes d e (Err (fault.Sizes why)) = IsNotRenumbered d (grown_geometry d.geometry sizes) why
+GrowsDescription sizes d e (Err (fault.Open opening.NoMemory)) = Unit {0}
+GrowsDescription sizes d e (Err _) = ⊥
+
+abbrev pub TellsGrownText : Description → Sizes → (List ℕ → Type 0) → Type 0
+TellsGrownText d sizes Told = (e : Description) × IsGrownFrom sizes d e × TellsText e Told
+
+-- the text of a renumbered description was told; or a fault
+abbrev pub TellsGrown : Description → Sizes → Option (List ℕ) → Option (List ℕ) → Result (Unit {0}) Fault → Type 0
+TellsGrown d sizes output output_left (Ok a) = TellsGrownText d sizes (Appends output output_left)
+TellsGrown d sizes output output_left (Err fault.CannotWriteOutput) = TellsGrownText d sizes (AppendsFront output output_left)
+TellsGrown d sizes output output_left (Err (fault.Sizes why)) = IsNotRenumbered d (grown_geometry d.geometry sizes) why × (output_left ≡ output)
+TellsGrown d sizes output output_left (Err (fault.Open opening.NoMemory)) = output_left ≡ output
+TellsGrown d sizes output output_left (Err _) = ⊥
