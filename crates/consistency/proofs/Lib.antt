@@ -1,7 +1,7 @@
-mod Looking
-mod Named
+pub mod Looking
+pub mod Named
 mod Notes
-mod Sound
+pub mod Sound
 mod Standing
 mod Tables
 mod Taking

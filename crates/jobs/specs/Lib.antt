@@ -1,3 +1,4 @@
+pub mod Diagnosed
 pub mod Explained
 pub mod Faults
 pub mod Images

@@ -11,7 +11,8 @@ use file_device::{FileDevice, FileFault};
 use image_builder::{Blueprint, OldImage};
 use jobs::{
     Fault, ShellInput, build_image, check_image, describe_image, draw_image, explain_description,
-    finish, info_image, reach_image, run_image, run_shell, run_traced, upgrade_opened,
+    explain_image, finish, info_image, reach_image, run_image, run_shell, run_traced,
+    upgrade_opened,
 };
 use memory_device::Fuse;
 use object_cache::PlainStore;
@@ -386,14 +387,21 @@ fn read_regular(rt: &HostRuntime, file: &str) -> io::Result<Vec<u8>> {
     fs::read(rt, file)
 }
 
-// Says why an image is refused, and gives the status.
-fn explain_image(
+// Says why the image in a file is refused, and gives the status.
+fn explain_file(
     rt: &HostRuntime,
     image: &str,
     writer: &mut BufWriter<Stdout>,
     errors: &mut Stderr,
 ) -> Result<u8, Fault> {
-    check(rt, image, writer, errors)
+    match FileDevice::open_to_read(rt, image) {
+        Ok(device) => Ok(explain_image(rt.alloc(), device, writer, errors).status),
+        Err(FileFault::NoMemory) => Err(Fault::NoMemory),
+        Err(fault) => {
+            let _told = writeln!(errors, "eros: {image}: {fault}");
+            Ok(1)
+        }
+    }
 }
 
 // Says why a file is refused as a description or an image, and gives the status. A file is an image if its bytes are no
@@ -413,7 +421,7 @@ fn explain(
         Ok(text) if !bytes.contains(&0) => {
             Ok(explain_description(rt.alloc(), text, writer, errors))
         }
-        _ => explain_image(rt, file, writer, errors),
+        _ => explain_file(rt, file, writer, errors),
     }
 }
 
