@@ -1,1 +1,1 @@
-mod Explaining
+mod Reasons

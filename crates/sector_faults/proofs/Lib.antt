@@ -3,6 +3,8 @@ mod Copies
 mod Directories
 mod Frames
 mod Headers
+mod Marks
 mod Searching
 mod Superblocks
-mod Whole
+pub mod OneReason
+pub mod Whole

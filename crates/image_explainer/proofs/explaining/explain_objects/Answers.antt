@@ -3,7 +3,7 @@ use Rattle.model.specs.declared.frame.Frame.{Frame}
 use Rattle.model.specs.Keepable.{AreKeepable}
 use Rattle.migrator.specs.Durable.{DurableState}
 use Rattle.object_cache.specs.PlainStore.{parts_of, view_of}
-use Rattle.image_explainer.proofs.Explaining.{explains_found, keepable, within_age}
+use Rattle.image_explainer.proofs.Reasons.{explains_found, keepable, within_age}
 use Rattle.image_explainer.proofs.explaining.explain_objects.Goals as goal
 
 pub find_in_objects-requires-clause-keepable : goal.find_in_objects-requires-clause-keepable
