@@ -1,9 +1,9 @@
 pub mod Looking
 pub mod Named
-mod Notes
+pub mod Notes
 pub mod Sound
 mod Standing
-mod Tables
+pub mod Tables
 mod Taking
 mod Trees
 pub mod BankFaults

@@ -48,8 +48,8 @@ unwhole fs (unmatched.Rootless annex) is whole = let root = whole.some_root anne
 unfit : (fs : List Frame) (f : ImageFault) → BreaksFrames fs f → IsUnfit fs (open_fault.Bad (reason_of f))
 unfit fs (fault.Sectors f) is = absurd is
 unfit fs (fault.Capability m) is = (BadCapability, refl, unnamed fs m is)
-unfit fs (fault.Process u) is = (BadProcess, refl, is.0, unwhole fs u is.1)
-unfit fs (fault.Bank u) is = (BadBank, refl, is.0, is.1, unbanked_refuted fs u is.2)
+unfit fs (fault.Process u) is = (BadProcess, refl, (is.0, unwhole fs u is.1))
+unfit fs (fault.Bank u) is = (BadBank, refl, (is.0, is.1, unbanked_refuted fs u is.2))
 
 explained_frames : (size : ℕ) (c : Image) (saved : SavedFrames) (f : ImageFault) → Holds size c saved → BreaksFrames saved.frames f → IsExplainedBy size c (Some f)
 explained_frames size c saved (fault.Sectors f) holds is = absurd is
@@ -127,11 +127,11 @@ one_unfit fs a b x y = x.1 ∙ ap inconsistent_reason (one_inconsistency fs x.0 
 pub one_reason : AreBadForOneReason
 one_reason size c a b x y = ⊎_elim
     (λ first. ⊎_elim
-      (λ second. one_sector_reason size c a b first second)
-      (λ second. absurd (frames_not_bad c size second.1.0 second.1.1 a first))
-      y)
+    (λ second. one_sector_reason size c a b first second)
+    (λ second. absurd (frames_not_bad c size second.1.0 second.1.1 a first))
+    y)
     (λ first. ⊎_elim
-      (λ second. absurd (frames_not_bad c size first.1.0 first.1.1 b second))
-      (λ second. one_unfit second.0.frames a b (subst (λ (s : SavedFrames). IsUnfit s.frames (open_fault.Bad a)) (holds_one size c first.0 second.0 first.1 second.1) first.2) second.2)
-      y)
+    (λ second. absurd (frames_not_bad c size first.1.0 first.1.1 b second))
+    (λ second. one_unfit second.0.frames a b (subst (λ (s : SavedFrames). IsUnfit s.frames (open_fault.Bad a)) (holds_one size c first.0 second.0 first.1 second.1) first.2) second.2)
+    y)
     x

@@ -1,8 +1,9 @@
 -- What the searches for a fault among frames find on their way.
 use Rattle.std.specs.Prelude.{◌≡◌, ℕ, ◌<◌, List, Option, None, Some}
 use Rattle.model.specs.declared.frame.Frame.{Frame}
+use Rattle.model.specs.declared.object.Role.TheVariants as role
 use Rattle.consistency.specs.declared.processes.Noted.{Noted}
-use Rattle.consistency.specs.Consistency.{AreBanked, AreNamed, AreWholeProcesses, IsAnnexFor, IsRootOf}
+use Rattle.consistency.specs.Consistency.{AreBanked, AreNamed, AreWholeProcesses, IsAnnexFor, IsRootOf, role_at}
 use Rattle.consistency.specs.Noted.{note_at}
 use Rattle.image_explainer.specs.declared.fault.ImageFault.{ImageFault}
 use Rattle.image_explainer.specs.declared.fault.Misnamed.{Misnamed}
@@ -35,3 +36,7 @@ annex_noted notes n = annex_in_note (note_at notes n)
 -- where a number is a root, its annex is one for it, and no root behind it has that
 abbrev pub IsMatched : List Frame → ℕ → Type 0
 IsMatched fs p = (a : ℕ) → IsRootOf fs p a → IsAnnexFor fs p a × ((q : ℕ) → p < q → IsRootOf fs q a → ⊥)
+
+-- where a number is an annex, a root has it
+abbrev pub HasRoot : List Frame → ℕ → Type 0
+HasRoot fs a = role_at fs a ≡ role.Annex → (p : ℕ) × IsRootOf fs p a

@@ -2,7 +2,7 @@
 ghost use Rattle.std.specs.Prelude.{◌≡◌, ◌↔◌, ◌*◌, ◌≤◌, length, IfErr, IfOk};
 ghost use Rattle.layout.specs.declared.bad_image.BadImage.{BadImage};
 ghost use Rattle.layout.specs.Image.{IsBadBy};
-ghost use Rattle.checkpoint.specs.Opened.{CountsOpen};
+ghost use Rattle.checkpoint.specs.Opened.{CountsOpen, Refuses};
 ghost use Rattle.frame_io.specs.Calls.{ReadsOnly};
 ghost use Rattle.sector_faults.specs.Breaking.{IsFault};
 ghost use Rattle.object_cache.specs.PlainStore.{parts_of, view_of};
@@ -66,6 +66,32 @@ fn reserve(alloc: Global, size: u64) -> Result<(Vec<u8>, Vec<Entry>, Room), Allo
 }
 
 // What is wrong with the sectors of a device, in a copy of them.
+fn find_in_copy<D: Device>(
+    device: &mut D,
+    copy: &mut [u8],
+    entries: &mut [Entry],
+    room: &mut Room,
+) -> Result<SectorFault, OpenFault>
+    requires bad { (reason : BadImage) × IsBadBy (D.disk device.old).seen (D.disk device.old).sectors reason }
+    requires copy { length copy.old ≡ 512 * (D.disk device.old).sectors }
+    requires entries { length entries.old ≡ 4096 }
+    ensures found { IfOk result (IsFault (D.disk device.old).sectors (D.disk device.old).seen) }
+    ensures refused { IfErr result IsNoReason }
+    ensures reads { ReadsOnly (D.disk device.old) (D.disk device.new) }
+    ensures cause { CountsOpen (D.disk device.old) (D.disk device.new) result }
+{
+    let size = device.sectors();
+    match device.read(0, copy) {
+        Err(_) => return Err(OpenFault::Failed),
+        Ok(()) => {}
+    }
+    match find_in_sectors(copy, size, entries, room) {
+        Ok(()) => unreachable!(),
+        Err(fault) => Ok(fault),
+    }
+}
+
+// What is wrong with the sectors of a device, in memory that is taken for it.
 fn find_on<D: Device>(alloc: Global, device: &mut D) -> Result<SectorFault, OpenFault>
     requires { (reason : BadImage) × IsBadBy (D.disk device.old).seen (D.disk device.old).sectors reason }
     ensures found { IfOk result (IsFault (D.disk device.old).sectors (D.disk device.old).seen) }
@@ -78,13 +104,7 @@ fn find_on<D: Device>(alloc: Global, device: &mut D) -> Result<SectorFault, Open
         return Err(OpenFault::NoMemory);
     };
     let (mut copy, mut entries, mut room) = (copy, entries, room);
-    if device.read(0, &mut copy).is_err() {
-        return Err(OpenFault::Failed);
-    }
-    match find_in_sectors(&copy, size, &mut entries, &mut room) {
-        Ok(()) => unreachable!(),
-        Err(fault) => Ok(fault),
-    }
+    find_in_copy(device, &mut copy, &mut entries, &mut room)
 }
 
 // What is wrong with the sectors of a device that was refused for one of the reasons 1 to 7.
@@ -93,7 +113,8 @@ fn explain_sectors<D: Device>(
     device: D,
 ) -> (Result<Option<ImageFault>, OpenFault>, D)
     requires { (reason : BadImage) × IsBadBy (D.disk device).seen (D.disk device).sectors reason }
-    ensures { Explains D.disk device result.1 result.0 }
+    ensures { (before : D) (reason : BadImage) → Refuses D.disk before device (OpenFault.Bad reason)
+        → Explains D.disk before result.1 result.0 }
 {
     let mut device = device;
     match find_on(alloc, &mut device) {

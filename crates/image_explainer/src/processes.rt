@@ -1,10 +1,9 @@
 // Which root and annex don't belong together.
 ghost use Rattle.std.specs.Prelude.{◌≡◌, ℕ, ◌≤◌, Some, IfNone, IfSome};
 ghost use Rattle.capability.specs.Parts.{frames_of};
-ghost use Rattle.consistency.specs.Consistency.{IsRootOf, role_at};
 ghost use Rattle.consistency.specs.Noted.{AreNoted};
 ghost use Rattle.image_explainer.specs.Breaking.{IsUnmatched};
-ghost use Rattle.image_explainer.specs.Finding.{IsMatched, MatchesOr, annex_noted};
+ghost use Rattle.image_explainer.specs.Finding.{HasRoot, IsMatched, MatchesOr, annex_noted};
 
 use crate::fault::Unmatched;
 use capability::PresentFrames;
@@ -68,23 +67,43 @@ fn find_root<F: PresentFrames>(store: &F, notes: &[Option<Noted>]) -> Option<Unm
     ensures none { IfNone result ((p : ℕ) → IsMatched (frames_of (F.parts store.now)) p) }
 {
     for root in 0..notes.len() {
-        if let Some(flaw) = flaw_of_root(store, notes, root) {
-            return Some(flaw);
+        match flaw_of_root(store, notes, root) {
+            Some(flaw) => return Some(flaw),
+            None => {}
         }
     }
     None
+}
+
+// Whether an annex has no root.
+fn flaw_of_annex<F: PresentFrames>(
+    store: &F,
+    notes: &[Option<Noted>],
+    annex: u64,
+) -> Option<Unmatched>
+    requires { AreNoted (frames_of (F.parts store.now)) notes.now }
+    ensures found { IfSome result (IsUnmatched (frames_of (F.parts store.now))) }
+    ensures none { IfNone result (HasRoot (frames_of (F.parts store.now)) annex) }
+{
+    if !has_role(store, annex, Role::Annex) {
+        return None;
+    }
+    match root_of(notes, 0, annex) {
+        Some(_) => None,
+        None => Some(Unmatched::Rootless { annex }),
+    }
 }
 
 // The first annex that no root names.
 fn find_annex<F: PresentFrames>(store: &F, notes: &[Option<Noted>]) -> Option<Unmatched>
     requires { AreNoted (frames_of (F.parts store.now)) notes.now }
     ensures found { IfSome result (IsUnmatched (frames_of (F.parts store.now))) }
-    ensures none { IfNone result ((a : ℕ) → role_at (frames_of (F.parts store.now)) a ≡ Role.Annex
-        → (p : ℕ) × IsRootOf (frames_of (F.parts store.now)) p a) }
+    ensures none { IfNone result ((a : ℕ) → HasRoot (frames_of (F.parts store.now)) a) }
 {
     for annex in 0..store.table().count() {
-        if has_role(store, annex, Role::Annex) && root_of(notes, 0, annex).is_none() {
-            return Some(Unmatched::Rootless { annex });
+        match flaw_of_annex(store, notes, annex) {
+            Some(flaw) => return Some(flaw),
+            None => {}
         }
     }
     None

@@ -1,6 +1,6 @@
 // The line about a fault.
 ghost use Rattle.std.specs.Prelude.{◌≡◌, ◌+◌, ◌++◌, ◌≤◌, length};
-ghost use Rattle.image_explainer.specs.Text.{number_of_reason, fault_text, holder_text, kind_text, misnamed_text, place_text, sectors_text, unbanked_text, unmatched_text, directory_part_text, directory_text, frame_part_text, frame_text, geometry_text, header_part_text, header_text, no_header_text, not_counted_text, superblock_text};
+ghost use Rattle.image_explainer.specs.Text.{number_of_reason, fault_text, holder_text, kind_text, misnamed_text, place_text, sectors_text, unbanked_text, unmatched_text, directory_part_text, directory_text, frame_part_text, frame_text, geometry_text, header_part_text, header_text, no_header_text, not_counted_text, numbered, superblock_text};
 ghost use Rattle.image_explainer.specs.Breaking.{reason_of};
 ghost use Rattle.sector_faults.specs.Breaking.{sector_reason};
 
@@ -25,26 +25,32 @@ fn superblock_line(part: SuperblockPart) -> LineText
     }
 }
 
+// A number of the superblock that is outside its limits.
+fn outside(word: &[u8], number: u64, limits: &[u8]) -> LineText
+    requires word { length word.now ≤ 20 }
+    requires limits { length limits.now ≤ 30 }
+    ensures text { result ≡ numbered word.now number ++ limits.now }
+    ensures short { length result ≤ 90 }
+{
+    let mut line = LineText::numbered(word, number);
+    line.push(limits);
+    line
+}
+
 // What is outside the limits of the superblock.
 fn geometry_line(part: GeometryPart) -> LineText
     ensures text { result ≡ geometry_text part }
     ensures short { length result ≤ 90 }
 {
-    let (mut line, limits): (LineText, &[u8]) = match part {
-        GeometryPart::Nodes(n) => (LineText::numbered(b"superblock: nodes", n), b"16 to 4096"),
-        GeometryPart::Pages(n) => (LineText::numbered(b"superblock: pages", n), b"1 to 4096"),
-        GeometryPart::Log(n) => (LineText::numbered(b"superblock: log", n), b"16 to 4096"),
-        GeometryPart::Total(n) => (
-            LineText::numbered(b"superblock: sectors", n),
-            b"0 to 131072",
-        ),
+    match part {
+        GeometryPart::Nodes(n) => outside(b"superblock: nodes", n, b" is not from 16 to 4096"),
+        GeometryPart::Pages(n) => outside(b"superblock: pages", n, b" is not from 1 to 4096"),
+        GeometryPart::Log(n) => outside(b"superblock: log", n, b" is not from 16 to 4096"),
+        GeometryPart::Total(n) => outside(b"superblock: sectors", n, b" is not from 0 to 131072"),
         GeometryPart::Places => {
-            return LineText::new(b"superblock: a home range or a half of the log is wrong");
+            LineText::new(b"superblock: a home range or a half of the log is wrong")
         }
-    };
-    line.push(b" is not from ");
-    line.push(limits);
-    line
+    }
 }
 
 // Adds why the header of a slot doesn't count.
@@ -75,12 +81,12 @@ fn no_header_line(first: NotCounted, second: NotCounted) -> LineText
     line
 }
 
-// What is wrong with the committed header.
-fn header_line(sector: u64, part: HeaderPart) -> LineText
-    ensures text { result ≡ header_text sector part }
-    ensures short { length result ≤ 150 }
+// Adds what is wrong in a header.
+fn add_header_part(line: &mut LineText, part: HeaderPart)
+    requires { length line.old ≤ 40 }
+    ensures text { line.new ≡ line.old ++ header_part_text part }
+    ensures short { length line.new ≤ 150 }
 {
-    let mut line = LineText::numbered(b"header in sector", sector);
     match part {
         HeaderPart::Entries { entries, slots } => {
             line.push(b": entries");
@@ -107,14 +113,23 @@ fn header_line(sector: u64, part: HeaderPart) -> LineText
         }
         HeaderPart::Bytes => line.push(b": the magic is not EROSHEAD, or a byte is not 0"),
     }
+}
+
+// What is wrong with the committed header.
+fn header_line(sector: u64, part: HeaderPart) -> LineText
+    ensures text { result ≡ header_text sector part }
+    ensures short { length result ≤ 150 }
+{
+    let mut line = LineText::numbered(b"header in sector", sector);
+    add_header_part(&mut line, part);
     line
 }
 
 // Adds what is wrong with an entry of a directory.
 fn add_entry(line: &mut LineText, part: DirectoryPart)
-    requires { length line.old ≤ 100 }
+    requires { length line.old ≤ 60 }
     ensures text { line.new ≡ line.old ++ directory_part_text part }
-    ensures short { length line.new ≤ 220 }
+    ensures short { length line.new ≤ 200 }
 {
     line.push(b", entry");
     match part {
@@ -415,6 +430,7 @@ impl ImageFault {
     }
 
     /// The line about the fault: the place, what is wrong there, and the number of the reason.
+
     pub fn line(self) -> LineText
         ensures text { result ≡ fault_text self }
         ensures short { length result ≤ 260 }

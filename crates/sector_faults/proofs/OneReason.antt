@@ -1,14 +1,15 @@
 -- Sectors are bad for one reason.
-use Rattle.std.proofs.Common.{◌≡◌, ℕ, Some, None, List, refl, sym, ap, subst, ◌∙◌}
+use Rattle.std.proofs.Common.{◌≡◌, ℕ, ◌+◌, ◌<◌, Some, None, List, refl, sym, ap, subst, ◌∙◌}
 use Rattle.device.specs.Disk.{Image}
 use Rattle.layout.specs.declared.bad_image.BadImage.{BadImage}
 use Rattle.layout.specs.declared.bad_image.BadImage.TheVariants as bad
 use Rattle.layout.specs.declared.directory.Entry.{Entry}
 use Rattle.layout.specs.declared.header.CheckpointHeader.{CheckpointHeader}
 use Rattle.layout.specs.Header.{header_bytes}
-use Rattle.layout.specs.Image.{HasBadDirectory, HasBadHeader, HasHeader, HasNoHeader, HasPlan, IsBadBy, option_at}
+use Rattle.layout.specs.Image.{HasBadDirectory, HasBadHeader, HasDirectory, HasHeader, HasNoHeader, HasPlan, IsBadBy, option_at}
 use Rattle.layout.specs.Superblock.{Plan}
-use Rattle.layout.proofs.Images.{same_header, same_plan}
+use Rattle.layout.proofs.Images.{same_directory, same_header, same_plan}
+use Rattle.sector_faults.specs.Finding.{IsWhole, IsWholeFrame}
 use Rattle.sector_faults.proofs.Marks.{has_mark, not_small}
 
 module _ (size : ℕ) (image : Image) where
@@ -100,3 +101,36 @@ module _ (size : ℕ) (image : Image) where
   one_reason bad.BadHeader bad.BadBank x y = absurd y
   one_reason bad.BadDirectory bad.BadBank x y = absurd y
   one_reason bad.BadFrame bad.BadBank x y = absurd y
+
+  -- all frames can be kept
+  abbrev AreWhole : Plan → CheckpointHeader → List Entry → Type 0
+  AreWhole p h es = (n : ℕ) → n < p.geometry.nodes + p.geometry.pages → IsWholeFrame image p h es n
+
+  all_same : (p q : Plan) (g h : CheckpointHeader) (ds es : List Entry) → HasPlan image size p → HasPlan image size q → HasHeader image p g → HasHeader image q h
+      → HasDirectory image p g ds → HasDirectory image q h es → AreWhole p g ds → AreWhole q h es
+  all_same p q g h ds es one other first second here there whole =
+      let plans : p ≡ q = same_plan image size p q one other in
+      let first_there : HasHeader image q g = subst (λ (x : Plan). HasHeader image x g) plans first in
+      let headers : g ≡ h = same_header image q g h first_there second in
+      let here_there : HasDirectory image q g ds = subst (λ (x : Plan). HasDirectory image x g ds) plans here in
+      let here_both : HasDirectory image q h ds = subst (λ (x : CheckpointHeader). HasDirectory image q x ds) headers here_there in
+      let directories : ds ≡ es = same_directory image q h ds es here_both there in
+      let whole_there : AreWhole q g ds = subst (λ (x : Plan). AreWhole x g ds) plans whole in
+      let whole_both : AreWhole q h ds = subst (λ (x : CheckpointHeader). AreWhole q x ds) headers whole_there in
+      subst (λ (x : List Entry). AreWhole q h x) directories whole_both
+
+  -- where nothing is wrong, there is no reason
+  pub whole_not_bad : (reason : BadImage) → IsWhole size image → IsBadBy image size reason → ⊥
+  whole_not_bad bad.Small w x = not_small size image w.0 w.3 x
+  whole_not_bad bad.NotASuperblock w x = x.1 (has_mark size image w.0 w.3)
+  whole_not_bad bad.BadGeometry w x = x.2 w.0 w.3.fits w.3.spelt
+  whole_not_bad bad.NoHeader w x = some_header w.0 w.1 w.4 x.2
+  whole_not_bad bad.BadHeader w x = good_header x.0 w.0 w.1 x.1 w.3 w.4 x.3
+  whole_not_bad bad.BadDirectory w x = same_both x.0 w.0 x.1 w.1 x.2 w.3 x.3 w.4 x.4 w.2 w.5.fits w.5.count w.5.spelt
+  whole_not_bad bad.BadFrame w x =
+      let whole = all_same w.0 x.0 w.1 x.1 w.2 x.2 w.3 x.3 w.4 x.4 w.5 x.5 w.6 in
+      let frame = whole x.6.0 x.6.1 in
+      x.6.2 frame.0 frame.1
+  whole_not_bad bad.BadCapability w x = absurd x
+  whole_not_bad bad.BadProcess w x = absurd x
+  whole_not_bad bad.BadBank w x = absurd x
