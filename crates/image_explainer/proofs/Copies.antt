@@ -1,5 +1,5 @@
 -- A copy of a device that was read.
-use Rattle.std.proofs.Common.{◌≡◌, ℕ, ◌+◌, ◌<◌, List, ◌∙◌}
+use Rattle.std.proofs.Common.{ℕ, ◌+◌, List, ◌∙◌}
 use Rattle.device.specs.Disk.{Image}
 use Rattle.device.specs.Calls.{Agrees, AreSectors}
 

@@ -1,16 +1,11 @@
 -- Roots and annexes that don't belong together.
-use Rattle.std.proofs.Common.{◌≡◌, ℕ, ◌+◌, ◌<◌, ◌≤◌, List, Option, None, Some, length, inl, inr, refl, sym, ap, ◌∙◌, subst, arith}
+use Rattle.std.proofs.Common.{◌≡◌, ℕ, ◌+◌, ◌<◌, ◌≤◌, List, Option, None, Some, length, inl, inr, subst, arith}
 use Rattle.std.proofs.lemmas.Bool.{cases_lt}
 use Rattle.model.specs.declared.frame.Frame.{Frame}
-use Rattle.model.specs.declared.frame.ObjectHeader.{ObjectHeader}
-use Rattle.model.specs.declared.object.Role.TheVariants as role
-use Rattle.model.specs.Frame.{frame_at}
-use Rattle.capability.specs.Parts.{Parts, frames_of}
 use Rattle.consistency.specs.declared.processes.Noted.{Noted}
-use Rattle.consistency.specs.Consistency.{AreWholeProcesses, IsRootOf, role_at}
-use Rattle.consistency.specs.Noted.{AreNoted, note_at}
+use Rattle.consistency.specs.Consistency.{AreWholeProcesses}
+use Rattle.consistency.specs.Noted.{AreNoted}
 use Rattle.consistency.proofs.Notes.{none_noted}
-use Rattle.consistency.proofs.Tables.{annex_known}
 use Rattle.image_explainer.specs.Finding.{HasRoot, IsMatched, MatchesOr}
 use Rattle.image_explainer.specs.declared.fault.Unmatched.{Unmatched}
 use Rattle.image_explainer.specs.Breaking.{IsUnmatched}

@@ -1,5 +1,5 @@
 -- Capabilities that name what they can't.
-use Rattle.std.proofs.Common.{◌≡◌, ℕ, ◌<◌, List, ◌∷◌, [], Option, None, Some, length, slice_index_or, refl, sym, ap, ◌∙◌, subst, arith}
+use Rattle.std.proofs.Common.{◌≡◌, ℕ, ◌<◌, List, [], Option, length, slice_index_or, sym, ap, ◌∙◌, subst, arith}
 use Rattle.std.specs.Prelude.{IfNone}
 use Rattle.std.specs.List.{All}
 use Rattle.std.proofs.lemmas.List.{get_or_default}
@@ -7,8 +7,7 @@ use Rattle.model.specs.declared.capability.Cap.{Cap}
 use Rattle.model.specs.declared.frame.Frame.{Frame}
 use Rattle.model.specs.declared.frame.ObjectHeader.{ObjectHeader}
 use Rattle.model.specs.declared.object.Content.{Content}
-use Rattle.model.specs.declared.object.Role.{Role}
-use Rattle.model.specs.Frame.{current_count, frame_at, header_at, headers, void_held}
+use Rattle.model.specs.Frame.{current_count, frame_at, header_at, void_held}
 use Rattle.model.specs.Keepable.{caps_in}
 use Rattle.capability.specs.Parts.{Parts, frames_of}
 use Rattle.consistency.specs.Consistency.{IsNamed}

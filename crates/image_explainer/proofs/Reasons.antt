@@ -1,11 +1,10 @@
 -- Faults as reasons to refuse an image.
-use Rattle.std.proofs.Common.{◌≡◌, ℕ, ◌<◌, ◌≤◌, ◌^◌, Bool, List, Option, None, Some, Ok, Err, inl, inr, ⊎_elim, refl, sym, ap, ◌∙◌, subst, arith, length}
+use Rattle.std.proofs.Common.{◌≡◌, ℕ, ◌≤◌, ◌^◌, List, Option, None, Some, Ok, Err, inl, inr, ⊎_elim, refl, sym, ap, ◌∙◌, subst}
 use Rattle.std.specs.Prelude.{Result}
 use Rattle.model.specs.declared.frame.Frame.{Frame}
-use Rattle.model.specs.declared.geometry.Geometry.{Geometry}
 use Rattle.model.specs.declared.capability.Cap.{Cap}
 use Rattle.model.specs.Frame.{void_held}
-use Rattle.model.specs.Keepable.{AreKeepable, IsSoundFrames}
+use Rattle.model.specs.Keepable.{AreKeepable}
 use Rattle.device.specs.Disk.{Disk, Image}
 use Rattle.layout.specs.declared.bad_image.BadImage.{BadImage}
 use Rattle.checkpoint.specs.declared.open_fault.OpenFault.{OpenFault}

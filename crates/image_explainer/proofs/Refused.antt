@@ -1,11 +1,10 @@
 -- Devices that were refused for what is wrong in their sectors.
-use Rattle.std.proofs.Common.{◌≡◌, ℕ, ◌<◌, ◌≤◌, Some, Result, Ok, Err, false, true, inl, inr, ⊎_elim, refl, sym, ap, subst, ◌∙◌, arith}
-use Rattle.std.specs.Prelude.{IsErrOf, Option}
+use Rattle.std.proofs.Common.{ℕ, Some, Result, Ok, Err, ⊎_elim, refl, sym, subst, ◌∙◌, arith}
+use Rattle.std.specs.Prelude.{Option}
 use Rattle.std.proofs.lemmas.Bool.{cases_lt}
 use Rattle.device.specs.Disk.{Disk, Image}
-use Rattle.device.specs.Moments.{CountsNow}
+use Rattle.device.proofs.Moments.{CountsNow, peeks_on}
 use Rattle.device.proofs.Images.{agrees_is}
-use Rattle.device.proofs.Moments.{peeks_on}
 use Rattle.layout.specs.declared.bad_image.BadImage.{BadImage}
 use Rattle.layout.specs.Image.{IsBadBy}
 use Rattle.checkpoint.specs.declared.open_fault.OpenFault.{OpenFault}
@@ -44,7 +43,7 @@ module _ {D : Type 0} (disk : D → Disk) (before mid back : D) (reason : BadIma
       (subst (λ (c : Image). IsFault (disk mid).sectors c f) (agrees_is (disk mid).seen (disk before).seen refuses.looks.seen) is) in (
         explained_sectors (disk before).sectors (disk before).seen f there,
         looked,
-        ⊎_elim (λ rose. let never : false ≡ true = counts.cause.1 rose in cc) (λ le. omega (arith, le, counts.never_falls, refuses.why.0)) (cases_lt (disk mid).failures (disk back).failures),
+        ⊎_elim (λ rose. let never = counts.cause.1 rose in cc) (λ le. omega (arith, le, counts.never_falls, refuses.why.0)) (cases_lt (disk mid).failures (disk back).failures),
       )
 
   pub sectors_failed : (why : OpenFault) → IsNoReason why → (let r : Result SectorFault OpenFault = Err why in CountsOpen (disk mid) (disk back) r)
@@ -52,7 +51,7 @@ module _ {D : Type 0} (disk : D → Disk) (before mid back : D) (reason : BadIma
   sectors_failed open_fault.Failed other counts = (record { is_why = omega (arith, counts.cause.0 refl, refuses.why.0); looks = looked }, tt)
   sectors_failed open_fault.NoMemory other counts = (
     record {
-      is_why = ⊎_elim (λ rose. let never : false ≡ true = counts.cause.1 rose in cc) (λ le. omega (arith, le, counts.never_falls, refuses.why.0)) (cases_lt (disk mid).failures (disk back).failures);
+      is_why = ⊎_elim (λ rose. let never = counts.cause.1 rose in cc) (λ le. omega (arith, le, counts.never_falls, refuses.why.0)) (cases_lt (disk mid).failures (disk back).failures);
       looks = looked;
     },
     tt,

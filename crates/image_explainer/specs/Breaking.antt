@@ -1,5 +1,5 @@
 -- What is wrong with an image: what a fault names breaks the rule of its reason, in sectors or in the frames that they hold.
-use Rattle.std.specs.Prelude.{◌≡◌, ◌≢◌, ◌⊎◌, ◌<◌, ℕ, length, List}
+use Rattle.std.specs.Prelude.{◌≡◌, ◌≢◌, ◌<◌, ℕ, length, List}
 use Rattle.device.specs.Disk.{Image}
 use Rattle.model.specs.declared.frame.Frame.{Frame}
 use Rattle.model.specs.declared.object.Role.TheVariants as role

@@ -1,5 +1,5 @@
 -- A superblock has its mark, and an image with one is large enough.
-use Rattle.std.proofs.Common.{◌≡◌, ℕ, ◌+◌, ◌-◌, ◌*◌, ◌<◌, ◌≤◌, List, [], ◌∷◌, ◌++◌, length, replicate, take, drop, refl, sym, ap, subst, ◌∙◌, ⊎_elim, append_assoc, length-append, take_at, drop_at, arith}
+use Rattle.std.proofs.Common.{◌≡◌, ℕ, ◌+◌, ◌-◌, ◌*◌, List, [], ◌∷◌, ◌++◌, length, replicate, take, drop, refl, sym, ap, subst, ◌∙◌, ⊎_elim, append_assoc, length-append, take_at, drop_at, arith}
 use Rattle.std.specs.Prelude.{codes}
 use Rattle.std.proofs.lemmas.List.{length-replicate}
 use Rattle.device.specs.Disk.{Image}
@@ -71,9 +71,12 @@ module _ (p : Plan) (is : IsPlan p) where
   pub marked : HasMark (superblock_bytes p)
   marked = record {
     magic = ap (take 8) begins ∙ take_at (codes "EROSCKPT") (half_number (version_number p.version) ++ (half_number (length p.ranges) ++ rest)) 8 refl;
-    version = (p.version, ap (λ (b : List ℕ). take 4 (drop 8 b)) begins
-        ∙ ap (take 4) (drop_at (codes "EROSCKPT") (half_number (version_number p.version) ++ (half_number (length p.ranges) ++ rest)) 8 refl)
-        ∙ take_at (half_number (version_number p.version)) (half_number (length p.ranges) ++ rest) 4 (half (version_number p.version)));
+    version = (
+      p.version,
+      ap (λ (b : List ℕ). take 4 (drop 8 b)) begins
+          ∙ ap (take 4) (drop_at (codes "EROSCKPT") (half_number (version_number p.version) ++ (half_number (length p.ranges) ++ rest)) 8 refl)
+          ∙ take_at (half_number (version_number p.version)) (half_number (length p.ranges) ++ rest) 4 (half (version_number p.version)),
+    );
     blank = ap (drop 256) ends ∙ drop_at front (zeros 256) 256 front_long;
   }
 

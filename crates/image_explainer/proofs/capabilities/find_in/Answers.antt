@@ -1,8 +1,6 @@
-use Rattle.std.proofs.Common.{◌∙◌}
 use Rattle.capability.specs.Parts.{frames_of}
 use Rattle.consistency.proofs.BankFaults.{refuted}
 use Rattle.consistency.proofs.Named.{named_more}
-use Rattle.consistency.specs.Consistency.{IsNamed}
 use Rattle.image_explainer.proofs.Naming.{misnamed_here}
 use Rattle.image_explainer.proofs.capabilities.find_in.Goals as goal
 

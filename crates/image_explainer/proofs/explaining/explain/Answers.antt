@@ -1,6 +1,5 @@
 use Rattle.std.proofs.Common.{subst}
 use Rattle.checkpoint.specs.declared.open_fault.OpenFault.{OpenFault}
-use Rattle.checkpoint.specs.declared.open_fault.OpenFault.TheVariants as open_fault
 use Rattle.checkpoint.specs.Opened.{Refuses}
 use Rattle.image_explainer.proofs.Refused.{bad_still}
 use Rattle.image_explainer.proofs.explaining.explain.Goals as goal

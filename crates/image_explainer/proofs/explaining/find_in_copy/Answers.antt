@@ -1,4 +1,4 @@
-use Rattle.std.proofs.Common.{◌≡◌, ℕ, sym, subst}
+use Rattle.std.proofs.Common.{ℕ, subst}
 use Rattle.device.specs.Calls.{AreSectors}
 use Rattle.device.specs.Disk.{Image}
 use Rattle.sector_faults.specs.Breaking.{IsFault}
@@ -15,8 +15,8 @@ unreachable-requires g c =
     whole_not_bad (disk c.args.device.now).sectors image c.requires.bad.0
     (subst (λ (n : ℕ). IsWhole n image) c.sectors-size.ensures.count (c.in-Ok-find_in_sectors.ensures.whole image copy)) c.requires.bad.1
 
-pub returns-in-Err-find_in_sectors-clause-found : goal.returns-in-Err-find_in_sectors-clause-found
-returns-in-Err-find_in_sectors-clause-found g c =
+pub returns-clause-found : goal.returns-clause-found
+returns-clause-found g c =
     let disk = g.D.Device.disk in
     let image : Image = (disk c.args.device.now).seen in
     let copy : AreSectors image 0 c.read.new.into = copied_before (disk c.read.new.self).seen image c.read.new.into c.in-Ok.ensures.bytes c.read.ensures.seen in

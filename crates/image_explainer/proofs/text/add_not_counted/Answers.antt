@@ -1,4 +1,4 @@
-use Rattle.std.proofs.Common.{List, ◌++◌, ap, sym, ◌∙◌}
+use Rattle.std.proofs.Common.{◌++◌, ap, sym, ◌∙◌}
 use Rattle.sector_faults.specs.declared.fault.NotCounted.{NotCounted}
 use Rattle.image_explainer.specs.Text.{not_counted_text}
 use Rattle.image_explainer.proofs.Joined.{joined_3}
