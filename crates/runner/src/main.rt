@@ -375,6 +375,14 @@ fn refuse_file(file: &str, cause: &io::Error, errors: &mut Stderr) -> u8 {
     1
 }
 
+// Whether a file is a block device, which may have an image.
+fn is_block_device(rt: &HostRuntime, file: &str) -> bool {
+    match fs::metadata(rt, file) {
+        Ok(about) => about.file_type().is_block_device(),
+        Err(_) => false,
+    }
+}
+
 // The bytes of a regular file.
 fn read_regular(rt: &HostRuntime, file: &str) -> io::Result<Vec<u8>> {
     let about = fs::metadata(rt, file)?;
@@ -405,13 +413,16 @@ fn explain_file(
 }
 
 // Says why a file is refused as a description or an image, and gives the status. A file is an image if its bytes are no
-// text, or one of them is zero.
+// text, or one of them is zero; so is a block device.
 fn explain(
     rt: &HostRuntime,
     file: &str,
     writer: &mut BufWriter<Stdout>,
     errors: &mut Stderr,
 ) -> Result<u8, Fault> {
+    if is_block_device(rt, file) {
+        return explain_file(rt, file, writer, errors);
+    }
     let bytes = match read_regular(rt, file) {
         Ok(bytes) => bytes,
         Err(error) if error.kind() == ErrorKind::OutOfMemory => return Err(Fault::NoMemory),
