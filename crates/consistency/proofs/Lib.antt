@@ -1,9 +1,9 @@
-mod Looking
-mod Named
-mod Notes
-mod Sound
+pub mod Looking
+pub mod Named
+pub mod Notes
+pub mod Sound
 mod Standing
-mod Tables
+pub mod Tables
 mod Taking
 mod Trees
 pub mod BankFaults

@@ -36,9 +36,9 @@ pub fn names_its_role<F: PresentFrames>(
     }
 }
 
-// Whether a held capability has no greater count than its object, and where the counts are the same
-// names what it is for.
-fn is_named<F: PresentFrames>(store: &F, notes: &[Option<Noted>], held: Cap) -> bool
+/// Whether a held capability has no greater count than its object, and where the counts are the same
+/// names what it is for.
+pub fn is_named<F: PresentFrames>(store: &F, notes: &[Option<Noted>], held: Cap) -> bool
     requires { AreNoted (frames_of (F.parts store.now)) notes.now }
     ensures { IsTrue result ↔ IsNamed (frames_of (F.parts store.now)) held }
 {

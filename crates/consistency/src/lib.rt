@@ -11,7 +11,8 @@ mod reason;
 mod table;
 
 pub use banks::find_unbanked;
-pub use capabilities::names_its_role;
+pub use capabilities::{is_named, names_its_role};
 pub use checking::check;
-pub use processes::{Noted, read_notes};
+pub use processes::{Noted, is_annex_for, read_notes};
 pub use reason::{CheckFault, Inconsistency, Unbanked};
+pub use table::has_role;

@@ -98,8 +98,8 @@ pub(crate) fn is_waiting(notes: &[Option<Noted>], number: u64) -> bool
     }
 }
 
-// Whether an object is an annex, and has the owner of a root.
-fn is_annex_for<F: PresentFrames>(store: &F, root: u64, annex: u64) -> bool
+/// Whether an object is an annex, and has the owner of a root.
+pub fn is_annex_for<F: PresentFrames>(store: &F, root: u64, annex: u64) -> bool
     ensures { IsTrue result ↔ IsAnnexFor (frames_of (F.parts store.now)) root annex }
 {
     has_role(store, annex, Role::Annex) && owner(store, annex) == owner(store, root)

@@ -6,8 +6,8 @@ ghost use Rattle.consistency.specs.Consistency.{owner_of, role_at};
 use capability::PresentFrames;
 use model::Role;
 
-// Whether an object has a role. What is no number is free.
-pub(crate) fn has_role<F: PresentFrames>(store: &F, number: u64, role: Role) -> bool
+/// Whether an object has a role. What is no number is free.
+pub fn has_role<F: PresentFrames>(store: &F, number: u64, role: Role) -> bool
     ensures { IsTrue result ↔ (role_at (frames_of (F.parts store.now)) number ≡ role) }
 {
     store.table().header(number).role == role

@@ -1,3 +1,4 @@
+pub mod Diagnosed
 pub mod Drawing
 pub mod Explained
 pub mod Faults

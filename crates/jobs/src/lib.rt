@@ -4,6 +4,7 @@
 mod building;
 mod checking;
 mod describing;
+mod diagnosing;
 mod done;
 mod drawing;
 mod explaining;
@@ -24,6 +25,7 @@ mod whole;
 pub use building::build_image;
 pub use checking::check_image;
 pub use describing::describe_image;
+pub use diagnosing::explain_image;
 pub use done::Done;
 pub use drawing::{Focus, draw_image};
 pub use explaining::explain_description;

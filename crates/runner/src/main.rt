@@ -10,7 +10,7 @@ use file_device::{FileDevice, FileFault};
 use image_builder::{Blueprint, OldImage};
 use jobs::{
     Fault, Focus, ShellInput, Sizes, build_image, check_image, describe_image, draw_image,
-    explain_description, finish, info_image, reach_image, run_image, run_shell, run_traced,
+    explain_description, explain_image, finish, info_image, reach_image, run_image, run_shell, run_traced,
     upgrade_opened,
 };
 use memory_device::Fuse;
@@ -376,6 +376,14 @@ fn refuse_file(file: &str, cause: &io::Error, errors: &mut Stderr) -> u8 {
     1
 }
 
+// Whether a file is a block device, which may have an image.
+fn is_block_device(rt: &HostRuntime, file: &str) -> bool {
+    match fs::metadata(rt, file) {
+        Ok(about) => about.file_type().is_block_device(),
+        Err(_) => false,
+    }
+}
+
 // The bytes of a regular file.
 fn read_regular(rt: &HostRuntime, file: &str) -> io::Result<Vec<u8>> {
     let about = fs::metadata(rt, file)?;
@@ -388,24 +396,34 @@ fn read_regular(rt: &HostRuntime, file: &str) -> io::Result<Vec<u8>> {
     fs::read(rt, file)
 }
 
-// Says why an image is refused, and gives the status.
-fn explain_image(
+// Says why the image in a file is refused, and gives the status.
+fn explain_file(
     rt: &HostRuntime,
     image: &str,
     writer: &mut BufWriter<Stdout>,
     errors: &mut Stderr,
 ) -> Result<u8, Fault> {
-    check(rt, image, writer, errors)
+    match FileDevice::open_to_read(rt, image) {
+        Ok(device) => Ok(explain_image(rt.alloc(), device, writer, errors).status),
+        Err(FileFault::NoMemory) => Err(Fault::NoMemory),
+        Err(fault) => {
+            let _told = writeln!(errors, "eros: {image}: {fault}");
+            Ok(1)
+        }
+    }
 }
 
 // Says why a file is refused as a description or an image, and gives the status. A file is an image if its bytes are no
-// text, or one of them is zero.
+// text, or one of them is zero; so is a block device.
 fn explain(
     rt: &HostRuntime,
     file: &str,
     writer: &mut BufWriter<Stdout>,
     errors: &mut Stderr,
 ) -> Result<u8, Fault> {
+    if is_block_device(rt, file) {
+        return explain_file(rt, file, writer, errors);
+    }
     let bytes = match read_regular(rt, file) {
         Ok(bytes) => bytes,
         Err(error) if error.kind() == ErrorKind::OutOfMemory => return Err(Fault::NoMemory),
@@ -415,7 +433,7 @@ fn explain(
         Ok(text) if !bytes.contains(&0) => {
             Ok(explain_description(rt.alloc(), text, writer, errors))
         }
-        _ => explain_image(rt, file, writer, errors),
+        _ => explain_file(rt, file, writer, errors),
     }
 }
 

@@ -1,0 +1,8 @@
+-- A copy of a device that was read.
+use Rattle.std.proofs.Common.{ℕ, ◌+◌, List, ◌∙◌}
+use Rattle.device.specs.Disk.{Image}
+use Rattle.device.specs.Calls.{Agrees, AreSectors}
+
+-- is one of what the device held before
+pub copied_before : (new old : Image) (bytes : List ℕ) → AreSectors new 0 bytes → Agrees new old → AreSectors old 0 bytes
+copied_before new old bytes is agrees i lt = is i lt ∙ agrees (0 + i)

@@ -1,0 +1,32 @@
+-- Texts that are put together piece by piece.
+use Rattle.std.proofs.Common.{◌≡◌, ℕ, List, ◌∷◌, ◌++◌, ap, ◌∙◌, append_assoc}
+use Rattle.std.specs.Prelude.{codes, decimal}
+use Rattle.layout.specs.declared.bad_image.BadImage.{BadImage}
+use Rattle.image_explainer.specs.declared.fault.ImageFault.{ImageFault}
+use Rattle.image_explainer.specs.Breaking.{reason_of}
+use Rattle.image_explainer.specs.Text.{fault_text, number_of_reason, place_text}
+
+module _ (l a b m n : List ℕ) (first : m ≡ l ++ a) (second : n ≡ m ++ b) where
+  pub joined_2 : n ≡ l ++ (a ++ b)
+  joined_2 = second ∙ ap (λ (x : List ℕ). x ++ b) first ∙ append_assoc l a b
+
+  module _ (c o : List ℕ) (third : o ≡ n ++ c) where
+    pub joined_3 : o ≡ l ++ (a ++ b ++ c)
+    joined_3 = third ∙ ap (λ (x : List ℕ). x ++ c) joined_2 ∙ append_assoc l (a ++ b) c
+
+    module _ (d p : List ℕ) (fourth : p ≡ o ++ d) where
+      pub joined_4 : p ≡ l ++ (a ++ b ++ c ++ d)
+      joined_4 = fourth ∙ ap (λ (x : List ℕ). x ++ d) joined_3 ∙ append_assoc l (a ++ b ++ c) d
+
+      pub joined_6 : (e f q r : List ℕ) → q ≡ p ++ e → r ≡ q ++ f → r ≡ l ++ (a ++ b ++ c ++ d ++ e ++ f)
+      joined_6 e f q r fifth sixth =
+          sixth ∙ ap (λ (x : List ℕ). x ++ f) (fifth ∙ ap (λ (x : List ℕ). x ++ e) joined_4 ∙ append_assoc l (a ++ b ++ c ++ d) e) ∙ append_assoc l (a ++ b ++ c ++ d ++ e) f
+
+-- the place, and the number of the reason
+pub said : (fault : ImageFault) (reason : BadImage) (number : ℕ) (l m n o : List ℕ) → l ≡ place_text fault → m ≡ l ++ codes " (bad image" → reason ≡ reason_of fault → number ≡ number_of_reason reason
+    → n ≡ m ++ 32 ∷ decimal number → o ≡ n ++ codes ")" → o ≡ fault_text fault
+unfolding fault_text
+said fault reason number l m n o place words is told digits end =
+    end ∙ ap (λ (x : List ℕ). x ++ codes ")")
+    (digits ∙ ap (λ (x : List ℕ). x ++ 32 ∷ decimal number) (words ∙ ap (λ (x : List ℕ). x ++ codes " (bad image") place)
+    ∙ ap (λ (k : ℕ). place_text fault ++ codes " (bad image" ++ 32 ∷ decimal k) (told ∙ ap number_of_reason is))

@@ -1,0 +1,6 @@
+mod Copies
+mod Joined
+mod Matching
+mod Naming
+mod Reasons
+mod Refused

@@ -1,0 +1,53 @@
+-- Roots and annexes that don't belong together.
+use Rattle.std.proofs.Common.{◌≡◌, ℕ, ◌+◌, ◌<◌, ◌≤◌, List, Option, None, Some, length, inl, inr, subst, arith}
+use Rattle.std.proofs.lemmas.Bool.{cases_lt}
+use Rattle.model.specs.declared.frame.Frame.{Frame}
+use Rattle.consistency.specs.declared.processes.Noted.{Noted}
+use Rattle.consistency.specs.Consistency.{AreWholeProcesses}
+use Rattle.consistency.specs.Noted.{AreNoted}
+use Rattle.consistency.proofs.Notes.{none_noted}
+use Rattle.image_explainer.specs.Finding.{HasRoot, IsMatched, MatchesOr}
+use Rattle.image_explainer.specs.declared.fault.Unmatched.{Unmatched}
+use Rattle.image_explainer.specs.Breaking.{IsUnmatched}
+use Rattle.std.specs.Prelude.{IfNone, IfSome}
+use Rattle.std.proofs.lemmas.List.{get_or_past}
+
+-- past the notes there is no root
+pub all_matched : (fs : List Frame) (notes : List (Option Noted)) (n : ℕ) → AreNoted fs notes → length notes ≤ n → ((p : ℕ) → p < n → IsMatched fs p) → (p : ℕ) → IsMatched fs p
+all_matched fs notes n noted past each p = elim (cases_lt p n) [
+  | inl before ↦ each p before
+  | inr beyond ↦ λ a root. absurd (none_noted fs notes noted p a (get_or_past notes p None (omega (arith, past, beyond))) root)
+]
+
+-- a root more is matched
+pub matched_more : (fs : List Frame) (n : ℕ) → ((p : ℕ) → p < n → IsMatched fs p) → IsMatched fs n → (p : ℕ) → p < n + 1 → IsMatched fs p
+matched_more fs n before here p lt = elim (cases_lt p n) [
+  | inl less ↦ before p less
+  | inr le ↦ let same : n ≡ p = omega (arith, lt, le) in subst (IsMatched fs) same here
+]
+
+-- an annex more has a root
+pub rooted_more : (fs : List Frame) (n : ℕ) → ((a : ℕ) → a < n → HasRoot fs a) → HasRoot fs n → (a : ℕ) → a < n + 1 → HasRoot fs a
+rooted_more fs n before here a lt = elim (cases_lt a n) [
+  | inl less ↦ before a less
+  | inr le ↦ let same : n ≡ a = omega (arith, lt, le) in subst (HasRoot fs) same here
+]
+
+-- matched roots have annexes of their own
+pub whole_of_matched : (fs : List Frame) → ((p : ℕ) → IsMatched fs p) → ((a : ℕ) → HasRoot fs a) → AreWholeProcesses fs
+whole_of_matched fs matched rooted = record {
+  annexes = λ p a root. (matched p a root).0;
+  one_root = λ p q a first second. elim (cases_lt p q) [
+    | inl less ↦ absurd ((matched p a first).1 q less second)
+    | inr le ↦ elim (cases_lt q p) [
+      | inl less ↦ absurd ((matched q a second).1 p less first)
+      | inr other ↦ omega (arith, le, other)
+    ]
+  ];
+  some_root = rooted;
+}
+
+-- what was found of roots, and then of annexes
+pub matches : (fs : List Frame) (found : Option Unmatched) → ((p : ℕ) → IsMatched fs p) → IfSome found (IsUnmatched fs) → IfNone found ((a : ℕ) → HasRoot fs a) → MatchesOr fs found
+matches fs None matched is rooted = whole_of_matched fs matched rooted
+matches fs (Some u) matched is rooted = is

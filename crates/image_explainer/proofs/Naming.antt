@@ -1,0 +1,40 @@
+-- Capabilities that name what they can't.
+use Rattle.std.proofs.Common.{◌≡◌, ℕ, ◌<◌, List, [], Option, length, slice_index_or, sym, ap, ◌∙◌, subst, arith}
+use Rattle.std.specs.Prelude.{IfNone}
+use Rattle.std.specs.List.{All}
+use Rattle.std.proofs.lemmas.List.{get_or_default}
+use Rattle.model.specs.declared.capability.Cap.{Cap}
+use Rattle.model.specs.declared.frame.Frame.{Frame}
+use Rattle.model.specs.declared.frame.ObjectHeader.{ObjectHeader}
+use Rattle.model.specs.declared.object.Content.{Content}
+use Rattle.model.specs.Frame.{current_count, frame_at, header_at, void_held}
+use Rattle.model.specs.Keepable.{caps_in}
+use Rattle.capability.specs.Parts.{Parts, frames_of}
+use Rattle.consistency.specs.Consistency.{IsNamed}
+use Rattle.consistency.proofs.Tables.{header_read, table_read}
+use Rattle.image_explainer.specs.declared.fault.Misnamed.{Misnamed}
+use Rattle.image_explainer.specs.Breaking.{IsMisnamed}
+
+-- the capability of an index, which was read with the table
+pub misnamed_here : (p : Parts) (n i : ℕ) (held : List Cap) (d : Cap) (hs ks : List ObjectHeader) (h : ObjectHeader) (current : ℕ) → held ≡ caps_in (frame_at (frames_of p) n).content → i < length held
+    → hs ≡ p.headers → h ≡ header_at hs n → ks ≡ p.headers → current ≡ current_count ks (slice_index_or held i d).what → (IsNamed (frames_of p) (slice_index_or held i d) → ⊥)
+    → IsMisnamed (frames_of p) (record { holder = n; role = h.role; index = i; held = slice_index_or held i d; current = current })
+misnamed_here p n i held d hs ks h current all inside table is other told broken = record {
+  within = omega (arith, inside, ap (λ (cs : List Cap). length cs) all);
+  held = sym (ap (λ (cs : List Cap). slice_index_or cs i void_held) all) ∙ get_or_default held i void_held d inside;
+  kind = ap (λ (x : ObjectHeader). x.role) (header_read p hs h n table is);
+  current = told ∙ ap (λ (xs : List ObjectHeader). current_count xs (slice_index_or held i d).what) (table_read p ks other);
+  broken = broken;
+}
+
+-- what an object holds
+module _ (fs : List Frame) (c : Content Cap) (n : ℕ) (is : c ≡ (frame_at fs n).content) where
+  pub held_there : (slots held : List Cap) → caps_in c ≡ slots → held ≡ slots → held ≡ caps_in (frame_at fs n).content
+  held_there slots held all same = same ∙ sym all ∙ ap (λ (d : Content Cap). caps_in d) is
+
+  pub none_there : (slots held : List Cap) (found : Option Misnamed) → caps_in c ≡ slots → held ≡ slots → IfNone found (All (IsNamed fs) held) → IfNone found (All (IsNamed fs) (caps_in (frame_at fs n).content))
+  none_there slots held found all same named = subst (λ (cs : List Cap). IfNone found (All (IsNamed fs) cs)) (held_there slots held all same) named
+
+  pub nothing_there : caps_in c ≡ [] → All (IsNamed fs) (caps_in (frame_at fs n).content)
+  nothing_there none =
+      subst (λ (cs : List Cap). All (IsNamed fs) cs) (sym none ∙ ap (λ (d : Content Cap). caps_in d) is) (λ k d inside. absurd (omega arith))

@@ -1,0 +1,137 @@
+-- Faults as reasons to refuse an image.
+use Rattle.std.proofs.Common.{◌≡◌, ℕ, ◌≤◌, ◌^◌, List, Option, None, Some, Ok, Err, inl, inr, ⊎_elim, refl, sym, ap, ◌∙◌, subst}
+use Rattle.std.specs.Prelude.{Result}
+use Rattle.model.specs.declared.frame.Frame.{Frame}
+use Rattle.model.specs.declared.capability.Cap.{Cap}
+use Rattle.model.specs.Frame.{void_held}
+use Rattle.model.specs.Keepable.{AreKeepable}
+use Rattle.device.specs.Disk.{Disk, Image}
+use Rattle.layout.specs.declared.bad_image.BadImage.{BadImage}
+use Rattle.checkpoint.specs.declared.open_fault.OpenFault.{OpenFault}
+use Rattle.checkpoint.specs.declared.open_fault.OpenFault.TheVariants as open_fault
+use Rattle.checkpoint.specs.Opened.{Looks, Refuses}
+use Rattle.checkpoint.specs.Saved.{Holds, SavedFrames}
+use Rattle.consistency.specs.declared.reason.Inconsistency.{Inconsistency}
+use Rattle.consistency.specs.declared.reason.Inconsistency.TheVariants.{BadBank, BadCapability, BadProcess}
+use Rattle.consistency.specs.Consistency.{AreNamed, AreWholeProcesses, IsInconsistent, IsNamed}
+use Rattle.capability.specs.Parts.{frames_of}
+use Rattle.consistency.proofs.BankFaults.{unbanked_refuted}
+use Rattle.consistency.proofs.Sound.{consistent_is_sound}
+use Rattle.object_store.specs.Store.{OpensStore}
+use Rattle.object_cache.specs.StoreState.{StoreState, parts_of, view_of}
+use Rattle.recovery.specs.Denotes.{saved_of}
+use Rattle.recovery.specs.Recovered.{IsUnfit, reason_of as inconsistent_reason}
+use Rattle.kernel.specs.Opening.{IsNoReason}
+use Rattle.kernel.proofs.Denoted.{holds_one}
+use Rattle.layout.proofs.Denoted.{frames_not_bad}
+use Rattle.sector_faults.proofs.OneReason.{one_reason as one_sector_reason}
+use Rattle.sector_faults.specs.declared.fault.SectorFault.{SectorFault}
+use Rattle.sector_faults.specs.Breaking.{IsFault}
+use Rattle.image_explainer.specs.declared.fault.ImageFault.{ImageFault}
+use Rattle.image_explainer.specs.declared.fault.ImageFault.TheVariants as fault
+use Rattle.image_explainer.specs.declared.fault.Misnamed.{Misnamed}
+use Rattle.image_explainer.specs.declared.fault.Unmatched.{Unmatched}
+use Rattle.image_explainer.specs.declared.fault.Unmatched.TheVariants as unmatched
+use Rattle.image_explainer.specs.Breaking.{BreaksFrames, IsMisnamed, IsUnmatched, reason_of}
+use Rattle.image_explainer.specs.Explained.{AreBadForOneReason, Explains, IsExplainedBy}
+use Rattle.image_explainer.specs.Finding.{IsConsistentOr}
+
+unnamed : (fs : List Frame) (m : Misnamed) → IsMisnamed fs m → AreNamed fs → ⊥
+unnamed fs m is named = is.broken (subst (λ (c : Cap). IsNamed fs c) is.held (named m.holder m.index void_held is.within))
+
+unwhole : (fs : List Frame) (u : Unmatched) → IsUnmatched fs u → AreWholeProcesses fs → ⊥
+unwhole fs (unmatched.Annex root annex) is whole = is.1 (whole.annexes root annex is.0)
+unwhole fs (unmatched.Shared first second annex) is whole = is.2 (whole.one_root first second annex is.0 is.1)
+unwhole fs (unmatched.Rootless annex) is whole = let root = whole.some_root annex is.0 in is.1 root.0 root.1
+
+-- frames with a fault are inconsistent for its reason
+unfit : (fs : List Frame) (f : ImageFault) → BreaksFrames fs f → IsUnfit fs (open_fault.Bad (reason_of f))
+unfit fs (fault.Sectors f) is = absurd is
+unfit fs (fault.Capability m) is = (BadCapability, refl, unnamed fs m is)
+unfit fs (fault.Process u) is = (BadProcess, refl, (is.0, unwhole fs u is.1))
+unfit fs (fault.Bank u) is = (BadBank, refl, (is.0, is.1, unbanked_refuted fs u is.2))
+
+explained_frames : (size : ℕ) (c : Image) (saved : SavedFrames) (f : ImageFault) → Holds size c saved → BreaksFrames saved.frames f → IsExplainedBy size c (Some f)
+explained_frames size c saved (fault.Sectors f) holds is = absurd is
+explained_frames size c saved (fault.Capability m) holds is = (inr (saved, holds, unfit saved.frames (fault.Capability m) is), (saved, holds, is))
+explained_frames size c saved (fault.Process u) holds is = (inr (saved, holds, unfit saved.frames (fault.Process u) is), (saved, holds, is))
+explained_frames size c saved (fault.Bank u) holds is = (inr (saved, holds, unfit saved.frames (fault.Bank u) is), (saved, holds, is))
+
+-- a fault of sectors
+pub explained_sectors : (size : ℕ) (c : Image) (f : SectorFault) → IsFault size c f → IsExplainedBy size c (Some (fault.Sectors f))
+explained_sectors size c f is = (inl is.0, is.1)
+
+-- frames that a device holds can be kept at their age, which is within its limit
+pub keepable : (size : ℕ) (c : Image) (saved : SavedFrames) → Holds size c saved → AreKeepable saved.geometry saved.age saved.frames
+keepable size c saved holds =
+    subst (λ (x : SavedFrames). AreKeepable x.geometry x.age x.frames) holds.2 (record { count = holds.1.count; each = λ n lt. (holds.1.each n lt).0 })
+
+pub within_age : (size : ℕ) (c : Image) (saved : SavedFrames) → Holds size c saved → saved.age ≤ 2 ^ 62
+within_age size c saved holds = subst (λ (x : SavedFrames). x.age ≤ 2 ^ 62) holds.2 holds.1.header.fits.age
+
+-- what was found among the frames of a store is so of the device beneath
+explained_found : (size : ℕ) (c : Image) (saved : SavedFrames) (found : Option ImageFault) → Holds size c saved → IsConsistentOr saved.frames found → IsExplainedBy size c found
+explained_found size c saved None holds is = (
+  saved.geometry,
+  saved_of saved,
+  record {
+    frames = saved;
+    holds = holds;
+    sound = record { geometry = refl; sound = consistent_is_sound saved.geometry saved.age saved.frames (keepable size c saved holds) (within_age size c saved holds) is.0 is.1 is.2 };
+    stands = refl;
+  },
+)
+explained_found size c saved (Some f) holds is = explained_frames size c saved f holds is
+
+-- a store that was made of a device, and the device beneath it after a look
+module _ {D : Type 0} (disk : D → Disk) (device back : D) (s : StoreState D) (opens : OpensStore disk device (parts_of disk s) (view_of disk s)) (same : back ≡ s.durable.beneath) where
+  looked : Looks (disk device) (disk back)
+  looked = subst (λ (d : D). Looks (disk device) (disk d)) (sym same) opens.looks
+
+  unfailed : (disk back).failures ≡ (disk device).failures
+  unfailed = ap (λ (d : D). (disk d).failures) same ∙ opens.failures
+
+  pub explains_found : (found : Option ImageFault) → IsConsistentOr (frames_of (parts_of disk s)) found → (let r : Result (Option ImageFault) OpenFault = Ok found in Explains disk device back r)
+  explains_found found is =
+      let saved = (view_of disk s).aside.saved in
+      (explained_found (disk device).sectors (disk device).seen saved found opens.holds (subst (λ (fs : List Frame). IsConsistentOr fs found) opens.frames is), looked, unfailed)
+
+  pub explains_none : (why : OpenFault) → (why ≡ open_fault.Failed → ⊥) → IsNoReason why → (let r : Result (Option ImageFault) OpenFault = Err why in Explains disk device back r)
+  explains_none open_fault.Failed never no_reason = absurd (never refl)
+  explains_none open_fault.NoMemory never no_reason = (record { is_why = unfailed; looks = looked }, tt)
+  explains_none (open_fault.Bad reason) never no_reason = absurd no_reason
+
+-- a device that wasn't opened
+pub explains_failure : {D : Type 0} (disk : D → Disk) (device back : D) (why : OpenFault) → ((reason : BadImage) → why ≡ open_fault.Bad reason → ⊥) → Refuses disk device back why
+    → (let r : Result (Option ImageFault) OpenFault = Err why in Explains disk device back r)
+explains_failure disk device back open_fault.Failed never refuses = (record { is_why = refuses.why; looks = refuses.looks }, tt)
+explains_failure disk device back open_fault.NoMemory never refuses = (record { is_why = refuses.why; looks = refuses.looks }, tt)
+explains_failure disk device back (open_fault.Bad reason) never refuses = absurd (never reason refl)
+
+-- frames are inconsistent for one reason
+one_inconsistency : (fs : List Frame) (a b : Inconsistency) → IsInconsistent fs a → IsInconsistent fs b → a ≡ b
+one_inconsistency fs BadCapability BadCapability x y = refl
+one_inconsistency fs BadCapability BadProcess x y = absurd (x y.0)
+one_inconsistency fs BadCapability BadBank x y = absurd (x y.0)
+one_inconsistency fs BadProcess BadCapability x y = absurd (y x.0)
+one_inconsistency fs BadProcess BadProcess x y = refl
+one_inconsistency fs BadProcess BadBank x y = absurd (x.1 y.1)
+one_inconsistency fs BadBank BadCapability x y = absurd (y x.0)
+one_inconsistency fs BadBank BadProcess x y = absurd (y.1 x.1)
+one_inconsistency fs BadBank BadBank x y = refl
+
+one_unfit : (fs : List Frame) (a b : BadImage) → IsUnfit fs (open_fault.Bad a) → IsUnfit fs (open_fault.Bad b) → a ≡ b
+one_unfit fs a b x y = x.1 ∙ ap inconsistent_reason (one_inconsistency fs x.0 y.0 x.2 y.2) ∙ sym y.1
+
+-- an image is bad for one reason
+pub one_reason : AreBadForOneReason
+one_reason size c a b x y = ⊎_elim
+    (λ first. ⊎_elim
+    (λ second. one_sector_reason size c a b first second)
+    (λ second. absurd (frames_not_bad c size second.1.0 second.1.1 a first))
+    y)
+    (λ first. ⊎_elim
+    (λ second. absurd (frames_not_bad c size first.1.0 first.1.1 b second))
+    (λ second. one_unfit second.0.frames a b (subst (λ (s : SavedFrames). IsUnfit s.frames (open_fault.Bad a)) (holds_one size c first.0 second.0 first.1 second.1) first.2) second.2)
+    y)
+    x

@@ -1,0 +1,7 @@
+use Rattle.std.proofs.Common.{ℕ, ◌<◌}
+use Rattle.capability.specs.Parts.{frames_of}
+use Rattle.image_explainer.specs.Finding.{HasRoot}
+use Rattle.image_explainer.proofs.processes.find_annex.Given as goal
+
+abbrev pub invariant-loop-annex : goal.invariant-loop-annex
+invariant-loop-annex g l = (a : ℕ) → a < l.annex → HasRoot (frames_of (g.F.PresentFrames.parts l.store)) a

@@ -1,0 +1,7 @@
+use Rattle.std.proofs.Common.{ℕ, ◌<◌}
+use Rattle.capability.specs.Parts.{frames_of}
+use Rattle.image_explainer.specs.Finding.{IsMatched}
+use Rattle.image_explainer.proofs.processes.find_root.Given as goal
+
+abbrev pub invariant-loop-root : goal.invariant-loop-root
+invariant-loop-root g l = (p : ℕ) → p < l.root → IsMatched (frames_of (g.F.PresentFrames.parts l.store)) p

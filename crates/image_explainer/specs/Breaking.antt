@@ -1,0 +1,51 @@
+-- What is wrong with an image: what a fault names breaks the rule of its reason, in sectors or in the frames that they hold.
+use Rattle.std.specs.Prelude.{◌≡◌, ◌≢◌, ◌<◌, ℕ, length, List}
+use Rattle.device.specs.Disk.{Image}
+use Rattle.model.specs.declared.frame.Frame.{Frame}
+use Rattle.model.specs.declared.object.Role.TheVariants as role
+use Rattle.model.specs.Frame.{current_count, frame_at, headers}
+use Rattle.model.specs.Keepable.{caps_in}
+use Rattle.layout.specs.declared.bad_image.BadImage.{BadImage}
+use Rattle.layout.specs.declared.bad_image.BadImage.TheVariants as bad
+use Rattle.layout.specs.Frame.{cap_at}
+use Rattle.checkpoint.specs.Saved.{Holds, SavedFrames}
+use Rattle.consistency.specs.Consistency.{AreNamed, AreWholeProcesses, IsAnnexFor, IsNamed, IsRootOf, IsUnbanked, role_at}
+use Rattle.sector_faults.specs.Breaking.{BreaksSectors, sector_reason}
+use Rattle.image_explainer.specs.declared.fault.ImageFault.{ImageFault}
+use Rattle.image_explainer.specs.declared.fault.ImageFault.TheVariants as fault
+use Rattle.image_explainer.specs.declared.fault.Misnamed.{Misnamed}
+use Rattle.image_explainer.specs.declared.fault.Unmatched.{Unmatched}
+use Rattle.image_explainer.specs.declared.fault.Unmatched.TheVariants as unmatched
+
+-- the reason to refuse an image for a fault
+abbrev pub reason_of : ImageFault → BadImage
+reason_of (fault.Sectors f) = sector_reason f
+reason_of (fault.Capability m) = bad.BadCapability
+reason_of (fault.Process u) = bad.BadProcess
+reason_of (fault.Bank u) = bad.BadBank
+
+-- reason 8: an object holds a capability that names what it can't, whose object has this count
+pub record IsMisnamed (fs : List Frame) (m : Misnamed) : Type 0 where
+  pub within : m.index < length (caps_in (frame_at fs m.holder).content)
+  pub held : cap_at (caps_in (frame_at fs m.holder).content) m.index ≡ m.held
+  pub kind : m.role ≡ role_at fs m.holder
+  pub current : m.current ≡ current_count (headers fs) m.held.what
+  pub broken : IsNamed fs m.held → ⊥
+
+-- reason 9: a root and an annex that don't belong together
+abbrev pub IsUnmatched : List Frame → Unmatched → Type 0
+IsUnmatched fs (unmatched.Annex root annex) = IsRootOf fs root annex × (IsAnnexFor fs root annex → ⊥)
+IsUnmatched fs (unmatched.Shared first second annex) = IsRootOf fs first annex × IsRootOf fs second annex × (first ≢ second)
+IsUnmatched fs (unmatched.Rootless annex) = (role_at fs annex ≡ role.Annex) × ((p : ℕ) → IsRootOf fs p annex → ⊥)
+
+-- what a fault names among frames breaks its rule, and the rules of lesser reasons are kept
+abbrev pub BreaksFrames : List Frame → ImageFault → Type 0
+BreaksFrames fs (fault.Sectors f) = ⊥
+BreaksFrames fs (fault.Capability m) = IsMisnamed fs m
+BreaksFrames fs (fault.Process u) = AreNamed fs × IsUnmatched fs u
+BreaksFrames fs (fault.Bank u) = AreNamed fs × AreWholeProcesses fs × IsUnbanked fs u
+
+-- what a fault names breaks its rule, in so many sectors of an image or in the frames that they hold
+abbrev pub Breaks : ℕ → Image → ImageFault → Type 0
+Breaks size c (fault.Sectors f) = BreaksSectors size c f
+Breaks size c f = (saved : SavedFrames) × Holds size c saved × BreaksFrames saved.frames f

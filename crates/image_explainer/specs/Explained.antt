@@ -1,0 +1,28 @@
+-- What is found of an image: that it can be opened, or what is wrong with it.
+use Rattle.std.specs.Prelude.{◌≡◌, ℕ, Option, None, Some, Result, Ok, Err}
+use Rattle.model.specs.declared.geometry.Geometry.{Geometry}
+use Rattle.model.specs.Machine.{Saved}
+use Rattle.device.specs.Disk.{Disk, Image}
+use Rattle.layout.specs.declared.bad_image.BadImage.{BadImage}
+use Rattle.checkpoint.specs.declared.open_fault.OpenFault.{OpenFault}
+use Rattle.checkpoint.specs.Opened.{Looks}
+use Rattle.recovery.specs.Denotes.{Denotes}
+use Rattle.recovery.specs.Recovered.{IsBad, RefusesToOpen}
+use Rattle.kernel.specs.Opening.{IsNoReason}
+use Rattle.image_explainer.specs.declared.fault.ImageFault.{ImageFault}
+use Rattle.image_explainer.specs.Breaking.{Breaks, reason_of}
+
+-- the image denotes a saved part; or the least reason to refuse it is the fault's, and what that names breaks its rule
+abbrev pub IsExplainedBy : ℕ → Image → Option ImageFault → Type 0
+IsExplainedBy size c None = (g : Geometry) × (saved : Saved) × Denotes g size c saved
+IsExplainedBy size c (Some f) = IsBad size c (reason_of f) × Breaks size c f
+
+-- a device was only read and didn't fail, and this is so of what it holds; or it failed, or memory ran out
+abbrev pub Explains : {D : Type 0} → (D → Disk) → D → D → Result (Option ImageFault) OpenFault → Type 0
+Explains disk device back (Ok found) =
+    IsExplainedBy (disk device).sectors (disk device).seen found × Looks (disk device) (disk back) × ((disk back).failures ≡ (disk device).failures)
+Explains disk device back (Err why) = RefusesToOpen disk device back why × IsNoReason why
+
+-- an image is bad for one reason, so that the number of a fault is the one that a check answers
+abbrev pub AreBadForOneReason : Type 0
+AreBadForOneReason = (size : ℕ) (c : Image) (a b : BadImage) → IsBad size c a → IsBad size c b → a ≡ b

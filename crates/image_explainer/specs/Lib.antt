@@ -1,0 +1,4 @@
+pub mod Breaking
+pub mod Finding
+pub mod Explained
+pub mod Text

@@ -1,0 +1,103 @@
+// Which held capability names what it can't.
+ghost use Rattle.std.specs.Prelude.{◌≡◌, ◌<◌, length, IfNone, IfOk, IfSome};
+ghost use Rattle.std.specs.List.{All};
+ghost use Rattle.model.specs.Frame.{frame_at};
+ghost use Rattle.model.specs.Keepable.{AreKeepable, caps_in};
+ghost use Rattle.capability.specs.Parts.{Looks, frames_of};
+ghost use Rattle.consistency.specs.Consistency.{IsNamed};
+ghost use Rattle.consistency.specs.Noted.{AreNoted};
+ghost use Rattle.image_explainer.specs.Breaking.{IsMisnamed};
+ghost use Rattle.image_explainer.specs.Finding.{NamesOr};
+
+use crate::fault::Misnamed;
+use capability::{PrepareFault, PresentFrames, objects};
+use consistency::{Noted, is_named};
+use model::{Cap, Content};
+use std::alloc::Global;
+
+// The first of the capabilities that an object holds, which are these, that names what it can't.
+fn find_in<F: PresentFrames>(
+    store: &F,
+    notes: &[Option<Noted>],
+    number: u64,
+    held: &[Cap],
+) -> Option<Misnamed>
+    requires notes { AreNoted (frames_of (F.parts store.now)) notes.now }
+    requires held { held.now ≡ caps_in (frame_at (frames_of (F.parts store.now)) number).content }
+    ensures found { IfSome result (IsMisnamed (frames_of (F.parts store.now))) }
+    ensures none { IfNone result (All (IsNamed (frames_of (F.parts store.now))) held.now) }
+{
+    for (index, capability) in held.iter().enumerate() {
+        if !is_named(store, notes, *capability) {
+            return Some(Misnamed {
+                holder: number,
+                role: store.table().header(number).role,
+                index: index as u64,
+                held: *capability,
+                current: store.table().current_count(capability.what),
+            });
+        }
+    }
+    None
+}
+
+// The first that an object holds, which is fetched.
+fn find_there<F: PresentFrames>(store: &F, notes: &[Option<Noted>], number: u64) -> Option<Misnamed>
+    requires fetched { F.IsFetched store.now number }
+    requires notes { AreNoted (frames_of (F.parts store.now)) notes.now }
+    ensures found { IfSome result (IsMisnamed (frames_of (F.parts store.now))) }
+    ensures none { let frames = frames_of (F.parts store.now) in
+        IfNone result (All (IsNamed frames) (caps_in (frame_at frames number).content)) }
+{
+    match store.frame(number) {
+        Content::Node(slots) => find_in(store, notes, number, slots.as_slice()),
+        Content::Root(root) => find_in(store, notes, number, &[root.space]),
+        Content::Annex(registers) => find_in(store, notes, number, registers.as_slice()),
+        _ => None,
+    }
+}
+
+// The first that an object holds, which is fetched for it.
+fn find_at<F: PresentFrames>(
+    alloc: Global,
+    store: &mut F,
+    notes: &[Option<Noted>],
+    number: u64,
+) -> Result<Option<Misnamed>, PrepareFault>
+    requires known { number < length (F.parts store.old).headers }
+    requires keepable { AreKeepable (F.parts store.old).geometry u64.MAX
+        (frames_of (F.parts store.old)) }
+    requires notes { AreNoted (frames_of (F.parts store.old)) notes.now }
+    ensures found { IfOk result (λ found. IfSome found (IsMisnamed (frames_of (F.parts store.old)))) }
+    ensures none { let frames = frames_of (F.parts store.old) in IfOk result (λ found.
+        IfNone found (All (IsNamed frames) (caps_in (frame_at frames number).content))) }
+    ensures looks { Looks F.parts F.LeadsTo store.old store.new result }
+{
+    match objects::fetch(store, alloc, &[number]) {
+        Err(fault) => Err(fault),
+        Ok(()) => Ok(find_there(store, notes, number)),
+    }
+}
+
+/// The first held capability, by holder and slot, whose count is greater than that of the object
+/// that it names, or that is live and names what it isn't for. Objects are fetched one at a time.
+pub(crate) fn find_misnamed<F: PresentFrames>(
+    alloc: Global,
+    store: &mut F,
+    notes: &[Option<Noted>],
+) -> Result<Option<Misnamed>, PrepareFault>
+    requires keepable { AreKeepable (F.parts store.old).geometry u64.MAX
+        (frames_of (F.parts store.old)) }
+    requires notes { AreNoted (frames_of (F.parts store.old)) notes.now }
+    ensures found { IfOk result (NamesOr (frames_of (F.parts store.old))) }
+    ensures looks { Looks F.parts F.LeadsTo store.old store.new result }
+{
+    for number in 0..store.table().count() {
+        match find_at(alloc, store, notes, number) {
+            Err(fault) => return Err(fault),
+            Ok(Some(misnamed)) => return Ok(Some(misnamed)),
+            Ok(None) => {}
+        }
+    }
+    Ok(None)
+}

@@ -1,0 +1,141 @@
+// Why an image is refused, and where.
+ghost use Rattle.std.specs.Prelude.{◌≡◌, ◌↔◌, ◌*◌, ◌≤◌, length, IfErr, IfOk};
+ghost use Rattle.layout.specs.declared.bad_image.BadImage.{BadImage};
+ghost use Rattle.layout.specs.Image.{IsBadBy};
+ghost use Rattle.checkpoint.specs.Opened.{CountsOpen, Refuses};
+ghost use Rattle.frame_io.specs.Calls.{ReadsOnly};
+ghost use Rattle.sector_faults.specs.Breaking.{IsFault};
+ghost use Rattle.object_cache.specs.StoreState.{parts_of, view_of};
+ghost use Rattle.object_store.specs.Store.{OpensStore};
+ghost use Rattle.kernel.specs.Opening.{IsNoReason};
+ghost use Rattle.image_explainer.specs.Explained.{Explains};
+
+use crate::fault::ImageFault;
+use crate::objects::find_in_objects;
+use capability::PrepareFault;
+use checkpoint::OpenFault;
+use device::{Device, SECTOR_SIZE};
+use layout::{Entry, MAX_LOG, Room};
+use object_cache::PlainStore;
+use object_store::ObjectStore;
+use sector_faults::{SectorFault, find_in_sectors};
+use std::alloc::{AllocError, Global};
+
+// Why a search among objects ends without an answer.
+fn fault_of(fault: PrepareFault) -> OpenFault
+    requires { fault ≡ PrepareFault.LogFull → ⊥ }
+    ensures failed { (result ≡ OpenFault.Failed) ↔ (fault ≡ PrepareFault.Failed) }
+    ensures other { IsNoReason result }
+{
+    match fault {
+        PrepareFault::Failed => OpenFault::Failed,
+        PrepareFault::NoMemory => OpenFault::NoMemory,
+        PrepareFault::LogFull => unreachable!(),
+    }
+}
+
+// What is wrong with the objects of a store that was made of a device, and the device beneath.
+fn explain_objects<D: Device>(
+    alloc: Global,
+    store: PlainStore<D>,
+) -> (Result<Option<ImageFault>, OpenFault>, D)
+    requires { (device : D) × OpensStore D.disk device (parts_of D.disk store) (view_of D.disk store) }
+    ensures { (device : D) → OpensStore D.disk device (parts_of D.disk store) (view_of D.disk store)
+        → Explains D.disk device result.1 result.0 }
+{
+    let mut store = store;
+    let age = store.saved().age;
+    let found = find_in_objects(alloc, &mut store, age);
+    let device = store.into_device();
+    match found {
+        Ok(found) => (Ok(found), device),
+        Err(fault) => (Err(fault_of(fault)), device),
+    }
+}
+
+// Memory for a copy of so many sectors, for a directory and for a frame.
+fn reserve(alloc: Global, size: u64) -> Result<(Vec<u8>, Vec<Entry>, Room), AllocError>
+    requires { size ≤ 131072 }
+    ensures copy { IfOk result (λ three. length three.0.items ≡ 512 * size) }
+    ensures entries { IfOk result (λ three. length three.1.items ≡ 4096) }
+{
+    let copy = vec![in alloc; 0; size as usize * SECTOR_SIZE]?;
+    let entries = vec![in alloc; Entry { object: 0, slot: 0 }; MAX_LOG]?;
+    let room = Room::new(alloc)?;
+    Ok((copy, entries, room))
+}
+
+// What is wrong with the sectors of a device, in a copy of them.
+fn find_in_copy<D: Device>(
+    device: &mut D,
+    copy: &mut [u8],
+    entries: &mut [Entry],
+    room: &mut Room,
+) -> Result<SectorFault, OpenFault>
+    requires bad { (reason : BadImage) × IsBadBy (D.disk device.old).seen (D.disk device.old).sectors reason }
+    requires copy { length copy.old ≡ 512 * (D.disk device.old).sectors }
+    requires entries { length entries.old ≡ 4096 }
+    ensures found { IfOk result (IsFault (D.disk device.old).sectors (D.disk device.old).seen) }
+    ensures refused { IfErr result IsNoReason }
+    ensures reads { ReadsOnly (D.disk device.old) (D.disk device.new) }
+    ensures cause { CountsOpen (D.disk device.old) (D.disk device.new) result }
+{
+    let size = device.sectors();
+    match device.read(0, copy) {
+        Err(_) => return Err(OpenFault::Failed),
+        Ok(()) => {}
+    }
+    match find_in_sectors(copy, size, entries, room) {
+        Ok(()) => unreachable!(),
+        Err(fault) => Ok(fault),
+    }
+}
+
+// What is wrong with the sectors of a device, in memory that is taken for it.
+fn find_on<D: Device>(alloc: Global, device: &mut D) -> Result<SectorFault, OpenFault>
+    requires { (reason : BadImage) × IsBadBy (D.disk device.old).seen (D.disk device.old).sectors reason }
+    ensures found { IfOk result (IsFault (D.disk device.old).sectors (D.disk device.old).seen) }
+    ensures refused { IfErr result IsNoReason }
+    ensures reads { ReadsOnly (D.disk device.old) (D.disk device.new) }
+    ensures cause { CountsOpen (D.disk device.old) (D.disk device.new) result }
+{
+    let size = device.sectors();
+    let Ok((copy, entries, room)) = reserve(alloc, size) else {
+        return Err(OpenFault::NoMemory);
+    };
+    let (mut copy, mut entries, mut room) = (copy, entries, room);
+    find_in_copy(device, &mut copy, &mut entries, &mut room)
+}
+
+// What is wrong with the sectors of a device that was refused for one of the reasons 1 to 7.
+fn explain_sectors<D: Device>(
+    alloc: Global,
+    device: D,
+) -> (Result<Option<ImageFault>, OpenFault>, D)
+    requires { (reason : BadImage) × IsBadBy (D.disk device).seen (D.disk device).sectors reason }
+    ensures { (before : D) (reason : BadImage) → Refuses D.disk before device (OpenFault.Bad reason)
+        → Explains D.disk before result.1 result.0 }
+{
+    let mut device = device;
+    match find_on(alloc, &mut device) {
+        Ok(fault) => (Ok(Some(ImageFault::Sectors(fault))), device),
+        Err(fault) => (Err(fault), device),
+    }
+}
+
+/// Why the image on a device is refused: `None` if a kernel opens it, else what is wrong, and where. The reason of the fault
+/// is the least of the ten that holds, and what the fault names breaks its rule. Takes memory for a copy of the sectors.
+///
+/// The device is given back, and nothing was written to it, at no moment. `Failed` exactly if the device failed, and
+/// `NoMemory` if memory ran out; never `Bad`.
+pub fn explain<D: Device>(alloc: Global, device: D) -> (Result<Option<ImageFault>, OpenFault>, D)
+    ensures { Explains D.disk device result.1 result.0 }
+{
+    match PlainStore::<D>::open(alloc, device, ()) {
+        Ok(store) => explain_objects(alloc, store),
+        Err(refused) => match refused.fault {
+            OpenFault::Bad(_) => explain_sectors(alloc, refused.device),
+            OpenFault::Failed | OpenFault::NoMemory => (Err(refused.fault), refused.device),
+        },
+    }
+}

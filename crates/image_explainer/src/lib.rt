@@ -1,0 +1,15 @@
+//! Why an image is refused: the least of the ten reasons that holds, and the object, slot, field or
+//! sector that breaks its rule.
+#![tactic(auto)]
+
+mod capabilities;
+mod explaining;
+mod fault;
+mod laws;
+mod objects;
+mod processes;
+mod text;
+
+pub use explaining::explain;
+pub use fault::{ImageFault, Misnamed, Unmatched};
+pub use laws::images_are_bad_for_one_reason;

@@ -1,0 +1,124 @@
+// Which root and annex don't belong together.
+ghost use Rattle.std.specs.Prelude.{◌≡◌, ℕ, ◌≤◌, Some, IfNone, IfSome};
+ghost use Rattle.capability.specs.Parts.{frames_of};
+ghost use Rattle.consistency.specs.Noted.{AreNoted};
+ghost use Rattle.image_explainer.specs.Breaking.{IsUnmatched};
+ghost use Rattle.image_explainer.specs.Finding.{HasRoot, IsMatched, MatchesOr, annex_noted};
+
+use crate::fault::Unmatched;
+use capability::PresentFrames;
+use consistency::{Noted, has_role, is_annex_for};
+use model::Role;
+
+// The annex that is noted of a number.
+fn annex_of(notes: &[Option<Noted>], number: usize) -> Option<u64>
+    ensures { result ≡ annex_noted notes.now number }
+{
+    match notes.get(number) {
+        Some(Some(note)) => Some(note.annex),
+        _ => None,
+    }
+}
+
+// The first root with this annex from a number on.
+fn root_of(notes: &[Option<Noted>], from: usize, annex: u64) -> Option<usize>
+    ensures some { IfSome result (λ root. (from ≤ root) × (annex_noted notes.now root ≡ Some annex)) }
+    ensures none { IfNone result ((p : ℕ) → from ≤ p → annex_noted notes.now p ≡ Some annex → ⊥) }
+{
+    for root in from..notes.len() {
+        if annex_of(notes, root) == Some(annex) {
+            return Some(root);
+        }
+    }
+    None
+}
+
+// What a root has to do with its annex, and with another root of that.
+fn flaw_of_root<F: PresentFrames>(
+    store: &F,
+    notes: &[Option<Noted>],
+    root: usize,
+) -> Option<Unmatched>
+    requires { AreNoted (frames_of (F.parts store.now)) notes.now }
+    ensures found { IfSome result (IsUnmatched (frames_of (F.parts store.now))) }
+    ensures none { IfNone result (IsMatched (frames_of (F.parts store.now)) root) }
+{
+    let annex = annex_of(notes, root)?;
+    if !is_annex_for(store, root as u64, annex) {
+        return Some(Unmatched::Annex {
+            root: root as u64,
+            annex,
+        });
+    }
+    match root_of(notes, root + 1, annex) {
+        Some(second) => Some(Unmatched::Shared {
+            first: root as u64,
+            second: second as u64,
+            annex,
+        }),
+        None => None,
+    }
+}
+
+// The first root that doesn't belong to an annex of its own.
+fn find_root<F: PresentFrames>(store: &F, notes: &[Option<Noted>]) -> Option<Unmatched>
+    requires { AreNoted (frames_of (F.parts store.now)) notes.now }
+    ensures found { IfSome result (IsUnmatched (frames_of (F.parts store.now))) }
+    ensures none { IfNone result ((p : ℕ) → IsMatched (frames_of (F.parts store.now)) p) }
+{
+    for root in 0..notes.len() {
+        match flaw_of_root(store, notes, root) {
+            Some(flaw) => return Some(flaw),
+            None => {}
+        }
+    }
+    None
+}
+
+// Whether an annex has no root.
+fn flaw_of_annex<F: PresentFrames>(
+    store: &F,
+    notes: &[Option<Noted>],
+    annex: u64,
+) -> Option<Unmatched>
+    requires { AreNoted (frames_of (F.parts store.now)) notes.now }
+    ensures found { IfSome result (IsUnmatched (frames_of (F.parts store.now))) }
+    ensures none { IfNone result (HasRoot (frames_of (F.parts store.now)) annex) }
+{
+    if !has_role(store, annex, Role::Annex) {
+        return None;
+    }
+    match root_of(notes, 0, annex) {
+        Some(_) => None,
+        None => Some(Unmatched::Rootless { annex }),
+    }
+}
+
+// The first annex that no root names.
+fn find_annex<F: PresentFrames>(store: &F, notes: &[Option<Noted>]) -> Option<Unmatched>
+    requires { AreNoted (frames_of (F.parts store.now)) notes.now }
+    ensures found { IfSome result (IsUnmatched (frames_of (F.parts store.now))) }
+    ensures none { IfNone result ((a : ℕ) → HasRoot (frames_of (F.parts store.now)) a) }
+{
+    for annex in 0..store.table().count() {
+        match flaw_of_annex(store, notes, annex) {
+            Some(flaw) => return Some(flaw),
+            None => {}
+        }
+    }
+    None
+}
+
+/// A root and an annex that don't belong together: roots come first, by number, and then annexes.
+pub(crate) fn find_unmatched<F: PresentFrames>(
+    store: &F,
+    notes: &[Option<Noted>],
+) -> Option<Unmatched>
+    requires { AreNoted (frames_of (F.parts store.now)) notes.now }
+    ensures { MatchesOr (frames_of (F.parts store.now)) result }
+{
+    match find_root(store, notes) {
+        Some(flaw) => Some(flaw),
+        None => find_annex(store, notes),
+    }
+}

@@ -1,0 +1,67 @@
+// The command that says why an image is refused.
+ghost use Rattle.std.specs.Prelude.{◌≡◌, ◌≤◌, Option, Result, length};
+ghost use Rattle.image_explainer.specs.declared.fault.ImageFault.{ImageFault};
+ghost use Rattle.jobs.specs.Diagnosed.{ExplainsImage, explained_status, explanation_text, without_fault};
+ghost use Rattle.jobs.specs.Faults.{IsTold};
+
+use crate::done::Done;
+use crate::fault::{Fault, status};
+use device::Device;
+use image_explainer::{ImageFault, explain};
+use script::LineText;
+use std::alloc::Global;
+use std::io::Write;
+
+// The line about an image.
+fn explanation_line(found: Option<ImageFault>) -> LineText
+    ensures text { result ≡ explanation_text found }
+    ensures short { length result ≤ 260 }
+{
+    match found {
+        None => LineText::new(b"ok"),
+        Some(fault) => fault.line(),
+    }
+}
+
+// Opens a device, writes why its image is refused, if it is, and gives the device back.
+fn explain_and_tell<D: Device, W: Write>(
+    alloc: Global,
+    device: D,
+    writer: &mut W,
+) -> (Result<Option<ImageFault>, Fault>, D)
+    ensures { ExplainsImage D.disk device result.1 (W.contents writer.old) (W.contents writer.new) result.0 }
+{
+    let (explained, device) = explain(alloc, device);
+    match explained {
+        Ok(found) => match explanation_line(found).write_to(writer) {
+            Ok(()) => (Ok(found), device),
+            Err(_) => (Err(Fault::CannotWriteOutput), device),
+        },
+        Err(fault) => (Err(Fault::Open(fault)), device),
+    }
+}
+
+/// Opens a device as a run does, and writes `ok` if a run opens it; then the status is 0. If a run refuses the image, it
+/// writes one line with the object, slot, field or sector that breaks a rule, what is wrong there, and `(bad image K)` with
+/// the reason that `check` answers; then the status is 1. After a fault one line is written to `errors`, and the status is 1:
+/// `device failed`, `no memory`, or `cannot write output` where the writer fails.
+///
+/// The device is given back, and nothing was written to it, at no moment.
+pub fn explain_image<D: Device, W: Write, V: Write>(
+    alloc: Global,
+    device: D,
+    writer: &mut W,
+    errors: &mut V,
+) -> Done<D>
+    ensures { (outcome : Result (Option ImageFault) Fault) × (result.status ≡ explained_status outcome)
+        × IsTold (without_fault outcome) (V.contents errors.old) (V.contents errors.new)
+        × ExplainsImage D.disk device result.device (W.contents writer.old) (W.contents writer.new) outcome }
+{
+    let (outcome, device) = explain_and_tell(alloc, device, writer);
+    let status = match outcome {
+        Ok(None) => 0,
+        Ok(Some(_)) => 1,
+        Err(fault) => status(Err(fault), errors),
+    };
+    Done { status, device }
+}

@@ -1,0 +1,56 @@
+-- What is wrong with the size of an image or with its superblock.
+use Rattle.std.proofs.Common.{◌≡◌, ℕ, ◌<◌, ◌≤◌, Bool, List, Result, Ok, Err, refl, sym, ap, subst, ◌∙◌, inl, inr, ⊎_elim, arith}
+use Rattle.std.specs.Prelude.{IfErr, IfOk, if◌then◌else◌}
+use Rattle.std.proofs.lemmas.Bool.{lt-ltb, le-ltb}
+use Rattle.device.specs.Disk.{Image}
+use Rattle.layout.specs.Image.{HasPlan, IsTooSmall, total_in}
+use Rattle.layout.specs.Superblock.{IsPlan, Plan, superblock_bytes}
+use Rattle.layout.proofs.Totals.{total_told}
+use Rattle.sector_faults.specs.declared.fault.SectorFault.{SectorFault}
+use Rattle.sector_faults.specs.declared.fault.SectorFault.TheVariants as fault
+use Rattle.sector_faults.specs.Breaking.{IsFault}
+use Rattle.sector_faults.specs.Finding.{BreaksSector}
+
+pub few_sectors : (size : ℕ) (image : Image) → size < 5 → IsFault size image (fault.Small size 5)
+few_sectors size image few = (inl few, (refl, ap (λ (t : Bool). if t then 5 else total_in (image 0)) (sym (lt-ltb size 5 few)), few))
+
+module _ (size : ℕ) (image : Image) (sector : List ℕ) (is : sector ≡ image 0) (least : 5 ≤ size) where
+  pub too_small : (needed : ℕ) → needed ≡ total_in sector → size < needed → IsFault size image (fault.Small size needed)
+  too_small needed told less =
+      let total : needed ≡ total_in (image 0) = told ∙ ap total_in is in
+      (inr (omega (arith, total, less)), (refl, total ∙ ap (λ (t : Bool). if t then 5 else total_in (image 0)) (sym (le-ltb size 5 least)), less))
+
+  module _ (needed : ℕ) (told : needed ≡ total_in sector) (large : needed ≤ size) where
+    large_enough : IsTooSmall image size → ⊥
+    large_enough small = ⊎_elim
+        (λ few. omega (arith, few, least))
+        (λ less. let total : needed ≡ total_in (image 0) = told ∙ ap total_in is in omega (arith, less, total, large))
+        small
+
+    total_fits : (p : Plan) → IsPlan p → sector ≡ superblock_bytes p → p.total ≤ size
+    total_fits p fits spelt =
+        let total : needed ≡ p.total = told ∙ ap total_in spelt ∙ total_told p fits in
+        omega (arith, total, large)
+
+    pub plan_found : (r : Result Plan SectorFault) → IfOk r (λ p. sector ≡ superblock_bytes p) → IfOk r IsPlan → IfOk r (HasPlan image size)
+    plan_found (Ok p) spelt fits = record { least = least; whole = total_fits p fits spelt; fits = fits; spelt = sym is ∙ spelt }
+    plan_found (Err f) spelt fits = tt
+
+    no_superblock : (f : SectorFault) → BreaksSector (image 0) f → IsFault size image f
+    no_superblock (fault.Superblock part) broken = ((large_enough, broken.0), broken.1)
+    no_superblock (fault.Geometry part) broken = ((large_enough, broken.0, broken.1), broken.2)
+    no_superblock (fault.Small sectors needed) broken = absurd broken
+    no_superblock (fault.NoHeader one other) broken = absurd broken
+    no_superblock (fault.Header at part) broken = absurd broken
+    no_superblock (fault.Directory at part) broken = absurd broken
+    no_superblock (fault.Frame number is_page part) broken = absurd broken
+
+    pub plan_refused : (r : Result Plan SectorFault) → IfErr r (BreaksSector sector) → IfErr r (IsFault size image)
+    plan_refused (Ok p) broken = tt
+    plan_refused (Err f) broken = no_superblock f (subst (λ (b : List ℕ). BreaksSector b f) is broken)
+
+-- the superblock that was read lies on the device
+pub plan_fits : (size needed : ℕ) (sector : List ℕ) → needed ≡ total_in sector → needed ≤ size → (r : Result Plan SectorFault) → IfOk r (λ p. sector ≡ superblock_bytes p) → IfOk r IsPlan
+    → IfOk r (λ p. IsPlan p × (p.total ≤ size))
+plan_fits size needed sector told large (Ok p) spelt fits = (fits, (let total : needed ≡ p.total = told ∙ ap total_in spelt ∙ total_told p fits in omega (arith, total, large)))
+plan_fits size needed sector told large (Err f) spelt fits = tt

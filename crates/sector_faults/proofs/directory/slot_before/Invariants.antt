@@ -1,0 +1,6 @@
+use Rattle.std.proofs.Common.{◌≡◌, ℕ, ◌<◌}
+use Rattle.layout.specs.Directory.{entry_at}
+use Rattle.sector_faults.proofs.directory.slot_before.Given as goal
+
+abbrev pub invariant-loop-j : goal.invariant-loop-j
+invariant-loop-j l = (k : ℕ) → k < l.j → (entry_at l.entries k).slot ≡ l.slot → ⊥

@@ -1,0 +1,6 @@
+use Rattle.std.proofs.Common.{ℕ, ◌<◌}
+use Rattle.sector_faults.specs.Breaking.{HoldsCap}
+use Rattle.sector_faults.proofs.frame.find_slot.Given as goal
+
+abbrev pub invariant-loop-k : goal.invariant-loop-k
+invariant-loop-k l = (j : ℕ) → j < l.k → HoldsCap l.geometry l.age l.bytes j

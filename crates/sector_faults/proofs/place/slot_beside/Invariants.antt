@@ -1,0 +1,6 @@
+use Rattle.std.proofs.Common.{◌≡◌, drop}
+use Rattle.layout.specs.Image.{slot_beside}
+use Rattle.sector_faults.proofs.place.slot_beside.Given as goal
+
+abbrev pub invariant-loop-entry : goal.invariant-loop-entry
+invariant-loop-entry l = slot_beside l.plan (drop l.entry-index l.entries) l.number ≡ slot_beside l.plan l.entries l.number

@@ -1,0 +1,6 @@
+use Rattle.std.proofs.Common.{◌≡◌, drop}
+use Rattle.layout.specs.Image.{slot_in}
+use Rattle.sector_faults.proofs.place.slot_in.Given as goal
+
+abbrev pub invariant-loop-entry : goal.invariant-loop-entry
+invariant-loop-entry l = slot_in (drop l.entry-index l.entries) l.number ≡ slot_in l.entries l.number

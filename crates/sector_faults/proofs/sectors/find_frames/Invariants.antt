@@ -1,0 +1,8 @@
+use Rattle.std.proofs.Common.{ℕ, ◌<◌}
+use Rattle.device.specs.Disk.{Image}
+use Rattle.sector_faults.specs.Finding.{IsCopy, IsWholeFrame}
+use Rattle.sector_faults.proofs.sectors.find_frames.Given as goal
+
+abbrev pub invariant-loop-number : goal.invariant-loop-number
+invariant-loop-number l =
+    (image : Image) → IsCopy image l.bytes → (n : ℕ) → n < l.number → IsWholeFrame image l.superblock l.header l.entries n

@@ -1,0 +1,16 @@
+//! What is wrong in the sectors of an image, and where, for the reasons 1 to 7 to refuse it.
+#![tactic(auto)]
+
+mod directory;
+mod fault;
+mod frame;
+mod header;
+mod place;
+mod reading;
+mod sectors;
+mod superblock;
+
+pub use fault::{
+    DirectoryPart, FramePart, GeometryPart, HeaderPart, NotCounted, SectorFault, SuperblockPart,
+};
+pub use sectors::find_in_sectors;
