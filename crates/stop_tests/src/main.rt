@@ -9,9 +9,9 @@ mod stops;
 mod task;
 mod upgrades;
 
-use object_cache::Capacity;
 use deeds::{do_whole, stop_at_each, try_outcomes};
 use memory_device::Outcome;
+use object_cache::Capacity;
 use std::fs;
 use std::io::Write;
 use task::{Deed, Task};

@@ -1,6 +1,6 @@
 // What a run of the program is to do.
-use object_cache::Capacity;
 use memory_device::Outcome;
+use object_cache::Capacity;
 
 /// What is done over a device that stops after some calls.
 #[derive(Clone, Copy)]
