@@ -9,7 +9,7 @@ use Rattle.device.specs.Disk.{Disk, Image}
 use Rattle.layout.specs.declared.bad_image.BadImage.{BadImage}
 use Rattle.checkpoint.specs.declared.open_fault.OpenFault.{OpenFault}
 use Rattle.checkpoint.specs.declared.open_fault.OpenFault.TheVariants as open_fault
-use Rattle.checkpoint.specs.Opened.{Looks, Refuses}
+use Rattle.checkpoint.specs.Opened.{Looks}
 use Rattle.checkpoint.specs.Saved.{Holds, SavedFrames}
 use Rattle.consistency.specs.declared.reason.Inconsistency.{Inconsistency}
 use Rattle.consistency.specs.declared.reason.Inconsistency.TheVariants.{BadBank, BadCapability, BadProcess}
@@ -21,7 +21,6 @@ use Rattle.object_store.specs.Store.{OpensStore}
 use Rattle.object_cache.specs.StoreState.{StoreState, parts_of, view_of}
 use Rattle.recovery.specs.Denotes.{saved_of}
 use Rattle.recovery.specs.Recovered.{IsUnfit, reason_of as inconsistent_reason}
-use Rattle.kernel.specs.Opening.{IsNoReason}
 use Rattle.kernel.proofs.Denoted.{holds_one}
 use Rattle.layout.proofs.Denoted.{frames_not_bad}
 use Rattle.sector_faults.proofs.OneReason.{one_reason as one_sector_reason}
@@ -95,18 +94,6 @@ module _ {D : Type 0} (disk : D → Disk) (device back : D) (s : StoreState D) (
   explains_found found is =
       let saved = (view_of disk s).aside.saved in
       (explained_found (disk device).sectors (disk device).seen saved found opens.holds (subst (λ (fs : List Frame). IsConsistentOr fs found) opens.frames is), looked, unfailed)
-
-  pub explains_none : (why : OpenFault) → (why ≡ open_fault.Failed → ⊥) → IsNoReason why → (let r : Result (Option ImageFault) OpenFault = Err why in Explains disk device back r)
-  explains_none open_fault.Failed never no_reason = absurd (never refl)
-  explains_none open_fault.NoMemory never no_reason = (record { is_why = unfailed; looks = looked }, tt)
-  explains_none (open_fault.Bad reason) never no_reason = absurd no_reason
-
--- a device that wasn't opened
-pub explains_failure : {D : Type 0} (disk : D → Disk) (device back : D) (why : OpenFault) → ((reason : BadImage) → why ≡ open_fault.Bad reason → ⊥) → Refuses disk device back why
-    → (let r : Result (Option ImageFault) OpenFault = Err why in Explains disk device back r)
-explains_failure disk device back open_fault.Failed never refuses = (record { is_why = refuses.why; looks = refuses.looks }, tt)
-explains_failure disk device back open_fault.NoMemory never refuses = (record { is_why = refuses.why; looks = refuses.looks }, tt)
-explains_failure disk device back (open_fault.Bad reason) never refuses = absurd (never reason refl)
 
 -- frames are inconsistent for one reason
 one_inconsistency : (fs : List Frame) (a b : Inconsistency) → IsInconsistent fs a → IsInconsistent fs b → a ≡ b
