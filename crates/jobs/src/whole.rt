@@ -11,10 +11,10 @@ use crate::saved::description_in;
 use checkpoint::OpenFault;
 use description::Description;
 use device::Device;
-use kernel::wake;
 use model::Object;
 use object_cache::PlainStore;
 use object_store::ObjectStore;
+use recovery::recover;
 use std::alloc::{AllocError, Global};
 
 /// What is saved on a device: its description, and all objects by number.
@@ -52,7 +52,7 @@ fn whole_in<D: Device>(
 pub(crate) fn read_whole<D: Device>(alloc: Global, device: D) -> (Result<Whole, OpenFault>, D)
     ensures { OpensWhole D.disk device result.1 result.0 }
 {
-    let live = match wake::<D, PlainStore<D>>(alloc, device, ()) {
+    let live = match recover::<D, PlainStore<D>>(alloc, device, ()) {
         Ok(live) => live,
         Err(refused) => return (Err(refused.fault), refused.device),
     };
