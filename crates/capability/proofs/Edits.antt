@@ -22,7 +22,7 @@ use Rattle.model.specs.Object.{all_slots, is_root, map_content, role_of, root_in
 use Rattle.model.specs.World.{content_at, is_process, with_content, with_root, with_slot, with_word}
 use Rattle.capability.specs.declared.present.Fresh.{Fresh}
 use Rattle.capability.specs.declared.present.Fresh.TheVariants as fresh
-use Rattle.capability.specs.Objects.{live_cap, with_message, with_message_in}
+use Rattle.capability.specs.Objects.{with_message, with_message_in}
 use Rattle.capability.specs.Parts.{Parts, frames_of, fresh_content, with_both, with_header, with_held, objects_in}
 use Rattle.capability.proofs.Frames.{at_set, content_there, frame_in, frame_past, headers_in, owner_in, set_in}
 
@@ -194,23 +194,9 @@ pub live : (hs : List ObjectHeader) (c : Capability) → conveyed hs (record { w
 live hs c = let P : ℕ → Type 0 = λ n. (if nat_lt n n then Void else c) ≡ c in let all : (n : ℕ) → P n = λ n. grind (arith, nat_tests) in all (current_count hs c)
 
 -- how the parts come out of what was put into a lent content
-pub slot_put : (p q : Parts) (hs : List ObjectHeader) (n i : ℕ) (w : Capability) (held : Cap) (now new : Content Cap) → q ≡ with_held p n new →
-    new ≡ with_slot_in now i held → now ≡ held_at p.contents n → held ≡ live_cap hs w → hs ≡ p.headers →
-    q ≡ with_held p n (with_slot_in (held_at p.contents n) i (live_cap p.headers w))
-slot_put p q hs n i w held now new back set value live table =
-    back
-    ∙ ap (with_held p n)
-    (set
-    ∙ ap (λ (c : Content Cap). with_slot_in c i held) value
-    ∙ ap (with_slot_in (held_at p.contents n) i) (live ∙ ap (λ (ks : List ObjectHeader). live_cap ks w) table))
-
-pub word_put : (p q : Parts) (n i word : ℕ) (now new : Content Cap) → q ≡ with_held p n new → new ≡ with_word_in now i word →
-    now ≡ held_at p.contents n → q ≡ with_held p n (with_word_in (held_at p.contents n) i word)
-word_put p q n i word now new back set value = back ∙ ap (with_held p n) (set ∙ ap (λ (c : Content Cap). with_word_in c i word) value)
-
-pub message_put : (p q : Parts) (n : ℕ) (words : List ℕ) (key : ℕ) (now new : Content Cap) → q ≡ with_held p n new → new ≡ with_message_in now words key →
-    now ≡ held_at p.contents n → q ≡ with_held p n (with_message_in (held_at p.contents n) words key)
-message_put p q n words key now new back set value = back ∙ ap (with_held p n) (set ∙ ap (λ (c : Content Cap). with_message_in c words key) value)
+pub put : (p q : Parts) (n : ℕ) (change : Content Cap → Content Cap) (now new : Content Cap) → q ≡ with_held p n new → new ≡ change now → now ≡ held_at p.contents n →
+    q ≡ with_held p n (change (held_at p.contents n))
+put p q n change now new back set value = back ∙ ap (with_held p n) (set ∙ ap change value)
 
 -- The helpers' edits. The new parts are q.
 module _ (p q : Parts) (n : ℕ) (known : n < length p.headers) (inside : n < length p.contents) where

@@ -5,6 +5,7 @@ pub mod KindNumbers
 pub mod Mapped
 pub mod Roles
 mod Counts
+mod Edited
 mod Edits
 mod Registers
 mod RootEdits

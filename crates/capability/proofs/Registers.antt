@@ -1,21 +1,19 @@
 -- Neighbouring registers that are set in one content are set one after the other.
-use Rattle.std.proofs.Common.{◌≡◌, ℕ, zero, suc, ◌+◌, ◌<◌, ◌≤◌, List, [], ◌∷◌, map, length, slice_set, refl, sym, ap, ◌∙◌, subst, arith}
+use Rattle.std.proofs.Common.{◌≡◌, ℕ, suc, ◌+◌, ◌<◌, ◌≤◌, List, [], ◌∷◌, map, length, refl, sym, ap, ◌∙◌, subst, arith}
 use Rattle.std.specs.List.{All}
 use Rattle.std.proofs.lemmas.List.{get_or-set_same, length-set, set-get_or, set-set}
 use Rattle.model.specs.declared.capability.Cap.{Cap}
 use Rattle.model.specs.declared.capability.Capability.{Capability}
-use Rattle.model.specs.declared.geometry.Geometry.{Geometry}
 use Rattle.model.specs.declared.object.Content.{Content}
 use Rattle.model.specs.declared.object.Content.TheVariants as content
 use Rattle.model.specs.declared.object.Object.{Object}
 use Rattle.model.specs.Frame.{held_at}
-use Rattle.model.specs.Keepable.{AreCurrent, AreKeepable, IsKeptCap}
+use Rattle.model.specs.Keepable.{IsKeptCap}
 use Rattle.model.specs.Object.{with_slot_in}
 use Rattle.model.specs.World.{with_slots_from}
-use Rattle.capability.specs.Objects.{live_cap, set_from, with_slots_in}
-use Rattle.capability.specs.Parts.{Parts, frames_of, objects_in, with_held}
-use Rattle.capability.proofs.Edits.{slot_objects, slot_stays_current}
-use Rattle.capability.proofs.Keeping.{slot_stays_keepable}
+use Rattle.capability.specs.Objects.{live_cap, with_slots_in}
+use Rattle.capability.specs.Parts.{Parts, objects_in, with_held}
+use Rattle.capability.proofs.Edited.{IsEdit, slot_edit}
 
 none_in : {C : Type 0} (c : Content C) (i : ℕ) → with_slots_in c i [] ≡ c
 none_in content.Free i = refl
@@ -53,28 +51,23 @@ one_registered p n i w ws inside =
     ∙ ap (λ (c : Content Cap). with_slots_in c (i + 1) (map (live_cap p.headers) ws)) (sym (get_or-set_same p.contents n one content.Free inside)))
     ∙ ap (λ (cs : List (Content Cap)). let q : Parts = record p { contents = cs } in q) (sym (set-set p.contents n one _))
 
--- what they stand for, and that they can be kept
-pub record Registers (p q : Parts) (n i : ℕ) (ws : List Capability) : Type 0 where
-  pub objects : objects_in q ≡ with_slots_from (objects_in p) n i ws
-  pub current : AreCurrent (frames_of p) → AreCurrent (frames_of q)
-  pub keepable : (g : Geometry) (age : ℕ) → All (λ w. IsKeptCap g age (live_cap p.headers w)) ws → AreKeepable g age (frames_of p) → AreKeepable g age (frames_of q)
+-- what setting them comes to
+abbrev IsRegisters : Parts → Parts → ℕ → ℕ → List Capability → Type 0
+IsRegisters p q n i ws = IsEdit p q (with_slots_from (objects_in p) n i ws) (λ age. All (λ w. IsKeptCap p.geometry age (live_cap p.headers w)) ws)
 
-pub registers_set : (ws : List Capability) (p : Parts) (n i : ℕ) → n < length p.headers → n < length p.contents → 1 ≤ i → Registers p (registered p n i ws) n i ws
-registers_set [] p n i known inside past = subst (λ (q : Parts). Registers p q n i []) (sym (none_registered p n i)) (record { objects = refl; current = λ k. k; keepable = λ g age all k. k })
+registers_set : (ws : List Capability) (p : Parts) (n i : ℕ) → n < length p.headers → n < length p.contents → 1 ≤ i → IsRegisters p (registered p n i ws) n i ws
+registers_set [] p n i known inside past = subst (λ (q : Parts). IsRegisters p q n i []) (sym (none_registered p n i)) (record { objects = refl; current = λ k. k; keepable = λ age all k. k })
 registers_set (w ∷ ws) p n i known inside past =
     let mid = one_set p n i w in
+    let one = slot_edit p mid n known inside i w refl in
     let rest = registers_set ws mid n (i + 1) known (omega (arith, length-set p.contents n (with_slot_in (held_at p.contents n) i (live_cap p.headers w)))) (omega arith) in
-    subst (λ (q : Parts). Registers p q n i (w ∷ ws)) (sym (one_registered p n i w ws inside)) (record {
-      objects = rest.objects ∙ ap (λ (os : List Object). with_slots_from os n (i + 1) ws) (slot_objects p mid n known inside i w refl);
-      current = λ k. rest.current (slot_stays_current p mid n known inside i w refl k);
-      keepable = λ g age all k. rest.keepable g age (λ j d within. all (suc j) d (omega arith))
-          (slot_stays_keepable g age p mid n known inside i w refl (all 0 w (omega arith)) (λ annex zeroth. absurd (omega arith)) k);
+    subst (λ (q : Parts). IsRegisters p q n i (w ∷ ws)) (sym (one_registered p n i w ws inside)) (record {
+      objects = rest.objects ∙ ap (λ (os : List Object). with_slots_from os n (i + 1) ws) one.objects;
+      current = λ k. rest.current (one.current k);
+      keepable = λ age all k. rest.keepable age (λ j d within. all (suc j) d (omega arith)) (one.keepable age (all 0 w (omega arith), λ annex zeroth. absurd (omega arith)) k);
     })
 
--- how the parts come out of what was put into a lent content
-pub registers_put : (p q : Parts) (n i : ℕ) (ws : List Capability) (now new : Content Cap) (held : List Cap) → q ≡ with_held p n new → new ≡ with_slots_in now i held →
-    now ≡ held_at p.contents n → held ≡ map (live_cap p.headers) ws → n < length p.headers → n < length p.contents → 1 ≤ i → Registers p q n i ws
-registers_put p q n i ws now new held back set value caps known inside past =
-    subst (λ (r : Parts). Registers p r n i ws)
-    (sym (back ∙ ap (with_held p n) (set ∙ ap (λ (c : Content Cap). with_slots_in c i held) value ∙ ap (with_slots_in (held_at p.contents n) i) caps)))
-    (registers_set ws p n i known inside past)
+pub registers_edit : (p q : Parts) (n i : ℕ) (ws : List Capability) (held : List Cap) → q ≡ with_held p n (with_slots_in (held_at p.contents n) i held) →
+    held ≡ map (live_cap p.headers) ws → n < length p.headers → n < length p.contents → 1 ≤ i → IsRegisters p q n i ws
+registers_edit p q n i ws held is caps known inside past =
+    subst (λ (r : Parts). IsRegisters p r n i ws) (sym (is ∙ ap (λ (cs : List Cap). with_held p n (with_slots_in (held_at p.contents n) i cs)) caps)) (registers_set ws p n i known inside past)

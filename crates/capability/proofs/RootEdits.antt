@@ -12,7 +12,7 @@ use Rattle.model.specs.declared.object.Content.TheVariants as content
 use Rattle.model.specs.declared.object.Object.{Object}
 use Rattle.model.specs.declared.object.Root.{Root}
 use Rattle.model.specs.declared.object.State.{State}
-use Rattle.model.specs.Frame.{conveyed, current_count, header_at, held_at}
+use Rattle.model.specs.Frame.{conveyed, header_at, held_at}
 use Rattle.model.specs.Keepable.{AreCurrent, AreKeepable, AreKeptWords, IsCurrent, IsKeepable, IsKeptCap, MayBeKept, caps_in}
 use Rattle.model.specs.Order.{with_space}
 use Rattle.model.specs.Sound.{IsSpace}
@@ -25,10 +25,6 @@ use Rattle.capability.proofs.Frames.{content_there}
 use Rattle.capability.proofs.Keeping.{keepable_at, one_keepable, refilled}
 
 -- how the parts come out of what was put into a lent content
-pub root_put : (p q : Parts) (n : ℕ) (change : Root Cap → Root Cap) (now new : Content Cap) → q ≡ with_held p n new → new ≡ with_root_in change now →
-    now ≡ held_at p.contents n → q ≡ with_held p n (with_root_in change (held_at p.contents n))
-root_put p q n change now new back set value = back ∙ ap (with_held p n) (set ∙ ap (with_root_in change) value)
-
 -- a change that goes through the map of capabilities
 abbrev pub GoesThrough : (Root Cap → Root Cap) → (Root Capability → Root Capability) → (Cap → Capability) → Type 0
 GoesThrough change after f = (r : Root Cap) → map_content f (content.Root (change r)) ≡ content.Root (after (root_in (map_content f (content.Root r))))

@@ -7,7 +7,7 @@ ghost use Rattle.model.specs.Object.{is_annex, with_slot_in, with_word_in};
 ghost use Rattle.model.specs.Revoke.{consume as consumed, is_member, rescind as rescinded};
 ghost use Rattle.model.specs.World.{word_at, slot_at, annex_at, content_at, is_process, with_word, with_slot, with_slots_from};
 ghost use Rattle.capability.specs.Objects.{live_cap, set_from, with_message, with_message_in, with_slots_in};
-ghost use Rattle.capability.specs.Parts.{AreGivenUp, FreshFits, IsFreshAt, IsOnce, KeepsAside, LooksUp, frames_of, fresh_content, objects_in};
+ghost use Rattle.capability.specs.Parts.{AreGivenUp, Edits, FreshFits, IsFreshAt, IsOnce, KeepsAside, LooksUp, frames_of, fresh_content, objects_in};
 
 use crate::present::{Fresh, MAX_FETCHED, PrepareFault, PresentFrames};
 use crate::table::ObjectTable;
@@ -55,15 +55,9 @@ pub fn set_word<F: PresentFrames>(store: &mut F, number: u64, index: usize, word
     requires fetched { F.IsFetched store.old number }
     requires announced { F.IsAnnounced store.old number }
     requires within { index < 512 }
-    ensures objects { objects_in (F.parts store.new)
-        ≡ with_word (objects_in (F.parts store.old)) number index word }
-    ensures headers { (F.parts store.new).headers ≡ (F.parts store.old).headers }
-    ensures current { AreCurrent (frames_of (F.parts store.old))
-        → AreCurrent (frames_of (F.parts store.new)) }
-    ensures keepable { (age : ℕ)
-        → AreKeepable (F.parts store.old).geometry age (frames_of (F.parts store.old))
-        → AreKeepable (F.parts store.old).geometry age (frames_of (F.parts store.new)) }
-    ensures aside { KeepsAside F.parts F.IsFetched F.IsAnnounced F.LeadsTo store.old store.new }
+    ensures { Edits F.parts F.IsFetched F.IsAnnounced F.LeadsTo store.old store.new
+        (with_word (objects_in (F.parts store.old)) number index word)
+        (λ age. Unit {0}) }
 {
     put_word(store.frame_mut(number), index, word);
 }
@@ -74,19 +68,11 @@ pub fn set_slot<F: PresentFrames>(store: &mut F, number: u64, slot: usize, capab
     requires fetched { F.IsFetched store.old number }
     requires announced { F.IsAnnounced store.old number }
     requires within { slot < 32 }
-    ensures objects { objects_in (F.parts store.new)
-        ≡ with_slot (objects_in (F.parts store.old)) number slot capability }
-    ensures headers { (F.parts store.new).headers ≡ (F.parts store.old).headers }
-    ensures current { AreCurrent (frames_of (F.parts store.old))
-        → AreCurrent (frames_of (F.parts store.new)) }
-    ensures keepable { (age : ℕ)
-        → IsKeptCap (F.parts store.old).geometry age
-        (live_cap (F.parts store.old).headers capability)
-        → (IsTrue (is_annex (held_at (F.parts store.old).contents number)) → slot ≡ 0
-        → capability ≡ Capability.Void)
-        → AreKeepable (F.parts store.old).geometry age (frames_of (F.parts store.old))
-        → AreKeepable (F.parts store.old).geometry age (frames_of (F.parts store.new)) }
-    ensures aside { KeepsAside F.parts F.IsFetched F.IsAnnounced F.LeadsTo store.old store.new }
+    ensures { Edits F.parts F.IsFetched F.IsAnnounced F.LeadsTo store.old store.new
+        (with_slot (objects_in (F.parts store.old)) number slot capability)
+        (λ age. IsKeptCap (F.parts store.old).geometry age (live_cap (F.parts store.old).headers capability)
+        × (IsTrue (is_annex (held_at (F.parts store.old).contents number)) → slot ≡ 0
+        → capability ≡ Capability.Void)) }
 {
     let held = store.table().live_cap(capability);
     put_slot(store.frame_mut(number), slot, held);
@@ -104,16 +90,9 @@ pub fn set_registers<F: PresentFrames>(
     requires announced { F.IsAnnounced store.old number }
     requires past { 1 ≤ first }
     requires within { first + 4 ≤ 32 }
-    ensures objects { objects_in (F.parts store.new)
-        ≡ with_slots_from (objects_in (F.parts store.old)) number first capabilities }
-    ensures headers { (F.parts store.new).headers ≡ (F.parts store.old).headers }
-    ensures current { AreCurrent (frames_of (F.parts store.old))
-        → AreCurrent (frames_of (F.parts store.new)) }
-    ensures keepable { (age : ℕ)
-        → All (λ c. IsKeptCap (F.parts store.old).geometry age (live_cap (F.parts store.old).headers c)) capabilities
-        → AreKeepable (F.parts store.old).geometry age (frames_of (F.parts store.old))
-        → AreKeepable (F.parts store.old).geometry age (frames_of (F.parts store.new)) }
-    ensures aside { KeepsAside F.parts F.IsFetched F.IsAnnounced F.LeadsTo store.old store.new }
+    ensures { Edits F.parts F.IsFetched F.IsAnnounced F.LeadsTo store.old store.new
+        (with_slots_from (objects_in (F.parts store.old)) number first capabilities)
+        (λ age. All (λ c. IsKeptCap (F.parts store.old).geometry age (live_cap (F.parts store.old).headers c)) capabilities) }
 {
     let held = live_caps(store.table(), capabilities);
     put_registers(store.frame_mut(number), first, held);
@@ -124,15 +103,9 @@ pub fn set_message<F: PresentFrames>(store: &mut F, process: u64, words: [u64; 4
     requires fetched { F.IsFetched store.old process }
     requires announced { F.IsAnnounced store.old process }
     requires process { IsTrue (is_process (objects_in (F.parts store.old)) process) }
-    ensures objects { objects_in (F.parts store.new)
-        ≡ with_message (objects_in (F.parts store.old)) process words key }
-    ensures headers { (F.parts store.new).headers ≡ (F.parts store.old).headers }
-    ensures current { AreCurrent (frames_of (F.parts store.old))
-        → AreCurrent (frames_of (F.parts store.new)) }
-    ensures keepable { (age : ℕ)
-        → AreKeepable (F.parts store.old).geometry age (frames_of (F.parts store.old))
-        → AreKeepable (F.parts store.old).geometry age (frames_of (F.parts store.new)) }
-    ensures aside { KeepsAside F.parts F.IsFetched F.IsAnnounced F.LeadsTo store.old store.new }
+    ensures { Edits F.parts F.IsFetched F.IsAnnounced F.LeadsTo store.old store.new
+        (with_message (objects_in (F.parts store.old)) process words key)
+        (λ age. Unit {0}) }
 {
     put_message(store.frame_mut(process), words, key);
 }

@@ -1,34 +1,22 @@
-use Rattle.std.proofs.Common.{List, map, ap, ◌∙◌}
+use Rattle.std.proofs.Common.{List, ap, map, ◌∙◌}
 use Rattle.model.specs.declared.capability.Cap.{Cap}
-use Rattle.model.specs.declared.capability.Capability.{Capability}
 use Rattle.model.specs.declared.frame.ObjectHeader.{ObjectHeader}
-use Rattle.capability.specs.Objects.{live_cap}
-use Rattle.capability.proofs.Registers.{registers_put}
+use Rattle.model.specs.declared.object.Content.{Content}
+use Rattle.capability.specs.Objects.{live_cap, with_slots_in}
+use Rattle.capability.proofs.Edited.{edited}
+use Rattle.capability.proofs.Edits.{put}
+use Rattle.capability.proofs.Registers.{registers_edit}
 use Rattle.capability.proofs.objects.set_registers.Goals as goal
 
-pub returns-clause-objects : goal.returns-clause-objects
-returns-clause-objects g c =
+pub returns : goal.returns
+returns g c =
     let F = g.F.PresentFrames in
-    let store = c.args.store.now in
-    let at = g.met.F.PresentFrames.known_announced store c.args.number c.requires.announced in
-    let caps = c.live_caps-held.ensures ∙ ap (λ (hs : List ObjectHeader). map (live_cap hs) c.args.capabilities) c.table.ensures in
-    (registers_put (F.parts store) (F.parts (F.with_content store c.args.number c.put_registers.new.content)) c.args.number c.args.first c.args.capabilities c.frame_mut.result.now c.put_registers.new.content c.live_caps-held.result
-    (g.met.F.PresentFrames.parts_with store c.args.number c.put_registers.new.content) c.put_registers.ensures c.frame_mut.ensures.value caps at.0 at.1 c.requires.past).objects
-
-pub returns-clause-current : goal.returns-clause-current
-returns-clause-current g c =
-    let F = g.F.PresentFrames in
-    let store = c.args.store.now in
-    let at = g.met.F.PresentFrames.known_announced store c.args.number c.requires.announced in
-    let caps = c.live_caps-held.ensures ∙ ap (λ (hs : List ObjectHeader). map (live_cap hs) c.args.capabilities) c.table.ensures in
-    (registers_put (F.parts store) (F.parts (F.with_content store c.args.number c.put_registers.new.content)) c.args.number c.args.first c.args.capabilities c.frame_mut.result.now c.put_registers.new.content c.live_caps-held.result
-    (g.met.F.PresentFrames.parts_with store c.args.number c.put_registers.new.content) c.put_registers.ensures c.frame_mut.ensures.value caps at.0 at.1 c.requires.past).current
-
-pub returns-clause-keepable : goal.returns-clause-keepable
-returns-clause-keepable g c =
-    let F = g.F.PresentFrames in
-    let store = c.args.store.now in
-    let at = g.met.F.PresentFrames.known_announced store c.args.number c.requires.announced in
-    let caps = c.live_caps-held.ensures ∙ ap (λ (hs : List ObjectHeader). map (live_cap hs) c.args.capabilities) c.table.ensures in
-    λ age kept keepable. (registers_put (F.parts store) (F.parts (F.with_content store c.args.number c.put_registers.new.content)) c.args.number c.args.first c.args.capabilities c.frame_mut.result.now c.put_registers.new.content c.live_caps-held.result
-    (g.met.F.PresentFrames.parts_with store c.args.number c.put_registers.new.content) c.put_registers.ensures c.frame_mut.ensures.value caps at.0 at.1 c.requires.past).keepable (F.parts store).geometry age kept keepable
+    let M = g.met.F.PresentFrames in
+    let s = c.args.store.now in
+    let n = c.args.number in
+    let new = c.put_registers.new.content in
+    let at = M.known_announced s n c.requires.announced in
+    let is = put (F.parts s) (F.parts (F.with_content s n new)) n (λ (d : Content Cap). with_slots_in d c.args.first c.live_caps-held.result) c.frame_mut.result.now new (M.parts_with s n new) c.put_registers.ensures c.frame_mut.ensures.value in
+    let held = c.live_caps-held.ensures ∙ ap (λ (hs : List ObjectHeader). map (live_cap hs) c.args.capabilities) c.table.ensures in
+    edited F.parts F.IsFetched F.IsAnnounced F.LeadsTo F.with_content M.parts_with M.fetched_with M.announced_with M.leads_same M.leads_with s n new _ _ c.requires.announced
+    (registers_edit (F.parts s) _ n c.args.first c.args.capabilities c.live_caps-held.result is held at.0 at.1 c.requires.past)

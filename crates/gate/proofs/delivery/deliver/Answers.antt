@@ -25,7 +25,7 @@ returns-clause-keepable g c age fits k =
     let old = F.parts c.args.store.now in
     let mid = F.parts c.set_message.new.store in
     let same = c.set_message.ensures.aside.geometry in
-    let there = in_geometry mid.geometry old.geometry age (frames_of mid) same (c.set_message.ensures.keepable age k) in
+    let there = in_geometry mid.geometry old.geometry age (frames_of mid) same (c.set_message.ensures.keepable age tt k) in
     in_geometry old.geometry mid.geometry age (frames_of (F.parts c.set_registers.new.store)) (sym same)
     (c.set_registers.ensures.keepable age
     (λ j d within.
