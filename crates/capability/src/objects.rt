@@ -6,7 +6,7 @@ ghost use Rattle.model.specs.Keepable.{AreCurrent, AreKeepable, AreKeptWords, Is
 ghost use Rattle.model.specs.Object.{is_annex, with_slot_in, with_word_in};
 ghost use Rattle.model.specs.Revoke.{consume as consumed, is_member, rescind as rescinded};
 ghost use Rattle.model.specs.World.{word_at, slot_at, annex_at, content_at, is_process, with_word, with_slot, with_slots_from};
-ghost use Rattle.capability.specs.Objects.{live_cap, set_from, with_message, with_message_in, with_slots_in};
+ghost use Rattle.capability.specs.Objects.{live_cap, set_from, with_message, with_root_in, with_slots_in};
 ghost use Rattle.capability.specs.Parts.{AreGivenUp, Edits, FreshFits, IsFreshAt, IsOnce, KeepsAside, LooksUp, frames_of, fresh_content, objects_in};
 
 use crate::present::{Fresh, MAX_FETCHED, PrepareFault, PresentFrames};
@@ -279,7 +279,7 @@ fn put_four(slots: &mut Slots<Cap>, first: usize, held: [Cap; 4])
 
 // A root with words and a key delivered, and running. What is no root stays.
 fn put_message(content: &mut Content<Cap>, words: [u64; 4], key: u16)
-    ensures set { content.new ≡ with_message_in content.old words key }
+    ensures set { content.new ≡ with_root_in (λ r. record r { state = State.Running; words = words; key = key }) content.old }
     ensures fits { AreKeptWords 4 words }
 {
     if let Content::Root(root) = content {

@@ -7,5 +7,5 @@ use Rattle.model.specs.World.{with_slots_from, annex_at}
 use Rattle.capability.specs.Objects.{with_message}
 
 pub deliver_by_parts : (os : List Object) (p : ℕ) (m : Message) → deliver os p m ≡ with_slots_from (with_message os p m.words m.key) (annex_at os p) 28 m.capabilities
-unfolding deliver with_message
+unfolding deliver
 deliver_by_parts os p m = refl
