@@ -7,7 +7,6 @@ pub mod Roles
 mod Counts
 mod Edited
 mod Edits
-mod Registers
 mod RootEdits
 mod SoundFrames
 pub mod Touched

@@ -1,5 +1,5 @@
 -- The delivery of a message.
-use Rattle.std.specs.Prelude.{ℕ, ◌+◌, List, [], ◌∷◌, slice_set}
+use Rattle.std.specs.Prelude.{ℕ, List}
 use Rattle.model.specs.declared.capability.Cap.{Cap}
 use Rattle.model.specs.declared.capability.Capability.{Capability}
 use Rattle.model.specs.declared.frame.ObjectHeader.{ObjectHeader}
@@ -23,13 +23,3 @@ with_root_in change other = other
 -- a capability as it is held while it is live
 abbrev pub live_cap : List ObjectHeader → Capability → Cap
 live_cap hs w = record { what = w; count = current_count hs w }
-
--- a list with others from i on, and a content with others in its slots from i on
-abbrev pub set_from : {C : Type 0} → List C → ℕ → List C → List C
-set_from xs i [] = xs
-set_from xs i (y ∷ ys) = set_from (slice_set xs i y) (i + 1) ys
-
-abbrev pub with_slots_in : {C : Type 0} → Content C → ℕ → List C → Content C
-with_slots_in (content.Node slots) i ys = content.Node (set_from slots i ys)
-with_slots_in (content.Annex registers) i ys = content.Annex (set_from registers i ys)
-with_slots_in other i ys = other
