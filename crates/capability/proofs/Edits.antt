@@ -1,5 +1,5 @@
 -- What frames stand for once the header or the content at one number is another.
-use Rattle.std.proofs.Common.{rules, ◌≡◌, ℕ, suc, ◌<◌, true, inl, inr, nat_lt, if◌then◌else◌, List, [], ◌∷◌, map, length, slice_index_or, slice_set, refl, sym, ap, ◌∙◌, subst, arith}
+use Rattle.std.proofs.Common.{rules, ◌≡◌, ℕ, suc, ◌<◌, inl, inr, nat_lt, if◌then◌else◌, List, [], ◌∷◌, map, length, slice_index_or, slice_set, refl, sym, ap, ◌∙◌, subst, arith}
 use Rattle.std.specs.List.{All}
 use Rattle.std.proofs.Math.ListN.{get_or-map}
 use Rattle.std.proofs.Math.Seq.{map-set_same}
@@ -15,14 +15,12 @@ use Rattle.model.specs.declared.frame.ObjectHeader.{ObjectHeader}
 use Rattle.model.specs.declared.object.Content.{Content}
 use Rattle.model.specs.declared.object.Content.TheVariants as content
 use Rattle.model.specs.declared.object.Object.{Object}
-use Rattle.model.specs.declared.object.State.TheVariants.{Running}
 use Rattle.model.specs.Frame.{blank_header, conveyed, current_count, frames_in, header_at, headers, held_at, object_of, objects_of, void_held, owned_by, claimed}
 use Rattle.model.specs.Keepable.{AreCurrent, IsCurrent, caps_in}
-use Rattle.model.specs.Object.{all_slots, is_root, map_content, role_of, root_in, with_slot_in, with_word_in}
-use Rattle.model.specs.World.{content_at, is_process, with_content, with_root, with_slot, with_word}
+use Rattle.model.specs.Object.{all_slots, map_content, role_of, with_slot_in, with_word_in}
+use Rattle.model.specs.World.{content_at, with_content}
 use Rattle.capability.specs.declared.present.Fresh.{Fresh}
 use Rattle.capability.specs.declared.present.Fresh.TheVariants as fresh
-use Rattle.capability.specs.Objects.{live_cap, with_message, with_message_in}
 use Rattle.capability.specs.Parts.{Parts, frames_of, fresh_content, with_both, with_header, with_held, objects_in}
 use Rattle.capability.proofs.Frames.{at_set, content_there, frame_in, frame_past, headers_in, owner_in, set_in}
 
@@ -139,7 +137,7 @@ module _ (p : Parts) (n : ℕ) (c : Content Cap) (known : n < length p.headers) 
       subst (λ (q : Parts). AreCurrent (frames_of q)) (sym (header_kept p n c)) (current_set p n (header_at p.headers n) c inside (refl, refl) new current)
 
 -- a change of a slot, a word or a message goes through the map
-slot_through_map : (f : Cap → Capability) (c : Content Cap) (i : ℕ) (held : Cap) → map_content f (with_slot_in c i held) ≡ with_slot_in (map_content f c) i (f held)
+pub slot_through_map : (f : Cap → Capability) (c : Content Cap) (i : ℕ) (held : Cap) → map_content f (with_slot_in c i held) ≡ with_slot_in (map_content f c) i (f held)
 slot_through_map f content.Free i held = refl
 slot_through_map f (content.Page words) i held = refl
 slot_through_map f (content.Node slots) i held = ap content.Node (map-set f slots i held)
@@ -147,7 +145,7 @@ slot_through_map f (content.Root r) i held = refl
 slot_through_map f (content.Annex registers) i held = ap content.Annex (map-set f registers i held)
 slot_through_map f (content.Bank limit) i held = refl
 
-word_through_map : (f : Cap → Capability) (c : Content Cap) (i word : ℕ) → map_content f (with_word_in c i word) ≡ with_word_in (map_content f c) i word
+pub word_through_map : (f : Cap → Capability) (c : Content Cap) (i word : ℕ) → map_content f (with_word_in c i word) ≡ with_word_in (map_content f c) i word
 word_through_map f content.Free i word = refl
 word_through_map f (content.Page words) i word = refl
 word_through_map f (content.Node slots) i word = refl
@@ -155,17 +153,8 @@ word_through_map f (content.Root r) i word = refl
 word_through_map f (content.Annex registers) i word = refl
 word_through_map f (content.Bank limit) i word = refl
 
-message_through_map : (f : Cap → Capability) (c : Content Cap) (words : List ℕ) (key : ℕ) → is_root (map_content f c) ≡ true →
-    map_content f (with_message_in c words key) ≡ content.Root (record (root_in (map_content f c)) { state = Running; words = words; key = key })
-message_through_map f content.Free words key is = cc
-message_through_map f (content.Page ws) words key is = cc
-message_through_map f (content.Node slots) words key is = cc
-message_through_map f (content.Root r) words key is = refl
-message_through_map f (content.Annex registers) words key is = cc
-message_through_map f (content.Bank limit) words key is = cc
-
 -- what a content holds after it is live or stale where what it held was
-slot_current : (hs : List ObjectHeader) (c : Content Cap) (i : ℕ) (held : Cap) → IsCurrent hs held → All (IsCurrent hs) (caps_in c) → All (IsCurrent hs) (caps_in (with_slot_in c i held))
+pub slot_current : (hs : List ObjectHeader) (c : Content Cap) (i : ℕ) (held : Cap) → IsCurrent hs held → All (IsCurrent hs) (caps_in c) → All (IsCurrent hs) (caps_in (with_slot_in c i held))
 slot_current hs content.Free i held is all = all
 slot_current hs (content.Page words) i held is all = all
 slot_current hs (content.Node slots) i held is all = All-set (IsCurrent hs) slots i held is all
@@ -173,7 +162,7 @@ slot_current hs (content.Root r) i held is all = all
 slot_current hs (content.Annex registers) i held is all = All-set (IsCurrent hs) registers i held is all
 slot_current hs (content.Bank limit) i held is all = all
 
-word_current : (hs : List ObjectHeader) (c : Content Cap) (i word : ℕ) → All (IsCurrent hs) (caps_in c) → All (IsCurrent hs) (caps_in (with_word_in c i word))
+pub word_current : (hs : List ObjectHeader) (c : Content Cap) (i word : ℕ) → All (IsCurrent hs) (caps_in c) → All (IsCurrent hs) (caps_in (with_word_in c i word))
 word_current hs content.Free i word all = all
 word_current hs (content.Page words) i word all = all
 word_current hs (content.Node slots) i word all = all
@@ -181,95 +170,17 @@ word_current hs (content.Root r) i word all = all
 word_current hs (content.Annex registers) i word all = all
 word_current hs (content.Bank limit) i word all = all
 
-message_current : (hs : List ObjectHeader) (c : Content Cap) (words : List ℕ) (key : ℕ) → All (IsCurrent hs) (caps_in c) → All (IsCurrent hs) (caps_in (with_message_in c words key))
-message_current hs content.Free words key all = all
-message_current hs (content.Page ws) words key all = all
-message_current hs (content.Node slots) words key all = all
-message_current hs (content.Root r) words key all = all
-message_current hs (content.Annex registers) words key all = all
-message_current hs (content.Bank limit) words key all = all
-
 -- a capability that is given its object's count conveys itself
 pub live : (hs : List ObjectHeader) (c : Capability) → conveyed hs (record { what = c; count = current_count hs c }) ≡ c
 live hs c = let P : ℕ → Type 0 = λ n. (if nat_lt n n then Void else c) ≡ c in let all : (n : ℕ) → P n = λ n. grind (arith, nat_tests) in all (current_count hs c)
 
 -- how the parts come out of what was put into a lent content
-pub slot_put : (p q : Parts) (hs : List ObjectHeader) (n i : ℕ) (w : Capability) (held : Cap) (now new : Content Cap) → q ≡ with_held p n new →
-    new ≡ with_slot_in now i held → now ≡ held_at p.contents n → held ≡ live_cap hs w → hs ≡ p.headers →
-    q ≡ with_held p n (with_slot_in (held_at p.contents n) i (live_cap p.headers w))
-slot_put p q hs n i w held now new back set value live table =
-    back
-    ∙ ap (with_held p n)
-    (set
-    ∙ ap (λ (c : Content Cap). with_slot_in c i held) value
-    ∙ ap (with_slot_in (held_at p.contents n) i) (live ∙ ap (λ (ks : List ObjectHeader). live_cap ks w) table))
-
-pub word_put : (p q : Parts) (n i word : ℕ) (now new : Content Cap) → q ≡ with_held p n new → new ≡ with_word_in now i word →
-    now ≡ held_at p.contents n → q ≡ with_held p n (with_word_in (held_at p.contents n) i word)
-word_put p q n i word now new back set value = back ∙ ap (with_held p n) (set ∙ ap (λ (c : Content Cap). with_word_in c i word) value)
-
-pub message_put : (p q : Parts) (n : ℕ) (words : List ℕ) (key : ℕ) (now new : Content Cap) → q ≡ with_held p n new → new ≡ with_message_in now words key →
-    now ≡ held_at p.contents n → q ≡ with_held p n (with_message_in (held_at p.contents n) words key)
-message_put p q n words key now new back set value = back ∙ ap (with_held p n) (set ∙ ap (λ (c : Content Cap). with_message_in c words key) value)
+pub put : (p q : Parts) (n : ℕ) (change : Content Cap → Content Cap) (now new : Content Cap) → q ≡ with_held p n new → new ≡ change now → now ≡ held_at p.contents n →
+    q ≡ with_held p n (change (held_at p.contents n))
+put p q n change now new back set value = back ∙ ap (with_held p n) (set ∙ ap change value)
 
 -- The helpers' edits. The new parts are q.
 module _ (p q : Parts) (n : ℕ) (known : n < length p.headers) (inside : n < length p.contents) where
-  pub slot_objects : (i : ℕ) (w : Capability) → q ≡ with_held p n (with_slot_in (held_at p.contents n) i (record { what = w; count = current_count p.headers w })) →
-      objects_in q ≡ with_slot (objects_in p) n i w
-  unfolding with_slot
-  slot_objects i w is =
-      let held : Cap = record { what = w; count = current_count p.headers w } in
-      let c = held_at p.contents n in
-      ap (λ (r : Parts). objects_in r) is
-      ∙ held_objects p n (with_slot_in c i held) known inside
-      ∙ ap (with_content (objects_in p) n)
-      (slot_through_map (conveyed p.headers) c i held
-      ∙ ap (with_slot_in (map_content (conveyed p.headers) c) i) (live p.headers w)
-      ∙ ap (λ (d : Content Capability). with_slot_in d i w) (sym (content_there p n known c refl)))
-
-  pub slot_stays_current : (i : ℕ) (w : Capability) → q ≡ with_held p n (with_slot_in (held_at p.contents n) i (record { what = w; count = current_count p.headers w })) →
-      AreCurrent (frames_of p) → AreCurrent (frames_of q)
-  slot_stays_current i w is current =
-      let held : Cap = record { what = w; count = current_count p.headers w } in
-      let c = held_at p.contents n in
-      let new : All (IsCurrent p.headers) (caps_in (with_slot_in c i held)) = slot_current p.headers c i held (omega arith) (current_held p current n known) in
-      subst (λ (r : Parts). AreCurrent (frames_of r)) (sym is) (held_current p n (with_slot_in c i held) known inside new current)
-
-  pub word_objects : (i word : ℕ) → q ≡ with_held p n (with_word_in (held_at p.contents n) i word) →
-      objects_in q ≡ with_word (objects_in p) n i word
-  unfolding with_word
-  word_objects i word is =
-      let c = held_at p.contents n in
-      ap (λ (r : Parts). objects_in r) is
-      ∙ held_objects p n (with_word_in c i word) known inside
-      ∙ ap (with_content (objects_in p) n)
-      (word_through_map (conveyed p.headers) c i word
-      ∙ ap (λ (d : Content Capability). with_word_in d i word) (sym (content_there p n known c refl)))
-
-  pub word_stays_current : (i word : ℕ) → q ≡ with_held p n (with_word_in (held_at p.contents n) i word) → AreCurrent (frames_of p) → AreCurrent (frames_of q)
-  word_stays_current i word is current =
-      let c = held_at p.contents n in
-      subst (λ (r : Parts). AreCurrent (frames_of r)) (sym is)
-      (held_current p n (with_word_in c i word) known inside (word_current p.headers c i word (current_held p current n known)) current)
-
-  pub message_objects : (words : List ℕ) (key : ℕ) → is_process (objects_in p) n ≡ true → q ≡ with_held p n (with_message_in (held_at p.contents n) words key) →
-      objects_in q ≡ with_message (objects_in p) n words key
-  unfolding with_message with_root
-  message_objects words key process is =
-      let c = held_at p.contents n in
-      let there = content_there p n known c refl in
-      ap (λ (r : Parts). objects_in r) is
-      ∙ held_objects p n (with_message_in c words key) known inside
-      ∙ ap (with_content (objects_in p) n)
-      (message_through_map (conveyed p.headers) c words key (sym (ap is_root there) ∙ process)
-      ∙ ap (λ (d : Content Capability). content.Root (record (root_in d) { state = Running; words = words; key = key })) (sym there))
-
-  pub message_stays_current : (words : List ℕ) (key : ℕ) → q ≡ with_held p n (with_message_in (held_at p.contents n) words key) → AreCurrent (frames_of p) → AreCurrent (frames_of q)
-  message_stays_current words key is current =
-      let c = held_at p.contents n in
-      subst (λ (r : Parts). AreCurrent (frames_of r)) (sym is)
-      (held_current p n (with_message_in c words key) known inside (message_current p.headers c words key (current_held p current n known)) current)
-
   pub owner_objects : (bank : ℕ) → q ≡ with_header p n (owned_by bank (header_at p.headers n)) →
       objects_in q ≡ slice_set (objects_in p) n (record { owner = bank; content = content_at (objects_in p) n })
   owner_objects bank is =

@@ -13,15 +13,13 @@ use Rattle.model.specs.declared.geometry.Geometry.{Geometry}
 use Rattle.model.specs.declared.object.Content.{Content}
 use Rattle.model.specs.declared.object.Content.TheVariants as content
 use Rattle.model.specs.declared.object.Role.TheVariants as role
-use Rattle.model.specs.Frame.{blank_frame, blank_header, called, claimed, current_count, frame_at, header_at, held_at, owned_by, void_held}
+use Rattle.model.specs.Frame.{blank_frame, blank_header, called, claimed, frame_at, header_at, held_at, owned_by, void_held}
 use Rattle.model.specs.Keepable.{AreKeepable, AreKeptSlots, AreKeptWords, Follows, IsCount, IsKeepable, IsKeptCap, MayBeKept}
 use Rattle.model.specs.Object.{all_slots, is_annex, role_of, with_slot_in, with_word_in, zero_words}
 use Rattle.model.specs.Sound.{IsOfKind, object_count}
 use Rattle.capability.specs.declared.present.Fresh.{Fresh}
 use Rattle.capability.specs.declared.present.Fresh.TheVariants as fresh
-use Rattle.capability.specs.Objects.{with_message_in}
-use Rattle.capability.specs.Parts.{FreshFits, HaveTheirRoles, IsFreshAt, Parts, frames_of, fresh_content, with_both, with_header, with_held}
-use Rattle.capability.proofs.Edits.{header_kept}
+use Rattle.capability.specs.Parts.{FreshFits, HaveTheirRoles, IsFreshAt, Parts, frames_of, fresh_content, with_both, with_header}
 use Rattle.capability.proofs.Frames.{at_set, frame_in, length_in, pair_at, set_in}
 
 -- what can be kept at an age can be at a later one
@@ -128,7 +126,7 @@ refilled g age n h c d same kind may k = record {
 slots_set : (g : Geometry) (age : ℕ) (slots : List Cap) (i : ℕ) (held : Cap) → IsKeptCap g age held → AreKeptSlots g age slots → AreKeptSlots g age (slice_set slots i held)
 slots_set g age slots i held new s = record { count = length-set slots i held ∙ s.count; each = All-set (IsKeptCap g age) slots i held new s.each }
 
-with_slot_keeps : (g : Geometry) (age n : ℕ) (h : ObjectHeader) (c : Content Cap) (i : ℕ) (held : Cap) → IsKeptCap g age held →
+pub with_slot_keeps : (g : Geometry) (age n : ℕ) (h : ObjectHeader) (c : Content Cap) (i : ℕ) (held : Cap) → IsKeptCap g age held →
     (IsTrue (is_annex c) → i ≡ 0 → held ≡ void_held) → IsKeepable g age n (record { header = h; content = c }) →
     IsKeepable g age n (record { header = h; content = with_slot_in c i held })
 with_slot_keeps g age n h content.Free i held new first k = k
@@ -143,7 +141,7 @@ with_slot_keeps g age n h (content.Annex registers) i held new first k =
     ) k
 with_slot_keeps g age n h (content.Bank limit) i held new first k = k
 
-with_word_keeps : (g : Geometry) (age n : ℕ) (h : ObjectHeader) (c : Content Cap) (i word : ℕ) → word < 2 ^ 64 →
+pub with_word_keeps : (g : Geometry) (age n : ℕ) (h : ObjectHeader) (c : Content Cap) (i word : ℕ) → word < 2 ^ 64 →
     IsKeepable g age n (record { header = h; content = c }) → IsKeepable g age n (record { header = h; content = with_word_in c i word })
 with_word_keeps g age n h content.Free i word fits k = k
 with_word_keeps g age n h (content.Page words) i word fits k =
@@ -153,45 +151,6 @@ with_word_keeps g age n h (content.Node slots) i word fits k = k
 with_word_keeps g age n h (content.Root r) i word fits k = k
 with_word_keeps g age n h (content.Annex registers) i word fits k = k
 with_word_keeps g age n h (content.Bank limit) i word fits k = k
-
-with_message_keeps : (g : Geometry) (age n : ℕ) (h : ObjectHeader) (c : Content Cap) (words : List ℕ) (key : ℕ) → AreKeptWords 4 words → key < 2 ^ 16 →
-    IsKeepable g age n (record { header = h; content = c }) → IsKeepable g age n (record { header = h; content = with_message_in c words key })
-with_message_keeps g age n h content.Free words key fit fits k = k
-with_message_keeps g age n h (content.Page ws) words key fit fits k = k
-with_message_keeps g age n h (content.Node slots) words key fit fits k = k
-with_message_keeps g age n h (content.Root r) words key fit fits k =
-    refilled g age n h (content.Root r) (with_message_in (content.Root r) words key) refl k.kind
-    (fit, fits, k.kept.content.2, k.kept.content.3, k.kept.content.4) k
-with_message_keeps g age n h (content.Annex registers) words key fit fits k = k
-with_message_keeps g age n h (content.Bank limit) words key fit fits k = k
-
--- The helpers' edits. The new parts are q.
-module _ (g : Geometry) (age : ℕ) (p q : Parts) (n : ℕ) (known : n < length p.headers) (inside : n < length p.contents) where
-  pub slot_stays_keepable : (i : ℕ) (w : Capability) →
-      q ≡ with_held p n (with_slot_in (held_at p.contents n) i (record { what = w; count = current_count p.headers w })) →
-      IsKeptCap g age (record { what = w; count = current_count p.headers w }) →
-      (IsTrue (is_annex (held_at p.contents n)) → i ≡ 0 → w ≡ Void) → AreKeepable g age (frames_of p) → AreKeepable g age (frames_of q)
-  slot_stays_keepable i w is new first k =
-      let held : Cap = record { what = w; count = current_count p.headers w } in
-      let c = with_slot_in (held_at p.contents n) i held in
-      one_keepable g age age (omega arith) p q n (header_at p.headers n) c inside (is ∙ header_kept p n c)
-      (with_slot_keeps g age n (header_at p.headers n) (held_at p.contents n) i held new
-      (λ annex zeroth. ap (λ (v : Capability). let d : Cap = record { what = v; count = current_count p.headers v } in d) (first annex zeroth))
-      (keepable_at g age p n known k)) k
-
-  pub word_stays_keepable : (i word : ℕ) → word < 2 ^ 64 → q ≡ with_held p n (with_word_in (held_at p.contents n) i word) →
-      AreKeepable g age (frames_of p) → AreKeepable g age (frames_of q)
-  word_stays_keepable i word fits is k =
-      let c = with_word_in (held_at p.contents n) i word in
-      one_keepable g age age (omega arith) p q n (header_at p.headers n) c inside (is ∙ header_kept p n c)
-      (with_word_keeps g age n (header_at p.headers n) (held_at p.contents n) i word fits (keepable_at g age p n known k)) k
-
-  pub message_stays_keepable : (words : List ℕ) (key : ℕ) → AreKeptWords 4 words → key < 2 ^ 16 → q ≡ with_held p n (with_message_in (held_at p.contents n) words key) →
-      AreKeepable g age (frames_of p) → AreKeepable g age (frames_of q)
-  message_stays_keepable words key fit fits is k =
-      let c = with_message_in (held_at p.contents n) words key in
-      one_keepable g age age (omega arith) p q n (header_at p.headers n) c inside (is ∙ header_kept p n c)
-      (with_message_keeps g age n (header_at p.headers n) (held_at p.contents n) words key fit fits (keepable_at g age p n known k)) k
 
 -- one header is another, beside what its object holds
 module _ (g : Geometry) (age later : ℕ) (le : age ≤ later) (p q : Parts) (n : ℕ) (h : ObjectHeader) where

@@ -5,8 +5,8 @@ pub mod KindNumbers
 pub mod Mapped
 pub mod Roles
 mod Counts
+mod Edited
 mod Edits
-mod Registers
 mod RootEdits
 mod SoundFrames
 pub mod Touched

@@ -1,5 +1,5 @@
 -- What frames stand for once the root of a process is another.
-use Rattle.std.proofs.Common.{◌≡◌, ℕ, ◌<◌, ◌^◌, true, slice_set, List, [], ◌∷◌, length, refl, sym, ap, ◌∙◌, subst, arith}
+use Rattle.std.proofs.Common.{◌≡◌, ℕ, ◌<◌, ◌^◌, true, slice_set, List, [], ◌∷◌, refl, sym, ap, ◌∙◌, subst, arith}
 use Rattle.std.specs.List.{All}
 use Rattle.std.proofs.lemmas.List.{length-set}
 use Rattle.std.proofs.lemmas.List.Elements.{All-set}
@@ -12,28 +12,22 @@ use Rattle.model.specs.declared.object.Content.TheVariants as content
 use Rattle.model.specs.declared.object.Object.{Object}
 use Rattle.model.specs.declared.object.Root.{Root}
 use Rattle.model.specs.declared.object.State.{State}
-use Rattle.model.specs.Frame.{conveyed, current_count, header_at, held_at}
-use Rattle.model.specs.Keepable.{AreCurrent, AreKeepable, AreKeptWords, IsCurrent, IsKeepable, IsKeptCap, MayBeKept, caps_in}
+use Rattle.model.specs.Frame.{conveyed}
+use Rattle.model.specs.Keepable.{AreKeptWords, IsCurrent, IsKeepable, IsKeptCap, MayBeKept, caps_in}
 use Rattle.model.specs.Order.{with_space}
 use Rattle.model.specs.Sound.{IsSpace}
 use Rattle.model.specs.Object.{is_root, map_content, root_in}
-use Rattle.model.specs.World.{is_process, root_at, with_content, with_root, with_state}
+use Rattle.model.specs.World.{root_at, with_root, with_state}
 use Rattle.capability.specs.Objects.{live_cap, with_root_in}
-use Rattle.capability.specs.Parts.{Parts, frames_of, with_held, objects_in}
-use Rattle.capability.proofs.Edits.{current_held, header_kept, held_current, held_objects, live}
-use Rattle.capability.proofs.Frames.{content_there}
-use Rattle.capability.proofs.Keeping.{keepable_at, one_keepable, refilled}
+use Rattle.capability.proofs.Edits.{live}
+use Rattle.capability.proofs.Keeping.{refilled}
 
 -- how the parts come out of what was put into a lent content
-pub root_put : (p q : Parts) (n : ℕ) (change : Root Cap → Root Cap) (now new : Content Cap) → q ≡ with_held p n new → new ≡ with_root_in change now →
-    now ≡ held_at p.contents n → q ≡ with_held p n (with_root_in change (held_at p.contents n))
-root_put p q n change now new back set value = back ∙ ap (with_held p n) (set ∙ ap (with_root_in change) value)
-
 -- a change that goes through the map of capabilities
 abbrev pub GoesThrough : (Root Cap → Root Cap) → (Root Capability → Root Capability) → (Cap → Capability) → Type 0
 GoesThrough change after f = (r : Root Cap) → map_content f (content.Root (change r)) ≡ content.Root (after (root_in (map_content f (content.Root r))))
 
-through_map : (change : Root Cap → Root Cap) (after : Root Capability → Root Capability) (f : Cap → Capability) → GoesThrough change after f → (c : Content Cap) →
+pub through_map : (change : Root Cap → Root Cap) (after : Root Capability → Root Capability) (f : Cap → Capability) → GoesThrough change after f → (c : Content Cap) →
     is_root (map_content f c) ≡ true → map_content f (with_root_in change c) ≡ content.Root (after (root_in (map_content f c)))
 through_map change after f through content.Free is = cc
 through_map change after f through (content.Page ws) is = cc
@@ -42,7 +36,7 @@ through_map change after f through (content.Root r) is = through r
 through_map change after f through (content.Annex registers) is = cc
 through_map change after f through (content.Bank limit) is = cc
 
-root_current : (hs : List ObjectHeader) (change : Root Cap → Root Cap) → ((r : Root Cap) → IsCurrent hs r.space → IsCurrent hs (change r).space) → (c : Content Cap) →
+pub root_current : (hs : List ObjectHeader) (change : Root Cap → Root Cap) → ((r : Root Cap) → IsCurrent hs r.space → IsCurrent hs (change r).space) → (c : Content Cap) →
     All (IsCurrent hs) (caps_in c) → All (IsCurrent hs) (caps_in (with_root_in change c))
 root_current hs change stays content.Free all = all
 root_current hs change stays (content.Page ws) all = all
@@ -54,7 +48,7 @@ root_current hs change stays (content.Root r) all = one (IsCurrent hs) (change r
 root_current hs change stays (content.Annex registers) all = all
 root_current hs change stays (content.Bank limit) all = all
 
-root_keeps : (g : Geometry) (age n : ℕ) (h : ObjectHeader) (change : Root Cap → Root Cap) →
+pub root_keeps : (g : Geometry) (age n : ℕ) (h : ObjectHeader) (change : Root Cap → Root Cap) →
     ((r : Root Cap) → MayBeKept g age (content.Root r) → MayBeKept g age (content.Root (change r))) → (c : Content Cap) →
     IsKeepable g age n (record { header = h; content = c }) → IsKeepable g age n (record { header = h; content = with_root_in change c })
 root_keeps g age n h change stays content.Free k = k
@@ -64,33 +58,6 @@ root_keeps g age n h change stays (content.Root r) k =
     refilled g age n h (content.Root r) (content.Root (change r)) refl k.kind (stays r k.kept.content) k
 root_keeps g age n h change stays (content.Annex registers) k = k
 root_keeps g age n h change stays (content.Bank limit) k = k
-
-module _ (p q : Parts) (n : ℕ) (known : n < length p.headers) (inside : n < length p.contents) (change : Root Cap → Root Cap)
-    (is : q ≡ with_held p n (with_root_in change (held_at p.contents n))) where
-  pub root_objects : (after : Root Capability → Root Capability) → GoesThrough change after (conveyed p.headers) → is_process (objects_in p) n ≡ true →
-      objects_in q ≡ with_root (objects_in p) n (after (root_at (objects_in p) n))
-  unfolding with_root
-  root_objects after through process =
-      let c = held_at p.contents n in
-      let there = content_there p n known c refl in
-      ap (λ (r : Parts). objects_in r) is
-      ∙ held_objects p n (with_root_in change c) known inside
-      ∙ ap (with_content (objects_in p) n)
-      (through_map change after (conveyed p.headers) through c (sym (ap is_root there) ∙ process)
-      ∙ ap (λ (d : Content Capability). content.Root (after (root_in d))) (sym there))
-
-  pub root_stays_current : ((r : Root Cap) → IsCurrent p.headers r.space → IsCurrent p.headers (change r).space) → AreCurrent (frames_of p) → AreCurrent (frames_of q)
-  root_stays_current stays current =
-      let c = held_at p.contents n in
-      subst (λ (r : Parts). AreCurrent (frames_of r)) (sym is)
-      (held_current p n (with_root_in change c) known inside (root_current p.headers change stays c (current_held p current n known)) current)
-
-  pub root_stays_keepable : (g : Geometry) (age : ℕ) → ((r : Root Cap) → MayBeKept g age (content.Root r) → MayBeKept g age (content.Root (change r))) →
-      AreKeepable g age (frames_of p) → AreKeepable g age (frames_of q)
-  root_stays_keepable g age stays k =
-      let c = with_root_in change (held_at p.contents n) in
-      one_keepable g age age (omega arith) p q n (header_at p.headers n) c inside (is ∙ header_kept p n c)
-      (root_keeps g age n (header_at p.headers n) change stays (held_at p.contents n) (keepable_at g age p n known k)) k
 
 -- another word, state or address space
 pub word_kept : (i word : ℕ) (ws : List ℕ) → word < 2 ^ 64 → AreKeptWords 4 ws → AreKeptWords 4 (slice_set ws i word)

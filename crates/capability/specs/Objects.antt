@@ -1,5 +1,5 @@
 -- The delivery of a message.
-use Rattle.std.specs.Prelude.{ℕ, ◌+◌, List, [], ◌∷◌, slice_set}
+use Rattle.std.specs.Prelude.{ℕ, List}
 use Rattle.model.specs.declared.capability.Cap.{Cap}
 use Rattle.model.specs.declared.capability.Capability.{Capability}
 use Rattle.model.specs.declared.frame.ObjectHeader.{ObjectHeader}
@@ -12,13 +12,8 @@ use Rattle.model.specs.Frame.{current_count}
 use Rattle.model.specs.World.{root_at, with_root}
 
 -- the objects with words and a key given to a process, which runs
-unfoldable pub with_message : List Object → ℕ → List ℕ → ℕ → List Object
+abbrev pub with_message : List Object → ℕ → List ℕ → ℕ → List Object
 with_message os p words key = with_root os p (record (root_at os p) { state = Running; words = words; key = key })
-
--- and a content, where it is a root
-abbrev pub with_message_in : {C : Type 0} → Content C → List ℕ → ℕ → Content C
-with_message_in (content.Root root) words key = content.Root (record root { state = Running; words = words; key = key })
-with_message_in other words key = other
 
 -- a content whose root is changed, where it is one
 abbrev pub with_root_in : {C : Type 0} → (Root C → Root C) → Content C → Content C
@@ -28,13 +23,3 @@ with_root_in change other = other
 -- a capability as it is held while it is live
 abbrev pub live_cap : List ObjectHeader → Capability → Cap
 live_cap hs w = record { what = w; count = current_count hs w }
-
--- a list with others from i on, and a content with others in its slots from i on
-abbrev pub set_from : {C : Type 0} → List C → ℕ → List C → List C
-set_from xs i [] = xs
-set_from xs i (y ∷ ys) = set_from (slice_set xs i y) (i + 1) ys
-
-abbrev pub with_slots_in : {C : Type 0} → Content C → ℕ → List C → Content C
-with_slots_in (content.Node slots) i ys = content.Node (set_from slots i ys)
-with_slots_in (content.Annex registers) i ys = content.Annex (set_from registers i ys)
-with_slots_in other i ys = other

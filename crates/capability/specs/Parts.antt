@@ -9,7 +9,7 @@ use Rattle.model.specs.declared.object.Content.TheVariants as content
 use Rattle.model.specs.declared.object.State.TheVariants.{Available}
 use Rattle.model.specs.declared.object.Object.{Object}
 use Rattle.model.specs.Frame.{frame_at, frames_in, header_at, held_at, given_up, objects_of}
-use Rattle.model.specs.Keepable.{IsSoundFrames}
+use Rattle.model.specs.Keepable.{AreCurrent, AreKeepable, IsSoundFrames}
 use Rattle.model.specs.Machine.{touching, touched_count}
 use Rattle.model.specs.Object.{all_slots, role_of, zero_words}
 use Rattle.model.specs.Revoke.{is_given_up, is_member}
@@ -86,6 +86,15 @@ pub record KeepsAside {S : Type 0} (parts : S → Parts) (Fetched Announced : S 
   pub fetched : (n : ℕ) → Fetched old n → Fetched new n
   pub announced : (n : ℕ) → Announced old n → Announced new n
   pub leads : Leads old new
+
+-- An edit of what objects hold: the objects after it, and when the frames can be kept at an age. The parameters are
+-- ghost members of a store of present frames.
+pub record Edits {S : Type 0} (parts : S → Parts) (Fetched Announced : S → ℕ → Type 0) (Leads : S → S → Type 0) (old new : S) (after : List Object) (may : ℕ → Type 0) : Type 0 where
+  pub objects : objects_in (parts new) ≡ after
+  pub headers : (parts new).headers ≡ (parts old).headers
+  pub current : AreCurrent (frames_of (parts old)) → AreCurrent (frames_of (parts new))
+  pub keepable : (age : ℕ) → may age → AreKeepable (parts old).geometry age (frames_of (parts old)) → AreKeepable (parts old).geometry age (frames_of (parts new))
+  pub aside : KeepsAside parts Fetched Announced Leads old new
 
 -- Frames were fetched, and nothing else came of it.
 pub record LooksUp {S : Type 0} (parts : S → Parts) (Leads : S → S → Type 0) (old new : S) : Type 0 where

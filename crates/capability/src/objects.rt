@@ -1,17 +1,16 @@
 // Present frames, read and changed as the objects that they stand for.
-ghost use Rattle.std.specs.Prelude.{◌≡◌, ◌↔◌, ℕ, ◌+◌, ◌<◌, ◌≤◌, ◌^◌, false, length, map, slice_set, IsTrue, OnOk, IsErrOf};
+ghost use Rattle.std.specs.Prelude.{◌≡◌, ◌↔◌, ℕ, ◌+◌, ◌<◌, ◌≤◌, ◌^◌, false, length, slice_set, IsTrue, OnOk, IsErrOf};
 ghost use Rattle.std.specs.List.{All, Contains};
 ghost use Rattle.model.specs.Frame.{current_count, header_at, held_at};
 ghost use Rattle.model.specs.Keepable.{AreCurrent, AreKeepable, AreKeptWords, IsKeptCap};
 ghost use Rattle.model.specs.Object.{is_annex, with_slot_in, with_word_in};
 ghost use Rattle.model.specs.Revoke.{consume as consumed, is_member, rescind as rescinded};
-ghost use Rattle.model.specs.World.{word_at, slot_at, annex_at, content_at, is_process, with_word, with_slot, with_slots_from};
-ghost use Rattle.capability.specs.Objects.{live_cap, set_from, with_message, with_message_in, with_slots_in};
-ghost use Rattle.capability.specs.Parts.{AreGivenUp, FreshFits, IsFreshAt, IsOnce, KeepsAside, LooksUp, frames_of, fresh_content, objects_in};
+ghost use Rattle.model.specs.World.{word_at, slot_at, annex_at, content_at, is_process, with_word, with_slot};
+ghost use Rattle.capability.specs.Objects.{live_cap, with_message, with_root_in};
+ghost use Rattle.capability.specs.Parts.{AreGivenUp, Edits, FreshFits, IsFreshAt, IsOnce, KeepsAside, LooksUp, frames_of, fresh_content, objects_in};
 
 use crate::present::{Fresh, MAX_FETCHED, PrepareFault, PresentFrames};
-use crate::table::ObjectTable;
-use model::{Cap, Capability, Content, Role, Slots, State};
+use model::{Cap, Capability, Content, Role, State};
 use std::alloc::Global;
 
 /// The word of a page that is fetched, or 0 where it is no page.
@@ -55,15 +54,9 @@ pub fn set_word<F: PresentFrames>(store: &mut F, number: u64, index: usize, word
     requires fetched { F.IsFetched store.old number }
     requires announced { F.IsAnnounced store.old number }
     requires within { index < 512 }
-    ensures objects { objects_in (F.parts store.new)
-        ≡ with_word (objects_in (F.parts store.old)) number index word }
-    ensures headers { (F.parts store.new).headers ≡ (F.parts store.old).headers }
-    ensures current { AreCurrent (frames_of (F.parts store.old))
-        → AreCurrent (frames_of (F.parts store.new)) }
-    ensures keepable { (age : ℕ)
-        → AreKeepable (F.parts store.old).geometry age (frames_of (F.parts store.old))
-        → AreKeepable (F.parts store.old).geometry age (frames_of (F.parts store.new)) }
-    ensures aside { KeepsAside F.parts F.IsFetched F.IsAnnounced F.LeadsTo store.old store.new }
+    ensures { Edits F.parts F.IsFetched F.IsAnnounced F.LeadsTo store.old store.new
+        (with_word (objects_in (F.parts store.old)) number index word)
+        (λ age. Unit {0}) }
 {
     put_word(store.frame_mut(number), index, word);
 }
@@ -74,49 +67,14 @@ pub fn set_slot<F: PresentFrames>(store: &mut F, number: u64, slot: usize, capab
     requires fetched { F.IsFetched store.old number }
     requires announced { F.IsAnnounced store.old number }
     requires within { slot < 32 }
-    ensures objects { objects_in (F.parts store.new)
-        ≡ with_slot (objects_in (F.parts store.old)) number slot capability }
-    ensures headers { (F.parts store.new).headers ≡ (F.parts store.old).headers }
-    ensures current { AreCurrent (frames_of (F.parts store.old))
-        → AreCurrent (frames_of (F.parts store.new)) }
-    ensures keepable { (age : ℕ)
-        → IsKeptCap (F.parts store.old).geometry age
-        (live_cap (F.parts store.old).headers capability)
-        → (IsTrue (is_annex (held_at (F.parts store.old).contents number)) → slot ≡ 0
-        → capability ≡ Capability.Void)
-        → AreKeepable (F.parts store.old).geometry age (frames_of (F.parts store.old))
-        → AreKeepable (F.parts store.old).geometry age (frames_of (F.parts store.new)) }
-    ensures aside { KeepsAside F.parts F.IsFetched F.IsAnnounced F.LeadsTo store.old store.new }
+    ensures { Edits F.parts F.IsFetched F.IsAnnounced F.LeadsTo store.old store.new
+        (with_slot (objects_in (F.parts store.old)) number slot capability)
+        (λ age. IsKeptCap (F.parts store.old).geometry age (live_cap (F.parts store.old).headers capability)
+        × (IsTrue (is_annex (held_at (F.parts store.old).contents number)) → slot ≡ 0
+        → capability ≡ Capability.Void)) }
 {
     let held = store.table().live_cap(capability);
     put_slot(store.frame_mut(number), slot, held);
-}
-
-/// Puts four capabilities, live, into neighbouring registers of an annex, or slots of a node, that is
-/// fetched and announced. What is neither stays.
-pub fn set_registers<F: PresentFrames>(
-    store: &mut F,
-    number: u64,
-    first: usize,
-    capabilities: [Capability; 4],
-)
-    requires fetched { F.IsFetched store.old number }
-    requires announced { F.IsAnnounced store.old number }
-    requires past { 1 ≤ first }
-    requires within { first + 4 ≤ 32 }
-    ensures objects { objects_in (F.parts store.new)
-        ≡ with_slots_from (objects_in (F.parts store.old)) number first capabilities }
-    ensures headers { (F.parts store.new).headers ≡ (F.parts store.old).headers }
-    ensures current { AreCurrent (frames_of (F.parts store.old))
-        → AreCurrent (frames_of (F.parts store.new)) }
-    ensures keepable { (age : ℕ)
-        → All (λ c. IsKeptCap (F.parts store.old).geometry age (live_cap (F.parts store.old).headers c)) capabilities
-        → AreKeepable (F.parts store.old).geometry age (frames_of (F.parts store.old))
-        → AreKeepable (F.parts store.old).geometry age (frames_of (F.parts store.new)) }
-    ensures aside { KeepsAside F.parts F.IsFetched F.IsAnnounced F.LeadsTo store.old store.new }
-{
-    let held = live_caps(store.table(), capabilities);
-    put_registers(store.frame_mut(number), first, held);
 }
 
 /// Gives a process, whose root is fetched and announced, words and a key. It is running.
@@ -124,15 +82,9 @@ pub fn set_message<F: PresentFrames>(store: &mut F, process: u64, words: [u64; 4
     requires fetched { F.IsFetched store.old process }
     requires announced { F.IsAnnounced store.old process }
     requires process { IsTrue (is_process (objects_in (F.parts store.old)) process) }
-    ensures objects { objects_in (F.parts store.new)
-        ≡ with_message (objects_in (F.parts store.old)) process words key }
-    ensures headers { (F.parts store.new).headers ≡ (F.parts store.old).headers }
-    ensures current { AreCurrent (frames_of (F.parts store.old))
-        → AreCurrent (frames_of (F.parts store.new)) }
-    ensures keepable { (age : ℕ)
-        → AreKeepable (F.parts store.old).geometry age (frames_of (F.parts store.old))
-        → AreKeepable (F.parts store.old).geometry age (frames_of (F.parts store.new)) }
-    ensures aside { KeepsAside F.parts F.IsFetched F.IsAnnounced F.LeadsTo store.old store.new }
+    ensures { Edits F.parts F.IsFetched F.IsAnnounced F.LeadsTo store.old store.new
+        (with_message (objects_in (F.parts store.old)) process words key)
+        (λ age. Unit {0}) }
 {
     put_message(store.frame_mut(process), words, key);
 }
@@ -264,49 +216,9 @@ fn put_slot(content: &mut Content<Cap>, slot: usize, held: Cap)
     }
 }
 
-// Four capabilities as they are held while they are live.
-#[inline(always)]
-fn live_caps(table: &ObjectTable, capabilities: [Capability; 4]) -> [Cap; 4]
-    ensures { result ≡ map (live_cap table.now) capabilities }
-{
-    let [first, second, third, fourth] = capabilities;
-    [
-        table.live_cap(first),
-        table.live_cap(second),
-        table.live_cap(third),
-        table.live_cap(fourth),
-    ]
-}
-
-// A content with four capabilities in neighbouring slots or registers, where it has some.
-#[inline(always)]
-fn put_registers(content: &mut Content<Cap>, first: usize, held: [Cap; 4])
-    requires { first + 4 ≤ 32 }
-    ensures { content.new ≡ with_slots_in content.old first held }
-{
-    match content {
-        Content::Node(slots) => put_four(slots, first, held),
-        Content::Annex(registers) => put_four(registers, first, held),
-        _ => {}
-    }
-}
-
-// Four neighbouring slots are set.
-#[inline(always)]
-fn put_four(slots: &mut Slots<Cap>, first: usize, held: [Cap; 4])
-    requires { first + 4 ≤ 32 }
-    ensures { slots.new ≡ set_from slots.old first held }
-{
-    let [a, b, c, d] = held;
-    slots.set(first, a);
-    slots.set(first + 1, b);
-    slots.set(first + 2, c);
-    slots.set(first + 3, d);
-}
-
 // A root with words and a key delivered, and running. What is no root stays.
 fn put_message(content: &mut Content<Cap>, words: [u64; 4], key: u16)
-    ensures set { content.new ≡ with_message_in content.old words key }
+    ensures set { content.new ≡ with_root_in (λ r. record r { state = State.Running; words = words; key = key }) content.old }
     ensures fits { AreKeptWords 4 words }
 {
     if let Content::Root(root) = content {

@@ -1,11 +1,11 @@
 // The roots of processes, read and changed as the definitions see them.
 ghost use Rattle.std.specs.Prelude.{◌≡◌, ◌<◌, ℕ, IsTrue, slice_index, slice_set};
-ghost use Rattle.model.specs.Keepable.{AreCurrent, AreKeepable, IsKeptCap};
+ghost use Rattle.model.specs.Keepable.{IsKeptCap};
 ghost use Rattle.model.specs.Order.{with_root_word, with_space};
 ghost use Rattle.model.specs.Sound.{IsSpace};
 ghost use Rattle.model.specs.World.{root_at, is_process, is_running_process, with_root, with_state};
 ghost use Rattle.capability.specs.Objects.{live_cap, with_root_in};
-ghost use Rattle.capability.specs.Parts.{HaveTheirRoles, KeepsAside, frames_of, objects_in};
+ghost use Rattle.capability.specs.Parts.{Edits, HaveTheirRoles, frames_of, objects_in};
 
 use crate::present::PresentFrames;
 use model::{Cap, Capability, Content, Role, State};
@@ -86,14 +86,10 @@ pub fn set_word<F: PresentFrames>(store: &mut F, process: u64, index: usize, wor
     requires announced { F.IsAnnounced store.old process }
     requires process { IsTrue (is_process (objects_in (F.parts store.old)) process) }
     requires within { index < 4 }
-    ensures objects { objects_in (F.parts store.new)
-        ≡ with_root (objects_in (F.parts store.old)) process (with_root_word (root_at (objects_in (F.parts store.old)) process) index word) }
-    ensures current { AreCurrent (frames_of (F.parts store.old))
-        → AreCurrent (frames_of (F.parts store.new)) }
-    ensures keepable { (age : ℕ)
-        → AreKeepable (F.parts store.old).geometry age (frames_of (F.parts store.old))
-        → AreKeepable (F.parts store.old).geometry age (frames_of (F.parts store.new)) }
-    ensures aside { KeepsAside F.parts F.IsFetched F.IsAnnounced F.LeadsTo store.old store.new }
+    ensures { Edits F.parts F.IsFetched F.IsAnnounced F.LeadsTo store.old store.new
+        (with_root (objects_in (F.parts store.old)) process
+        (with_root_word (root_at (objects_in (F.parts store.old)) process) index word))
+        (λ age. Unit {0}) }
 {
     put_word(store.frame_mut(process), index, word);
 }
@@ -103,15 +99,9 @@ pub fn set_state<F: PresentFrames>(store: &mut F, process: u64, state: State)
     requires fetched { F.IsFetched store.old process }
     requires announced { F.IsAnnounced store.old process }
     requires process { IsTrue (is_process (objects_in (F.parts store.old)) process) }
-    ensures objects { objects_in (F.parts store.new)
-        ≡ with_state (objects_in (F.parts store.old)) process state }
-    ensures headers { (F.parts store.new).headers ≡ (F.parts store.old).headers }
-    ensures current { AreCurrent (frames_of (F.parts store.old))
-        → AreCurrent (frames_of (F.parts store.new)) }
-    ensures keepable { (age : ℕ)
-        → AreKeepable (F.parts store.old).geometry age (frames_of (F.parts store.old))
-        → AreKeepable (F.parts store.old).geometry age (frames_of (F.parts store.new)) }
-    ensures aside { KeepsAside F.parts F.IsFetched F.IsAnnounced F.LeadsTo store.old store.new }
+    ensures { Edits F.parts F.IsFetched F.IsAnnounced F.LeadsTo store.old store.new
+        (with_state (objects_in (F.parts store.old)) process state)
+        (λ age. Unit {0}) }
 {
     put_state(store.frame_mut(process), state);
 }
@@ -121,16 +111,11 @@ pub fn set_space<F: PresentFrames>(store: &mut F, process: u64, capability: Capa
     requires fetched { F.IsFetched store.old process }
     requires announced { F.IsAnnounced store.old process }
     requires process { IsTrue (is_process (objects_in (F.parts store.old)) process) }
-    ensures objects { objects_in (F.parts store.new)
-        ≡ with_root (objects_in (F.parts store.old)) process (with_space (root_at (objects_in (F.parts store.old)) process) capability) }
-    ensures current { AreCurrent (frames_of (F.parts store.old))
-        → AreCurrent (frames_of (F.parts store.new)) }
-    ensures keepable { (age : ℕ)
-        → IsKeptCap (F.parts store.old).geometry age (live_cap (F.parts store.old).headers capability)
-        → IsSpace capability
-        → AreKeepable (F.parts store.old).geometry age (frames_of (F.parts store.old))
-        → AreKeepable (F.parts store.old).geometry age (frames_of (F.parts store.new)) }
-    ensures aside { KeepsAside F.parts F.IsFetched F.IsAnnounced F.LeadsTo store.old store.new }
+    ensures { Edits F.parts F.IsFetched F.IsAnnounced F.LeadsTo store.old store.new
+        (with_root (objects_in (F.parts store.old)) process
+        (with_space (root_at (objects_in (F.parts store.old)) process) capability))
+        (λ age. IsKeptCap (F.parts store.old).geometry age (live_cap (F.parts store.old).headers capability)
+        × IsSpace capability) }
 {
     let held = store.table().live_cap(capability);
     put_space(store.frame_mut(process), held);

@@ -15,12 +15,14 @@ use Rattle.model.specs.Sound.{NamesItsKind, object_count}
 use Rattle.model.specs.World.{annex_at, is_process, register_at}
 use Rattle.model_laws.proofs.SoundOrders.{IsNow}
 use Rattle.model_laws.proofs.SoundParts.{held_to}
+use Rattle.capability.specs.Parts.{AreSound, Parts, objects_in}
 use Rattle.gate.specs.declared.gates.Gate.{Gate}
 use Rattle.capability.specs.declared.order.Caller.{Caller}
 use Rattle.gate.specs.Invoke.{IsAsked, entered, gate_capability, received, result_code, written_through}
 use Rattle.gate.specs.Plan.{FitsCap}
 use Rattle.gate.proofs.Effects.{code_by, invoke_is, invoked_by}
 use Rattle.gate.proofs.Fits.{held_fits, resume_fits}
+use Rattle.gate.proofs.Standing.{register_kind}
 
 -- its effect
 abbrev pub effect_through : List Object → Invocation → Gate → Effect
@@ -67,8 +69,11 @@ gate_names : (os : List Object) (q key : ℕ) (b : Bool) → NamesItsKind os (ga
 gate_names os q key true kind = kind.0
 gate_names os q key false kind = kind
 
-pub gate_process : (os : List Object) (c : Capability) (gate : Gate) → NamesItsKind os c → c ≡ gate_capability gate → IsTrue (is_process os gate.process)
-gate_process os c gate kind same = gate_names os gate.process gate.key gate.is_resume (subst (NamesItsKind os) same kind)
+pub gate_process : (p : Parts) (sound : AreSound p) (i : Invocation) (caller : Caller) (gate : Gate) → IsAsked (objects_in p) i caller → caller.invoked ≡ gate_capability gate →
+    IsTrue (is_process (objects_in p) gate.process)
+gate_process p sound i caller gate asked same =
+    gate_names (objects_in p) gate.process gate.key gate.is_resume
+    (subst (NamesItsKind (objects_in p)) same (register_kind p sound i.process i.register caller.invoked asked.invoked))
 
 -- what is received fits
 pub received_fits : (g : Geometry) (os : List Object) (i : Invocation) (sent : List Capability) → IsNow g os → object_count g < 2 ^ 64 → IsTrue (is_process os i.process) → sent ≡ sent_by os i →

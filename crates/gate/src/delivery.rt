@@ -36,5 +36,7 @@ pub fn deliver<F: PresentFrames>(store: &mut F, process: u64, message: Message)
 {
     let annex = objects::annex(store, process);
     objects::set_message(store, process, message.words, message.key);
-    objects::set_registers(store, annex, FIRST_REGISTER, message.capabilities);
+    for i in 0..4 {
+        objects::set_slot(store, annex, FIRST_REGISTER + i, message.capabilities[i]);
+    }
 }

@@ -17,7 +17,7 @@ returns-clause-writes g c =
     let fs = frames_of (g.F.PresentFrames.parts c.set_word.new.store) in
     record {
       sound = sound_onward p q c.prepare.ensures.headers c.prepare.ensures.contents c.prepare.ensures.geometry fs
-          (λ age. word_stays_sound q.geometry age (frames_of q) fs c.args.page c.args.index c.args.word c.ranges.word.fits done.objects done.current (done.keepable age));
+          (λ age. word_stays_sound q.geometry age (frames_of q) fs c.args.page c.args.index c.args.word c.ranges.word.fits done.objects done.current (λ k. done.keepable age tt k));
       headers = search rules;
       unchanged = tt;
       cause = search rules;

@@ -1,30 +1,22 @@
-use Rattle.capability.proofs.Edits.{message_objects, message_put, message_stays_current}
-use Rattle.capability.proofs.Keeping.{message_stays_keepable}
+use Rattle.std.proofs.Common.{refl}
+use Rattle.model.specs.declared.capability.Cap.{Cap}
+use Rattle.model.specs.declared.capability.Capability.{Capability}
+use Rattle.model.specs.declared.object.Root.{Root}
+use Rattle.model.specs.declared.object.State.TheVariants.{Running}
+use Rattle.capability.specs.Objects.{with_root_in}
+use Rattle.capability.proofs.Edited.{edited, root_edit}
+use Rattle.capability.proofs.Edits.{put}
 use Rattle.capability.proofs.objects.set_message.Goals as goal
 
-pub returns-clause-objects : goal.returns-clause-objects
-returns-clause-objects g c =
-    let old = g.F.PresentFrames.parts c.args.store.now in
-    let new = g.F.PresentFrames.parts (g.F.PresentFrames.with_content c.args.store.now c.args.process c.put_message.new.content) in
-    let at = g.met.F.PresentFrames.known_announced c.args.store.now c.args.process c.requires.announced in
-    let is = message_put old new c.args.process c.args.words c.args.key c.frame_mut.result.now c.put_message.new.content
-    (g.met.F.PresentFrames.parts_with c.args.store.now c.args.process c.put_message.new.content) c.put_message.ensures.set c.frame_mut.ensures.value in
-    message_objects old new c.args.process at.0 at.1 c.args.words c.args.key c.requires.process is
-
-pub returns-clause-current : goal.returns-clause-current
-returns-clause-current g c =
-    let old = g.F.PresentFrames.parts c.args.store.now in
-    let new = g.F.PresentFrames.parts (g.F.PresentFrames.with_content c.args.store.now c.args.process c.put_message.new.content) in
-    let at = g.met.F.PresentFrames.known_announced c.args.store.now c.args.process c.requires.announced in
-    let is = message_put old new c.args.process c.args.words c.args.key c.frame_mut.result.now c.put_message.new.content
-    (g.met.F.PresentFrames.parts_with c.args.store.now c.args.process c.put_message.new.content) c.put_message.ensures.set c.frame_mut.ensures.value in
-    message_stays_current old new c.args.process at.0 at.1 c.args.words c.args.key is
-
-pub returns-clause-keepable : goal.returns-clause-keepable
-returns-clause-keepable g c =
-    let old = g.F.PresentFrames.parts c.args.store.now in
-    let new = g.F.PresentFrames.parts (g.F.PresentFrames.with_content c.args.store.now c.args.process c.put_message.new.content) in
-    let at = g.met.F.PresentFrames.known_announced c.args.store.now c.args.process c.requires.announced in
-    let is = message_put old new c.args.process c.args.words c.args.key c.frame_mut.result.now c.put_message.new.content
-    (g.met.F.PresentFrames.parts_with c.args.store.now c.args.process c.put_message.new.content) c.put_message.ensures.set c.frame_mut.ensures.value in
-    λ age keepable. message_stays_keepable old.geometry age old new c.args.process at.0 at.1 c.args.words c.args.key c.put_message.ensures.fits c.ranges.key.fits is keepable
+pub returns : goal.returns
+returns g c =
+    let F = g.F.PresentFrames in
+    let M = g.met.F.PresentFrames in
+    let s = c.args.store.now in
+    let n = c.args.process in
+    let new = c.put_message.new.content in
+    let at = M.known_announced s n c.requires.announced in
+    let is = put (F.parts s) (F.parts (F.with_content s n new)) n (with_root_in (λ (r : Root Cap). record r { state = Running; words = c.args.words; key = c.args.key })) c.frame_mut.result.now new (M.parts_with s n new) c.put_message.ensures.set c.frame_mut.ensures.value in
+    edited F.parts F.IsFetched F.IsAnnounced F.LeadsTo F.with_content M.parts_with M.fetched_with M.announced_with M.leads_same M.leads_with s n new _ _ c.requires.announced
+    (root_edit (F.parts s) _ n at.0 at.1 (λ (r : Root Cap). record r { state = Running; words = c.args.words; key = c.args.key }) (λ (r : Root Capability). record r { state = Running; words = c.args.words; key = c.args.key }) (λ age. Unit {0}) (λ r. refl) (λ r current. current)
+    (λ age may r k. (c.put_message.ensures.fits, c.ranges.key.fits, k.2, k.3, k.4)) c.requires.process is)

@@ -1,30 +1,24 @@
-use Rattle.capability.proofs.Edits.{slot_objects, slot_put, slot_stays_current}
-use Rattle.capability.proofs.Keeping.{slot_stays_keepable}
+use Rattle.std.proofs.Common.{List, ap, ◌∙◌}
+use Rattle.model.specs.declared.capability.Cap.{Cap}
+use Rattle.model.specs.declared.frame.ObjectHeader.{ObjectHeader}
+use Rattle.model.specs.declared.object.Content.{Content}
+use Rattle.model.specs.Frame.{held_at}
+use Rattle.model.specs.Object.{with_slot_in}
+use Rattle.capability.specs.Objects.{live_cap}
+use Rattle.capability.specs.Parts.{with_held}
+use Rattle.capability.proofs.Edited.{edited, slot_edit}
+use Rattle.capability.proofs.Edits.{put}
 use Rattle.capability.proofs.objects.set_slot.Goals as goal
 
-pub returns-clause-objects : goal.returns-clause-objects
-returns-clause-objects g c =
-    let old = g.F.PresentFrames.parts c.args.store.now in
-    let new = g.F.PresentFrames.parts (g.F.PresentFrames.with_content c.args.store.now c.args.number c.put_slot.new.content) in
-    let at = g.met.F.PresentFrames.known_announced c.args.store.now c.args.number c.requires.announced in
-    let is = slot_put old new c.table.result.now c.args.number c.args.slot c.args.capability c.live_cap-held.result c.frame_mut.result.now c.put_slot.new.content
-    (g.met.F.PresentFrames.parts_with c.args.store.now c.args.number c.put_slot.new.content) c.put_slot.ensures c.frame_mut.ensures.value c.live_cap-held.ensures c.table.ensures in
-    slot_objects old new c.args.number at.0 at.1 c.args.slot c.args.capability is
-
-pub returns-clause-current : goal.returns-clause-current
-returns-clause-current g c =
-    let old = g.F.PresentFrames.parts c.args.store.now in
-    let new = g.F.PresentFrames.parts (g.F.PresentFrames.with_content c.args.store.now c.args.number c.put_slot.new.content) in
-    let at = g.met.F.PresentFrames.known_announced c.args.store.now c.args.number c.requires.announced in
-    let is = slot_put old new c.table.result.now c.args.number c.args.slot c.args.capability c.live_cap-held.result c.frame_mut.result.now c.put_slot.new.content
-    (g.met.F.PresentFrames.parts_with c.args.store.now c.args.number c.put_slot.new.content) c.put_slot.ensures c.frame_mut.ensures.value c.live_cap-held.ensures c.table.ensures in
-    slot_stays_current old new c.args.number at.0 at.1 c.args.slot c.args.capability is
-
-pub returns-clause-keepable : goal.returns-clause-keepable
-returns-clause-keepable g c =
-    let old = g.F.PresentFrames.parts c.args.store.now in
-    let new = g.F.PresentFrames.parts (g.F.PresentFrames.with_content c.args.store.now c.args.number c.put_slot.new.content) in
-    let at = g.met.F.PresentFrames.known_announced c.args.store.now c.args.number c.requires.announced in
-    let is = slot_put old new c.table.result.now c.args.number c.args.slot c.args.capability c.live_cap-held.result c.frame_mut.result.now c.put_slot.new.content
-    (g.met.F.PresentFrames.parts_with c.args.store.now c.args.number c.put_slot.new.content) c.put_slot.ensures c.frame_mut.ensures.value c.live_cap-held.ensures c.table.ensures in
-    λ age held first keepable. slot_stays_keepable old.geometry age old new c.args.number at.0 at.1 c.args.slot c.args.capability is held first keepable
+pub returns : goal.returns
+returns g c =
+    let F = g.F.PresentFrames in
+    let M = g.met.F.PresentFrames in
+    let s = c.args.store.now in
+    let n = c.args.number in
+    let new = c.put_slot.new.content in
+    let at = M.known_announced s n c.requires.announced in
+    let is = put (F.parts s) (F.parts (F.with_content s n new)) n (λ (d : Content Cap). with_slot_in d c.args.slot c.live_cap-held.result) c.frame_mut.result.now new (M.parts_with s n new) c.put_slot.ensures c.frame_mut.ensures.value in
+    let held = c.live_cap-held.ensures ∙ ap (λ (hs : List ObjectHeader). live_cap hs c.args.capability) c.table.ensures in
+    edited F.parts F.IsFetched F.IsAnnounced F.LeadsTo F.with_content M.parts_with M.fetched_with M.announced_with M.leads_same M.leads_with s n new _ _ c.requires.announced
+    (slot_edit (F.parts s) _ n at.0 at.1 c.args.slot c.args.capability (is ∙ ap (λ (h : Cap). with_held (F.parts s) n (with_slot_in (held_at (F.parts s).contents n) c.args.slot h)) held))

@@ -1,30 +1,18 @@
-use Rattle.capability.proofs.Edits.{word_objects, word_put, word_stays_current}
-use Rattle.capability.proofs.Keeping.{word_stays_keepable}
+use Rattle.model.specs.declared.capability.Cap.{Cap}
+use Rattle.model.specs.declared.object.Content.{Content}
+use Rattle.model.specs.Object.{with_word_in}
+use Rattle.capability.proofs.Edited.{edited, word_edit}
+use Rattle.capability.proofs.Edits.{put}
 use Rattle.capability.proofs.objects.set_word.Goals as goal
 
-pub returns-clause-objects : goal.returns-clause-objects
-returns-clause-objects g c =
-    let old = g.F.PresentFrames.parts c.args.store.now in
-    let new = g.F.PresentFrames.parts (g.F.PresentFrames.with_content c.args.store.now c.args.number c.put_word.new.content) in
-    let at = g.met.F.PresentFrames.known_announced c.args.store.now c.args.number c.requires.announced in
-    let is = word_put old new c.args.number c.args.index c.args.word c.frame_mut.result.now c.put_word.new.content
-    (g.met.F.PresentFrames.parts_with c.args.store.now c.args.number c.put_word.new.content) c.put_word.ensures c.frame_mut.ensures.value in
-    word_objects old new c.args.number at.0 at.1 c.args.index c.args.word is
-
-pub returns-clause-current : goal.returns-clause-current
-returns-clause-current g c =
-    let old = g.F.PresentFrames.parts c.args.store.now in
-    let new = g.F.PresentFrames.parts (g.F.PresentFrames.with_content c.args.store.now c.args.number c.put_word.new.content) in
-    let at = g.met.F.PresentFrames.known_announced c.args.store.now c.args.number c.requires.announced in
-    let is = word_put old new c.args.number c.args.index c.args.word c.frame_mut.result.now c.put_word.new.content
-    (g.met.F.PresentFrames.parts_with c.args.store.now c.args.number c.put_word.new.content) c.put_word.ensures c.frame_mut.ensures.value in
-    word_stays_current old new c.args.number at.0 at.1 c.args.index c.args.word is
-
-pub returns-clause-keepable : goal.returns-clause-keepable
-returns-clause-keepable g c =
-    let old = g.F.PresentFrames.parts c.args.store.now in
-    let new = g.F.PresentFrames.parts (g.F.PresentFrames.with_content c.args.store.now c.args.number c.put_word.new.content) in
-    let at = g.met.F.PresentFrames.known_announced c.args.store.now c.args.number c.requires.announced in
-    let is = word_put old new c.args.number c.args.index c.args.word c.frame_mut.result.now c.put_word.new.content
-    (g.met.F.PresentFrames.parts_with c.args.store.now c.args.number c.put_word.new.content) c.put_word.ensures c.frame_mut.ensures.value in
-    λ age keepable. word_stays_keepable old.geometry age old new c.args.number at.0 at.1 c.args.index c.args.word c.ranges.word.fits is keepable
+pub returns : goal.returns
+returns g c =
+    let F = g.F.PresentFrames in
+    let M = g.met.F.PresentFrames in
+    let s = c.args.store.now in
+    let n = c.args.number in
+    let new = c.put_word.new.content in
+    let at = M.known_announced s n c.requires.announced in
+    let is = put (F.parts s) (F.parts (F.with_content s n new)) n (λ (d : Content Cap). with_word_in d c.args.index c.args.word) c.frame_mut.result.now new (M.parts_with s n new) c.put_word.ensures c.frame_mut.ensures.value in
+    edited F.parts F.IsFetched F.IsAnnounced F.LeadsTo F.with_content M.parts_with M.fetched_with M.announced_with M.leads_same M.leads_with s n new _ _ c.requires.announced
+    (word_edit (F.parts s) _ n at.0 at.1 c.args.index c.args.word c.ranges.word.fits is)

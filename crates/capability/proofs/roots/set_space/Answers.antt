@@ -1,40 +1,30 @@
-use Rattle.std.proofs.Common.{List, ap, arith, ◌∙◌, sym, subst}
+use Rattle.std.proofs.Common.{List, ap, arith, subst, sym, ◌∙◌}
 use Rattle.model.specs.declared.capability.Cap.{Cap}
 use Rattle.model.specs.declared.capability.Capability.{Capability}
 use Rattle.model.specs.declared.frame.ObjectHeader.{ObjectHeader}
-use Rattle.model.specs.declared.object.Root.{Root}
-use Rattle.model.specs.Keepable.{IsCurrent}
+use Rattle.model.specs.Keepable.{IsCurrent, IsKeptCap}
 use Rattle.model.specs.Order.{with_space}
+use Rattle.model.specs.Sound.{IsSpace}
 use Rattle.capability.specs.Objects.{live_cap}
-use Rattle.capability.proofs.RootEdits.{root_objects, root_put, root_stays_current, root_stays_keepable, space_kept, space_through}
+use Rattle.model.specs.declared.object.Root.{Root}
+use Rattle.capability.specs.Objects.{with_root_in}
+use Rattle.capability.proofs.Edited.{edited, root_edit}
+use Rattle.capability.proofs.Edits.{put}
+use Rattle.capability.proofs.RootEdits.{space_kept, space_through}
 use Rattle.capability.proofs.roots.set_space.Goals as goal
 
-pub returns-clause-objects : goal.returns-clause-objects
-returns-clause-objects g c =
-    let old = g.F.PresentFrames.parts c.args.store.now in
-    let new = g.F.PresentFrames.parts (g.F.PresentFrames.with_content c.args.store.now c.args.process c.put_space.new.content) in
-    let at = g.met.F.PresentFrames.known_announced c.args.store.now c.args.process c.requires.announced in
+pub returns : goal.returns
+returns g c =
+    let F = g.F.PresentFrames in
+    let M = g.met.F.PresentFrames in
+    let s = c.args.store.now in
+    let n = c.args.process in
+    let new = c.put_space.new.content in
+    let at = M.known_announced s n c.requires.announced in
+    let is = put (F.parts s) (F.parts (F.with_content s n new)) n (with_root_in (λ (r : Root Cap). record r { space = c.live_cap-held.result })) c.frame_mut.result.now new (M.parts_with s n new) c.put_space.ensures c.frame_mut.ensures.value in
     let held = c.live_cap-held.ensures ∙ ap (λ (hs : List ObjectHeader). live_cap hs c.args.capability) c.table.ensures in
-    let is = root_put old new c.args.process (λ (r : Root Cap). record r { space = c.live_cap-held.result }) c.frame_mut.result.now c.put_space.new.content
-    (g.met.F.PresentFrames.parts_with c.args.store.now c.args.process c.put_space.new.content) c.put_space.ensures c.frame_mut.ensures.value in
-    root_objects old new c.args.process at.0 at.1 (λ (r : Root Cap). record r { space = c.live_cap-held.result }) is (λ (r : Root Capability). with_space r c.args.capability) (space_through old.headers c.args.capability c.live_cap-held.result held) c.requires.process
-
-pub returns-clause-current : goal.returns-clause-current
-returns-clause-current g c =
-    let old = g.F.PresentFrames.parts c.args.store.now in
-    let new = g.F.PresentFrames.parts (g.F.PresentFrames.with_content c.args.store.now c.args.process c.put_space.new.content) in
-    let at = g.met.F.PresentFrames.known_announced c.args.store.now c.args.process c.requires.announced in
-    let held = c.live_cap-held.ensures ∙ ap (λ (hs : List ObjectHeader). live_cap hs c.args.capability) c.table.ensures in
-    let is = root_put old new c.args.process (λ (r : Root Cap). record r { space = c.live_cap-held.result }) c.frame_mut.result.now c.put_space.new.content
-    (g.met.F.PresentFrames.parts_with c.args.store.now c.args.process c.put_space.new.content) c.put_space.ensures c.frame_mut.ensures.value in
-    root_stays_current old new c.args.process at.0 at.1 (λ (r : Root Cap). record r { space = c.live_cap-held.result }) is (λ r current. subst (IsCurrent old.headers) (sym held) (omega arith))
-
-pub returns-clause-keepable : goal.returns-clause-keepable
-returns-clause-keepable g c =
-    let old = g.F.PresentFrames.parts c.args.store.now in
-    let new = g.F.PresentFrames.parts (g.F.PresentFrames.with_content c.args.store.now c.args.process c.put_space.new.content) in
-    let at = g.met.F.PresentFrames.known_announced c.args.store.now c.args.process c.requires.announced in
-    let held = c.live_cap-held.ensures ∙ ap (λ (hs : List ObjectHeader). live_cap hs c.args.capability) c.table.ensures in
-    let is = root_put old new c.args.process (λ (r : Root Cap). record r { space = c.live_cap-held.result }) c.frame_mut.result.now c.put_space.new.content
-    (g.met.F.PresentFrames.parts_with c.args.store.now c.args.process c.put_space.new.content) c.put_space.ensures c.frame_mut.ensures.value in
-    λ age kept space. root_stays_keepable old new c.args.process at.0 at.1 (λ (r : Root Cap). record r { space = c.live_cap-held.result }) is old.geometry age (space_kept old.geometry age old.headers c.args.capability c.live_cap-held.result held kept space)
+    edited F.parts F.IsFetched F.IsAnnounced F.LeadsTo F.with_content M.parts_with M.fetched_with M.announced_with M.leads_same M.leads_with s n new _ _ c.requires.announced
+    (root_edit (F.parts s) _ n at.0 at.1 (λ (r : Root Cap). record r { space = c.live_cap-held.result }) (λ (r : Root Capability). with_space r c.args.capability)
+    (λ age. IsKeptCap (F.parts s).geometry age (live_cap (F.parts s).headers c.args.capability) × IsSpace c.args.capability)
+    (space_through (F.parts s).headers c.args.capability c.live_cap-held.result held) (λ r current. subst (IsCurrent (F.parts s).headers) (sym held) (omega arith))
+    (λ age may. space_kept (F.parts s).geometry age (F.parts s).headers c.args.capability c.live_cap-held.result held may.0 may.1) c.requires.process is)

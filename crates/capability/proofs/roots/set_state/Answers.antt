@@ -1,35 +1,24 @@
-use Rattle.std.proofs.Common.{refl, sym, ◌∙◌}
+use Rattle.std.proofs.Common.{List, refl, subst, sym}
 use Rattle.model.specs.declared.capability.Cap.{Cap}
 use Rattle.model.specs.declared.capability.Capability.{Capability}
+use Rattle.model.specs.declared.object.Object.{Object}
 use Rattle.model.specs.declared.object.Root.{Root}
+use Rattle.capability.specs.Objects.{with_root_in}
 use Rattle.capability.specs.Parts.{objects_in}
-use Rattle.capability.proofs.RootEdits.{state_is, root_objects, root_put, root_stays_current, root_stays_keepable}
+use Rattle.capability.proofs.Edited.{IsEdit, edited, root_edit}
+use Rattle.capability.proofs.Edits.{put}
+use Rattle.capability.proofs.RootEdits.{state_is}
 use Rattle.capability.proofs.roots.set_state.Goals as goal
 
-pub returns-clause-objects : goal.returns-clause-objects
-returns-clause-objects g c =
-    let old = g.F.PresentFrames.parts c.args.store.now in
-    let new = g.F.PresentFrames.parts (g.F.PresentFrames.with_content c.args.store.now c.args.process c.put_state.new.content) in
-    let at = g.met.F.PresentFrames.known_announced c.args.store.now c.args.process c.requires.announced in
-    let is = root_put old new c.args.process (λ (r : Root Cap). record r { state = c.args.state }) c.frame_mut.result.now c.put_state.new.content
-    (g.met.F.PresentFrames.parts_with c.args.store.now c.args.process c.put_state.new.content) c.put_state.ensures c.frame_mut.ensures.value in
-    root_objects old new c.args.process at.0 at.1 (λ (r : Root Cap). record r { state = c.args.state }) is (λ (r : Root Capability). record r { state = c.args.state }) (λ r. refl) c.requires.process
-    ∙ sym (state_is (objects_in old) c.args.process c.args.state)
-
-pub returns-clause-current : goal.returns-clause-current
-returns-clause-current g c =
-    let old = g.F.PresentFrames.parts c.args.store.now in
-    let new = g.F.PresentFrames.parts (g.F.PresentFrames.with_content c.args.store.now c.args.process c.put_state.new.content) in
-    let at = g.met.F.PresentFrames.known_announced c.args.store.now c.args.process c.requires.announced in
-    let is = root_put old new c.args.process (λ (r : Root Cap). record r { state = c.args.state }) c.frame_mut.result.now c.put_state.new.content
-    (g.met.F.PresentFrames.parts_with c.args.store.now c.args.process c.put_state.new.content) c.put_state.ensures c.frame_mut.ensures.value in
-    root_stays_current old new c.args.process at.0 at.1 (λ (r : Root Cap). record r { state = c.args.state }) is (λ r current. current)
-
-pub returns-clause-keepable : goal.returns-clause-keepable
-returns-clause-keepable g c =
-    let old = g.F.PresentFrames.parts c.args.store.now in
-    let new = g.F.PresentFrames.parts (g.F.PresentFrames.with_content c.args.store.now c.args.process c.put_state.new.content) in
-    let at = g.met.F.PresentFrames.known_announced c.args.store.now c.args.process c.requires.announced in
-    let is = root_put old new c.args.process (λ (r : Root Cap). record r { state = c.args.state }) c.frame_mut.result.now c.put_state.new.content
-    (g.met.F.PresentFrames.parts_with c.args.store.now c.args.process c.put_state.new.content) c.put_state.ensures c.frame_mut.ensures.value in
-    λ age. root_stays_keepable old new c.args.process at.0 at.1 (λ (r : Root Cap). record r { state = c.args.state }) is old.geometry age (λ r k. k)
+pub returns : goal.returns
+returns g c =
+    let F = g.F.PresentFrames in
+    let M = g.met.F.PresentFrames in
+    let s = c.args.store.now in
+    let n = c.args.process in
+    let new = c.put_state.new.content in
+    let at = M.known_announced s n c.requires.announced in
+    let is = put (F.parts s) (F.parts (F.with_content s n new)) n (with_root_in (λ (r : Root Cap). record r { state = c.args.state })) c.frame_mut.result.now new (M.parts_with s n new) c.put_state.ensures c.frame_mut.ensures.value in
+    edited F.parts F.IsFetched F.IsAnnounced F.LeadsTo F.with_content M.parts_with M.fetched_with M.announced_with M.leads_same M.leads_with s n new _ _ c.requires.announced
+    (subst (λ (after : List Object). IsEdit (F.parts s) (F.parts (F.with_content s n new)) after (λ age. Unit {0})) (sym (state_is (objects_in (F.parts s)) n c.args.state))
+    (root_edit (F.parts s) _ n at.0 at.1 (λ (r : Root Cap). record r { state = c.args.state }) (λ (r : Root Capability). record r { state = c.args.state }) (λ age. Unit {0}) (λ r. refl) (λ r current. current) (λ age may r k. k) c.requires.process is))

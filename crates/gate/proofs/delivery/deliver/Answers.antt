@@ -1,33 +1,48 @@
-use Rattle.std.proofs.Common.{ℕ, List, ap, subst, sym, ◌∙◌}
-use Rattle.std.specs.Prelude.{slice_index_or}
+use Rattle.std.proofs.Common.{◌<◌, ◌≤◌, length, get_or, rules, arith, subst, sym, ◌∙◌}
+use Rattle.model.specs.declared.capability.Capability.TheVariants.{Void}
 use Rattle.model.specs.declared.geometry.Geometry.{Geometry}
-use Rattle.model.specs.declared.object.Object.{Object}
-use Rattle.model.specs.World.{with_slots_from}
-use Rattle.capability.specs.Objects.{with_message}
-use Rattle.capability.specs.Parts.{frames_of, objects_in}
 use Rattle.gate.specs.Plan.{FitsCap}
+use Rattle.capability.specs.Parts.{frames_of}
+use Rattle.capability.proofs.Asides.{keeps_twice}
 use Rattle.gate.proofs.Fits.{fits_kept, in_geometry}
-use Rattle.gate.proofs.Messages.{deliver_by_parts}
+use Rattle.gate.proofs.Messages.{delivered_more, delivered_all}
 use Rattle.gate.proofs.delivery.deliver.Goals as goal
+
+pub loop-i-init : goal.loop-i-init
+loop-i-init g c = record {
+  objects = c.set_message.ensures.objects;
+  annex = c.annex-annex.ensures;
+  headers = c.set_message.ensures.headers;
+  current = c.set_message.ensures.current;
+  keepable = λ age fits. c.set_message.ensures.keepable age tt;
+  aside = c.set_message.ensures.aside;
+}
+
+pub loop-i-preserved : goal.loop-i-preserved
+loop-i-preserved g c =
+    let F = g.F.PresentFrames in
+    let old = F.parts c.args.store.now in
+    let mid = F.parts c.loop-i.store in
+    let within : c.loop-i.i < length c.args.message.capabilities = search rules in
+    let same = c.loop-i.invariant.aside.geometry in
+    record {
+      objects = delivered_more _ _ _ c.annex-annex.result c.loop-i.i c.args.message.capabilities c.loop-i.invariant.objects c.set_slot.ensures.objects within;
+      annex = c.loop-i.invariant.annex;
+      headers = c.set_slot.ensures.headers ∙ c.loop-i.invariant.headers;
+      current = λ current. c.set_slot.ensures.current (c.loop-i.invariant.current current);
+      keepable = λ age fits k.
+          let now = c.loop-i.invariant.keepable age fits k in
+          in_geometry old.geometry mid.geometry age (frames_of (F.parts c.set_slot.new.store)) (sym same)
+          (c.set_slot.ensures.keepable age (
+            fits_kept mid.geometry age mid (in_geometry mid.geometry old.geometry age (frames_of mid) same now) _
+                (subst (λ (h : Geometry). FitsCap h (get_or c.args.message.capabilities c.loop-i.i Void)) (sym same) (fits c.loop-i.i Void within)),
+            λ annex zeroth. absurd (omega arith),
+          )
+          (in_geometry mid.geometry old.geometry age (frames_of mid) same now));
+      aside = keeps_twice F.parts F.IsFetched F.IsAnnounced F.LeadsTo g.met.F.PresentFrames.leads_twice _ _ _ c.loop-i.invariant.aside c.set_slot.ensures.aside;
+    }
 
 pub returns-clause-objects : goal.returns-clause-objects
 returns-clause-objects g c =
-    let os = objects_in (g.F.PresentFrames.parts c.args.store.now) in
-    let m = c.args.message in
-    c.set_registers.ensures.objects
-    ∙ ap (λ (us : List Object). with_slots_from us c.annex-annex.result 28 m.capabilities) c.set_message.ensures.objects
-    ∙ ap (λ (a : ℕ). with_slots_from (with_message os c.args.process m.words m.key) a 28 m.capabilities) c.annex-annex.ensures
-    ∙ sym (deliver_by_parts os c.args.process m)
-
-pub returns-clause-keepable : goal.returns-clause-keepable
-returns-clause-keepable g c age fits k =
-    let F = g.F.PresentFrames in
-    let old = F.parts c.args.store.now in
-    let mid = F.parts c.set_message.new.store in
-    let same = c.set_message.ensures.aside.geometry in
-    let there = in_geometry mid.geometry old.geometry age (frames_of mid) same (c.set_message.ensures.keepable age k) in
-    in_geometry old.geometry mid.geometry age (frames_of (F.parts c.set_registers.new.store)) (sym same)
-    (c.set_registers.ensures.keepable age
-    (λ j d within.
-    let w = slice_index_or c.args.message.capabilities j d in
-    fits_kept mid.geometry age mid there w (subst (λ (h : Geometry). FitsCap h w) (sym same) (fits j d within))) there)
+    let all : length c.args.message.capabilities ≤ c.loop-i.i = search rules in
+    delivered_all _ _ c.args.process c.args.message c.annex-annex.result c.loop-i.i c.loop-i.invariant.objects c.loop-i.invariant.annex all

@@ -16,7 +16,7 @@ use Rattle.capability.proofs.Frames.{process_known}
 use Rattle.gate.proofs.Known.{running_process}
 use Rattle.gate.proofs.Invoking.{carried_out, found_stalled, unannounced}
 use Rattle.gate.proofs.Renewing.{gate_no_bank, renews_invoked}
-use Rattle.gate.proofs.Standing.{LooksAs, annex_there, asked_annex, calls_below, few_objects, keepable_most, looked_as, looked_number, looked_objects, looked_sound, looks_again, now_sound, prepared_as, register_kind}
+use Rattle.gate.proofs.Standing.{LooksAs, annex_there, asked_annex, calls_below, few_objects, keepable_most, looked_as, looked_number, looked_objects, looked_sound, looks_again, now_sound, prepared_as}
 use Rattle.gate.proofs.gates.invoke_gate.Goals as goal
 
 pub look_at_process-requires-clause-keepable : goal.look_at_process-requires-clause-keepable
@@ -25,15 +25,13 @@ look_at_process-requires-clause-keepable g c = keepable_most (g.F.PresentFrames.
 pub look_at_process-requires-clause-process : goal.look_at_process-requires-clause-process
 look_at_process-requires-clause-process g c =
     let old = g.F.PresentFrames.parts c.args.store.now in
-    let i = c.args.invocation.now in
-    gate_process (objects_in old) c.args.caller.invoked c.args.gate (register_kind old c.requires.sound i.process i.register c.args.caller.invoked c.requires.asked.invoked) c.requires.gate
+    gate_process old c.requires.sound c.args.invocation.now c.args.caller c.args.gate c.requires.asked c.requires.gate
 
 pub look_at_process-requires-clause-annex : goal.look_at_process-requires-clause-annex
 look_at_process-requires-clause-annex g c =
     let old = g.F.PresentFrames.parts c.args.store.now in
-    let i = c.args.invocation.now in
     annex_there old c.requires.sound c.args.gate.process
-    (gate_process (objects_in old) c.args.caller.invoked c.args.gate (register_kind old c.requires.sound i.process i.register c.args.caller.invoked c.requires.asked.invoked) c.requires.gate)
+    (gate_process old c.requires.sound c.args.invocation.now c.args.caller c.args.gate c.requires.asked c.requires.gate)
 
 pub can_enter-requires-clause-process : goal.can_enter-requires-clause-process
 can_enter-requires-clause-process g c =
@@ -41,8 +39,7 @@ can_enter-requires-clause-process g c =
     let now = g.F.PresentFrames.parts c.look_at_process.new.store in
     let looks : LooksAs old now = looked_as c.in_ok-annex.ensures.looks.aside in
     subst (λ (us : List Object). is_process us c.args.gate.process ≡ true) (sym (looked_objects old now looks))
-    (gate_process (objects_in old) c.args.caller.invoked c.args.gate
-    (register_kind old c.requires.sound c.args.invocation.now.process c.args.invocation.now.register c.args.caller.invoked c.requires.asked.invoked) c.requires.gate)
+    (gate_process old c.requires.sound c.args.invocation.now c.args.caller c.args.gate c.requires.asked c.requires.gate)
 
 pub announce-requires-clause-receiver : goal.announce-requires-clause-receiver
 announce-requires-clause-receiver g c =
@@ -50,8 +47,7 @@ announce-requires-clause-receiver g c =
     let now = g.F.PresentFrames.parts c.look_at_process.new.store in
     let looks : LooksAs old now = looked_as c.in_ok-annex.ensures.looks.aside in
     looked_number old now looks c.args.gate.process (process_known old c.args.gate.process
-    (gate_process (objects_in old) c.args.caller.invoked c.args.gate
-    (register_kind old c.requires.sound c.args.invocation.now.process c.args.invocation.now.register c.args.caller.invoked c.requires.asked.invoked) c.requires.gate))
+    (gate_process old c.requires.sound c.args.invocation.now c.args.caller c.args.gate c.requires.asked c.requires.gate))
 
 pub announce-requires-clause-annex : goal.announce-requires-clause-annex
 announce-requires-clause-annex g c =
@@ -59,8 +55,7 @@ announce-requires-clause-annex g c =
     let now = g.F.PresentFrames.parts c.look_at_process.new.store in
     let looks : LooksAs old now = looked_as c.in_ok-annex.ensures.looks.aside in
     looked_number old now looks c.in_ok-annex.annex (asked_annex old c.requires.sound c.args.gate.process c.in_ok-annex.annex
-    (gate_process (objects_in old) c.args.caller.invoked c.args.gate
-    (register_kind old c.requires.sound c.args.invocation.now.process c.args.invocation.now.register c.args.caller.invoked c.requires.asked.invoked) c.requires.gate)
+    (gate_process old c.requires.sound c.args.invocation.now c.args.caller c.args.gate c.requires.asked c.requires.gate)
     c.in_ok-annex.ensures.annex.0)
 
 pub announce-requires-clause-keepable : goal.announce-requires-clause-keepable
@@ -82,31 +77,26 @@ pub enter-requires-clause-receiver : goal.enter-requires-clause-receiver
 enter-requires-clause-receiver g c =
     let old = g.F.PresentFrames.parts c.args.store.now in
     let now = g.F.PresentFrames.parts c.look_at_process.new.store in
-    let looks : LooksAs old now = looked_as c.in_ok-annex.ensures.looks.aside in
     let mid = g.F.PresentFrames.parts c.announce.new.store in
-    let there : LooksAs old mid = looks_again old now mid looks (prepared_as c.in_ok-announce.ensures.prepares) in
+    let there : LooksAs old mid = looks_again old now mid (looked_as c.in_ok-annex.ensures.looks.aside) (prepared_as c.in_ok-announce.ensures.prepares) in
     subst (λ (us : List Object). is_process us c.args.gate.process ≡ true) (sym (looked_objects old mid there))
-    (gate_process (objects_in old) c.args.caller.invoked c.args.gate
-    (register_kind old c.requires.sound c.args.invocation.now.process c.args.invocation.now.register c.args.caller.invoked c.requires.asked.invoked) c.requires.gate)
+    (gate_process old c.requires.sound c.args.invocation.now c.args.caller c.args.gate c.requires.asked c.requires.gate)
 
 pub enter-requires-clause-calls : goal.enter-requires-clause-calls
 enter-requires-clause-calls g c =
     let old = g.F.PresentFrames.parts c.args.store.now in
     let now = g.F.PresentFrames.parts c.look_at_process.new.store in
-    let looks : LooksAs old now = looked_as c.in_ok-annex.ensures.looks.aside in
     let mid = g.F.PresentFrames.parts c.announce.new.store in
-    let there : LooksAs old mid = looks_again old now mid looks (prepared_as c.in_ok-announce.ensures.prepares) in
+    let there : LooksAs old mid = looks_again old now mid (looked_as c.in_ok-annex.ensures.looks.aside) (prepared_as c.in_ok-announce.ensures.prepares) in
     calls_below mid (looked_sound old mid there c.requires.sound) c.args.gate.process (looked_number old mid there c.args.gate.process (process_known old c.args.gate.process
-    (gate_process (objects_in old) c.args.caller.invoked c.args.gate
-    (register_kind old c.requires.sound c.args.invocation.now.process c.args.invocation.now.register c.args.caller.invoked c.requires.asked.invoked) c.requires.gate)))
+    (gate_process old c.requires.sound c.args.invocation.now c.args.caller c.args.gate c.requires.asked c.requires.gate)))
 
 pub enter-requires-clause-current : goal.enter-requires-clause-current
 enter-requires-clause-current g c =
     let old = g.F.PresentFrames.parts c.args.store.now in
     let now = g.F.PresentFrames.parts c.look_at_process.new.store in
-    let looks : LooksAs old now = looked_as c.in_ok-annex.ensures.looks.aside in
     let mid = g.F.PresentFrames.parts c.announce.new.store in
-    let there : LooksAs old mid = looks_again old now mid looks (prepared_as c.in_ok-announce.ensures.prepares) in
+    let there : LooksAs old mid = looks_again old now mid (looked_as c.in_ok-annex.ensures.looks.aside) (prepared_as c.in_ok-announce.ensures.prepares) in
     (looked_sound old mid there c.requires.sound).1.current
 
 pub returns-then-not-can_enter : goal.returns-then-not-can_enter

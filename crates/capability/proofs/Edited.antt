@@ -1,0 +1,102 @@
+-- What an edit of present frames leaves.
+use Rattle.std.proofs.Common.{◌≡◌, ℕ, ◌<◌, ◌^◌, true, List, length, refl, sym, ap, subst, ◌∙◌, arith}
+use Rattle.std.specs.Prelude.{IsTrue}
+use Rattle.std.specs.List.{All}
+use Rattle.model.specs.declared.capability.Cap.{Cap}
+use Rattle.model.specs.declared.capability.Capability.{Capability}
+use Rattle.model.specs.declared.capability.Capability.TheVariants.{Void}
+use Rattle.model.specs.declared.object.Content.{Content}
+use Rattle.model.specs.declared.object.Content.TheVariants as content
+use Rattle.model.specs.declared.object.Object.{Object}
+use Rattle.model.specs.declared.object.Root.{Root}
+use Rattle.model.specs.Frame.{conveyed, header_at, held_at}
+use Rattle.model.specs.Keepable.{AreCurrent, AreKeepable, IsCurrent, IsKeepable, IsKeptCap, MayBeKept, caps_in}
+use Rattle.model.specs.Object.{is_annex, is_root, map_content, root_in, with_slot_in, with_word_in}
+use Rattle.model.specs.World.{content_at, is_process, root_at, with_content, with_root, with_slot, with_word}
+use Rattle.capability.specs.Objects.{live_cap, with_root_in}
+use Rattle.capability.specs.Parts.{Edits, Parts, frames_of, objects_in, with_held}
+use Rattle.capability.proofs.Edits.{current_held, header_kept, held_current, held_objects, live, slot_current, slot_through_map, word_current, word_through_map}
+use Rattle.capability.proofs.Frames.{content_there}
+use Rattle.capability.proofs.Keeping.{keepable_at, one_keepable, with_slot_keeps, with_word_keeps}
+use Rattle.capability.proofs.RootEdits.{GoesThrough, root_current, root_keeps, through_map}
+
+-- the objects after an edit, and when the frames can be kept
+pub record IsEdit (p q : Parts) (after : List Object) (may : ℕ → Type 0) : Type 0 where
+  pub objects : objects_in q ≡ after
+  pub current : AreCurrent (frames_of p) → AreCurrent (frames_of q)
+  pub keepable : (age : ℕ) → may age → AreKeepable p.geometry age (frames_of p) → AreKeepable p.geometry age (frames_of q)
+
+-- The object at a number holds something else. The new parts are q.
+module _ (p q : Parts) (n : ℕ) (known : n < length p.headers) (inside : n < length p.contents) where
+  abbrev held : Content Cap
+  held = held_at p.contents n
+
+  abbrev kept : Content Cap → ℕ → Type 0
+  kept c age = IsKeepable p.geometry age n (record { header = header_at p.headers n; content = c })
+
+  there : content_at (objects_in p) n ≡ map_content (conveyed p.headers) held
+  there = content_there p n known held refl
+
+  content_edit : (new : Content Cap) (conveys : Content Capability) (may : ℕ → Type 0) → map_content (conveyed p.headers) new ≡ conveys →
+      (All (IsCurrent p.headers) (caps_in held) → All (IsCurrent p.headers) (caps_in new)) → ((age : ℕ) → may age → kept held age → kept new age) →
+      q ≡ with_held p n new → IsEdit p q (with_content (objects_in p) n conveys) may
+  content_edit new conveys may through current keeps is = record {
+    objects = ap (λ (r : Parts). objects_in r) is ∙ held_objects p n new known inside ∙ ap (with_content (objects_in p) n) through;
+    current = λ k. subst (λ (r : Parts). AreCurrent (frames_of r)) (sym is) (held_current p n new known inside (current (current_held p k n known)) k);
+    keepable = λ age allowed k.
+        one_keepable p.geometry age age (omega arith) p q n (header_at p.headers n) new inside (is ∙ header_kept p n new) (keeps age allowed (keepable_at p.geometry age p n known k)) k;
+  }
+
+  pub word_edit : (i word : ℕ) → word < 2 ^ 64 → q ≡ with_held p n (with_word_in held i word) → IsEdit p q (with_word (objects_in p) n i word) (λ age. Unit {0})
+  unfolding with_word
+  word_edit i word fits =
+      content_edit (with_word_in held i word) (with_word_in (content_at (objects_in p) n) i word) (λ age. Unit {0})
+      (word_through_map (conveyed p.headers) held i word ∙ ap (λ (d : Content Capability). with_word_in d i word) (sym there))
+      (word_current p.headers held i word) (λ age may. with_word_keeps p.geometry age n (header_at p.headers n) held i word fits)
+
+  pub slot_edit : (i : ℕ) (w : Capability) → q ≡ with_held p n (with_slot_in held i (live_cap p.headers w)) →
+      IsEdit p q (with_slot (objects_in p) n i w) (λ age. IsKeptCap p.geometry age (live_cap p.headers w) × (IsTrue (is_annex held) → i ≡ 0 → w ≡ Void))
+  unfolding with_slot
+  slot_edit i w =
+      let f = conveyed p.headers in
+      content_edit (with_slot_in held i (live_cap p.headers w)) (with_slot_in (content_at (objects_in p) n) i w) _
+      (slot_through_map f held i (live_cap p.headers w) ∙ ap (with_slot_in (map_content f held) i) (live p.headers w) ∙ ap (λ (d : Content Capability). with_slot_in d i w) (sym there))
+      (slot_current p.headers held i (live_cap p.headers w) (omega arith))
+      (λ age may. with_slot_keeps p.geometry age n (header_at p.headers n) held i (live_cap p.headers w) may.0 (λ annex zeroth. ap (live_cap p.headers) (may.1 annex zeroth)))
+
+  pub root_edit : (change : Root Cap → Root Cap) (after : Root Capability → Root Capability) (may : ℕ → Type 0) → GoesThrough change after (conveyed p.headers) →
+      ((r : Root Cap) → IsCurrent p.headers r.space → IsCurrent p.headers (change r).space) →
+      ((age : ℕ) → may age → (r : Root Cap) → MayBeKept p.geometry age (content.Root r) → MayBeKept p.geometry age (content.Root (change r))) →
+      is_process (objects_in p) n ≡ true → q ≡ with_held p n (with_root_in change held) → IsEdit p q (with_root (objects_in p) n (after (root_at (objects_in p) n))) may
+  unfolding with_root
+  root_edit change after may through current stays process =
+      content_edit (with_root_in change held) (content.Root (after (root_at (objects_in p) n))) may
+      (through_map change after (conveyed p.headers) through held (sym (ap is_root there) ∙ process) ∙ ap (λ (d : Content Capability). content.Root (after (root_in d))) (sym there))
+      (root_current p.headers change current held) (λ age allowed. root_keeps p.geometry age n (header_at p.headers n) change (stays age allowed) held)
+
+-- an edit of a lent content, by the laws of present frames
+pub edited : {S : Type 0} (parts : S → Parts) (Fetched Announced : S → ℕ → Type 0) (Leads : S → S → Type 0) (with_content : S → ℕ → Content Cap → S) →
+    ((s : S) (n : ℕ) (c : Content Cap) → parts (with_content s n c) ≡ with_held (parts s) n c) →
+    ((s : S) (n : ℕ) (c : Content Cap) (m : ℕ) → Fetched s m → Fetched (with_content s n c) m) →
+    ((s : S) (n : ℕ) (c : Content Cap) (m : ℕ) → Announced s m → Announced (with_content s n c) m) → ((s : S) → Leads s s) →
+    ((s t : S) (n : ℕ) (c : Content Cap) → Announced t n → Leads s t → Leads s (with_content t n c)) →
+    (s : S) (n : ℕ) (c : Content Cap) (after : List Object) (may : ℕ → Type 0) → Announced s n → IsEdit (parts s) (parts (with_content s n c)) after may →
+    Edits parts Fetched Announced Leads s (with_content s n c) after may
+edited parts Fetched Announced Leads with_content parts_with fetched_with announced_with leads_same leads_with s n c after may announced edit =
+    let is = parts_with s n c in
+    record {
+      objects = edit.objects;
+      headers = ap (λ (p : Parts). p.headers) is;
+      current = edit.current;
+      keepable = edit.keepable;
+      aside = record {
+        count = ap (λ (p : Parts). length p.headers) is;
+        allocations = λ m. ap (λ (p : Parts). (header_at p.headers m).allocations) is;
+        touched = ap (λ (p : Parts). p.touched) is;
+        geometry = ap (λ (p : Parts). p.geometry) is;
+        failures = ap (λ (p : Parts). p.failures) is;
+        fetched = fetched_with s n c;
+        announced = announced_with s n c;
+        leads = leads_with s s n c announced (leads_same s);
+      };
+    }

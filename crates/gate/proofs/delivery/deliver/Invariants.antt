@@ -1,0 +1,22 @@
+use Rattle.std.proofs.Common.{◌≡◌, ℕ, take}
+use Rattle.std.specs.List.{All}
+use Rattle.model.specs.Keepable.{AreCurrent, AreKeepable}
+use Rattle.model.specs.World.{with_slots_from, annex_at}
+use Rattle.capability.specs.Objects.{with_message}
+use Rattle.capability.specs.Parts.{KeepsAside, frames_of, objects_in}
+use Rattle.gate.specs.Plan.{FitsCap}
+use Rattle.gate.proofs.delivery.deliver.Given as goal
+
+abbrev pub invariant-loop-i : goal.invariant-loop-i
+invariant-loop-i g l =
+    let F = g.F.PresentFrames in
+    let old = F.parts l.fn.store in
+    let now = F.parts l.store in
+    record {
+      objects : objects_in now ≡ with_slots_from (with_message (objects_in old) l.process l.message.words l.message.key) l.annex 28 (take l.i l.message.capabilities);
+      annex : l.annex ≡ annex_at (objects_in old) l.process;
+      headers : now.headers ≡ old.headers;
+      current : AreCurrent (frames_of old) → AreCurrent (frames_of now);
+      keepable : (age : ℕ) → All (FitsCap old.geometry) l.message.capabilities → AreKeepable old.geometry age (frames_of old) → AreKeepable old.geometry age (frames_of now);
+      aside : KeepsAside F.parts F.IsFetched F.IsAnnounced F.LeadsTo l.fn.store l.store;
+    }
