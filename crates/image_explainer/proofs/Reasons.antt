@@ -1,5 +1,5 @@
 -- Faults as reasons to refuse an image.
-use Rattle.std.proofs.Common.{◌≡◌, ℕ, ◌≤◌, ◌^◌, List, Option, None, Some, Ok, Err, inl, inr, ⊎_elim, refl, sym, ap, ◌∙◌, subst}
+use Rattle.std.proofs.Common.{◌≡◌, ℕ, ◌≤◌, ◌^◌, List, Option, None, Some, Ok, inl, inr, ⊎_elim, refl, sym, ap, ◌∙◌, subst}
 use Rattle.std.specs.Prelude.{Result}
 use Rattle.model.specs.declared.frame.Frame.{Frame}
 use Rattle.model.specs.declared.capability.Cap.{Cap}
@@ -21,7 +21,7 @@ use Rattle.object_store.specs.Store.{OpensStore}
 use Rattle.object_cache.specs.StoreState.{StoreState, parts_of, view_of}
 use Rattle.recovery.specs.Denotes.{saved_of}
 use Rattle.recovery.specs.Recovered.{IsUnfit, reason_of as inconsistent_reason}
-use Rattle.kernel.proofs.Denoted.{holds_one}
+use Rattle.recovery.proofs.Denoted.{holds_one}
 use Rattle.layout.proofs.Denoted.{frames_not_bad}
 use Rattle.sector_faults.proofs.OneReason.{one_reason as one_sector_reason}
 use Rattle.sector_faults.specs.declared.fault.SectorFault.{SectorFault}

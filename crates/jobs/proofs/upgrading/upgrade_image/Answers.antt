@@ -11,3 +11,6 @@ returns-in-Err-clause-upgraded g c = (
   old_refused g.D.Device.disk g.E.Device.disk c.args.old c.args.new.now (g.W.Write.contents c.args.writer.now) c.in-Err.fault c.in-Err.ensures.refused,
   read_refused g.D.Device.disk g.D.ClosableDevice.was_closed c.args.old c.in-Err.fault c.in-Err.ensures.reads,
 )
+
+pub returns-in-Ok-clause-any_moment : goal.returns-in-Ok-clause-any_moment
+returns-in-Ok-clause-any_moment g c = c.upgrade_opened.ensures.any_moment c.args.old c.in-Ok.ensures.opened
