@@ -13,8 +13,8 @@ use Rattle.device.specs.declared.device.Failed.{Failed}
 use Rattle.device.specs.Disk.{Disk}
 use Rattle.capability.specs.Parts.{Parts, objects_in}
 use Rattle.object_store.specs.Store.{View}
-use Rattle.processes.specs.declared.served.Served.{Served}
-use Rattle.processes.specs.Machine.{code_with}
+use Rattle.kernel.specs.declared.processes.served.Served.{Served}
+use Rattle.kernel.specs.Machine.{code_with}
 use Rattle.recovery.specs.declared.live.Live.{Live}
 use Rattle.kernel.specs.Power as power
 use Rattle.kernel.specs.Standing.{HasCode, Stands, told_code}

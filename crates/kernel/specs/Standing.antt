@@ -16,8 +16,8 @@ use Rattle.checkpoint.specs.declared.checkpoint_fault.CheckpointFault.{Checkpoin
 use Rattle.checkpoint.specs.declared.checkpoint_fault.CheckpointFault.TheVariants as fault
 use Rattle.checkpoint.specs.declared.committed.Checkpoint.{Checkpoint}
 use Rattle.object_store.specs.Store.{View}
-use Rattle.processes.specs.declared.served.Served.{Served}
-use Rattle.processes.specs.Machine.{code_with}
+use Rattle.kernel.specs.declared.processes.served.Served.{Served}
+use Rattle.kernel.specs.Machine.{code_with}
 use Rattle.recovery.specs.declared.live.Live.{Live}
 use Rattle.recovery.specs.Denotes.{Leaves, LeavesOne}
 use Rattle.recovery.specs.Live.{IsUp, disk_at, running}
