@@ -110,10 +110,7 @@ module _ (g : Geometry) (old new : Disk) (ss : List Saved) (left : old.may_leave
     any_moment = goes_on_cut {old = old} {mid = old} {new = new} {P = DenotesOne g old.sectors ss} (started old (DenotesOne g old.sectors ss) only_now before) counts_now time left durable;
   }
 
-module _ {D S : Type 0} (disk : D → Disk) (view : S → View D) (parts : S → Parts)
-    (only_now : (d : D) (c : Image) → (disk d).left_since (disk d).moment c → (disk d).may_leave c)
-    (counts_now : (d : D) (t : ℕ) (c : Image) → t ≤ (disk d).moment → (disk d).may_leave c → (disk d).left_since t c)
-    (seen_left : (d : D) → (disk d).may_leave (disk d).seen) where
+module _ {D S : Type 0} (disk : D → Disk) (view : S → View D) (parts : S → Parts) where
   -- ---- a command that goes on
 
   -- the store of a kernel is up
@@ -140,9 +137,9 @@ module _ {D S : Type 0} (disk : D → Disk) (view : S → View D) (parts : S →
   stays_up l k c a fine serves g (Down saved) stands = absurd stands
 
   -- the device failed, and was given back
-  pub goes_down : (l k : Live S) (c : Command) (d : D) → ServesUp disk view parts l c (answer.Refused refusal.Fault) k → d ≡ (view k.store).beneath →
+  pub goes_down : (l k : Live S) (c : Command) (d : D) → CountsNow (disk d) → ServesUp disk view parts l c (answer.Refused refusal.Fault) k → d ≡ (view k.store).beneath →
       Serves disk view parts (power.Up l) c (answer.Refused refusal.Fault) (power.Down d)
-  goes_down l k c d serves is g (Up r) stands =
+  goes_down l k c d counts_now serves is g (Up r) stands =
       let s = serves g stands.0 in
       let was : Machine = Up (running disk view parts l) in
       let ss : List Saved = candidates was ++ second was c in
@@ -150,10 +147,10 @@ module _ {D S : Type 0} (disk : D → Disk) (view : S → View D) (parts : S →
       subst (λ (x : Running). ServesFrom disk view parts g (Up x) (power.Up l) c (answer.Refused refusal.Fault) (power.Down d)) (sym stands.1) (record {
         after = Down ss;
         step = inr (inr (tt, refl, refl));
-        stands = leaves_end g (disk (view l.store).beneath) (disk d) ss (counts_now d) left;
+        stands = leaves_end g (disk (view l.store).beneath) (disk d) ss counts_now left;
         leaves = left;
       })
-  goes_down l k c d serves is g (Down saved) stands = absurd stands
+  goes_down l k c d counts_now serves is g (Down saved) stands = absurd stands
 
   -- a kernel that served a command stands for a machine
   pub some_after : (p q : Power D S) (c : Command) (a : Answer) → Serves disk view parts p c a q → IsSomeMachine disk view parts p → IsSomeMachine disk view parts q
@@ -162,38 +159,38 @@ module _ {D S : Type 0} (disk : D → Disk) (view : S → View D) (parts : S →
   -- ---- opened, and opened again
 
   pub opens_up : (device : D) (l : Live S) → Recovers disk view parts device l → Opens disk view parts device (power.Up l)
-  opens_up device l wakes =
+  opens_up device l recovers =
       let fs = (view l.store).aside.saved in
       record {
         geometry = fs.geometry;
         saved = saved_of fs;
-        denoted = record { frames = fs; holds = wakes.holds; sound = wakes.up.sound.saved; stands = refl };
-        stands = (wakes.up, sym wakes.at_saved);
-        durable = wakes.durable;
-        looks = wakes.looks;
-        failures = wakes.failures;
+        denoted = record { frames = fs; holds = recovers.holds; sound = recovers.up.sound.saved; stands = refl };
+        stands = (recovers.up, sym recovers.at_saved);
+        durable = recovers.durable;
+        looks = recovers.looks;
+        failures = recovers.failures;
       }
 
   pub opened_some : (device : D) (l : Live S) → Recovers disk view parts device l → IsSomeMachine disk view parts (power.Up l)
-  opened_some device l wakes = let opens = opens_up device l wakes in (opens.geometry, Up (opened opens.geometry opens.saved), opens.stands)
+  opened_some device l recovers = let opens = opens_up device l recovers in (opens.geometry, Up (opened opens.geometry opens.saved), opens.stands)
 
-  module _ (device : D) (g : Geometry) (ss : List Saved) (leaves : Leaves g (disk device) ss) where
+  module _ (device : D) (seen_left : (disk device).may_leave (disk device).seen) (g : Geometry) (ss : List Saved) (leaves : Leaves g (disk device) ss) where
     pub rises : (l : Live S) (generation age : ℕ) → Recovers disk view parts device l → generation ≡ (view l.store).aside.saved.generation → age ≡ (view l.store).aside.saved.age →
         Reopened disk view parts g ss device (answer.At generation age) (power.Up l)
-    rises l generation age wakes same_generation same_age =
+    rises l generation age recovers same_generation same_age =
         let fs = (view l.store).aside.saved in
-        let one = one_denoted g (disk device).sectors (disk device).seen ss fs (leaves (disk device).seen (seen_left device)) wakes.holds in
+        let one = one_denoted g (disk device).sectors (disk device).seen ss fs (leaves (disk device).seen seen_left) recovers.holds in
         let same : fs.geometry ≡ g = one.1.geometry in
         record {
           after = Up (opened g (saved_of fs));
           step = inl (saved_of fs, one.0, ap (λ (n : ℕ). answer.At n age) same_generation ∙ ap (answer.At fs.generation) same_age, refl);
           stands = (
-            subst (λ (h : Geometry). IsUp disk view parts h l) same wakes.up,
-            subst (λ (h : Geometry). opened h (saved_of fs) ≡ running disk view parts l) same (sym wakes.at_saved),
+            subst (λ (h : Geometry). IsUp disk view parts h l) same recovers.up,
+            subst (λ (h : Geometry). opened h (saved_of fs) ≡ running disk view parts l) same (sym recovers.at_saved),
           );
           leaves = record {
-            size = wakes.looks.size;
-            any_moment = leaves_weaker {old = disk device} {new = disk (view l.store).beneath} {P = (disk device).may_leave} (DenotesOne g (disk device).sectors ss) leaves wakes.looks.any_moment;
+            size = recovers.looks.size;
+            any_moment = leaves_weaker {old = disk device} {new = disk (view l.store).beneath} {P = (disk device).may_leave} (DenotesOne g (disk device).sectors ss) leaves recovers.looks.any_moment;
           };
         }
 
@@ -212,14 +209,14 @@ module _ {D S : Type 0} (disk : D → Disk) (view : S → View D) (parts : S →
         told : (e : OpenFault) → RefusesToOpen disk device back e → Reopened disk view parts g ss device (answer.Refused (refused_by e)) (power.Down back)
         told fault.Failed r = record { after = Down ss; step = inr (inr (refl, refl)); stands = still; leaves = run }
         told fault.NoMemory r = record { after = Down ss; step = inr (inl (refl, refl)); stands = still; leaves = run }
-        told (fault.Bad reason) r = absurd (one_not_bad g (disk device).sectors (disk device).seen ss reason (leaves (disk device).seen (seen_left device)) r.is_why.1)
+        told (fault.Bad reason) r = absurd (one_not_bad g (disk device).sectors (disk device).seen ss reason (leaves (disk device).seen seen_left) r.is_why.1)
 
   -- a device that a crash of a kernel left is an image
-  pub no_reason : (device back : D) (why : OpenFault) → IsSomeDown disk device → RefusesToOpen disk device back why → IsNoReason why
-  no_reason device back fault.Failed down refuses = tt
-  no_reason device back fault.NoMemory down refuses = tt
-  no_reason device back (fault.Bad reason) down refuses =
-      absurd (one_not_bad down.0 (disk device).sectors (disk device).seen down.1 reason (down.2 (disk device).seen (seen_left device)) refuses.is_why.1)
+  pub no_reason : (device back : D) (why : OpenFault) → (disk device).may_leave (disk device).seen → IsSomeDown disk device → RefusesToOpen disk device back why → IsNoReason why
+  no_reason device back fault.Failed seen_left down refuses = tt
+  no_reason device back fault.NoMemory seen_left down refuses = tt
+  no_reason device back (fault.Bad reason) seen_left down refuses =
+      absurd (one_not_bad down.0 (disk device).sectors (disk device).seen down.1 reason (down.2 (disk device).seen seen_left) refuses.is_why.1)
 
   -- ---- restarts and power cuts
 
@@ -266,18 +263,18 @@ module _ {D S : Type 0} (disk : D → Disk) (view : S → View D) (parts : S →
     })
 
   -- the device was left alone, or its power was cut
-  pub left_alone : (d : D) (g : Geometry) (ss : List Saved) → Leaves g (disk d) ss → LeavesOne g (disk d) (disk d) ss × Leaves g (disk d) ss
-  left_alone d g ss leaves = (
-    subst (λ (ts : List Saved). LeavesOne g (disk d) (disk d) ts) (append-nil ss) (leaves_here g (disk d) ss [] (only_now d) leaves),
+  pub left_alone : (d : D) → OnlyNow (disk d) → (g : Geometry) (ss : List Saved) → Leaves g (disk d) ss → LeavesOne g (disk d) (disk d) ss × Leaves g (disk d) ss
+  left_alone d only_now g ss leaves = (
+    subst (λ (ts : List Saved). LeavesOne g (disk d) (disk d) ts) (append-nil ss) (leaves_here g (disk d) ss [] only_now leaves),
     leaves,
   )
 
-  pub left_cut : (d e : D) → (disk d).may_leave (disk e).seen → Only (disk e).seen (disk e) → (disk e).sectors ≡ (disk d).sectors → Elapses (disk d) (disk e) →
+  pub left_cut : (d e : D) → OnlyNow (disk d) → CountsNow (disk d) → (disk d).may_leave (disk e).seen → Only (disk e).seen (disk e) → (disk e).sectors ≡ (disk d).sectors → Elapses (disk d) (disk e) →
       (g : Geometry) (ss : List Saved) → Leaves g (disk d) ss → LeavesOne g (disk d) (disk e) ss × Leaves g (disk e) ss
-  left_cut d e left durable size time g ss leaves = (
-    cut_left g (disk d) (disk e) ss left durable size leaves (only_now d) (counts_now d) time,
+  left_cut d e only_now counts_now left durable size time g ss leaves = (
+    cut_left g (disk d) (disk e) ss left durable size leaves only_now counts_now time,
     cut_leaves g (disk d) (disk e) ss left durable size leaves,
   )
 
-  pub some_cut : (d e : D) → (disk d).may_leave (disk e).seen → Only (disk e).seen (disk e) → (disk e).sectors ≡ (disk d).sectors → Elapses (disk d) (disk e) → IsSomeDown disk d → IsSomeDown disk e
-  some_cut d e left durable size time down = (down.0, down.1, (left_cut d e left durable size time down.0 down.1 down.2).1)
+  pub some_cut : (d e : D) → OnlyNow (disk d) → CountsNow (disk d) → (disk d).may_leave (disk e).seen → Only (disk e).seen (disk e) → (disk e).sectors ≡ (disk d).sectors → Elapses (disk d) (disk e) → IsSomeDown disk d → IsSomeDown disk e
+  some_cut d e only_now counts_now left durable size time down = (down.0, down.1, (left_cut d e only_now counts_now left durable size time down.0 down.1 down.2).1)
