@@ -40,45 +40,35 @@ only_one s t there = go there.0 there.1 there.2
     go (suc k) inside is = absurd (omega (arith, inside))
 
 -- one that is up is opened again at what is saved
-up_restarts : (g : Geometry) (r : Running) (a : Answer) (after : Machine) → Reopens g (r.saved ∷ []) a after → Answers g r command.Restart a after
-unfolding refusal_of carried_out
-up_restarts g r a after again =
+up_again : (g : Geometry) (r : Running) (a : Answer) (after : Machine) → Reopens g (r.saved ∷ []) a after →
+    (a ≡ answer.At r.saved.generation r.saved.world.age) × (after ≡ Up (opened g r.saved))
+up_again g r a after again =
     let same = only_one r.saved again.0 again.1 in
     (again.2 ∙ ap (λ (s : Saved). answer.At s.generation s.world.age) same, again.3 ∙ ap (λ (s : Saved). Up (opened g s)) same)
 
-up_is_cut : (g : Geometry) (r : Running) (a : Answer) (after : Machine) → Reopens g (r.saved ∷ []) a after → Answers g r command.Cut a after
+-- the device was opened again, or the machine is down for want of memory or after a failure
+restarts : (g : Geometry) (m : Machine) (a : Answer) (after : Machine) → ReopensAs g (candidates m) a after → Step g m command.Restart a after
 unfolding refusal_of carried_out
-up_is_cut g r a after again =
-    let same = only_one r.saved again.0 again.1 in
-    (again.2 ∙ ap (λ (s : Saved). answer.At s.generation s.world.age) same, again.3 ∙ ap (λ (s : Saved). Up (opened g s)) same)
+restarts g (Up r) a after (inl again) = inl (up_again g r a after again)
+restarts g (Up r) a after (inr (inl none)) = inr (inl (refl, none.0, none.1))
+restarts g (Up r) a after (inr (inr failed)) = inr (inr (tt, failed.0, failed.1))
+restarts g (Down saved) a after (inl again) = inl again
+restarts g (Down saved) a after (inr (inl none)) = inr (inl (refl, none.0, none.1))
+restarts g (Down saved) a after (inr (inr failed)) = inr (inr (refl, failed.0, failed.1 ∙ ap Down (sym (append-nil saved))))
 
--- or not, for want of memory
-abbrev IsWanting : List Saved → Answer → Machine → Type 0
-IsWanting saved a after = (a ≡ answer.Refused refusal.NoMemory) × (after ≡ Down saved)
+is_cut : (g : Geometry) (m : Machine) (a : Answer) (after : Machine) → ReopensAs g (candidates m) a after → Step g m command.Cut a after
+unfolding refusal_of carried_out
+is_cut g (Up r) a after (inl again) = inl (up_again g r a after again)
+is_cut g (Up r) a after (inr (inl none)) = inr (inl (refl, none.0, none.1))
+is_cut g (Up r) a after (inr (inr failed)) = inr (inr (tt, failed.0, failed.1))
+is_cut g (Down saved) a after (inl again) = inl again
+is_cut g (Down saved) a after (inr (inl none)) = inr (inl (refl, none.0, none.1))
+is_cut g (Down saved) a after (inr (inr failed)) = inr (inr (refl, failed.0, failed.1 ∙ ap Down (sym (append-nil saved))))
 
-wants_to_restart : (g : Geometry) (r : Running) (a : Answer) (after : Machine) → IsWanting (r.saved ∷ []) a after → Step g (Up r) command.Restart a after
-unfolding refusal_of
-wants_to_restart g r a after none = inr (inl (refl, none.0, none.1))
-
-wants_to_cut : (g : Geometry) (r : Running) (a : Answer) (after : Machine) → IsWanting (r.saved ∷ []) a after → Step g (Up r) command.Cut a after
-unfolding refusal_of
-wants_to_cut g r a after none = inr (inl (refl, none.0, none.1))
-
-reopens_step : (g : Geometry) (m : Machine) (c : Command) (a : Answer) (after : Machine) → (c ≡ command.Restart) ⊎ (c ≡ command.Cut) → ReopensAs g (candidates m) a after → Step g m c a after
-reopens_step g (Up r) c a after (inl is) (inl again) = subst (λ (x : Command). Step g (Up r) x a after) (sym is) (inl (up_restarts g r a after again))
-reopens_step g (Up r) c a after (inr is) (inl again) = subst (λ (x : Command). Step g (Up r) x a after) (sym is) (inl (up_is_cut g r a after again))
-reopens_step g (Up r) c a after (inl is) (inr (inl none)) = subst (λ (x : Command). Step g (Up r) x a after) (sym is) (wants_to_restart g r a after none)
-reopens_step g (Up r) c a after (inr is) (inr (inl none)) = subst (λ (x : Command). Step g (Up r) x a after) (sym is) (wants_to_cut g r a after none)
-reopens_step g (Up r) c a after (inl is) (inr (inr failed)) = subst (λ (x : Command). Step g (Up r) x a after) (sym is) (inr (inr (tt, failed.0, failed.1)))
-reopens_step g (Up r) c a after (inr is) (inr (inr failed)) = subst (λ (x : Command). Step g (Up r) x a after) (sym is) (inr (inr (tt, failed.0, failed.1)))
-reopens_step g (Down saved) c a after (inl is) (inl again) = subst (λ (x : Command). Step g (Down saved) x a after) (sym is) (inl again)
-reopens_step g (Down saved) c a after (inr is) (inl again) = subst (λ (x : Command). Step g (Down saved) x a after) (sym is) (inl again)
-reopens_step g (Down saved) c a after (inl is) (inr (inl none)) = subst (λ (x : Command). Step g (Down saved) x a after) (sym is) (inr (inl (refl, none.0, none.1)))
-reopens_step g (Down saved) c a after (inr is) (inr (inl none)) = subst (λ (x : Command). Step g (Down saved) x a after) (sym is) (inr (inl (refl, none.0, none.1)))
-reopens_step g (Down saved) c a after (inl is) (inr (inr failed)) =
-    subst (λ (x : Command). Step g (Down saved) x a after) (sym is) (inr (inr (refl, failed.0, failed.1 ∙ ap Down (sym (append-nil saved)))))
-reopens_step g (Down saved) c a after (inr is) (inr (inr failed)) =
-    subst (λ (x : Command). Step g (Down saved) x a after) (sym is) (inr (inr (refl, failed.0, failed.1 ∙ ap Down (sym (append-nil saved)))))
+reopens_step : (g : Geometry) (m : Machine) (c : Command) (a : Answer) (after : Machine) → (c ≡ command.Restart) ⊎ (c ≡ command.Cut) →
+    ReopensAs g (candidates m) a after → Step g m c a after
+reopens_step g m c a after (inl is) again = subst (λ (x : Command). Step g m x a after) (sym is) (restarts g m a after again)
+reopens_step g m c a after (inr is) again = subst (λ (x : Command). Step g m x a after) (sym is) (is_cut g m a after again)
 
 -- ---- crashes
 
