@@ -1,5 +1,5 @@
 -- From a store that serves to a machine that is up or down.
-use Rattle.std.proofs.Common.{append-nil, ◌≡◌, ◌↔◌, ◌⊎◌, ℕ, zero, suc, ◌<◌, ◌≤◌, false, Option, None, Some, List, [], ◌∷◌, ◌++◌, length, refl, sym, ap, ◌∙◌, subst, inl, inr, arith}
+use Rattle.std.proofs.Common.{append-nil, ◌≡◌, ◌↔◌, ◌⊎◌, ℕ, zero, suc, ◌<◌, ◌≤◌, Option, Some, List, [], ◌∷◌, ◌++◌, length, refl, sym, ap, ◌∙◌, subst, inl, inr, arith}
 use Rattle.std.specs.Prelude.{slice_index_or}
 use Rattle.std.specs.List.{Contains}
 use Rattle.model.specs.declared.answer.Answer.{Answer}
@@ -9,9 +9,9 @@ use Rattle.model.specs.declared.command.Command.{Command}
 use Rattle.model.specs.declared.command.Command.TheVariants as command
 use Rattle.model.specs.declared.geometry.Geometry.{Geometry}
 use Rattle.model.specs.Machine.{Machine, Running, Saved, Up, Down, candidates, opened}
-use Rattle.model.specs.Step.{Answers, Reopens, Step, carried_out, opens, refusal_of, second}
+use Rattle.model.specs.Step.{Reopens, Step, carried_out, refusal_of, second}
 use Rattle.device.specs.Calls.{Only}
-use Rattle.device.specs.Disk.{Image, Disk}
+use Rattle.device.specs.Disk.{Disk}
 use Rattle.device.specs.Moments.{Elapses, LeavesOnly}
 use Rattle.device.proofs.Images.{agrees_is}
 use Rattle.device.proofs.Moments.{CountsNow, OnlyNow, goes_on_cut, leaves_on, leaves_weaker, started}
@@ -26,7 +26,7 @@ use Rattle.recovery.specs.Denotes.{saved_of, DenotesOne, Leaves, LeavesOne}
 use Rattle.recovery.specs.Recovered.{RefusesToOpen, Recovers}
 use Rattle.kernel.specs.Opening.{IsNoReason, IsSomeDown, Opens, ReopensAs, Reopened, refused_by}
 use Rattle.recovery.specs.Live.{IsSomeUp, IsUp, running}
-use Rattle.kernel.specs.Standing.{IsCaused, IsDeviceOf, IsSomeMachine, SameDevice, Serves, ServesFrom, ServesUp, Stands, disk_of}
+use Rattle.kernel.specs.Standing.{IsCaused, IsDeviceOf, IsSomeMachine, Serves, ServesFrom, ServesUp, Stands, disk_of}
 use Rattle.kernel.proofs.Crashes.{leaves_end, leaves_here, among}
 use Rattle.recovery.proofs.Denoted.{one_denoted, one_not_bad}
 

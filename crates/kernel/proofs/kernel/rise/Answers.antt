@@ -1,7 +1,3 @@
-use Rattle.std.proofs.Common.{subst, sym}
-use Rattle.model.specs.declared.answer.Answer.TheVariants as answer
-use Rattle.kernel.specs.Power as power
-use Rattle.kernel.specs.Opening.{Reopened}
 use Rattle.kernel.proofs.Machines.{no_reason, rises, stays_down}
 use Rattle.kernel.proofs.kernel.rise.Goals as goal
 
