@@ -168,7 +168,13 @@ impl<D: Device, S: ObjectStore<D>> Kernel<D, S> {
             (disk_of D.disk S.view S.parts self.new) result }
     {
         let device = take_device::<D, S>(&mut self.live, &mut self.device);
-        rise::<D, S>(alloc, device, self.setting, &mut self.live, &mut self.device)
+        rise::<D, S>(
+            alloc,
+            device,
+            self.setting,
+            &mut self.live,
+            &mut self.device,
+        )
     }
 
     // Cuts the power, and opens the device again.
@@ -181,7 +187,13 @@ impl<D: Device, S: ObjectStore<D>> Kernel<D, S> {
     {
         let mut device = take_device::<D, S>(&mut self.live, &mut self.device);
         device.power_cut();
-        rise::<D, S>(alloc, device, self.setting, &mut self.live, &mut self.device)
+        rise::<D, S>(
+            alloc,
+            device,
+            self.setting,
+            &mut self.live,
+            &mut self.device,
+        )
     }
 
     /// Serves one command, as the machine does.
