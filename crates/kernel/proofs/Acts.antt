@@ -24,9 +24,9 @@ use Rattle.capability.proofs.Keeping.{keepable_count}
 use Rattle.object_store.specs.Store.{Aside, FrozenFrames, IsStabilizeAnswer, Leads, MayCommit, View, freezing, left_in, moved_saved, next_saved, stabilized}
 use Rattle.object_store.specs.Store as store
 use Rattle.space_bank.specs.Banks.{AreCounted, BanksState}
-use Rattle.processes.specs.Machine.{Performs, answer_of}
-use Rattle.processes.proofs.Serving.{AreSame}
-use Rattle.processes.proofs.Steps.{refused_step}
+use Rattle.kernel.specs.Machine.{Performs, answer_of}
+use Rattle.kernel.proofs.Performing.{AreSame}
+use Rattle.kernel.proofs.ProcessSteps.{refused_step}
 use Rattle.recovery.specs.declared.live.Live.{Live}
 use Rattle.recovery.specs.Denotes.{saved_of, LeavesOne}
 use Rattle.recovery.specs.Live.{AreSoundTogether, IsUp, base_of, disk_at, frozen_of, renewed_since, running, running_of}

@@ -2,8 +2,6 @@
 use Rattle.std.proofs.Common.{◌≡◌, None, Result, Ok, Err, refl, sym, ap, ◌∙◌}
 use Rattle.std.specs.Prelude.{IfOk}
 use Rattle.model.specs.declared.answer.Answer.{Answer}
-use Rattle.model.specs.declared.answer.Answer.TheVariants as answer
-use Rattle.model.specs.declared.answer.Refusal.{Refusal}
 use Rattle.model.specs.declared.command.Command.{Command}
 use Rattle.model.specs.declared.command.Command.TheVariants as command
 use Rattle.model.specs.declared.command.Invocation.{Invocation}
@@ -13,8 +11,8 @@ use Rattle.device.specs.declared.device.Failed.{Failed}
 use Rattle.device.specs.Disk.{Disk}
 use Rattle.capability.specs.Parts.{Parts, objects_in}
 use Rattle.object_store.specs.Store.{View}
-use Rattle.processes.specs.declared.served.Served.{Served}
-use Rattle.processes.specs.Machine.{code_with}
+use Rattle.kernel.specs.declared.processes.served.Served.{Served}
+use Rattle.kernel.specs.Machine.{code_with}
 use Rattle.recovery.specs.declared.live.Live.{Live}
 use Rattle.kernel.specs.Power as power
 use Rattle.kernel.specs.Standing.{HasCode, Stands, told_code}
@@ -34,22 +32,6 @@ other_code g (Up r) (command.Migrate n) a other = refl
 other_code g (Up r) (command.Journal n) a other = refl
 other_code g (Up r) command.Restart a other = refl
 other_code g (Up r) command.Cut a other = refl
-
--- nor has a refusal
-pub refused_code : (g : Geometry) (m : Machine) (c : Command) (why : Refusal) → told_code g m c (answer.Refused why) ≡ None
-refused_code g (Down saved) c why = refl
-refused_code g (Up r) (command.Invoke i) why = refl
-refused_code g (Up r) (command.Load p address) why = refl
-refused_code g (Up r) (command.Store p address value) why = refl
-refused_code g (Up r) (command.Show n) why = refl
-refused_code g (Up r) (command.Evict n) why = refl
-refused_code g (Up r) command.Checkpoint why = refl
-refused_code g (Up r) (command.Stabilize n) why = refl
-refused_code g (Up r) command.Commit why = refl
-refused_code g (Up r) (command.Migrate n) why = refl
-refused_code g (Up r) (command.Journal n) why = refl
-refused_code g (Up r) command.Restart why = refl
-refused_code g (Up r) command.Cut why = refl
 
 -- an invocation by a store that is up has that of its objects
 module _ {D S : Type 0} (disk : D → Disk) (view : S → View D) (parts : S → Parts) where

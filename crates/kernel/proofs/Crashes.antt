@@ -10,7 +10,7 @@ use Rattle.device.proofs.Moments.{CountsNow, OnlyNow, ends, leaves_weaker, start
 use Rattle.checkpoint.specs.Saved.{SavedFrames, Holds, LeavesSaved, LeavesEither, home_saved}
 use Rattle.object_store.specs.Store.{Aside, moved_saved}
 use Rattle.recovery.proofs.Denoted.{denoted_by}
-use Rattle.recovery.specs.Denotes.{saved_of, IsSoundSaved, Denotes, DenotesOne, Leaves, LeavesOne}
+use Rattle.recovery.specs.Denotes.{saved_of, IsSoundSaved, DenotesOne, Leaves, LeavesOne}
 
 -- one of the first is one of all
 pub among : (g : Geometry) (size : ℕ) (c : Image) (ss ts : List Saved) → DenotesOne g size ss c → DenotesOne g size (ss ++ ts) c

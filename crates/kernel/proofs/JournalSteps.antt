@@ -40,7 +40,7 @@ use Rattle.capability.proofs.Keeping.{keepable_count}
 use Rattle.object_store.specs.Journal.{is_page_now, is_page_role, is_still_saved, aside_after_journal, next_journaled, words_now}
 use Rattle.object_store.specs.Store.{Aside}
 use Rattle.space_bank.specs.Banks.{BanksState}
-use Rattle.processes.proofs.Steps.{done_step}
+use Rattle.kernel.proofs.ProcessSteps.{done_step}
 use Rattle.recovery.specs.Denotes.{saved_of, IsSoundSaved}
 use Rattle.recovery.specs.Live.{AreSoundTogether, base_of, renewed_since, running_of}
 use Rattle.recovery.proofs.Renewed.{allocations_at, base_saved, renewed_at}

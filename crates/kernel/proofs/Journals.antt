@@ -20,9 +20,9 @@ use Rattle.object_store.specs.declared.journal_fault.JournalFault.{JournalFault}
 use Rattle.object_store.specs.declared.journal_fault.JournalFault.TheVariants as fault
 use Rattle.object_store.specs.Journal.{IsJournalAnswer, IsTurnedAway, is_page_now, is_still_saved, aside_after_journal, next_journaled, words_now}
 use Rattle.object_store.specs.Store.{Aside, View, left_in}
-use Rattle.processes.specs.Machine.{IsUnlooked}
-use Rattle.processes.proofs.Serving.{AreSame}
-use Rattle.processes.proofs.Steps.{refused_step}
+use Rattle.kernel.specs.Machine.{IsUnlooked}
+use Rattle.kernel.proofs.Performing.{AreSame}
+use Rattle.kernel.proofs.ProcessSteps.{refused_step}
 use Rattle.recovery.specs.declared.live.Live.{Live}
 use Rattle.recovery.specs.Denotes.{saved_of, LeavesOne}
 use Rattle.kernel.specs.Journal.{unjournaled_by}

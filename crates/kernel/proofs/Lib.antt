@@ -1,9 +1,14 @@
 mod Acts
 mod Codes
+mod Counted
 mod Crashes
 mod JournalSteps
 mod Journals
 mod Machines
+mod MemoryServing
+mod MemorySteps
+mod Performing
+mod ProcessSteps
 mod Renewed
 mod Stages
 mod Steps

@@ -1,5 +1,5 @@
 -- From a store that serves to a machine that is up or down.
-use Rattle.std.proofs.Common.{append-nil, ◌≡◌, ◌↔◌, ◌⊎◌, ℕ, zero, suc, ◌<◌, ◌≤◌, false, Option, None, Some, List, [], ◌∷◌, ◌++◌, length, refl, sym, ap, ◌∙◌, subst, inl, inr, arith}
+use Rattle.std.proofs.Common.{append-nil, ◌≡◌, ◌↔◌, ◌⊎◌, ℕ, zero, suc, ◌<◌, ◌≤◌, Option, Some, List, [], ◌∷◌, ◌++◌, length, refl, sym, ap, ◌∙◌, subst, inl, inr, arith}
 use Rattle.std.specs.Prelude.{slice_index_or}
 use Rattle.std.specs.List.{Contains}
 use Rattle.model.specs.declared.answer.Answer.{Answer}
@@ -9,9 +9,9 @@ use Rattle.model.specs.declared.command.Command.{Command}
 use Rattle.model.specs.declared.command.Command.TheVariants as command
 use Rattle.model.specs.declared.geometry.Geometry.{Geometry}
 use Rattle.model.specs.Machine.{Machine, Running, Saved, Up, Down, candidates, opened}
-use Rattle.model.specs.Step.{Answers, Reopens, Step, carried_out, opens, refusal_of, second}
+use Rattle.model.specs.Step.{Reopens, Step, carried_out, refusal_of, second}
 use Rattle.device.specs.Calls.{Only}
-use Rattle.device.specs.Disk.{Image, Disk}
+use Rattle.device.specs.Disk.{Disk}
 use Rattle.device.specs.Moments.{Elapses, LeavesOnly}
 use Rattle.device.proofs.Images.{agrees_is}
 use Rattle.device.proofs.Moments.{CountsNow, OnlyNow, goes_on_cut, leaves_on, leaves_weaker, started}
@@ -26,7 +26,7 @@ use Rattle.recovery.specs.Denotes.{saved_of, DenotesOne, Leaves, LeavesOne}
 use Rattle.recovery.specs.Recovered.{RefusesToOpen, Recovers}
 use Rattle.kernel.specs.Opening.{IsNoReason, IsSomeDown, Opens, ReopensAs, Reopened, refused_by}
 use Rattle.recovery.specs.Live.{IsSomeUp, IsUp, running}
-use Rattle.kernel.specs.Standing.{IsCaused, IsDeviceOf, IsSomeMachine, SameDevice, Serves, ServesFrom, ServesUp, Stands, disk_of}
+use Rattle.kernel.specs.Standing.{IsCaused, IsDeviceOf, IsSomeMachine, Serves, ServesFrom, ServesUp, Stands, disk_of}
 use Rattle.kernel.proofs.Crashes.{leaves_end, leaves_here, among}
 use Rattle.recovery.proofs.Denoted.{one_denoted, one_not_bad}
 
@@ -40,45 +40,35 @@ only_one s t there = go there.0 there.1 there.2
     go (suc k) inside is = absurd (omega (arith, inside))
 
 -- one that is up is opened again at what is saved
-up_restarts : (g : Geometry) (r : Running) (a : Answer) (after : Machine) → Reopens g (r.saved ∷ []) a after → Answers g r command.Restart a after
-unfolding refusal_of carried_out
-up_restarts g r a after again =
+up_again : (g : Geometry) (r : Running) (a : Answer) (after : Machine) → Reopens g (r.saved ∷ []) a after →
+    (a ≡ answer.At r.saved.generation r.saved.world.age) × (after ≡ Up (opened g r.saved))
+up_again g r a after again =
     let same = only_one r.saved again.0 again.1 in
     (again.2 ∙ ap (λ (s : Saved). answer.At s.generation s.world.age) same, again.3 ∙ ap (λ (s : Saved). Up (opened g s)) same)
 
-up_is_cut : (g : Geometry) (r : Running) (a : Answer) (after : Machine) → Reopens g (r.saved ∷ []) a after → Answers g r command.Cut a after
+-- the device was opened again, or the machine is down for want of memory or after a failure
+restarts : (g : Geometry) (m : Machine) (a : Answer) (after : Machine) → ReopensAs g (candidates m) a after → Step g m command.Restart a after
 unfolding refusal_of carried_out
-up_is_cut g r a after again =
-    let same = only_one r.saved again.0 again.1 in
-    (again.2 ∙ ap (λ (s : Saved). answer.At s.generation s.world.age) same, again.3 ∙ ap (λ (s : Saved). Up (opened g s)) same)
+restarts g (Up r) a after (inl again) = inl (up_again g r a after again)
+restarts g (Up r) a after (inr (inl none)) = inr (inl (refl, none.0, none.1))
+restarts g (Up r) a after (inr (inr failed)) = inr (inr (tt, failed.0, failed.1))
+restarts g (Down saved) a after (inl again) = inl again
+restarts g (Down saved) a after (inr (inl none)) = inr (inl (refl, none.0, none.1))
+restarts g (Down saved) a after (inr (inr failed)) = inr (inr (refl, failed.0, failed.1 ∙ ap Down (sym (append-nil saved))))
 
--- or not, for want of memory
-abbrev IsWanting : List Saved → Answer → Machine → Type 0
-IsWanting saved a after = (a ≡ answer.Refused refusal.NoMemory) × (after ≡ Down saved)
+is_cut : (g : Geometry) (m : Machine) (a : Answer) (after : Machine) → ReopensAs g (candidates m) a after → Step g m command.Cut a after
+unfolding refusal_of carried_out
+is_cut g (Up r) a after (inl again) = inl (up_again g r a after again)
+is_cut g (Up r) a after (inr (inl none)) = inr (inl (refl, none.0, none.1))
+is_cut g (Up r) a after (inr (inr failed)) = inr (inr (tt, failed.0, failed.1))
+is_cut g (Down saved) a after (inl again) = inl again
+is_cut g (Down saved) a after (inr (inl none)) = inr (inl (refl, none.0, none.1))
+is_cut g (Down saved) a after (inr (inr failed)) = inr (inr (refl, failed.0, failed.1 ∙ ap Down (sym (append-nil saved))))
 
-wants_to_restart : (g : Geometry) (r : Running) (a : Answer) (after : Machine) → IsWanting (r.saved ∷ []) a after → Step g (Up r) command.Restart a after
-unfolding refusal_of
-wants_to_restart g r a after none = inr (inl (refl, none.0, none.1))
-
-wants_to_cut : (g : Geometry) (r : Running) (a : Answer) (after : Machine) → IsWanting (r.saved ∷ []) a after → Step g (Up r) command.Cut a after
-unfolding refusal_of
-wants_to_cut g r a after none = inr (inl (refl, none.0, none.1))
-
-reopens_step : (g : Geometry) (m : Machine) (c : Command) (a : Answer) (after : Machine) → (c ≡ command.Restart) ⊎ (c ≡ command.Cut) → ReopensAs g (candidates m) a after → Step g m c a after
-reopens_step g (Up r) c a after (inl is) (inl again) = subst (λ (x : Command). Step g (Up r) x a after) (sym is) (inl (up_restarts g r a after again))
-reopens_step g (Up r) c a after (inr is) (inl again) = subst (λ (x : Command). Step g (Up r) x a after) (sym is) (inl (up_is_cut g r a after again))
-reopens_step g (Up r) c a after (inl is) (inr (inl none)) = subst (λ (x : Command). Step g (Up r) x a after) (sym is) (wants_to_restart g r a after none)
-reopens_step g (Up r) c a after (inr is) (inr (inl none)) = subst (λ (x : Command). Step g (Up r) x a after) (sym is) (wants_to_cut g r a after none)
-reopens_step g (Up r) c a after (inl is) (inr (inr failed)) = subst (λ (x : Command). Step g (Up r) x a after) (sym is) (inr (inr (tt, failed.0, failed.1)))
-reopens_step g (Up r) c a after (inr is) (inr (inr failed)) = subst (λ (x : Command). Step g (Up r) x a after) (sym is) (inr (inr (tt, failed.0, failed.1)))
-reopens_step g (Down saved) c a after (inl is) (inl again) = subst (λ (x : Command). Step g (Down saved) x a after) (sym is) (inl again)
-reopens_step g (Down saved) c a after (inr is) (inl again) = subst (λ (x : Command). Step g (Down saved) x a after) (sym is) (inl again)
-reopens_step g (Down saved) c a after (inl is) (inr (inl none)) = subst (λ (x : Command). Step g (Down saved) x a after) (sym is) (inr (inl (refl, none.0, none.1)))
-reopens_step g (Down saved) c a after (inr is) (inr (inl none)) = subst (λ (x : Command). Step g (Down saved) x a after) (sym is) (inr (inl (refl, none.0, none.1)))
-reopens_step g (Down saved) c a after (inl is) (inr (inr failed)) =
-    subst (λ (x : Command). Step g (Down saved) x a after) (sym is) (inr (inr (refl, failed.0, failed.1 ∙ ap Down (sym (append-nil saved)))))
-reopens_step g (Down saved) c a after (inr is) (inr (inr failed)) =
-    subst (λ (x : Command). Step g (Down saved) x a after) (sym is) (inr (inr (refl, failed.0, failed.1 ∙ ap Down (sym (append-nil saved)))))
+reopens_step : (g : Geometry) (m : Machine) (c : Command) (a : Answer) (after : Machine) → (c ≡ command.Restart) ⊎ (c ≡ command.Cut) →
+    ReopensAs g (candidates m) a after → Step g m c a after
+reopens_step g m c a after (inl is) again = subst (λ (x : Command). Step g m x a after) (sym is) (restarts g m a after again)
+reopens_step g m c a after (inr is) again = subst (λ (x : Command). Step g m x a after) (sym is) (is_cut g m a after again)
 
 -- ---- crashes
 
@@ -110,10 +100,7 @@ module _ (g : Geometry) (old new : Disk) (ss : List Saved) (left : old.may_leave
     any_moment = goes_on_cut {old = old} {mid = old} {new = new} {P = DenotesOne g old.sectors ss} (started old (DenotesOne g old.sectors ss) only_now before) counts_now time left durable;
   }
 
-module _ {D S : Type 0} (disk : D → Disk) (view : S → View D) (parts : S → Parts)
-    (only_now : (d : D) (c : Image) → (disk d).left_since (disk d).moment c → (disk d).may_leave c)
-    (counts_now : (d : D) (t : ℕ) (c : Image) → t ≤ (disk d).moment → (disk d).may_leave c → (disk d).left_since t c)
-    (seen_left : (d : D) → (disk d).may_leave (disk d).seen) where
+module _ {D S : Type 0} (disk : D → Disk) (view : S → View D) (parts : S → Parts) where
   -- ---- a command that goes on
 
   -- the store of a kernel is up
@@ -140,9 +127,9 @@ module _ {D S : Type 0} (disk : D → Disk) (view : S → View D) (parts : S →
   stays_up l k c a fine serves g (Down saved) stands = absurd stands
 
   -- the device failed, and was given back
-  pub goes_down : (l k : Live S) (c : Command) (d : D) → ServesUp disk view parts l c (answer.Refused refusal.Fault) k → d ≡ (view k.store).beneath →
+  pub goes_down : (l k : Live S) (c : Command) (d : D) → CountsNow (disk d) → ServesUp disk view parts l c (answer.Refused refusal.Fault) k → d ≡ (view k.store).beneath →
       Serves disk view parts (power.Up l) c (answer.Refused refusal.Fault) (power.Down d)
-  goes_down l k c d serves is g (Up r) stands =
+  goes_down l k c d counts_now serves is g (Up r) stands =
       let s = serves g stands.0 in
       let was : Machine = Up (running disk view parts l) in
       let ss : List Saved = candidates was ++ second was c in
@@ -150,10 +137,10 @@ module _ {D S : Type 0} (disk : D → Disk) (view : S → View D) (parts : S →
       subst (λ (x : Running). ServesFrom disk view parts g (Up x) (power.Up l) c (answer.Refused refusal.Fault) (power.Down d)) (sym stands.1) (record {
         after = Down ss;
         step = inr (inr (tt, refl, refl));
-        stands = leaves_end g (disk (view l.store).beneath) (disk d) ss (counts_now d) left;
+        stands = leaves_end g (disk (view l.store).beneath) (disk d) ss counts_now left;
         leaves = left;
       })
-  goes_down l k c d serves is g (Down saved) stands = absurd stands
+  goes_down l k c d counts_now serves is g (Down saved) stands = absurd stands
 
   -- a kernel that served a command stands for a machine
   pub some_after : (p q : Power D S) (c : Command) (a : Answer) → Serves disk view parts p c a q → IsSomeMachine disk view parts p → IsSomeMachine disk view parts q
@@ -162,38 +149,38 @@ module _ {D S : Type 0} (disk : D → Disk) (view : S → View D) (parts : S →
   -- ---- opened, and opened again
 
   pub opens_up : (device : D) (l : Live S) → Recovers disk view parts device l → Opens disk view parts device (power.Up l)
-  opens_up device l wakes =
+  opens_up device l recovers =
       let fs = (view l.store).aside.saved in
       record {
         geometry = fs.geometry;
         saved = saved_of fs;
-        denoted = record { frames = fs; holds = wakes.holds; sound = wakes.up.sound.saved; stands = refl };
-        stands = (wakes.up, sym wakes.at_saved);
-        durable = wakes.durable;
-        looks = wakes.looks;
-        failures = wakes.failures;
+        denoted = record { frames = fs; holds = recovers.holds; sound = recovers.up.sound.saved; stands = refl };
+        stands = (recovers.up, sym recovers.at_saved);
+        durable = recovers.durable;
+        looks = recovers.looks;
+        failures = recovers.failures;
       }
 
   pub opened_some : (device : D) (l : Live S) → Recovers disk view parts device l → IsSomeMachine disk view parts (power.Up l)
-  opened_some device l wakes = let opens = opens_up device l wakes in (opens.geometry, Up (opened opens.geometry opens.saved), opens.stands)
+  opened_some device l recovers = let opens = opens_up device l recovers in (opens.geometry, Up (opened opens.geometry opens.saved), opens.stands)
 
-  module _ (device : D) (g : Geometry) (ss : List Saved) (leaves : Leaves g (disk device) ss) where
+  module _ (device : D) (seen_left : (disk device).may_leave (disk device).seen) (g : Geometry) (ss : List Saved) (leaves : Leaves g (disk device) ss) where
     pub rises : (l : Live S) (generation age : ℕ) → Recovers disk view parts device l → generation ≡ (view l.store).aside.saved.generation → age ≡ (view l.store).aside.saved.age →
         Reopened disk view parts g ss device (answer.At generation age) (power.Up l)
-    rises l generation age wakes same_generation same_age =
+    rises l generation age recovers same_generation same_age =
         let fs = (view l.store).aside.saved in
-        let one = one_denoted g (disk device).sectors (disk device).seen ss fs (leaves (disk device).seen (seen_left device)) wakes.holds in
+        let one = one_denoted g (disk device).sectors (disk device).seen ss fs (leaves (disk device).seen seen_left) recovers.holds in
         let same : fs.geometry ≡ g = one.1.geometry in
         record {
           after = Up (opened g (saved_of fs));
           step = inl (saved_of fs, one.0, ap (λ (n : ℕ). answer.At n age) same_generation ∙ ap (answer.At fs.generation) same_age, refl);
           stands = (
-            subst (λ (h : Geometry). IsUp disk view parts h l) same wakes.up,
-            subst (λ (h : Geometry). opened h (saved_of fs) ≡ running disk view parts l) same (sym wakes.at_saved),
+            subst (λ (h : Geometry). IsUp disk view parts h l) same recovers.up,
+            subst (λ (h : Geometry). opened h (saved_of fs) ≡ running disk view parts l) same (sym recovers.at_saved),
           );
           leaves = record {
-            size = wakes.looks.size;
-            any_moment = leaves_weaker {old = disk device} {new = disk (view l.store).beneath} {P = (disk device).may_leave} (DenotesOne g (disk device).sectors ss) leaves wakes.looks.any_moment;
+            size = recovers.looks.size;
+            any_moment = leaves_weaker {old = disk device} {new = disk (view l.store).beneath} {P = (disk device).may_leave} (DenotesOne g (disk device).sectors ss) leaves recovers.looks.any_moment;
           };
         }
 
@@ -212,14 +199,14 @@ module _ {D S : Type 0} (disk : D → Disk) (view : S → View D) (parts : S →
         told : (e : OpenFault) → RefusesToOpen disk device back e → Reopened disk view parts g ss device (answer.Refused (refused_by e)) (power.Down back)
         told fault.Failed r = record { after = Down ss; step = inr (inr (refl, refl)); stands = still; leaves = run }
         told fault.NoMemory r = record { after = Down ss; step = inr (inl (refl, refl)); stands = still; leaves = run }
-        told (fault.Bad reason) r = absurd (one_not_bad g (disk device).sectors (disk device).seen ss reason (leaves (disk device).seen (seen_left device)) r.is_why.1)
+        told (fault.Bad reason) r = absurd (one_not_bad g (disk device).sectors (disk device).seen ss reason (leaves (disk device).seen seen_left) r.is_why.1)
 
   -- a device that a crash of a kernel left is an image
-  pub no_reason : (device back : D) (why : OpenFault) → IsSomeDown disk device → RefusesToOpen disk device back why → IsNoReason why
-  no_reason device back fault.Failed down refuses = tt
-  no_reason device back fault.NoMemory down refuses = tt
-  no_reason device back (fault.Bad reason) down refuses =
-      absurd (one_not_bad down.0 (disk device).sectors (disk device).seen down.1 reason (down.2 (disk device).seen (seen_left device)) refuses.is_why.1)
+  pub no_reason : (device back : D) (why : OpenFault) → (disk device).may_leave (disk device).seen → IsSomeDown disk device → RefusesToOpen disk device back why → IsNoReason why
+  no_reason device back fault.Failed seen_left down refuses = tt
+  no_reason device back fault.NoMemory seen_left down refuses = tt
+  no_reason device back (fault.Bad reason) seen_left down refuses =
+      absurd (one_not_bad down.0 (disk device).sectors (disk device).seen down.1 reason (down.2 (disk device).seen seen_left) refuses.is_why.1)
 
   -- ---- restarts and power cuts
 
@@ -266,18 +253,18 @@ module _ {D S : Type 0} (disk : D → Disk) (view : S → View D) (parts : S →
     })
 
   -- the device was left alone, or its power was cut
-  pub left_alone : (d : D) (g : Geometry) (ss : List Saved) → Leaves g (disk d) ss → LeavesOne g (disk d) (disk d) ss × Leaves g (disk d) ss
-  left_alone d g ss leaves = (
-    subst (λ (ts : List Saved). LeavesOne g (disk d) (disk d) ts) (append-nil ss) (leaves_here g (disk d) ss [] (only_now d) leaves),
+  pub left_alone : (d : D) → OnlyNow (disk d) → (g : Geometry) (ss : List Saved) → Leaves g (disk d) ss → LeavesOne g (disk d) (disk d) ss × Leaves g (disk d) ss
+  left_alone d only_now g ss leaves = (
+    subst (λ (ts : List Saved). LeavesOne g (disk d) (disk d) ts) (append-nil ss) (leaves_here g (disk d) ss [] only_now leaves),
     leaves,
   )
 
-  pub left_cut : (d e : D) → (disk d).may_leave (disk e).seen → Only (disk e).seen (disk e) → (disk e).sectors ≡ (disk d).sectors → Elapses (disk d) (disk e) →
+  pub left_cut : (d e : D) → OnlyNow (disk d) → CountsNow (disk d) → (disk d).may_leave (disk e).seen → Only (disk e).seen (disk e) → (disk e).sectors ≡ (disk d).sectors → Elapses (disk d) (disk e) →
       (g : Geometry) (ss : List Saved) → Leaves g (disk d) ss → LeavesOne g (disk d) (disk e) ss × Leaves g (disk e) ss
-  left_cut d e left durable size time g ss leaves = (
-    cut_left g (disk d) (disk e) ss left durable size leaves (only_now d) (counts_now d) time,
+  left_cut d e only_now counts_now left durable size time g ss leaves = (
+    cut_left g (disk d) (disk e) ss left durable size leaves only_now counts_now time,
     cut_leaves g (disk d) (disk e) ss left durable size leaves,
   )
 
-  pub some_cut : (d e : D) → (disk d).may_leave (disk e).seen → Only (disk e).seen (disk e) → (disk e).sectors ≡ (disk d).sectors → Elapses (disk d) (disk e) → IsSomeDown disk d → IsSomeDown disk e
-  some_cut d e left durable size time down = (down.0, down.1, (left_cut d e left durable size time down.0 down.1 down.2).1)
+  pub some_cut : (d e : D) → OnlyNow (disk d) → CountsNow (disk d) → (disk d).may_leave (disk e).seen → Only (disk e).seen (disk e) → (disk e).sectors ≡ (disk d).sectors → Elapses (disk d) (disk e) → IsSomeDown disk d → IsSomeDown disk e
+  some_cut d e only_now counts_now left durable size time down = (down.0, down.1, (left_cut d e only_now counts_now left durable size time down.0 down.1 down.2).1)

@@ -14,7 +14,7 @@ use Rattle.checkpoint.specs.Saved.{most, SavedFrames, home_saved}
 use Rattle.object_store.specs.Store.{Aside, FrozenFrames, freezing, next_saved, moved_saved, stabilized}
 use Rattle.object_store.specs.Store as store
 use Rattle.space_bank.specs.Banks.{AreCounted, BanksState}
-use Rattle.processes.proofs.Serving.{AreSame, same_frames}
+use Rattle.kernel.proofs.Performing.{AreSame, same_frames}
 use Rattle.recovery.specs.Denotes.{saved_of, IsSoundSaved}
 use Rattle.recovery.specs.Live.{AreSoundTogether, IsSoundFrozen, base_of, frozen_of, renewed_since, running_of}
 use Rattle.recovery.proofs.Renewed.{allocations_at, base_frozen}

@@ -11,7 +11,7 @@ use Rattle.model.specs.Machine.{Frozen, Saved, Running, Up, touched_count, untou
 use Rattle.model.specs.Sound.{object_count}
 use Rattle.model.specs.Step.{Step, carried_out, committed, moved, refusal_of, second, unless}
 use Rattle.model.specs.World.{World}
-use Rattle.processes.proofs.Steps.{done_step}
+use Rattle.kernel.proofs.ProcessSteps.{done_step}
 
 -- a machine with another checkpoint on its way
 abbrev pub with_frozen : Running → Option Frozen → Running

@@ -1,3 +1,5 @@
+pub mod Machine
+pub mod Prepared
 pub mod Power
 pub mod Standing
 pub mod Opening

@@ -1,5 +1,5 @@
 -- The machine that a kernel stands for, and how it serves a command.
-use Rattle.std.specs.Prelude.{◌≡◌, ◌↔◌, ℕ, ◌<◌, ◌≤◌, Option, None, Some, List, [], ◌++◌}
+use Rattle.std.specs.Prelude.{◌≡◌, ◌↔◌, ◌<◌, ◌≤◌, Option, None, Some, [], ◌++◌}
 use Rattle.model.specs.declared.answer.Answer.{Answer}
 use Rattle.model.specs.declared.answer.Answer.TheVariants as answer
 use Rattle.model.specs.declared.answer.Refusal.{Refusal}
@@ -16,8 +16,8 @@ use Rattle.checkpoint.specs.declared.checkpoint_fault.CheckpointFault.{Checkpoin
 use Rattle.checkpoint.specs.declared.checkpoint_fault.CheckpointFault.TheVariants as fault
 use Rattle.checkpoint.specs.declared.committed.Checkpoint.{Checkpoint}
 use Rattle.object_store.specs.Store.{View}
-use Rattle.processes.specs.declared.served.Served.{Served}
-use Rattle.processes.specs.Machine.{code_with}
+use Rattle.kernel.specs.declared.processes.served.Served.{Served}
+use Rattle.kernel.specs.Machine.{code_with}
 use Rattle.recovery.specs.declared.live.Live.{Live}
 use Rattle.recovery.specs.Denotes.{Leaves, LeavesOne}
 use Rattle.recovery.specs.Live.{IsUp, disk_at, running}

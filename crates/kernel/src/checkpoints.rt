@@ -1,10 +1,11 @@
 // The stages of a checkpoint (KeyKOS: freeze, log, commit and migrate). None of them takes memory.
 ghost use Rattle.std.specs.Prelude.{◌≡◌};
 ghost use Rattle.model.specs.declared.command.Command.TheVariants as command;
-ghost use Rattle.processes.specs.Machine.{IsToldOnce, IsUnlooked, answer_of};
+ghost use Rattle.kernel.specs.Machine.{IsToldOnce, IsUnlooked, answer_of};
 ghost use Rattle.recovery.specs.Live.{IsSomeUp, disk_at};
 ghost use Rattle.kernel.specs.Standing.{IsCaused, ServesUp, refusal_by};
 
+use crate::processes;
 use checkpoint::CheckpointFault;
 use device::{Device, Failed};
 use model::{Answer, Refusal};

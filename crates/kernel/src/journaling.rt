@@ -1,11 +1,12 @@
 // One page is saved beside the checkpoints. It takes no memory.
 ghost use Rattle.std.specs.Prelude.{◌≡◌};
 ghost use Rattle.model.specs.declared.command.Command.TheVariants as command;
-ghost use Rattle.processes.specs.Machine.{IsToldOnce, IsUnlooked, answer_of};
+ghost use Rattle.kernel.specs.Machine.{IsToldOnce, IsUnlooked, answer_of};
 ghost use Rattle.recovery.specs.Live.{IsSomeUp, disk_at};
 ghost use Rattle.kernel.specs.Standing.{IsCaused, ServesUp};
 ghost use Rattle.kernel.specs.Journal.{unjournaled_by};
 
+use crate::processes;
 use device::{Device, Failed};
 use model::{Answer, Refusal, Unjournaled};
 use object_store::{JournalFault, ObjectStore};

@@ -4,19 +4,19 @@ ghost use Rattle.model.specs.declared.command.Command.TheVariants as command;
 ghost use Rattle.model.specs.declared.geometry.Geometry.{Geometry};
 ghost use Rattle.model.specs.Machine.{Saved};
 ghost use Rattle.model.specs.Step.{opens};
-ghost use Rattle.processes.specs.Machine.{IsUnlooked, NeedsNoLook};
+ghost use Rattle.kernel.specs.Machine.{IsUnlooked, NeedsNoLook};
 ghost use Rattle.recovery.specs.Denotes.{Leaves};
 ghost use Rattle.recovery.specs.Recovered.{RefusesToOpen};
 ghost use Rattle.kernel.specs.Power.{power_of};
 ghost use Rattle.kernel.specs.Standing.{HasCode, HasDevice, HasNoneToMove, IsCaused, IsDeviceOf, IsTold, SameDevice, Serves, disk_of};
 ghost use Rattle.kernel.specs.Opening.{IsNoReason, IsSomeDown, Opens, Reopened, refused_by};
 
+use crate::processes::Served;
 use crate::serving::serve;
 use checkpoint::{Checkpoint, OpenFault, OpenRefused};
 use device::{Device, Failed};
 use model::{Answer, Command, Refusal};
 use object_store::ObjectStore;
-use processes::Served;
 use recovery::{Live, recover};
 use std::alloc::Global;
 use std::marker::Model;
@@ -168,7 +168,13 @@ impl<D: Device, S: ObjectStore<D>> Kernel<D, S> {
             (disk_of D.disk S.view S.parts self.new) result }
     {
         let device = take_device::<D, S>(&mut self.live, &mut self.device);
-        rise::<D, S>(alloc, device, self.setting, &mut self.live, &mut self.device)
+        rise::<D, S>(
+            alloc,
+            device,
+            self.setting,
+            &mut self.live,
+            &mut self.device,
+        )
     }
 
     // Cuts the power, and opens the device again.
@@ -181,7 +187,13 @@ impl<D: Device, S: ObjectStore<D>> Kernel<D, S> {
     {
         let mut device = take_device::<D, S>(&mut self.live, &mut self.device);
         device.power_cut();
-        rise::<D, S>(alloc, device, self.setting, &mut self.live, &mut self.device)
+        rise::<D, S>(
+            alloc,
+            device,
+            self.setting,
+            &mut self.live,
+            &mut self.device,
+        )
     }
 
     /// Serves one command, as the machine does.

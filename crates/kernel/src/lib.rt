@@ -4,6 +4,7 @@
 mod checkpoints;
 mod journaling;
 mod kernel;
+mod processes;
 mod serving;
 
 pub use kernel::Kernel;

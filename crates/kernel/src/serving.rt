@@ -5,15 +5,15 @@ ghost use Rattle.model.specs.declared.command.Command.TheVariants.{Invoke};
 ghost use Rattle.model.specs.declared.command.Invocation.{Invocation};
 ghost use Rattle.model.specs.Step.{opens};
 ghost use Rattle.kernel.specs.Power as power;
-ghost use Rattle.processes.specs.Machine.{IsServedOnce, IsToldOnce, IsUnlooked, answer_of, answer_with};
+ghost use Rattle.kernel.specs.Machine.{IsServedOnce, IsToldOnce, IsUnlooked, answer_of, answer_with};
 ghost use Rattle.recovery.specs.Live.{IsSomeUp, disk_at};
 ghost use Rattle.kernel.specs.Standing.{HasCode, HasNoneToMove, IsCaused, ServesUp};
 
+use crate::processes::{self, Served};
 use crate::{checkpoints, journaling};
 use device::{Device, Failed};
 use model::{Answer, Command, Refusal};
 use object_store::ObjectStore;
-use processes::Served;
 use recovery::Live;
 use std::alloc::Global;
 

@@ -1,7 +1,7 @@
 use Rattle.std.proofs.Common.{sym, subst}
 use Rattle.model.specs.declared.answer.Answer.{Answer}
 use Rattle.model.specs.declared.command.Command.TheVariants as command
-use Rattle.processes.proofs.Serving.{AreSame}
+use Rattle.kernel.proofs.Performing.{AreSame}
 use Rattle.object_store.specs.Store.{left_in}
 use Rattle.kernel.specs.Standing.{IsCaused, ServesUp}
 use Rattle.kernel.proofs.Acts.{commit_cause, commit_refused, commit_went, may_commit, with_store}

@@ -1,7 +1,7 @@
 use Rattle.std.proofs.Common.{subst, sym}
 use Rattle.model.specs.declared.answer.Answer.{Answer}
 use Rattle.model.specs.declared.command.Command.TheVariants as command
-use Rattle.processes.proofs.Serving.{AreSame}
+use Rattle.kernel.proofs.Performing.{AreSame}
 use Rattle.kernel.specs.Standing.{ServesUp}
 use Rattle.kernel.proofs.Acts.{err_answer, migrate_failed, migrate_went, with_store}
 use Rattle.kernel.proofs.checkpoints.migrate.Goals as goal

@@ -3,8 +3,8 @@ use Rattle.std.specs.Prelude.{nat_lt}
 use Rattle.model.specs.declared.answer.Answer.{Answer}
 use Rattle.model.specs.declared.command.Command.TheVariants as command
 use Rattle.checkpoint.specs.Saved.{LeavesOneOf}
-use Rattle.processes.specs.Machine.{IsUnlooked}
-use Rattle.processes.proofs.Serving.{AreSame}
+use Rattle.kernel.specs.Machine.{IsUnlooked}
+use Rattle.kernel.proofs.Performing.{AreSame}
 use Rattle.object_store.specs.Store.{left_in}
 use Rattle.object_store.specs.Journal.{is_page_now, is_still_saved, aside_after_journal, next_journaled, words_now}
 use Rattle.kernel.specs.Standing.{IsCaused, ServesUp}

@@ -1,7 +1,7 @@
 use Rattle.std.proofs.Common.{length, ap, arith, subst, sym}
 use Rattle.model.specs.declared.answer.Answer.{Answer}
 use Rattle.model.specs.declared.command.Command.TheVariants as command
-use Rattle.processes.proofs.Serving.{AreSame}
+use Rattle.kernel.proofs.Performing.{AreSame}
 use Rattle.kernel.specs.Standing.{ServesUp}
 use Rattle.kernel.proofs.Acts.{bad_number, err_answer, evict_failed, evicted, with_store}
 use Rattle.kernel.proofs.Stages.{keepable_most}

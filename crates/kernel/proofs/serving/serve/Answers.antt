@@ -1,7 +1,7 @@
 use Rattle.std.proofs.Common.{subst, sym}
 use Rattle.model.specs.declared.command.Command.{Command}
 use Rattle.model.specs.declared.command.Command.TheVariants as command
-use Rattle.processes.specs.Machine.{answer_with}
+use Rattle.kernel.specs.Machine.{answer_with}
 use Rattle.kernel.specs.Standing.{ServesUp}
 use Rattle.kernel.proofs.Acts.{acted, caused, with_act}
 use Rattle.kernel.proofs.Codes.{other_code, up_code}

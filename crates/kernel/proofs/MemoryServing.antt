@@ -1,0 +1,239 @@
+-- What loads and stores come to over present frames, from what each part of them told.
+use Rattle.std.proofs.Common.{◌≡◌, ◌↔◌, ℕ, ◌%◌, ◌<◌, ◌≤◌, Bool, true, List, [], ◌∷◌, Option, None, Some, Result, Ok, Err, refl, sym, ap, ◌∙◌, subst, arith}
+use Rattle.std.specs.Prelude.{IsErrOf}
+use Rattle.model.specs.declared.answer.Answer.{Answer}
+use Rattle.model.specs.declared.answer.Answer.TheVariants as answer
+use Rattle.model.specs.declared.answer.MemoryFault.{MemoryFault}
+use Rattle.model.specs.declared.answer.Refusal.{Refusal}
+use Rattle.model.specs.declared.answer.Refusal.TheVariants as refusal
+use Rattle.model.specs.declared.command.Command.{Command}
+use Rattle.model.specs.declared.command.Command.TheVariants as command
+use Rattle.model.specs.declared.frame.Frame.{Frame}
+use Rattle.model.specs.declared.frame.ObjectHeader.{ObjectHeader}
+use Rattle.model.specs.declared.geometry.Geometry.{Geometry}
+use Rattle.model.specs.declared.object.Object.{Object}
+use Rattle.model.specs.Frame.{header_at, objects_of}
+use Rattle.model.specs.Keepable.{IsSoundFrames}
+use Rattle.model.specs.Machine.{Frozen, Saved, Machine, touching, touched_count}
+use Rattle.model.specs.Step.{Step}
+use Rattle.model.specs.World.{is_process, is_running_process, with_word}
+use Rattle.model_laws.proofs.GivenUp.{none_in_frame, renewing_none}
+use Rattle.model_laws.proofs.InvocationFrame.{word_frame}
+use Rattle.model_laws.proofs.Usage.{SameFrame, frame_refl, tests_at}
+use Rattle.capability.specs.declared.present.PrepareFault.{PrepareFault}
+use Rattle.capability.specs.declared.present.PrepareFault.TheVariants as prepare
+use Rattle.capability.specs.Parts.{IsUnchanged, Looks, LooksUp, Parts, frames_of, objects_in}
+use Rattle.address_space.specs.References.{IsLoaded, IsStored, KeepsSound, OverfillsStore}
+use Rattle.space_bank.proofs.Renewing.{renews_none}
+use Rattle.kernel.specs.Machine.{IsEarly, Performs, machine_at, renewed_by}
+use Rattle.kernel.specs.Prepared.{refused_by}
+use Rattle.kernel.proofs.Performing.{AreSame, refused_serves, same_frames, same_renews, same_sound, serves_looked, standing, still_machine, told_cause, unfailed}
+use Rattle.kernel.proofs.ProcessSteps.{early_fine}
+use Rattle.kernel.proofs.MemorySteps.{load_early, load_step, load_without_memory, loaded_answer, store_early, store_fault_step, store_full_step, store_step, store_without_memory}
+
+-- what was only looked at is the same
+pub looked_same : {S : Type 0} (parts : S → Parts) (Leads : S → S → Type 0) (old new : S) → LooksUp parts Leads old new → AreSame (parts old) (parts new)
+looked_same parts Leads old new aside = record { headers = aside.headers; contents = aside.contents; touched = aside.touched; geometry = aside.geometry }
+
+-- and so is what wasn't changed
+unchanged_same : (old new : Parts) → new.geometry ≡ old.geometry → IsUnchanged old new → AreSame old new
+unchanged_same old new geometry unchanged =
+    record { headers = unchanged.headers; contents = unchanged.contents; touched = unchanged.touched; geometry = geometry }
+
+-- what an outcome isn't
+ok_unfailed : {T : Type 0} (t : T) → (let r : Result T PrepareFault = Ok t in IsErrOf r prepare.Failed) → ⊥
+ok_unfailed t e = cc
+
+err_unfailed : {T : Type 0} (f : PrepareFault) → (f ≡ prepare.Failed → ⊥) → (let r : Result T PrepareFault = Err f in IsErrOf r prepare.Failed) → ⊥
+err_unfailed f other e = let d : f ≡ prepare.Failed = cc in other d
+
+-- what a store answers
+abbrev pub stored_answer : Result (Unit {0}) MemoryFault → Answer
+stored_answer (Ok done) = answer.Done
+stored_answer (Err why) = answer.MemoryFault why
+
+loaded_unfailed : (loaded : Result ℕ MemoryFault) → loaded_answer loaded ≡ answer.Refused refusal.Fault → ⊥
+loaded_unfailed (Ok word) e = cc
+loaded_unfailed (Err why) e = cc
+
+stored_unfailed : (stored : Result (Unit {0}) MemoryFault) → stored_answer stored ≡ answer.Refused refusal.Fault → ⊥
+stored_unfailed (Ok done) e = cc
+stored_unfailed (Err why) e = cc
+
+-- the machine of parts with these objects and these numbers touched
+machine_is : (age : ℕ) (new : Parts) (renewed now : List Bool) (frozen : Option Frozen) (saved : Saved) (to_move : ℕ) (os : List Object) (ts : List Bool) →
+    objects_in new ≡ os → new.touched ≡ ts → renewed ≡ now → standing age renewed frozen saved to_move os ts ≡ machine_at age new now frozen saved to_move
+machine_is age new renewed now frozen saved to_move os ts objects touched same =
+    ap (λ (us : List Object). standing age renewed frozen saved to_move us ts) (sym objects)
+    ∙ ap (standing age renewed frozen saved to_move (objects_in new)) (sym touched)
+    ∙ ap (λ (rs : List Bool). standing age rs frozen saved to_move (objects_in new) new.touched) same
+
+-- a process that can't act
+module _ {S : Type 0} (parts : S → Parts) (Leads : S → S → Type 0) (age : ℕ) (old new : S) (p address : ℕ) (why : Refusal)
+    (sound : IsSoundFrames (parts old).geometry age (frames_of (parts old))) (early : IsEarly (objects_in (parts old)) p (Some why))
+    (aside : LooksUp parts Leads old new) (later : (parts old).failures ≤ (parts new).failures)
+    (stayed : (parts old).failures < (parts new).failures → ⊥) where
+  why_cause : (why ≡ refusal.Fault) ↔ ((parts old).failures < (parts new).failures)
+  why_cause = told_cause why (early_fine (objects_in (parts old)) p why early) stayed
+
+  pub early_load : Performs age (parts old) (command.Load p address) (answer.Refused why) age (parts new)
+  early_load =
+      refused_serves age (parts old) (parts new) (command.Load p address) why (looked_same parts Leads old new aside) sound later why_cause
+      (λ renewed frozen saved to_move other. load_early (parts old).geometry _ p address why early)
+
+  pub early_store : (word : ℕ) → Performs age (parts old) (command.Store p address word) (answer.Refused why) age (parts new)
+  early_store word =
+      refused_serves age (parts old) (parts new) (command.Store p address word) why (looked_same parts Leads old new aside) sound later why_cause
+      (λ renewed frozen saved to_move other. store_early (parts old).geometry _ p address word why early)
+
+-- what is answered to a process that runs, after a look at it, by what came of its load or store
+module _ {S : Type 0} (parts : S → Parts) (Leads : S → S → Type 0) (age : ℕ) (before between after : S) (p address : ℕ)
+    (sound : IsSoundFrames (parts before).geometry age (frames_of (parts before))) (acts : IsEarly (objects_in (parts before)) p None)
+    (aside : LooksUp parts Leads before between) (rises : (parts before).failures ≤ (parts between).failures)
+    (stayed : (parts before).failures < (parts between).failures → ⊥) where
+  abbrev old : Parts
+  old = parts before
+
+  abbrev mid : Parts
+  mid = parts between
+
+  abbrev new : Parts
+  new = parts after
+
+  same : AreSame old mid
+  same = looked_same parts Leads before between aside
+
+  failures : mid.failures ≡ old.failures
+  failures = unfailed old.failures mid.failures rises stayed
+
+  process : is_process (objects_in mid) p ≡ true
+  process = ap (λ (fs : List Frame). is_process (objects_of fs) p) (same_frames old mid same) ∙ acts.0
+
+  running : is_running_process (objects_in mid) p ≡ true
+  running = ap (λ (fs : List Frame). is_running_process (objects_of fs) p) (same_frames old mid same) ∙ acts.1
+
+  mid_sound : IsSoundFrames mid.geometry age (frames_of mid)
+  mid_sound = same_sound old mid same age sound
+
+  refused_then : (c : Command) (why : Refusal) → (why ≡ refusal.Fault → ⊥) → AreSame mid new → mid.failures ≤ new.failures → (mid.failures < new.failures → ⊥) →
+      ((renewed : List Bool) (frozen : Option Frozen) (saved : Saved) (to_move : ℕ) →
+      Step mid.geometry (machine_at age mid renewed frozen saved to_move) c (answer.Refused why) (machine_at age mid renewed frozen saved to_move)) →
+      Performs age old c (answer.Refused why) age new
+  refused_then c why other unchanged later stayed step =
+      serves_looked age age old mid new c (answer.Refused why) same failures
+      (refused_serves age mid new c why unchanged mid_sound later (told_cause why other stayed)
+      (λ renewed frozen saved to_move differs. step renewed frozen saved to_move))
+
+  load_then : (loaded : Result ℕ MemoryFault) → IsLoaded (objects_in mid) p address loaded → AreSame mid new → mid.failures ≤ new.failures →
+      (mid.failures < new.failures → ⊥) → Performs age old (command.Load p address) (loaded_answer loaded) age new
+  load_then loaded is unchanged later stayed = serves_looked age age old mid new (command.Load p address) (loaded_answer loaded) same failures (record {
+    step = λ renewed frozen saved to_move other.
+        subst (λ (m : Machine). Step mid.geometry (machine_at age mid renewed frozen saved to_move) (command.Load p address) (loaded_answer loaded) m)
+        (sym (still_machine mid new unchanged age renewed frozen saved to_move))
+        (load_step mid.geometry _ p address process running loaded is);
+    renews = same_renews mid new unchanged;
+    sound = same_sound mid new unchanged age mid_sound;
+    geometry = unchanged.geometry;
+    later = later;
+    cause = (λ e. absurd (loaded_unfailed loaded e), λ rose. absurd (stayed rose));
+  })
+
+  pub load_answers : (loaded told : Result ℕ MemoryFault) → loaded ≡ told → IsLoaded (objects_in mid) p address loaded →
+      (let r : Result (Result ℕ MemoryFault) PrepareFault = Ok loaded in Looks parts Leads between after r) →
+      Performs age old (command.Load p address) (loaded_answer told) age new
+  load_answers loaded told is found looks =
+      subst (λ (r : Result ℕ MemoryFault). Performs age old (command.Load p address) (loaded_answer r) age new) is
+      (load_then loaded found (looked_same parts Leads between after looks.aside) looks.later (λ rose. ok_unfailed loaded (looks.cause.1 rose)))
+
+  failed_then : (c : Command) → AreSame mid new → mid.failures < new.failures → Performs age old c (answer.Refused refusal.Fault) age new
+  failed_then c unchanged rose =
+      serves_looked age age old mid new c (answer.Refused refusal.Fault) same failures
+      (refused_serves age mid new c refusal.Fault unchanged mid_sound (omega (arith, rose)) (λ e. rose, λ r. refl)
+      (λ renewed frozen saved to_move other. absurd (other refl)))
+
+  load_by : (f : PrepareFault) → (let r : Result (Result ℕ MemoryFault) PrepareFault = Err f in Looks parts Leads between after r) →
+      Performs age old (command.Load p address) (answer.Refused (refused_by f)) age new
+  load_by prepare.NoMemory looks =
+      refused_then (command.Load p address) refusal.NoMemory (λ e. cc) (looked_same parts Leads between after looks.aside) looks.later
+      (λ rose. err_unfailed prepare.NoMemory (λ e. cc) (looks.cause.1 rose))
+      (λ renewed frozen saved to_move. load_without_memory mid.geometry _ p address process)
+  load_by prepare.LogFull looks = absurd (looks.room refl)
+  load_by prepare.Failed looks = failed_then (command.Load p address) (looked_same parts Leads between after looks.aside) (looks.cause.0 refl)
+
+  pub load_is_refused : (f : PrepareFault) (a : Answer) → a ≡ answer.Refused (refused_by f) →
+      (let r : Result (Result ℕ MemoryFault) PrepareFault = Err f in Looks parts Leads between after r) →
+      Performs age old (command.Load p address) a age new
+  load_is_refused f a is looks =
+      subst (λ (b : Answer). Performs age old (command.Load p address) b age new) (sym is) (load_by f looks)
+
+  -- a store, after which the count of failures may have risen
+  module _ (word : ℕ) (geometry : new.geometry ≡ mid.geometry) (headers : new.headers ≡ mid.headers) (later : mid.failures ≤ new.failures) where
+    -- a store leaves the frame of the objects
+    stored_frame : (stored : Result (Unit {0}) MemoryFault) →
+        IsStored mid.geometry.log (objects_in mid) mid.touched p address word (objects_in new) new.touched stored →
+        SameFrame (objects_in mid) (objects_in new)
+    stored_frame (Ok done) is =
+        subst (λ (us : List Object). SameFrame (objects_in mid) us) (sym is.2) (word_frame (objects_in mid) is.0 (address % 512) word)
+    stored_frame (Err why) is = subst (λ (us : List Object). SameFrame (objects_in mid) us) (sym is.1) (frame_refl (objects_in mid))
+
+    none_renewed : (renewed : List Bool) → SameFrame (objects_in mid) (objects_in new) → renewed_by renewed mid new ≡ renewed
+    none_renewed renewed frame =
+        renewing_none renewed (objects_in mid) (objects_in new) (none_in_frame (objects_in mid) (objects_in new) frame)
+
+    stored_step : (stored : Result (Unit {0}) MemoryFault) →
+        IsStored mid.geometry.log (objects_in mid) mid.touched p address word (objects_in new) new.touched stored →
+        (renewed : List Bool) (frozen : Option Frozen) (saved : Saved) (to_move : ℕ) →
+        Step mid.geometry (machine_at age mid renewed frozen saved to_move) (command.Store p address word) (stored_answer stored)
+        (machine_at age new (renewed_by renewed mid new) frozen saved to_move)
+    stored_step (Ok done) is renewed frozen saved to_move =
+        subst (λ (m : Machine). Step mid.geometry (machine_at age mid renewed frozen saved to_move) (command.Store p address word) answer.Done m)
+        (machine_is age new renewed (renewed_by renewed mid new) frozen saved to_move (with_word (objects_in mid) is.0 (address % 512) word) (touching mid.touched (is.0 ∷ [])) is.2 is.3
+        (sym (none_renewed renewed (stored_frame (Ok done) is))))
+        (store_step mid.geometry _ p address word process running is.0 is.1 (subst (λ (ts : List Bool). touched_count ts ≤ mid.geometry.log) is.3 is.4))
+    stored_step (Err why) is renewed frozen saved to_move =
+        subst (λ (m : Machine). Step mid.geometry (machine_at age mid renewed frozen saved to_move) (command.Store p address word) (answer.MemoryFault why) m)
+        (machine_is age new renewed (renewed_by renewed mid new) frozen saved to_move (objects_in mid) mid.touched is.1 is.2
+        (sym (none_renewed renewed (stored_frame (Err why) is))))
+        (store_fault_step mid.geometry _ p address word process running why is.0)
+
+    pub store_answers : (stored told : Result (Unit {0}) MemoryFault) → stored ≡ told →
+        IsStored mid.geometry.log (objects_in mid) mid.touched p address word (objects_in new) new.touched stored →
+        KeepsSound mid new →
+        (let r : Result (Result (Unit {0}) MemoryFault) PrepareFault = Ok stored in IsErrOf r prepare.Failed ↔ (mid.failures < new.failures)) →
+        Performs age old (command.Store p address word) (stored_answer told) age new
+    store_answers stored told is found keeps cause =
+        subst (λ (r : Result (Unit {0}) MemoryFault). Performs age old (command.Store p address word) (stored_answer r) age new) is
+        (serves_looked age age old mid new (command.Store p address word) (stored_answer stored) same failures (record {
+          step = λ renewed frozen saved to_move other. stored_step stored found renewed frozen saved to_move;
+          renews = renews_none mid new (λ n. ap (λ (hs : List ObjectHeader). (header_at hs n).allocations) headers)
+              (λ n used. (tests_at (objects_in mid) (objects_in new) (stored_frame stored found) n).free ∙ used);
+          sound = subst (λ (g : Geometry). IsSoundFrames g age (frames_of new)) (sym geometry) (keeps age mid_sound);
+          geometry = geometry;
+          later = later;
+          cause = (λ e. absurd (stored_unfailed stored e), λ rose. absurd (ok_unfailed stored (cause.1 rose)));
+        }))
+
+    store_by : (f : PrepareFault) → AreSame mid new →
+        (let r : Result (Result (Unit {0}) MemoryFault) PrepareFault = Err f in IsErrOf r prepare.Failed ↔ (mid.failures < new.failures)) →
+        (let r : Result (Result (Unit {0}) MemoryFault) PrepareFault = Err f in IsErrOf r prepare.LogFull →
+        OverfillsStore mid.geometry.log (objects_in mid) mid.touched p address) →
+        Performs age old (command.Store p address word) (answer.Refused (refused_by f)) age new
+    store_by prepare.NoMemory unchanged cause full =
+        refused_then (command.Store p address word) refusal.NoMemory (λ e. cc) unchanged later
+        (λ rose. err_unfailed prepare.NoMemory (λ e. cc) (cause.1 rose))
+        (λ renewed frozen saved to_move. store_without_memory mid.geometry _ p address word process)
+    store_by prepare.LogFull unchanged cause full =
+        let over = full refl in
+        refused_then (command.Store p address word) refusal.LogFull (λ e. cc) unchanged later
+        (λ rose. err_unfailed prepare.LogFull (λ e. cc) (cause.1 rose))
+        (λ renewed frozen saved to_move. store_full_step mid.geometry _ p address word process running over.0 over.1 over.2)
+    store_by prepare.Failed unchanged cause full = failed_then (command.Store p address word) unchanged (cause.0 refl)
+
+    pub store_is_refused : (f : PrepareFault) (a : Answer) → a ≡ answer.Refused (refused_by f) → IsUnchanged mid new →
+        (let r : Result (Result (Unit {0}) MemoryFault) PrepareFault = Err f in IsErrOf r prepare.Failed ↔ (mid.failures < new.failures)) →
+        (let r : Result (Result (Unit {0}) MemoryFault) PrepareFault = Err f in IsErrOf r prepare.LogFull →
+        OverfillsStore mid.geometry.log (objects_in mid) mid.touched p address) →
+        Performs age old (command.Store p address word) a age new
+    store_is_refused f a is unchanged cause full =
+        subst (λ (b : Answer). Performs age old (command.Store p address word) b age new) (sym is)
+        (store_by f (unchanged_same mid new geometry unchanged) cause full)

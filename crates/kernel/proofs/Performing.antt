@@ -1,0 +1,243 @@
+-- What a command comes to over present frames, from what each part of it told.
+use Rattle.std.proofs.Common.{◌≡◌, ◌↔◌, ℕ, ◌+◌, ◌^◌, ◌<◌, ◌≤◌, Bool, true, false, List, length, Option, Result, Ok, Err, refl, sym, ap, ◌∙◌, subst, ⊎_elim, arith}
+use Rattle.std.proofs.lemmas.Bool.{cases_lt}
+use Rattle.model.specs.declared.answer.Answer.{Answer}
+use Rattle.model.specs.declared.answer.Answer.TheVariants as answer
+use Rattle.model.specs.declared.answer.Refusal.{Refusal}
+use Rattle.model.specs.declared.answer.Refusal.TheVariants as refusal
+use Rattle.model.specs.declared.command.Command.{Command}
+use Rattle.model.specs.declared.command.Command.TheVariants as command
+use Rattle.model.specs.declared.command.Invocation.{Invocation}
+use Rattle.model.specs.declared.frame.Frame.{Frame}
+use Rattle.model.specs.declared.geometry.Geometry.{Geometry}
+use Rattle.model.specs.declared.object.Object.{Object}
+use Rattle.model.specs.declared.order.ResultCode.{ResultCode}
+use Rattle.model.specs.declared.frame.ObjectHeader.{ObjectHeader}
+use Rattle.model.specs.Frame.{frames_in, header_at, objects_of}
+use Rattle.model.specs.Keepable.{IsSoundFrames, world_at}
+use Rattle.model.specs.Machine.{Frozen, Running, Saved, Machine, Up, renewing, touching, touched_count}
+use Rattle.model.specs.Object.{is_free}
+use Rattle.model.specs.Step.{Step, shown}
+use Rattle.model.specs.World.{content_at, is_process, is_running_process}
+use Rattle.model_laws.proofs.GivenUp.{none_given_up, renewing_none}
+use Rattle.capability.specs.Parts.{Parts, Renews, frames_of, objects_in}
+use Rattle.capability.proofs.Keeping.{keepable_count}
+use Rattle.std.specs.Prelude.{IsErr, IsErrOf}
+use Rattle.capability.specs.declared.present.PrepareFault.{PrepareFault}
+use Rattle.capability.specs.declared.present.PrepareFault.TheVariants as prepare
+use Rattle.gate.specs.declared.fault.InvokeFault.{InvokeFault}
+use Rattle.gate.specs.declared.fault.InvokeFault.TheVariants as fault
+use Rattle.gate.specs.Invoke.{Invoked, Invokes, KeepsSoundFrames, TellsState}
+use Rattle.device.specs.declared.device.Failed.{Failed}
+use Rattle.space_bank.proofs.Renewing.{renews_after, renews_none}
+use Rattle.kernel.specs.Machine.{Performs, machine_at, renewed_by}
+use Rattle.kernel.specs.Prepared.{refusal_by, refused_by}
+use Rattle.kernel.proofs.ProcessSteps.{bad_number_step, early_step, full_step, invoke_step, no_memory_step, show_no_memory, show_step, stalled_step}
+
+-- the same parts but for failures
+pub record AreSame (old new : Parts) : Type 0 where
+  pub headers : new.headers ≡ old.headers
+  pub contents : new.contents ≡ old.contents
+  pub touched : new.touched ≡ old.touched
+  pub geometry : new.geometry ≡ old.geometry
+
+module _ (old new : Parts) (same : AreSame old new) where
+  pub same_frames : frames_of new ≡ frames_of old
+  same_frames = ap (λ (hs : List ObjectHeader). frames_in hs new.contents) same.headers ∙ ap (frames_in old.headers) same.contents
+
+  pub same_sound : (age : ℕ) → IsSoundFrames old.geometry age (frames_of old) → IsSoundFrames new.geometry age (frames_of new)
+  same_sound age sound =
+      subst (λ (g : Geometry). IsSoundFrames g age (frames_of new)) (sym same.geometry)
+      (subst (λ (fs : List Frame). IsSoundFrames old.geometry age fs) (sym same_frames) sound)
+
+  pub same_machine : (age : ℕ) (renewed : List Bool) (frozen : Option Frozen) (saved : Saved) (to_move : ℕ) → machine_at age new renewed frozen saved to_move ≡ machine_at age old renewed frozen saved to_move
+  same_machine age renewed frozen saved to_move =
+      ap (λ (fs : List Frame). let r : Running = record { now = world_at age fs; touched = new.touched; renewed = renewed; frozen = frozen; saved = saved; to_move = to_move } in Up r) same_frames
+      ∙ ap (λ (ts : List Bool). let r : Running = record { now = world_at age (frames_of old); touched = ts; renewed = renewed; frozen = frozen; saved = saved; to_move = to_move } in Up r) same.touched
+
+  -- nothing is given up
+  pub same_renews : Renews old new
+  same_renews =
+      renews_none old new (λ n. ap (λ (hs : List ObjectHeader). (header_at hs n).allocations) same.headers)
+      (λ n used. ap (λ (fs : List Frame). is_free (content_at (objects_of fs) n)) same_frames ∙ used)
+
+  pub same_renewed : (renewed : List Bool) → renewed_by renewed old new ≡ renewed
+  same_renewed renewed =
+      renewing_none renewed (objects_in old) (objects_in new)
+      (λ n. none_given_up (objects_in old) (objects_in new) n (λ used. ap (λ (fs : List Frame). is_free (content_at (objects_of fs) n)) same_frames ∙ used))
+
+  pub still_machine : (age : ℕ) (renewed : List Bool) (frozen : Option Frozen) (saved : Saved) (to_move : ℕ) →
+      machine_at age new (renewed_by renewed old new) frozen saved to_move ≡ machine_at age old renewed frozen saved to_move
+  still_machine age renewed frozen saved to_move =
+      ap (λ (rs : List Bool). machine_at age new rs frozen saved to_move) (same_renewed renewed) ∙ same_machine age renewed frozen saved to_move
+
+-- a refusal that changes nothing
+pub refused_serves : (age : ℕ) (old new : Parts) (c : Command) (why : Refusal) → AreSame old new → IsSoundFrames old.geometry age (frames_of old) → old.failures ≤ new.failures →
+    ((why ≡ refusal.Fault) ↔ (old.failures < new.failures)) →
+    ((renewed : List Bool) (frozen : Option Frozen) (saved : Saved) (to_move : ℕ) → (why ≡ refusal.Fault → ⊥) →
+    Step old.geometry (machine_at age old renewed frozen saved to_move) c (answer.Refused why) (machine_at age old renewed frozen saved to_move)) →
+    Performs age old c (answer.Refused why) age new
+refused_serves age old new c why same sound later cause step = record {
+  step = λ renewed frozen saved to_move other.
+      subst (λ (m : Machine). Step old.geometry (machine_at age old renewed frozen saved to_move) c (answer.Refused why) m) (sym (still_machine old new same age renewed frozen saved to_move))
+      (step renewed frozen saved to_move (λ e. other (ap answer.Refused e)));
+  renews = same_renews old new same;
+  sound = same_sound old new same age sound;
+  geometry = same.geometry;
+  later = later;
+  cause = (λ e. let f : why ≡ refusal.Fault = cc in cause.0 f, λ rose. ap answer.Refused (cause.1 rose));
+}
+
+-- a refusal other than for a failure, where the count of failures didn't rise
+pub told_cause : (why : Refusal) {X : Type 0} → (why ≡ refusal.Fault → ⊥) → (X → ⊥) → (why ≡ refusal.Fault) ↔ X
+told_cause why other stayed = (λ e. absurd (other e), λ x. absurd (stayed x))
+
+-- a count that neither fell nor rose is the same
+pub unfailed : (m n : ℕ) → m ≤ n → (m < n → ⊥) → n ≡ m
+unfailed m n later stayed = ⊎_elim (λ (rose : m < n). absurd (stayed rose)) (λ (within : n ≤ m). omega arith) (cases_lt m n)
+
+-- what is answered after a look is answered before it
+pub serves_looked : (age after : ℕ) (old mid new : Parts) (c : Command) (a : Answer) → AreSame old mid → mid.failures ≡ old.failures → Performs age mid c a after new → Performs age old c a after new
+serves_looked age after old mid new c a same failures serves = record {
+  step = λ renewed frozen saved to_move other.
+      subst (λ (g : Geometry). Step g (machine_at age old renewed frozen saved to_move) c a (machine_at after new (renewed_by renewed old new) frozen saved to_move)) same.geometry
+      (subst (λ (m : Machine). Step mid.geometry m c a (machine_at after new (renewed_by renewed old new) frozen saved to_move)) (same_machine old mid same age renewed frozen saved to_move)
+      (subst (λ (fs : List Frame). Step mid.geometry (machine_at age mid renewed frozen saved to_move) c a
+      (machine_at after new (renewing renewed (objects_of fs) (objects_in new)) frozen saved to_move)) (same_frames old mid same)
+      (serves.step renewed frozen saved to_move other)));
+  renews = renews_after old mid new (λ n. ap (λ (hs : List ObjectHeader). (header_at hs n).allocations) same.headers)
+      (λ n. ap (λ (fs : List Frame). is_free (content_at (objects_of fs) n)) (same_frames old mid same)) serves.renews;
+  sound = serves.sound;
+  geometry = serves.geometry ∙ same.geometry;
+  later = subst (λ (n : ℕ). n ≤ new.failures) failures serves.later;
+  cause = subst (λ (n : ℕ). (a ≡ answer.Refused refusal.Fault) ↔ (n < new.failures)) failures serves.cause;
+}
+
+abbrev pub standing : ℕ → List Bool → Option Frozen → Saved → ℕ → List Object → List Bool → Machine
+standing age renewed frozen saved to_move os ts = Up (record { now = record { objects = os; age = age }; touched = ts; renewed = renewed; frozen = frozen; saved = saved; to_move = to_move })
+
+-- an invocation that was carried out
+pub done_serves : (age : ℕ) (old new : Parts) (i : Invocation) → age < 2 ^ 62 → is_process (objects_in old) i.process ≡ true →
+    is_running_process (objects_in old) i.process ≡ true → IsSoundFrames old.geometry age (frames_of old) →
+    Invokes old.geometry i (objects_in old) old.touched (objects_in new) new.touched → KeepsSoundFrames old new → Renews old new → new.geometry ≡ old.geometry →
+    old.failures ≤ new.failures → (old.failures < new.failures → ⊥) → Performs age old (command.Invoke i) answer.Done (age + 1) new
+done_serves age old new i young process running sound invokes keeps renews geometry later stayed = record {
+  step = λ renewed frozen saved to_move other.
+      let s : Running = record { now = world_at age (frames_of old); touched = old.touched; renewed = renewed; frozen = frozen; saved = saved; to_move = to_move } in
+      subst (Step old.geometry (Up s) (command.Invoke i) answer.Done) (made renewed frozen saved to_move)
+      (invoke_step old.geometry s i process running young invokes.0 invokes.1 (subst (λ (ts : List Bool). touched_count ts ≤ old.geometry.log) invokes.3 invokes.4));
+  renews = renews;
+  sound = subst (λ (g : Geometry). IsSoundFrames g (age + 1) (frames_of new)) (sym geometry) (keeps age young sound);
+  geometry = geometry;
+  later = later;
+  cause = (λ e. cc, λ rose. absurd (stayed rose));
+}
+  where
+    made : (renewed : List Bool) (frozen : Option Frozen) (saved : Saved) (to_move : ℕ) →
+        standing (age + 1) (renewing renewed (objects_in old) invokes.0.objects) frozen saved to_move invokes.0.objects (touching old.touched invokes.0.written)
+        ≡ machine_at (age + 1) new (renewed_by renewed old new) frozen saved to_move
+    made renewed frozen saved to_move =
+        ap (λ (os : List Object). standing (age + 1) (renewing renewed (objects_in old) os) frozen saved to_move os (touching old.touched invokes.0.written)) (sym invokes.2)
+        ∙ ap (standing (age + 1) (renewed_by renewed old new) frozen saved to_move (objects_in new)) (sym invokes.3)
+
+-- what is answered where there is no process
+pub no_process_serves : (p : Parts) (age : ℕ) (i : Invocation) → IsSoundFrames p.geometry age (frames_of p) → is_process (objects_in p) i.process ≡ false →
+    Performs age p (command.Invoke i) (answer.Refused refusal.NoProcess) age p
+no_process_serves p age i sound none =
+    refused_serves age p p (command.Invoke i) refusal.NoProcess (record { headers = refl; contents = refl; touched = refl; geometry = refl }) sound (omega arith)
+    (told_cause refusal.NoProcess (λ e. cc) (λ rose. absurd (omega (arith, rose))))
+    (λ renewed frozen saved to_move other. early_step p.geometry _ i refusal.NoProcess none)
+
+-- what is answered to an invocation that wasn't carried out
+module _ {S : Type 0} (parts : S → Parts) (Leads : S → S → Type 0) (age : ℕ) (old new : S) (i : Invocation)
+    (process : is_process (objects_in (parts old)) i.process ≡ true) (sound : IsSoundFrames (parts old).geometry age (frames_of (parts old))) (young : age < 2 ^ 62) where
+  module _ (f : InvokeFault) (said : Invoked parts Leads old new i (Err f)) where
+    unchanged : AreSame (parts old) (parts new)
+    unchanged = record { headers = said.unchanged.headers; contents = said.unchanged.contents; touched = said.unchanged.touched; geometry = said.geometry }
+
+    refused : (why : Refusal) → ((why ≡ refusal.Fault) ↔ (f ≡ fault.Failed)) →
+        ((renewed : List Bool) (frozen : Option Frozen) (saved : Saved) (to_move : ℕ) → (why ≡ refusal.Fault → ⊥) →
+        Step (parts old).geometry (machine_at age (parts old) renewed frozen saved to_move) (command.Invoke i) (answer.Refused why) (machine_at age (parts old) renewed frozen saved to_move)) →
+        Performs age (parts old) (command.Invoke i) (answer.Refused why) age (parts new)
+    refused why same step =
+        refused_serves age (parts old) (parts new) (command.Invoke i) why unchanged sound said.later
+        (λ e. said.cause.0 (ap (λ (k : InvokeFault). let r : Result (Option ResultCode) InvokeFault = Err k in r) (same.0 e)), λ rose. let failed = said.cause.1 rose in same.1 cc) step
+
+  pub fault_serves : (f : InvokeFault) → TellsState (objects_in (parts old)) i (Err f) → Invoked parts Leads old new i (Err f) →
+      Performs age (parts old) (command.Invoke i) (answer.Refused (refusal_by f)) age (parts new)
+  fault_serves fault.NotRunning tells said =
+      refused fault.NotRunning said refusal.NotRunning (λ e. cc, λ e. cc)
+      (λ renewed frozen saved to_move other. early_step (parts old).geometry _ i refusal.NotRunning (process, tells))
+  fault_serves fault.Stalled tells said =
+      refused fault.Stalled said refusal.Stalled (λ e. cc, λ e. cc)
+      (λ renewed frozen saved to_move other. stalled_step (parts old).geometry _ i process tells young (said.stalled refl))
+  fault_serves fault.LogFull tells said =
+      let over = said.full refl in
+      refused fault.LogFull said refusal.LogFull (λ e. cc, λ e. cc)
+      (λ renewed frozen saved to_move other. full_step (parts old).geometry _ i process tells young over.0 over.1 over.2)
+  fault_serves fault.NoMemory tells said =
+      refused fault.NoMemory said refusal.NoMemory (λ e. cc, λ e. cc) (λ renewed frozen saved to_move other. no_memory_step (parts old).geometry _ i process)
+  fault_serves fault.Failed tells said =
+      refused fault.Failed said refusal.Fault (λ e. refl, λ e. refl) (λ renewed frozen saved to_move other. absurd (other refl))
+
+  -- and to one that was
+  pub invoked_serves : (code : Option ResultCode) → TellsState (objects_in (parts old)) i (Ok code) → Invoked parts Leads old new i (Ok code) →
+      Performs age (parts old) (command.Invoke i) answer.Done (age + 1) (parts new)
+  invoked_serves code runs said =
+      done_serves age (parts old) (parts new) i young process runs sound said.done said.sound said.renews said.geometry said.later
+      (λ rose. let failed = said.cause.1 rose in cc)
+
+-- what is shown of an object
+pub shown_serves : (age : ℕ) (old new : Parts) (n : ℕ) (a : Answer) → n < length old.headers → AreSame old new → IsSoundFrames old.geometry age (frames_of old) →
+    a ≡ shown (objects_in old) n → old.failures ≤ new.failures → (old.failures < new.failures → ⊥) → Performs age old (command.Show n) a age new
+shown_serves age old new n a known same sound told later stayed = record {
+  step = λ renewed frozen saved to_move other.
+      subst (λ (m : Machine). Step old.geometry (machine_at age old renewed frozen saved to_move) (command.Show n) a m) (sym (still_machine old new same age renewed frozen saved to_move))
+      (show_step old.geometry _ n (subst (λ (m : ℕ). n < m) (keepable_count old.geometry age old sound.keepable) known) a told);
+  renews = same_renews old new same;
+  sound = same_sound old new same age sound;
+  geometry = same.geometry;
+  later = later;
+  cause = (λ e. let d : shown (objects_in old) n ≡ answer.Refused refusal.Fault = sym told ∙ e in cc, λ rose. absurd (stayed rose));
+}
+
+module _ (age : ℕ) (old new : Parts) (n : ℕ) (same : AreSame old new) (sound : IsSoundFrames old.geometry age (frames_of old)) (later : old.failures ≤ new.failures) where
+  pub bad_number_serves : length old.headers ≤ n → (old.failures < new.failures → ⊥) → Performs age old (command.Show n) (answer.Refused refusal.BadNumber) age new
+  bad_number_serves past stayed =
+      refused_serves age old new (command.Show n) refusal.BadNumber same sound later (told_cause refusal.BadNumber (λ e. cc) stayed)
+      (λ renewed frozen saved to_move other. bad_number_step old.geometry _ n (subst (λ (m : ℕ). m ≤ n) (keepable_count old.geometry age old sound.keepable) past))
+
+  pub show_no_memory_serves : n < length old.headers → (old.failures < new.failures → ⊥) → Performs age old (command.Show n) (answer.Refused refusal.NoMemory) age new
+  show_no_memory_serves known stayed =
+      refused_serves age old new (command.Show n) refusal.NoMemory same sound later (told_cause refusal.NoMemory (λ e. cc) stayed)
+      (λ renewed frozen saved to_move other. show_no_memory old.geometry _ n (subst (λ (m : ℕ). n < m) (keepable_count old.geometry age old sound.keepable) known))
+
+  pub show_failed_serves : old.failures < new.failures → Performs age old (command.Show n) (answer.Refused refusal.Fault) age new
+  show_failed_serves rose =
+      refused_serves age old new (command.Show n) refusal.Fault same sound later (λ e. rose, λ r. refl)
+      (λ renewed frozen saved to_move other. absurd (other refl))
+
+-- what a fault of a look isn't
+pub shown_unfailed : (a : Answer) → (let r : Result Answer PrepareFault = Ok a in IsErrOf r prepare.Failed) → ⊥
+shown_unfailed a e = cc
+
+pub look_unfailed : (f : PrepareFault) → f ≡ prepare.NoMemory → (let r : Result Answer PrepareFault = Err f in IsErrOf r prepare.Failed) → ⊥
+look_unfailed f is e = let d : f ≡ prepare.Failed = cc in cc
+
+-- where a call succeeds no count rises
+pub ok_stayed : {X : Type 0} (early : Option Refusal) → (let r : Result (Option Refusal) Failed = Ok early in IsErr r ↔ X) → X → ⊥
+ok_stayed early cause x = let never : false ≡ true = cause.1 x in cc
+
+-- what was shown isn't a failure
+pub shown_fine : (os : List Object) (n : ℕ) (a : Answer) → a ≡ shown os n → a ≡ answer.Refused refusal.Fault → ⊥
+shown_fine os n a told e = let d : shown os n ≡ answer.Refused refusal.Fault = sym told ∙ e in cc
+
+-- an object isn't shown
+pub show_refused : (age : ℕ) (old new : Parts) (n : ℕ) → AreSame old new → IsSoundFrames old.geometry age (frames_of old) → old.failures ≤ new.failures → n < length old.headers → (f : PrepareFault) (a : Answer) →
+    a ≡ answer.Refused (refused_by f) → (let r : Result Answer PrepareFault = Err f in IsErrOf r prepare.Failed ↔ (old.failures < new.failures)) → (let r : Result Answer PrepareFault = Err f in IsErrOf r prepare.LogFull → ⊥) → Performs age old (command.Show n) a age new
+show_refused age old new n same sound later known f a is cause room = subst (λ (b : Answer). Performs age old (command.Show n) b age new) (sym is) (by f cause room)
+  where
+    by : (f : PrepareFault) → (let r : Result Answer PrepareFault = Err f in IsErrOf r prepare.Failed ↔ (old.failures < new.failures)) → (let r : Result Answer PrepareFault = Err f in IsErrOf r prepare.LogFull → ⊥) → Performs age old (command.Show n) (answer.Refused (refused_by f)) age new
+    by prepare.NoMemory cause room = show_no_memory_serves age old new n same sound later known (λ rose. look_unfailed prepare.NoMemory refl (cause.1 rose))
+    by prepare.LogFull cause room = absurd (room refl)
+    by prepare.Failed cause room = show_failed_serves age old new n same sound later (cause.0 refl)

@@ -1,0 +1,13 @@
+use Rattle.std.proofs.Common.{ℕ, ◌<◌, length, sym}
+use Rattle.capability.proofs.Frames.{process_known}
+use Rattle.gate.proofs.Known.{one_known}
+use Rattle.gate.proofs.Standing.{keepable_most}
+use Rattle.kernel.proofs.processes.early.early.Goals as goal
+
+pub fetch-requires-clause-known : goal.fetch-requires-clause-known
+fetch-requires-clause-known g c =
+    let p = g.F.PresentFrames.parts c.args.store.now in
+    one_known (λ (n : ℕ). n < length p.headers) c.args.process (process_known p c.args.process (sym c.if-not-is_process.ensures))
+
+pub fetch-requires-clause-keepable : goal.fetch-requires-clause-keepable
+fetch-requires-clause-keepable g c = keepable_most (g.F.PresentFrames.parts c.args.store.now) (c.args.age, c.requires.sound)

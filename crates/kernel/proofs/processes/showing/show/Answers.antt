@@ -1,0 +1,39 @@
+use Rattle.std.proofs.Common.{◌≡◌, ℕ, ◌≤◌, ◌<◌, List, length, refl, ap, ◌∙◌, subst, arith}
+use Rattle.model.specs.declared.frame.ObjectHeader.{ObjectHeader}
+use Rattle.capability.specs.Parts.{objects_in}
+use Rattle.kernel.specs.Machine.{answer_of}
+use Rattle.kernel.proofs.Performing.{AreSame, bad_number_serves, show_refused, shown_fine, shown_serves, shown_unfailed}
+use Rattle.kernel.proofs.processes.showing.show.Goals as goal
+
+pub returns-then-number-count-clause-serves : goal.returns-then-number-count-clause-serves
+returns-then-number-count-clause-serves g c =
+    let old = g.F.PresentFrames.parts c.args.store.now in
+    let same : AreSame old old = record { headers = refl; contents = refl; touched = refl; geometry = refl } in
+    let counted : c.count.result ≡ length old.headers = c.count.ensures ∙ ap (λ (hs : List ObjectHeader). length hs) c.table.ensures in
+    bad_number_serves c.args.age old old c.args.number same c.requires.sound (omega arith)
+    (subst (λ (m : ℕ). m ≤ c.args.number) counted c.if-number-count.true) (λ rose. omega arith)
+
+pub returns-in-Ok-clause-serves : goal.returns-in-Ok-clause-serves
+returns-in-Ok-clause-serves g c =
+    let old = g.F.PresentFrames.parts c.args.store.now in
+    let new = g.F.PresentFrames.parts c.shown.new.store in
+    let said = c.in-Ok.ensures in
+    let same : AreSame old new = record { headers = said.looks.aside.headers; contents = said.looks.aside.contents; touched = said.looks.aside.touched; geometry = said.looks.aside.geometry } in
+    let counted : c.count.result ≡ length old.headers = c.count.ensures ∙ ap (λ (hs : List ObjectHeader). length hs) c.table.ensures in
+    shown_serves c.args.age old new c.args.number c.in-Ok.answer (subst (λ (m : ℕ). c.args.number < m) counted c.if-number-count.false) same c.requires.sound
+    said.answer said.looks.later (λ rose. shown_unfailed c.in-Ok.answer (said.looks.cause.1 rose))
+
+pub returns-in-Ok-clause-told_once : goal.returns-in-Ok-clause-told_once
+returns-in-Ok-clause-told_once g c =
+    let old = g.F.PresentFrames.parts c.args.store.now in
+    shown_fine (objects_in old) c.args.number c.in-Ok.answer c.in-Ok.ensures.answer
+
+pub returns-in-Err-clause-serves : goal.returns-in-Err-clause-serves
+returns-in-Err-clause-serves g c =
+    let old = g.F.PresentFrames.parts c.args.store.now in
+    let new = g.F.PresentFrames.parts c.shown.new.store in
+    let said = c.in-Err.ensures in
+    let same : AreSame old new = record { headers = said.looks.aside.headers; contents = said.looks.aside.contents; touched = said.looks.aside.touched; geometry = said.looks.aside.geometry } in
+    let counted : c.count.result ≡ length old.headers = c.count.ensures ∙ ap (λ (hs : List ObjectHeader). length hs) c.table.ensures in
+    show_refused c.args.age old new c.args.number same c.requires.sound said.looks.later (subst (λ (m : ℕ). c.args.number < m) counted c.if-number-count.false)
+    c.in-Err.fault (answer_of c.refused.result) c.refused.ensures.answer said.looks.cause said.looks.room

@@ -1,0 +1,83 @@
+-- The machine of present frames, and the steps over them.
+use Rattle.std.specs.Prelude.{◌≡◌, ◌≢◌, ◌↔◌, ℕ, ◌<◌, ◌≤◌, Bool, Option, None, Some, List, true, false, Result, Ok, Err}
+use Rattle.device.specs.declared.device.Failed.{Failed}
+use Rattle.model.specs.declared.answer.Answer.{Answer}
+use Rattle.model.specs.declared.answer.Answer.TheVariants as answer
+use Rattle.model.specs.declared.answer.Refusal.{Refusal}
+use Rattle.model.specs.declared.answer.Refusal.TheVariants as refusal
+use Rattle.model.specs.declared.command.Command.{Command}
+use Rattle.model.specs.declared.command.Invocation.{Invocation}
+use Rattle.model.specs.declared.geometry.Geometry.{Geometry}
+use Rattle.model.specs.declared.object.Object.{Object}
+use Rattle.model.specs.declared.order.ResultCode.{ResultCode}
+use Rattle.model.specs.Keepable.{IsSoundFrames, world_at}
+use Rattle.model.specs.Machine.{Frozen, Saved, Machine, Up, renewing}
+use Rattle.model.specs.Step.{Step}
+use Rattle.model.specs.World.{is_process, is_running_process}
+use Rattle.capability.specs.Parts.{Parts, Renews, frames_of, objects_in}
+use Rattle.gate.specs.Invoke.{result_code}
+use Rattle.kernel.specs.declared.processes.served.Served.{Served}
+
+-- the machine whose objects now are those of present frames
+abbrev pub machine_at : ℕ → Parts → List Bool → Option Frozen → Saved → ℕ → Machine
+machine_at age p renewed frozen saved to_move =
+    Up (record { now = world_at age (frames_of p); touched = p.touched; renewed = renewed; frozen = frozen; saved = saved; to_move = to_move })
+
+-- those of a set of numbers, and those whose objects are given up from some parts to others
+abbrev pub renewed_by : List Bool → Parts → Parts → List Bool
+renewed_by renewed old new = renewing renewed (objects_in old) (objects_in new)
+
+-- what a step is answered by: a failure of the device by `Fault`
+abbrev pub answer_of : Result Answer Failed → Answer
+answer_of (Ok a) = a
+answer_of (Err failed) = answer.Refused refusal.Fault
+
+-- `Fault` comes only as an error
+abbrev pub IsToldOnce : Result Answer Failed → Type 0
+IsToldOnce (Ok a) = a ≢ answer.Refused refusal.Fault
+IsToldOnce (Err failed) = Unit {0}
+
+-- the same for an answer with its result code
+abbrev pub answer_with : Result Served Failed → Answer
+answer_with (Ok served) = served.answer
+answer_with (Err failed) = answer.Refused refusal.Fault
+
+abbrev pub IsServedOnce : Result Served Failed → Type 0
+IsServedOnce (Ok served) = served.answer ≢ answer.Refused refusal.Fault
+IsServedOnce (Err failed) = Unit {0}
+
+-- the result code beside an answer to an invocation
+abbrev pub code_with : Geometry → List Object → Invocation → Answer → Option ResultCode
+code_with g os i answer.Done = result_code g os i
+code_with g os i _ = None
+
+-- a refusal that needs no object: no such number, no such process, or the machine is down
+abbrev pub NeedsNoLook : Refusal → Type 0
+NeedsNoLook refusal.BadNumber = Unit {0}
+NeedsNoLook refusal.NoProcess = Unit {0}
+NeedsNoLook refusal.Down = Unit {0}
+NeedsNoLook _ = ⊥
+
+-- so is an answer
+abbrev pub IsUnlooked : Answer → Type 0
+IsUnlooked (answer.Refused why) = NeedsNoLook why
+IsUnlooked _ = ⊥
+
+-- from parts at an age to parts at an age a command is answered as the machine answers it, whatever was renewed and is
+-- frozen and saved; a failure of the device aside, after which the machine is down
+pub record Performs (old_age : ℕ) (old : Parts) (c : Command) (a : Answer) (new_age : ℕ) (new : Parts) : Type 0 where
+  pub step : (renewed : List Bool) (frozen : Option Frozen) (saved : Saved) (to_move : ℕ) → (a ≡ answer.Refused refusal.Fault → ⊥) →
+      Step old.geometry (machine_at old_age old renewed frozen saved to_move) c a (machine_at new_age new (renewed_by renewed old new) frozen saved to_move)
+  pub renews : Renews old new
+  pub sound : IsSoundFrames new.geometry new_age (frames_of new)
+  pub geometry : new.geometry ≡ old.geometry
+  pub later : old.failures ≤ new.failures
+  pub cause : (a ≡ answer.Refused refusal.Fault) ↔ (old.failures < new.failures)
+
+-- why a process can't act, or nothing where it runs
+abbrev pub IsEarly : List Object → ℕ → Option Refusal → Type 0
+IsEarly os p None = (is_process os p ≡ true) × (is_running_process os p ≡ true)
+IsEarly os p (Some refusal.NoProcess) = is_process os p ≡ false
+IsEarly os p (Some refusal.NotRunning) = (is_process os p ≡ true) × (is_running_process os p ≡ false)
+IsEarly os p (Some refusal.NoMemory) = is_process os p ≡ true
+IsEarly os p _ = ⊥

@@ -1,0 +1,42 @@
+// Why a process can't act.
+ghost use Rattle.std.specs.Prelude.{◌≡◌, ◌↔◌, ◌<◌, ◌≤◌, IfOk, IfSome, IsErr};
+ghost use Rattle.model.specs.Keepable.{IsSoundFrames};
+ghost use Rattle.capability.specs.Parts.{LooksUp, frames_of, objects_in};
+ghost use Rattle.kernel.specs.Machine.{IsEarly, NeedsNoLook};
+
+use capability::{PrepareFault, PresentFrames, objects, roots};
+use device::Failed;
+use model::Refusal;
+use std::alloc::Global;
+
+/// The refusal of a command because its process doesn't run, or `None`. `NoProcess` needs no memory
+/// and leaves the store untouched. Fails exactly where the device does.
+pub fn early<F: PresentFrames>(
+    alloc: Global,
+    store: &mut F,
+    age: u64,
+    process: u64,
+) -> Result<Option<Refusal>, Failed>
+    requires sound { IsSoundFrames (F.parts store.old).geometry age
+        (frames_of (F.parts store.old)) }
+    ensures why { IfOk result (λ why. IsEarly (objects_in (F.parts store.old)) process why) }
+    ensures untouched { IfOk result (λ why. IfSome why (λ told. NeedsNoLook told
+        → store.new ≡ store.old)) }
+    ensures aside { LooksUp F.parts F.LeadsTo store.old store.new }
+    ensures later { (F.parts store.old).failures ≤ (F.parts store.new).failures }
+    ensures cause { IsErr result ↔ ((F.parts store.old).failures < (F.parts store.new).failures) }
+{
+    if !roots::is_process(store, process) {
+        return Ok(Some(Refusal::NoProcess));
+    }
+    match objects::fetch(store, alloc, &[process]) {
+        Ok(()) => {}
+        Err(PrepareFault::Failed) => return Err(Failed),
+        Err(PrepareFault::NoMemory) => return Ok(Some(Refusal::NoMemory)),
+        Err(PrepareFault::LogFull) => unreachable!(),
+    }
+    if roots::is_running(store, process) {
+        return Ok(None);
+    }
+    Ok(Some(Refusal::NotRunning))
+}

@@ -1,0 +1,92 @@
+// The steps of loads and stores.
+ghost use Rattle.std.specs.Prelude.{◌≡◌};
+ghost use Rattle.model.specs.declared.command.Command.TheVariants as command;
+ghost use Rattle.model.specs.Keepable.{IsSoundFrames};
+ghost use Rattle.capability.specs.Parts.{LooksUp, frames_of, objects_in};
+ghost use Rattle.space_bank.specs.Banks.{AreCounted, BanksState};
+ghost use Rattle.kernel.specs.Machine.{IsToldOnce, IsUnlooked, Performs, answer_of};
+ghost use Rattle.kernel.specs.Prepared.{refused_by};
+
+use crate::processes::early::early;
+use capability::{PrepareFault, PresentFrames};
+use device::Failed;
+use model::{Answer, Refusal};
+use std::alloc::Global;
+
+/// What is answered where objects weren't prepared.
+pub(crate) fn refused(fault: PrepareFault) -> Result<Answer, Failed>
+    ensures answer { answer_of result ≡ Answer.Refused (refused_by fault) }
+    ensures looks { IsUnlooked (answer_of result) → ⊥ }
+    ensures told_once { IsToldOnce result }
+{
+    match fault {
+        PrepareFault::NoMemory => Ok(Answer::Refused(Refusal::NoMemory)),
+        PrepareFault::LogFull => Ok(Answer::Refused(Refusal::LogFull)),
+        PrepareFault::Failed => Err(Failed),
+    }
+}
+
+/// Reads the word at an address in the address space of a process, at an age, which stays.
+///
+/// The answer is `Value`, or `MemoryFault` where the walk stops. It is refused by the first that
+/// applies of `NoProcess` and `NotRunning`; or by `NoMemory` where memory ran out. It fails exactly
+/// where the device does. Nothing is changed, and at `NoProcess` the store isn't touched.
+pub fn load<F: PresentFrames>(
+    alloc: Global,
+    store: &mut F,
+    age: u64,
+    process: u64,
+    address: u64,
+) -> Result<Answer, Failed>
+    requires { IsSoundFrames (F.parts store.old).geometry age (frames_of (F.parts store.old)) }
+    ensures serves { Performs age (F.parts store.old) (command.Load process address) (answer_of result)
+        age (F.parts store.new) }
+    ensures untouched { IsUnlooked (answer_of result) → store.new ≡ store.old }
+    ensures told_once { IsToldOnce result }
+    ensures aside { LooksUp F.parts F.LeadsTo store.old store.new }
+    ensures leads { F.LeadsTo store.old store.new }
+{
+    if let Some(refusal) = early(alloc, store, age, process)? {
+        return Ok(Answer::Refused(refusal));
+    }
+    match address_space::load(alloc, store, process, address) {
+        Ok(Ok(word)) => Ok(Answer::Value(word)),
+        Ok(Err(fault)) => Ok(Answer::MemoryFault(fault)),
+        Err(fault) => refused(fault),
+    }
+}
+
+/// Writes a word at an address in the address space of a process, at an age, which stays.
+///
+/// The answer is `Done`, or `MemoryFault` where the walk stops or the page is read-only, also where
+/// the log is full. It is refused, and changes nothing, by the first that applies of `NoProcess`,
+/// `NotRunning` and `LogFull`; or by `NoMemory` where memory ran out. It fails exactly where the
+/// device does. At `NoProcess` the store isn't touched. What is counted of banks stays what there is.
+pub fn store<F: PresentFrames>(
+    alloc: Global,
+    store: &mut F,
+    age: u64,
+    process: u64,
+    address: u64,
+    word: u64,
+) -> Result<Answer, Failed>
+    requires { IsSoundFrames (F.parts store.old).geometry age (frames_of (F.parts store.old)) }
+    ensures serves { Performs age (F.parts store.old) (command.Store process address word)
+        (answer_of result) age (F.parts store.new) }
+    ensures untouched { IsUnlooked (answer_of result) → store.new ≡ store.old }
+    ensures told_once { IsToldOnce result }
+    ensures counted { (banks : BanksState) → AreCounted (F.parts store.old).geometry
+        (objects_in (F.parts store.old)) banks
+        → AreCounted (F.parts store.new).geometry
+        (objects_in (F.parts store.new)) banks }
+    ensures leads { F.LeadsTo store.old store.new }
+{
+    if let Some(refusal) = early(alloc, store, age, process)? {
+        return Ok(Answer::Refused(refusal));
+    }
+    match address_space::store(alloc, store, process, address, word) {
+        Ok(Ok(())) => Ok(Answer::Done),
+        Ok(Err(fault)) => Ok(Answer::MemoryFault(fault)),
+        Err(fault) => refused(fault),
+    }
+}

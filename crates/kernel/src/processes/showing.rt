@@ -1,0 +1,115 @@
+// The step of showing an object.
+ghost use Rattle.std.specs.Prelude.{◌≡◌, ◌<◌, IfOk, IsTrue, length, if◌then◌else◌, slice_index};
+ghost use Rattle.model.specs.declared.command.Command.TheVariants as command;
+ghost use Rattle.model.specs.Keepable.{AreKeepable, IsSoundFrames};
+ghost use Rattle.model.specs.Step.{shown};
+ghost use Rattle.model.specs.Object.{is_annex, is_bank, slots_in};
+ghost use Rattle.model.specs.World.{content_at};
+ghost use Rattle.capability.specs.Parts.{Looks, LooksUp, frames_of, objects_in};
+ghost use Rattle.space_bank.specs.Banks.{AreCounted};
+ghost use Rattle.kernel.specs.Machine.{IsToldOnce, IsUnlooked, Performs, answer_of};
+
+use crate::processes::memory::refused;
+use capability::{PrepareFault, PresentFrames, objects, view};
+use device::Failed;
+use model::{Answer, Capability, Content, Description, Refusal, Shown, Slots};
+use space_bank::Banks;
+use std::alloc::Global;
+
+// The usage of a bank, and 0 for any other object.
+fn used_by(banks: &Banks, content: &Content<Capability>, number: u64) -> u64
+    ensures { result ≡ (if is_bank content.now then slice_index banks.now.usages number else 0) }
+{
+    match content {
+        Content::Bank { .. } => banks.usage(number),
+        _ => 0,
+    }
+}
+
+// The registers of a process, by its annex.
+fn registers_of<F: PresentFrames>(
+    alloc: Global,
+    store: &mut F,
+    annex: u64,
+) -> Result<Slots<Capability>, PrepareFault>
+    requires keepable { AreKeepable (F.parts store.old).geometry u64.MAX
+        (frames_of (F.parts store.old)) }
+    requires annex { IsTrue (is_annex
+        (content_at (objects_in (F.parts store.old)) annex)) }
+    ensures registers { IfOk result (λ registers. registers ≡ slots_in (content_at (objects_in (F.parts store.old)) annex)) }
+    ensures looks { Looks F.parts F.LeadsTo store.old store.new result }
+{
+    objects::fetch(store, alloc, &[annex])?;
+    match view::registers(alloc, store, annex) {
+        Ok(registers) => Ok(registers),
+        Err(_) => Err(PrepareFault::NoMemory),
+    }
+}
+
+// An object with what is shown beside it: the registers of a process, the usage of a bank. Stale
+// capabilities are void.
+fn shown<F: PresentFrames>(
+    alloc: Global,
+    store: &mut F,
+    banks: &Banks,
+    age: u64,
+    number: u64,
+) -> Result<Answer, PrepareFault>
+    requires sound { IsSoundFrames (F.parts store.old).geometry age
+        (frames_of (F.parts store.old)) }
+    requires counted { AreCounted (F.parts store.old).geometry
+        (objects_in (F.parts store.old)) banks.now }
+    requires known { number < length (F.parts store.old).headers }
+    ensures answer { IfOk result (λ answer. answer ≡ shown (objects_in (F.parts store.old)) number) }
+    ensures looks { Looks F.parts F.LeadsTo store.old store.new result }
+{
+    objects::fetch(store, alloc, &[number])?;
+    let Ok(object) = view::object(alloc, store, number) else {
+        return Err(PrepareFault::NoMemory);
+    };
+    let used = used_by(banks, &object.content, number);
+    let registers = match &object.content {
+        Content::Root(root) => Some(registers_of(alloc, store, root.annex)?),
+        _ => None,
+    };
+    let description = Description {
+        number,
+        object,
+        registers,
+        used,
+    };
+    match Shown::new(alloc, description) {
+        Ok(shown) => Ok(Answer::Shown(shown)),
+        Err(_) => Err(PrepareFault::NoMemory),
+    }
+}
+
+/// Shows the object with a number.
+///
+/// It is refused by `BadNumber` where no object has the number, and the store isn't touched then; and by `NoMemory` where memory ran
+/// out. It fails exactly where the device does.
+pub fn show<F: PresentFrames>(
+    alloc: Global,
+    store: &mut F,
+    banks: &Banks,
+    age: u64,
+    number: u64,
+) -> Result<Answer, Failed>
+    requires sound { IsSoundFrames (F.parts store.old).geometry age
+        (frames_of (F.parts store.old)) }
+    requires counted { AreCounted (F.parts store.old).geometry
+        (objects_in (F.parts store.old)) banks.now }
+    ensures serves { Performs age (F.parts store.old) (command.Show number) (answer_of result) age
+        (F.parts store.new) }
+    ensures untouched { IsUnlooked (answer_of result) → store.new ≡ store.old }
+    ensures told_once { IsToldOnce result }
+    ensures aside { LooksUp F.parts F.LeadsTo store.old store.new }
+{
+    if number >= store.table().count() {
+        return Ok(Answer::Refused(Refusal::BadNumber));
+    }
+    match shown(alloc, store, banks, age, number) {
+        Ok(answer) => Ok(answer),
+        Err(fault) => refused(fault),
+    }
+}

@@ -1,5 +1,0 @@
-mod Counted
-mod MemoryServing
-mod MemorySteps
-pub mod Serving
-pub mod Steps
