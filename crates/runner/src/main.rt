@@ -10,8 +10,8 @@ use file_device::{FileDevice, FileFault};
 use image_builder::{Blueprint, OldImage};
 use jobs::{
     Fault, Focus, ShellInput, Sizes, build_image, check_image, describe_image, draw_image,
-    explain_description, explain_image, finish, info_image, reach_image, run_image, run_shell, run_traced,
-    upgrade_opened,
+    explain_description, explain_image, finish, info_image, reach_image, run_image, run_shell,
+    run_traced, upgrade_opened,
 };
 use memory_device::Fuse;
 use object_cache::{BoundedCache, Capacity, PlainStore};
