@@ -1,4 +1,4 @@
--- What is told of the description in a text.
+-- The explanation of the description in a text.
 use Rattle.std.specs.Prelude.{◌≡◌, ℕ, Bool, true, false, List, None, Some}
 use Rattle.toml.specs.Data.{Members}
 use Rattle.toml.specs.Parse.{parse_document}

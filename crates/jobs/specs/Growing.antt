@@ -1,4 +1,4 @@
--- A description that is told, renumbered for other sizes.
+-- A description of an image, renumbered for other sizes.
 use Rattle.std.specs.Prelude.{◌≡◌, ℕ, List, Some, Option, Result, Ok, Err}
 use Rattle.std.specs.Io.KnownBytes.{Appends}
 use Rattle.toml.specs.Data.{Members}
