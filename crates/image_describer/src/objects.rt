@@ -123,7 +123,7 @@ impl Told for BankEntry {
     }
 }
 
-// A process is told by its root, with the registers in its annex.
+// The entry of a process has the number of its root, and the registers of its annex.
 impl Told for ProcessEntry {
     ghost number_of = { λ p. p.root };
 
