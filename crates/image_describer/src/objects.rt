@@ -90,7 +90,7 @@ pub(crate) trait Told: Drop {
             IfOk result (MayTell number_of (Tells objects) kind objects number) }
         ensures looks { Looks F.parts F.LeadsTo store.old store.new result };
 
-    /// What is free isn't told.
+    /// A free object has no entry.
     ghost is_kept: { kind ≢ role.Free };
 }
 

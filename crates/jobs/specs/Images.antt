@@ -57,7 +57,7 @@ checked_text generation age entries =
 abbrev pub TellsTotal : Members → (List ℕ → Type 0) → Type 0
 TellsTotal ms Told = (d : Description) × IsDescription ms d × Told (line_of (built_text (plan_for d).total))
 
--- an image was built and its total told; or it was built, and that couldn't be written whole; or none was
+-- an image was built and its total written; or it was built, and the total couldn't be written whole; or none was
 abbrev pub BuildsImage : {D : Type 0} → (D → Disk) → Members → D → D → Option (List ℕ) → Option (List ℕ) → Result (Unit {0}) Fault → Type 0
 BuildsImage disk ms old new output output_left (Ok a) = BuildsFrom ms (disk old) (disk new) × TellsTotal ms (Appends output output_left)
 BuildsImage disk ms old new output output_left (Err fault.CannotWriteOutput) = BuildsFrom ms (disk old) (disk new) × TellsTotal ms (AppendsFront output output_left)
@@ -73,7 +73,7 @@ abbrev pub UpgradesAndTells : {D E : Type 0} → (D → Disk) → (E → Disk) �
 UpgradesAndTells disk new_disk old before new Told =
     (done : Upgrades (disk old) (new_disk before) (new_disk new)) × Told (line_of (upgraded_text (laid_again Two done.state.plan).total))
 
--- what an old device saves was written to a new one, and the total told; or that couldn't be written whole; or nothing was
+-- an image was upgraded and its total written; or the total couldn't be written whole; or no image was upgraded
 abbrev pub UpgradesImage : {D E : Type 0} → (D → Disk) → (E → Disk) → D → E → E → Option (List ℕ) → Option (List ℕ) → Result (Unit {0}) Fault → Type 0
 UpgradesImage disk new_disk old before new output output_left (Ok a) = UpgradesAndTells disk new_disk old before new (Appends output output_left)
 UpgradesImage disk new_disk old before new output output_left (Err fault.CannotWriteOutput) = UpgradesAndTells disk new_disk old before new (AppendsFront output output_left)
@@ -125,7 +125,7 @@ module _ {D S : Type 0} (disk : D → Disk) (view : S → View D) (parts : S →
   RunsImage device back input input_left output output_left (Err (fault.Open why)) = RefusesToOpen disk device back why × (input_left ≡ input) × (output_left ≡ output)
   RunsImage device back input input_left output output_left (Err _) = ⊥
 
--- a device was opened with no failure, nothing was written to it at any moment, and what is saved on it was told
+-- a device was opened with no failure, nothing was written to it at any moment, and Told holds of what is saved on it
 abbrev pub TellsSaved : {D : Type 0} → (D → Disk) → D → D → (List ℕ → Type 0) → Type 0
 TellsSaved disk device back Told =
     (geometry : Geometry) × (saved : Saved) × Denotes geometry (disk device).sectors (disk device).seen saved × Told (line_of (checked_text saved.generation saved.world.age saved.entries))
@@ -201,7 +201,7 @@ pub record ReadsSaved {D : Type 0} (disk : D → Disk) (device back : D) (state 
   pub failures : (disk back).failures ≡ (disk device).failures
   pub looks : Looks (disk device) (disk back)
 
--- so it was, and all that is saved was told for an image of these sizes
+-- so it was, and the description of all that is saved was written for an image of these sizes
 pub record TellsWhole {D : Type 0} (disk : D → Disk) (sizes : Sizes) (device back : D) (Told : List ℕ → Type 0) : Type 0 where
   pub state : SavedState
   pub saved : ReadsSaved disk device back state
@@ -215,7 +215,7 @@ RefusesSizes disk sizes device back why =
     (state : SavedState) × ReadsSaved disk device back state
     × IsUnsuited state.plan.geometry (grown_geometry state.plan.geometry sizes) (world_at state.header.age state.frames) why
 
--- all was told; or that couldn't be written whole; or there is no such image; or the device wasn't opened, or memory ran out
+-- all was written; or not all of it; or there is no such image; or the device wasn't opened, or memory ran out
 abbrev pub DescribesImage : {D : Type 0} → (D → Disk) → Sizes → D → D → Option (List ℕ) → Option (List ℕ) → Result (Unit {0}) Fault → Type 0
 DescribesImage disk sizes device back output output_left (Ok a) = TellsWhole disk sizes device back (Appends output output_left)
 DescribesImage disk sizes device back output output_left (Err fault.CannotWriteOutput) = TellsWhole disk sizes device back (AppendsFront output output_left)

@@ -141,7 +141,7 @@ pub record IsDurable (disk : Disk) (b : Books) : Type 0 where
 abbrev pub LeavesState : Disk → SavedState → Type 0
 LeavesState disk s = (c : Image) → disk.may_leave c → Encodes c disk.sectors s
 
--- so it is until a publishing fails
+-- until a publishing fails, each crash leaves what is saved
 abbrev pub IsSoundOn : Disk → Books → Type 0
 IsSoundOn disk b = LeavesState disk (saved_state (seen_by disk.seen b) b)
 

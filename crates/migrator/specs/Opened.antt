@@ -28,7 +28,7 @@ HasNoPlan image size bad.NotASuperblock = IsBadBy image size bad.NotASuperblock
 HasNoPlan image size bad.BadGeometry = IsBadBy image size bad.BadGeometry
 HasNoPlan image size _ = ⊥
 
--- so it is where the device didn't fail
+-- the same, where the device didn't fail
 abbrev pub IsNoPlan : Image → ℕ → ReadFault → Type 0
 IsNoPlan image size fault.Failed = ⊤
 IsNoPlan image size (fault.Bad reason) = HasNoPlan image size reason

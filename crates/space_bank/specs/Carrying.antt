@@ -55,8 +55,8 @@ pub record IsFreedOf (os : List Object) (b : ℕ) (list : List ℕ) : Type 0 whe
   pub some : 0 < length list
   pub owner : owner_at os (slice_index list 0) ≡ b
 
--- A list can be given up: it has no number twice, each number has an object, and no bank of the chain of above is in it.
--- A bank outside the list accounted for the whole list if it is in that chain, and for nothing of it if it isn't.
+-- A list can be given up: it has no number twice, each number has an object, and no bank of the chain of above is in
+-- it. A bank outside the list accounted for the whole list if it is in that chain, and for nothing of it if it isn't.
 pub record MayGiveUp (os : List Object) (above : ℕ) (list : List ℕ) : Type 0 where
   pub once : IsOnce list
   pub used : (n : ℕ) → is_member list n ≡ true → is_free (content_at os n) ≡ false
