@@ -107,7 +107,7 @@ impl<D: Device> Durable<D> {
     }
 
     /// Freezes what was put since the last checkpoint began: a checkpoint is on its way that writes
-    /// `size` objects, those that were put among them. It calls no device. It is refused by
+    /// `size` objects, those that were put among them. It makes no device call. It is refused by
     /// `CheckpointRunning` exactly where one is on its way, and else by `MigrationPending` exactly
     /// where something saved isn't home.
     pub fn freeze(&mut self, size: u64) -> Result<(), CheckpointFault>

@@ -14,7 +14,7 @@ use checkpoint::CheckpointFault;
 use device::{Device, Failed};
 
 impl<D: Device> Cache<D> {
-    // Reads the frozen body of a pending object from the device into `hand`. `Failed` leaves all.
+    // Reads a pending object's frozen body into `hand`. After `Failed`, `hand` is still empty.
     fn take_below(&mut self, number: u64) -> Result<(), Failed>
         requires pending { mark_at self.old.pending number ≡ true }
         requires empty { self.old.hand ≡ None }

@@ -88,7 +88,7 @@ impl<D: Device> Cache<D> {
 
     /// Commits the checkpoint on its way at an age, and answers its generation. It is refused by
     /// `NoCheckpoint` exactly where none is on its way, and else by `NotStable(left)` exactly where
-    /// `left` of its objects are still counted as left, and changes nothing then.
+    /// `stabilize` has yet to reach `left` of its objects, and changes nothing then.
     pub fn commit(&mut self, age: u64) -> Result<u64, CheckpointFault>
         requires sound { (view_of D.disk self.old).is_sound }
         requires ready { (f : FrozenFrames) → (view_of D.disk self.old).aside.frozen ≡ Some f
