@@ -170,7 +170,7 @@ impl<F: Openable> CopiedFile<HostFile<F>> {
     /// zeros are synced, and the folder that has the file, where the system lets it be opened. Until the device is
     /// dropped no other is open in the file.
     ///
-    /// `Held` where another device is open in the file; it isn't changed then. `Io` where the system
+    /// `Held` where another device is open in the file; it isn't changed then. `Io` if the system
     /// refuses to make, lengthen or sync the file, which may then be there with any length.
     /// `NoMemory` where there is no room for a copy of it, and then no file was touched.
     pub fn create(
