@@ -23,7 +23,7 @@ pub struct Reached {
 }
 
 impl Reached {
-    // The page as it is reached through a tree of that access.
+    // The same page, reached through a tree with this access.
     fn through(self, access: Access) -> Reached
         ensures { result ≡ record { page = self.page; access = union access self.access.0 } }
     {
@@ -194,7 +194,7 @@ fn next_slot<F: PresentFrames>(
     Ok(objects::slot(frames, tree.node, digit(index, tree.height - 1)))
 }
 
-// How many bits of a page's index tell the slots of so many levels: a digit to base 32 has five.
+// How many bits of a page's index choose slots in `levels` levels: a digit to base 32 has five.
 fn bits(levels: u8) -> u32
     requires { levels ≤ 4 }
     ensures { result ≡ 5 * levels }
@@ -212,7 +212,7 @@ fn page_count(height: u8) -> u64
     1 << bits(height)
 }
 
-// The slot on the way to a page, in the nodes that have so many levels below them.
+// The slot on the way to a page, in the nodes that have `level` levels below them.
 #[tactic(auto, using(crate::proofs::Paths::bits_power))]
 fn digit(index: u64, level: u8) -> usize
     requires { level < 4 }

@@ -37,7 +37,7 @@ pub record OrderState : Type 0 where
 abbrev pub used_last : ℕ → OrderState → OrderState
 used_last n s = record { numbers = n ∷ without n s.numbers; most = s.most }
 
--- so many of a list of numbers of the order were used in turn, and all of them where it is said so
+-- the first `count` of a list of numbers of the order were used in turn, and all of them if `said`
 pub record Uses (s t : OrderState) (ns : List ℕ) (said : Bool) : Type 0 where
   pub count : ℕ
   pub numbers : t.numbers ≡ used_in_turn (take count ns) s.numbers

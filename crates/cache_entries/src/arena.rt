@@ -12,7 +12,7 @@ use std::alloc::{AllocError, Global};
 use std::marker::Model;
 use std::mem;
 
-/// Entries by number, at most so many, in memory that was reserved for them.
+/// Entries by number, at most `most`, in memory that was reserved for them.
 #[derive(Drop)]
 pub(crate) struct Arena {
     items: Vec<Entry>,
@@ -64,7 +64,7 @@ fn settle(items: &[Entry], places: &mut Vec<u64>, place: usize)
 impl Arena {
     ghost use Rattle.cache_entries.specs.contracts.arena.Arena.{the_row};
 
-    /// Room for so many entries of so many numbers, none of which has one. Fails only where memory
+    /// Room for `most` entries, for `count` numbers without an entry. Fails only where memory
     /// runs out.
     pub(crate) fn new(alloc: Global, most: usize, count: usize) -> Result<Arena, AllocError>
         ensures { IfOk result (λ arena. arena

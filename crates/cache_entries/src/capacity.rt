@@ -26,7 +26,7 @@ impl Model for Capacity {
 }
 
 impl Capacity {
-    /// The capacity of so many objects, where there is such a one.
+    /// The capacity of `count` objects, or `None` where `count` isn't from 8 to 8192.
     pub fn new(count: u64) -> Option<Capacity>
         ensures capacity { IfSome result (λ c. c ≡ count) }
         ensures some { IsSome result ↔ ((8 ≤ count) × (count ≤ 8192)) }

@@ -36,7 +36,7 @@ impl Model for Entries {
 impl Entries {
     ghost use Rattle.cache_entries.specs.contracts.entries.Entries.{the_row};
 
-    /// Room for as many entries as the capacity, of so many numbers, none of which has one. Fails
+    /// Room for as many entries as the capacity, for `count` numbers without an entry. Fails
     /// only where memory runs out.
     pub fn new(alloc: Global, capacity: Capacity, count: usize) -> Result<Entries, AllocError>
         ensures none { IfOk result (λ entries. entries

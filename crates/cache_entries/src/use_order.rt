@@ -17,10 +17,10 @@ const MOST_LATEST: usize = 8;
 
 type Order = LruCache<u64, (), BuildHasherDefault<NumberHasher>>;
 
-/// Numbers in the order of their last use, no more than so many.
+/// Numbers in the order of their last use, at most as many as the order has room for.
 ///
 /// What is used is mostly what was used a moment ago: the last few uses are kept apart, each number
-/// once, and told to the order when others take their place, or when it is asked for.
+/// once, and moved to the order when others take their place, or when the order is read.
 #[derive(Drop)]
 pub(crate) struct UseOrder {
     order: Order,
@@ -166,7 +166,7 @@ fn spare_place(order: &mut Order, latest: &mut Vec<u64>)
 impl UseOrder {
     ghost use Rattle.cache_entries.specs.contracts.use_order.UseOrder.{the_row};
 
-    /// Room for so many numbers, of which there is none. Fails only where memory runs out.
+    /// An empty order for at most `most` numbers. Fails only where memory runs out.
     pub(crate) fn new(alloc: Global, most: NonZeroUsize) -> Result<UseOrder, AllocError>
         ensures { IfOk result (λ order. order
             ≡ record { numbers = []; most = non_zero_usize_get most }) }

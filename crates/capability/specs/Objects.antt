@@ -20,6 +20,6 @@ abbrev pub with_root_in : {C : Type 0} → (Root C → Root C) → Content C →
 with_root_in change (content.Root root) = content.Root (change root)
 with_root_in change other = other
 
--- a capability as it is held while it is live
+-- the stored form of a live capability: its count is the current one
 abbrev pub live_cap : List ObjectHeader → Capability → Cap
 live_cap hs w = record { what = w; count = current_count hs w }

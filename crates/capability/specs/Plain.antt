@@ -85,6 +85,6 @@ with_content_at s n c = record s { contents = slice_set s.contents n c }
 abbrev pub GoesOn : PlainState → PlainState → Type 0
 GoesOn s t = t.geometry ≡ s.geometry
 
--- a capability as it is held, where nothing was ever given up
+-- the stored form of a capability where nothing was ever given up: its count is 0
 abbrev pub fresh_cap : Capability → Cap
 fresh_cap c = record { what = c; count = 0 }

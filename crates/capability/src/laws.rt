@@ -2,7 +2,7 @@
 
 ghost use Rattle.capability.specs.Laws.{CalledIsConsumed, ConsumeKeepsSoundFrames, GivenUpIsRescinded, RescindKeepsSoundFrames};
 
-/// Objects of which both counts are raised and that are freed, a whole list at a time, are
+/// Objects whose two counts are raised and that are freed, a whole list at a time, are
 /// rescinded: no capability that is held names one.
 pub fn given_up_is_rescinded()
     ensures { GivenUpIsRescinded }

@@ -55,8 +55,8 @@ impl Model for Plain {
 }
 
 impl Plain {
-    /// A store of objects with these headers and contents, one of each for every number, of which
-    /// none was written. Fails only where memory runs out.
+    /// A store of objects with these headers and contents, one of each for every number. No object
+    /// was written. Fails only where memory runs out.
     pub fn new(
         alloc: Global,
         geometry: Geometry,

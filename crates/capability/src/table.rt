@@ -73,7 +73,7 @@ impl ObjectTable {
         }
     }
 
-    /// A capability as it is held while it is live.
+    /// The stored form of a live capability: its count is the current one.
     #[inline(always)]
     pub fn live_cap(&self, capability: Capability) -> Cap
         ensures { result ≡ live_cap self.now capability }

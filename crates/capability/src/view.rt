@@ -49,7 +49,7 @@ fn conveyed_content(
     }
 }
 
-/// An object that is fetched, as it is now, its stale capabilities void. Fails only where memory
+/// The present state of a fetched object, its stale capabilities void. Fails only where memory
 /// runs out.
 pub fn object<F: PresentFrames>(alloc: Global, store: &F, number: u64) -> Result<Object, AllocError>
     requires { F.IsFetched store.now number }

@@ -1,4 +1,4 @@
--- What opening a device comes to, and why one isn't opened.
+-- The results of opening a device, and why one isn't opened.
 use Rattle.std.specs.Prelude.{◌≡◌, ◌↔◌, ℕ, ◌<◌, ◌≤◌, Result, IsErrOf, ⊤}
 use Rattle.device.specs.Disk.{Image, Disk}
 use Rattle.device.specs.Calls.{Agrees, Narrows}

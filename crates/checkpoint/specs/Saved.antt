@@ -8,7 +8,7 @@ use Rattle.device.specs.Disk.{Image, Disk}
 use Rattle.device.specs.Moments.{LeavesOnly}
 use Rattle.layout.specs.Image.{SavedState, Encodes}
 
--- the frames of all objects, and what is told of the checkpoint; entries counts those that lie in the log
+-- the frames of all objects, and the numbers of the checkpoint; entries counts the objects that lie in the log
 pub record SavedFrames : Type 0 where
   pub geometry : Geometry
   pub frames : List Frame
@@ -26,7 +26,7 @@ kept_of s = record {
   age = s.header.age;
 }
 
--- so many sectors hold saved frames
+-- an image of `size` sectors holds saved frames
 abbrev pub Holds : ℕ → Image → SavedFrames → Type 0
 Holds size c saved = (s : SavedState) × Encodes c size s × (kept_of s ≡ saved)
 

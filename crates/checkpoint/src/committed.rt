@@ -1,6 +1,6 @@
 // The committed checkpoint.
 
-/// What is told of the committed checkpoint.
+/// The committed checkpoint, in the numbers that an answer reports.
 #[derive(Clone, Copy, PartialEq, Eq, Debug)]
 pub struct Checkpoint {
     pub generation: u64,

@@ -1,4 +1,4 @@
-//! Checkpoints: what one saves, what is told of it, and why a step of one, or an image, is refused.
+//! Checkpoints: what one saves, its numbers, and why a step of one, or an image, is refused.
 #![tactic(auto)]
 
 mod checkpoint_fault;

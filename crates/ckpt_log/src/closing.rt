@@ -68,7 +68,7 @@ fn close_in_turn<D: Device>(device: &mut D, gates: Gates) -> Result<(), Failed>
 ///
 /// A crash at any moment leaves the image that it could have left before, with the same committed
 /// header, or one without any: the committed header's gate is the last to be closed, and a gate that
-/// is closed isn't written. `Failed` is told exactly where the device failed. No memory is taken.
+/// is closed isn't written. `Failed` exactly where the device failed. It takes no memory.
 pub fn close_gates<D: Device>(device: &mut D) -> Result<(), Failed>
     requires inside { 5 ≤ (D.disk device.old).sectors }
 

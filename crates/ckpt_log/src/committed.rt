@@ -32,7 +32,7 @@ fn read_header<D: Device>(device: &mut D, slot: HeaderSlot, into: &mut [u8]) -> 
     Ok(decode_gate(&gate) == Gate::Open && sequence_in(into) % 2 == slot.number())
 }
 
-// Of two headers that count the one with the greater sequence number is committed.
+// The committed one of two headers: where both count, the one with the greater sequence number.
 fn committed_of(first: bool, m: u64, second: bool, n: u64) -> Option<HeaderSlot>
     ensures { option_map slot_number result ≡ committed_of first m second n }
 {
@@ -90,7 +90,7 @@ impl<'a> Log<'a> {
     /// The committed header, with its directory in the first of the entries. It takes no memory and
     /// writes nothing.
     ///
-    /// `Failed` is told exactly where the device failed; `BadImage::NoHeader` where no header
+    /// It returns `Failed` exactly where the device failed; `BadImage::NoHeader` where no header
     /// counts, `BadImage::BadHeader` where the committed one is malformed, though another may count
     /// too, and `BadImage::BadDirectory` where its directory is malformed. A refusal leaves any
     /// entries.

@@ -83,7 +83,7 @@ impl<'a> Log<'a> {
     /// no memory, and where that is no entry it makes no call of the device.
     ///
     /// It is refused by `Failed` exactly where the device failed, and by `BadImage::BadDirectory`
-    /// exactly where the sectors spell no directory of so many entries. Either leaves any entries.
+    /// exactly where the sectors spell no directory of this length. Either leaves any entries.
     pub fn read_directory<D: Device>(
         &self,
         device: &mut D,

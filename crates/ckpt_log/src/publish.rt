@@ -112,8 +112,8 @@ fn open_gate<D: Device>(device: &mut D, header: CheckpointHeader) -> Result<(), 
 
 impl<'a> Log<'a> {
     /// Commits a header: from `Ok` on each crash leaves it the committed one, and all that was
-    /// written before the call is then durable. After `Failed`, which is told exactly where the
-    /// device failed, the header before it is the committed one, or this one is.
+    /// written before the call is then durable. It returns `Failed` exactly where the device
+    /// failed; then the header before it is the committed one, or this one is.
     ///
     /// The header is one that can be read again: at most as many entries as a half of the log has
     /// slots, an age of at most `MAX_AGE`, and a generation and a sequence number of at most twice

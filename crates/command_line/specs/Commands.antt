@@ -31,7 +31,7 @@ greatest_number = 18446744073709551615
 abbrev pub number_rule : Text → Rule
 number_rule name = record (new_rule name) { long = Some name; value_names = 1; parser = Some (Unsigned 0 greatest_number) }
 
--- P [P ..], numbers, of which there is at least one
+-- P [P ..], one or more numbers
 abbrev pub processes_rule : Rule
 processes_rule = record (new_rule (codes "P")) {
   required = true;
@@ -99,7 +99,7 @@ changing_app = with_subcommand (with_subcommand (with_subcommand bare_app build_
 abbrev pub checking_app : App
 checking_app = with_subcommand (with_subcommand (with_subcommand (with_subcommand changing_app check_app.top) explain_app.top) info_app.top) reach_app.top
 
--- all subcommands, one of which has to be named
+-- all subcommands; one of them has to be named
 abbrev pub eros_app : App
 eros_app = with_subcommand (with_subcommand (with_subcommand checking_app upgrade_app.top) describe_app.top) draw_app.top
 

@@ -29,7 +29,7 @@ impl From<AllocError> for JobFault {
 impl JobFault {
     ghost use Rattle.command_line.specs.Refusals.{IsFaultOf};
 
-    // What an error of clap comes to.
+    // The fault for an error of clap.
     pub(crate) fn of(error: Error) -> JobFault
         ensures { IsFaultOf error result }
     {
@@ -54,7 +54,7 @@ fn text_error(alloc: Global) -> Result<Error, AllocError>
 impl JobFault {
     ghost use Rattle.command_line.specs.Refusals.{IsToldAs};
 
-    /// Why words of which one isn't text name no job: they are bad ones, or memory ran out.
+    /// Why words name no job if one of them isn't text: they are bad ones, or memory ran out.
     pub fn not_text(alloc: Global) -> JobFault
         ensures { IsToldAs InvalidValue result }
     {

@@ -156,7 +156,7 @@ fn are_all_taken<F: PresentFrames>(store: &F, taken: &[bool]) -> bool
     true
 }
 
-// Whether each process is a root and an annex, marked in a list of which nothing is taken.
+// Whether each process is a root and an annex. `taken` marks no annex at first.
 fn are_matched<F: PresentFrames>(store: &F, notes: &[Option<Noted>], taken: &mut [bool]) -> bool
     requires size { length taken.old ≡ length (F.parts store.now).headers }
     requires none { (a : ℕ) → is_taken taken.old a ≡ false }

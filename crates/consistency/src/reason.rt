@@ -1,6 +1,6 @@
 // Why frames fail the check.
 
-/// Why frames stand for no sound world. Of the reasons that hold the least is given.
+/// Why frames stand for no sound world: the least of the reasons that hold.
 #[derive(Clone, Copy, PartialEq, Eq, Debug)]
 pub enum Inconsistency {
     /// A capability has a greater count than its object, or is live and its object isn't what it is

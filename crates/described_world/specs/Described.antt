@@ -124,7 +124,7 @@ IsDescribedNode n f = (slots : List Cap) × HoldsNamed n.slots.items slots × (f
 abbrev pub IsDescribedPage : PageEntry → Frame → Type 0
 IsDescribedPage p f = (words : List ℕ) × HasNamedWords p.words.items words × (f ≡ first_frame p.owner (content.Page words))
 
--- the frames of a description: each object as it is named, and all else free
+-- the frames of a description: the objects that it names, and all else free
 pub record IsDescribed (d : Description) (frames : List Frame) : Type 0 where
   pub count : length frames ≡ object_count d.geometry
   pub banks : All (λ b. frame_at frames b.number ≡ first_frame b.owner (content.Bank b.limit)) d.banks.items

@@ -1,7 +1,7 @@
 // Why a description names no world.
 use thiserror::Error;
 
-/// Why no world is laid. The least that applies is told, but `NoMemory` may stand in its place.
+/// Why no world is laid: the least reason that applies, but `NoMemory` may stand in its place.
 #[derive(Clone, Copy, PartialEq, Eq, Debug, Error)]
 pub enum WorldFault {
     /// A number isn't one of its kind, or is named twice.

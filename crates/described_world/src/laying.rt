@@ -80,7 +80,7 @@ pub fn lay_described(alloc: Global, description: &Description) -> Result<World, 
     }
 }
 
-/// Lays out the world that a description names: each object as it is named, at its number, and all
+/// Lays out the world of a description: the objects that it names, at their numbers, and all
 /// other numbers free. No object was ever given up.
 ///
 /// Fails with `Number` where a number is none of its kind or is named twice; else with `Field`

@@ -11,7 +11,7 @@ use description::{BankEntry, NodeEntry, PageEntry, ProcessEntry, SlotEntry, Word
 use model::{Cap, Capability, Content, Root, Slots, State, Words};
 use std::alloc::{AllocError, Global};
 
-// A capability as it is held first.
+// The stored form of a capability in a new image: its count is 0.
 fn fresh_cap(what: Capability) -> Cap
     ensures { result ≡ fresh_cap what }
 {

@@ -42,7 +42,7 @@ fn free_contents(alloc: Global, count: usize) -> Result<Vec<Content<Cap>>, Alloc
 }
 
 impl World {
-    // A world of so many free numbers. Fails only where memory runs out.
+    // A world of `count` free numbers. Fails only where memory runs out.
     pub(crate) fn free(alloc: Global, count: usize) -> Result<World, AllocError>
         ensures frames { IfOk result (λ world. frames_of world ≡ replicate count blank_frame) }
         ensures count { IfOk result (HasCount count) }

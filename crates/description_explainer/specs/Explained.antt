@@ -1,4 +1,4 @@
--- What is told of a description.
+-- The explanation of a description.
 use Rattle.std.specs.Prelude.{ℕ, ◌≤◌, Option, None, Some}
 use Rattle.description.specs.declared.entry.Description.{Description}
 use Rattle.image_builder.specs.Built.{IsAccepted, IsFirstBroken, plan_for}

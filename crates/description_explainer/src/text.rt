@@ -1,4 +1,4 @@
-// What is told of a place.
+// The text for a place.
 
 use crate::place::{Place, Rule};
 use consistency::Unbanked;

@@ -50,7 +50,7 @@ fn bad_text(slots: &[SlotEntry]) -> Option<SlotFlaw>
     }
 }
 
-// What is wrong with slots, of which the first has this index, if anything is.
+// What is wrong with slots, if anything is. The first of them has the index `first`.
 fn bad_slots(alloc: Global, first: u64, slots: &[SlotEntry]) -> Result<Option<SlotFlaw>, AllocError>
     ensures { IfOk result (λ found. MatchOption found (AreSlots first slots.now)
         (λ flaw. BreaksSlots first slots.now flaw)) }

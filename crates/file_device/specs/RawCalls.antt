@@ -43,7 +43,7 @@ events_by cuts = cut Keep ∷ []
 abbrev pub Takes : ℕ → Option (List Call) → Option (List Call) → List ℕ → Type 0
 Takes byte old new bytes = (pieces : List (List ℕ)) × (concat pieces ≡ bytes) × Adds old new (taken byte pieces)
 
--- known calls, and no others, did what is told
+-- known calls, and no others, did these events
 abbrev pub Tells : List Event → Option (List Call) → Type 0
 Tells events None = ⊤
 Tells events (Some calls) = (deeds : List Deed) × (events ≡ flat_map events_by deeds) × (calls ≡ flat_map calls_of deeds)

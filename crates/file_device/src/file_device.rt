@@ -31,7 +31,7 @@ pub type FileDevice = CopiedFile<HostFile<File>>;
 impl<F: SectorFile> CopiedFile<F> {
     ghost use Rattle.file_device.specs.FileDevice.{file_disk};
 
-    /// A device in this file, of which `copy` is what it holds. Nothing has been done to the file.
+    /// A device in this file, which holds the bytes of `copy`. Nothing has been done to the file.
     pub fn new(copy: Vec<u8>, file: F) -> CopiedFile<F>
         requires whole { length copy.items % 512 ≡ 0 }
         requires few { sectors_of copy.items ≤ 131072 }

@@ -10,7 +10,7 @@ use std::io::ErrorKind;
 
 /// An open file of the operating system, which nothing else writes to.
 ///
-/// What is told to have been done to it is what its calls did, as long as none has failed.
+/// Its history is what its calls did, as long as none has failed.
 #[derive(Drop)]
 pub struct HostFile<F: RawFile> {
     file: F,

@@ -137,7 +137,7 @@ fn open_locked<F: Openable>(
 
 impl<F: Openable> CopiedFile<HostFile<F>> {
     /// The device in the file at `path`, which has to be there. Its sectors are the whole ones of
-    /// the file: what comes after the last of them is left as it is. The file is locked and synced before it
+    /// the file; the bytes behind the last sector stay. The file is locked and synced before it
     /// is read, so what a read of the device gives at first is durable. Until the device is dropped no other is open
     /// in the file.
     ///
@@ -170,9 +170,9 @@ impl<F: Openable> CopiedFile<HostFile<F>> {
     /// zeros are synced, and the folder that has the file, where the system lets it be opened. Until the device is
     /// dropped no other is open in the file.
     ///
-    /// `Held` where another device is open in the file, which is left as it is. `Io` where the system refuses to make,
-    /// lengthen or sync the file, which may then be there with any length. `NoMemory` where there is no room for a
-    /// copy of it, and then no file was touched.
+    /// `Held` where another device is open in the file; it isn't changed then. `Io` if the system
+    /// refuses to make, lengthen or sync the file, which may then be there with any length.
+    /// `NoMemory` where there is no room for a copy of it, and then no file was touched.
     pub fn create(
         rt: &HostRuntime,
         path: &str,

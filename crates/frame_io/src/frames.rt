@@ -49,7 +49,7 @@ fn read_node_frame<D: Device>(
 }
 
 /// Fills the 1024 bytes of `node` with the frame of a rank in the cluster of 8 sectors from `at` on.
-/// After `Failed`, which is told exactly where the device failed, they may be any bytes.
+/// It returns `Failed` exactly where the device failed; then `node` may hold any bytes.
 pub fn read_packed<D: Device>(
     device: &mut D,
     at: u64,

@@ -6,8 +6,8 @@ ghost use Rattle.frame_io.specs.Calls.{ReadsOnly, WritesAt};
 
 use device::{Device, Failed};
 
-/// Fills `into` with so many sectors from `at` on. After `Failed`, which is told exactly where the
-/// device failed, it may hold any bytes.
+/// Fills `into` with `sectors` sectors from `at` on. It returns `Failed` exactly where the device
+/// failed; then `into` may hold any bytes.
 #[tactic(auto, using(crate::proofs::Runs::run_is))]
 pub fn read_sectors<D: Device>(
     device: &mut D,
@@ -25,8 +25,8 @@ pub fn read_sectors<D: Device>(
     device.read(at, into)
 }
 
-/// Writes `from` into so many sectors from `at` on. Until a sync a crash may leave any bytes in
-/// them; and they may hold any bytes after `Failed`, which is told exactly where the device failed.
+/// Writes `from` into `sectors` sectors from `at` on. Until a sync a crash may leave any bytes in
+/// them. It returns `Failed` exactly where the device failed; then they may hold any bytes.
 #[tactic(auto, using(crate::proofs::Runs::run_is))]
 pub fn write_sectors<D: Device>(
     device: &mut D,

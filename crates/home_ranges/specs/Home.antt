@@ -12,7 +12,7 @@ use Rattle.frame_io.specs.Frames.{IsObject}
 abbrev pub HoldsHome : Plan → ℕ → List ℕ → Image → Type 0
 HoldsHome p number bytes image = (n : ℕ) → IsObject p.geometry n → home_place p n ≡ home_place p number → bytes_at image (home_place p n) p n ≡ shape_bytes (shape_of p n) bytes
 
--- of the numbers from one on so many have its home, and none behind them has it
+-- the `n` numbers from `number` on have its home, and none behind them has it
 pub record HaveHome (p : Plan) (number n : ℕ) : Type 0 where
   pub object : (k : ℕ) → k < n → IsObject p.geometry (number + k)
   pub same : (k : ℕ) → k < n → home_place p (number + k) ≡ home_place p number

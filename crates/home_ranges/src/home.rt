@@ -103,8 +103,8 @@ impl<'a> Home<'a> {
         }
     }
 
-    /// Makes the bytes of a cluster 0 that lie behind its nodes, of which `first` is the first. The frames of the nodes
-    /// stay.
+    /// Makes the bytes of a cluster behind its nodes 0; `first` is its first node. The frames of
+    /// the nodes stay.
     pub fn blank_rest(&self, first: u64, cluster: &mut [u8])
         requires object { IsObject self.now.geometry first }
         requires shape { shape_of self.now first ≡ shape.Packed 0 }

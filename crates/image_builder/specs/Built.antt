@@ -19,7 +19,7 @@ use Rattle.described_world.specs.Described.{HasFields, HasNumbers, IsDescribed}
 use Rattle.image_builder.specs.declared.fault.BuildFault.{BuildFault}
 use Rattle.image_builder.specs.declared.fault.BuildFault.TheVariants.{Shape, Limits, Number, Field, Target, Owner, Small, Failed, NoMemory}
 
--- the number of a fault: of those that hold the least is told
+-- the number of a fault: the least of those that hold is answered
 abbrev pub fault_number : BuildFault → ℕ
 fault_number Shape = 1
 fault_number Limits = 2
@@ -45,7 +45,7 @@ pub record IsWithinLimits (d : Description) : Type 0 where
   pub laid : MayBeLaid d.geometry d.ranges.items
   pub age : d.age ≤ 2 ^ 62
 
--- the rule that a fault is told for, where an image is built on a device of so many sectors
+-- the rule that a fault breaks, where an image is built on a device of `sectors` sectors
 abbrev pub Rule : Description → ℕ → BuildFault → Type 0
 Rule d sectors Limits = IsWithinLimits d
 Rule d sectors Number = HasNumbers d
@@ -76,7 +76,7 @@ Refuses ms sectors Shape = (d : Description) → IsDescription ms d → ⊥
 Refuses ms sectors NoMemory = Unit {0}
 Refuses ms sectors fault = (d : Description) × IsDescription ms d × IsRefused d sectors fault
 
--- what no number of sectors is told for
+-- the faults for which a table has no number of sectors
 abbrev pub TellsNoSize : Members → BuildFault → Type 0
 TellsNoSize ms Shape = (d : Description) → IsDescription ms d → ⊥
 TellsNoSize ms Limits = (d : Description) × IsDescription ms d × (IsWithinLimits d → ⊥)

@@ -1,4 +1,4 @@
--- Of the faults that a description may be refused with there is one at most.
+-- A description is refused with at most one fault.
 use Rattle.std.specs.Prelude.{◌≡◌, ℕ}
 use Rattle.description.specs.declared.entry.Description.{Description}
 use Rattle.image_builder.specs.declared.fault.BuildFault.{BuildFault}

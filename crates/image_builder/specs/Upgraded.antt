@@ -78,7 +78,7 @@ IsLeftUpgrading old before c = (saved : SavedFrames) → Holds before.sectors c 
     ((d : Image) × before.may_leave d × Holds before.sectors d saved) ⊎ Holds old.sectors old.seen saved
 
 -- A device was only read between two states: nothing was written to it at any moment. A call of it failed exactly where
--- that is told.
+-- failure_told holds.
 pub record IsOnlyRead (old new : Disk) (failure_told : Type 0) : Type 0 where
   pub looks : Looks old new
   pub later : old.failures ≤ new.failures

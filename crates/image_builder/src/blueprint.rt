@@ -37,7 +37,7 @@ impl Model for Blueprint {
 
 impl Blueprint {
     /// Reads the description of a table. `Shape` and `Limits` as `build` answers them, and
-    /// `NoMemory` where memory ran out; no other fault is told.
+    /// `NoMemory` where memory ran out; no other fault occurs.
     pub fn read(alloc: Global, table: &Table) -> Result<Blueprint, BuildFault>
         ensures read { IfOk result (λ blueprint. IsDescription (table_view table.now) blueprint) }
         ensures refused { IfErr result (λ fault. TellsNoSize (table_view table.now) fault) }

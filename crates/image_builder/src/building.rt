@@ -15,7 +15,7 @@ use toml::Table;
 /// How many sectors a device needs for the image of a table's description.
 ///
 /// `Shape` and `Limits` as `build` answers them, and `NoMemory` where memory ran out. No other fault
-/// is told, whatever else is wrong with the description.
+/// occurs, whatever else is wrong with the description.
 pub fn sectors_needed(alloc: Global, table: &Table) -> Result<u64, BuildFault>
     ensures needed { IfOk result (λ needed. (d : Description)
         × IsDescription (table_view table.now) d
@@ -33,9 +33,9 @@ pub fn sectors_needed(alloc: Global, table: &Table) -> Result<u64, BuildFault>
 /// the two halves of the log behind them. From `Ok` on a read gives that image, each crash leaves
 /// it, and its frames stand for a sound world. Sectors behind it hold what they held.
 ///
-/// Of the faults that hold the least is answered:
-/// `Shape` where the table isn't that of a description; `Limits` where no image has so many objects
-/// or slots, such ranges, such an age or such a version of the layout; `Number` where a number isn't one of its kind or is named
+/// It answers the least of the faults that hold: `Shape` where the table isn't that of a
+/// description; `Limits` where no image has that many objects or slots, such ranges, such an age or
+/// such a version of the layout; `Number` where a number isn't one of its kind or is named
 /// twice; `Field` where a field is bad; `Target` where a capability names an object of another kind,
 /// or resumes a process that doesn't wait; `Owner` where the banks aren't a tree that owns all
 /// objects within their limits; `Small` where the device has fewer sectors than `sectors_needed`
@@ -44,7 +44,7 @@ pub fn sectors_needed(alloc: Global, table: &Table) -> Result<u64, BuildFault>
 /// The device is as it was, but after `Failed`: then the image's sectors may hold any bytes.
 ///
 /// A crash at any moment leaves the image that it could have left before; or nothing that can be
-/// opened, as no header is committed; or the described one, whole. So it is after `Failed` too.
+/// opened, as no header is committed; or the described one, whole. This holds after `Failed` too.
 pub fn build<D: Device>(alloc: Global, table: &Table, device: &mut D) -> Result<(), BuildFault>
     ensures built { OnOk result
         (BuildsFrom (table_view table.now) (D.disk device.old) (D.disk device.new)) }

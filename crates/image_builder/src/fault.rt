@@ -4,7 +4,7 @@ ghost use Rattle.image_builder.specs.Built.{fault_number};
 
 use thiserror::Error;
 
-/// Why no image is built from a table. Of the reasons that hold the least is given.
+/// Why no image is built from a table: the least of the reasons that hold.
 #[derive(Clone, Copy, PartialEq, Eq, Debug, Error)]
 pub enum BuildFault {
     #[error("the table hasn't the shape of a description")]

@@ -291,7 +291,7 @@ pub fn upgrade_and_count<D: ClosableDevice, E: Device>(
 /// is as it was, but after `Failed`: then the image's sectors may hold any bytes.
 ///
 /// A crash of the new device at any moment leaves the image that it could have left before; or
-/// nothing that can be opened, as no header is committed; or the new image, whole. So it is after
+/// nothing that can be opened, as no header is committed; or the new image, whole. This holds after
 /// `Failed` too. The old device is only read: nothing is written to it at any moment. `upgrade`
 /// closes it in the end, and doesn't give it back.
 pub fn upgrade<D: ClosableDevice, E: Device>(

@@ -22,7 +22,7 @@ plain_frame o = first_frame o.owner (map_content fresh_cap o.content)
 unfoldable pub plain_frames : List Object → List Frame
 plain_frames os = map plain_frame os
 
--- a description names each object of a world as it is, at its age, and nothing else
+-- a description names each object of a world with its state, at the world's age, and nothing else
 pub record Describes (g : Geometry) (w : World) (d : Description) : Type 0 where
   pub geometry : d.geometry ≡ g
   pub age : d.age ≡ w.age

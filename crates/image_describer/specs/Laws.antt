@@ -24,7 +24,7 @@ abbrev pub DescribedIsSame : Type 0
 DescribedIsSame = (g : Geometry) (age : ℕ) (fs gs : List Frame) (d : Description) → IsSoundFrames g age fs → Describes g (world_at age fs) d → IsDescribed d gs →
     IsSoundFrames d.geometry d.age gs × (world_at d.age gs ≡ world_at age fs)
 
--- and no fault is told of it
+-- and laying the description can only fail for want of memory
 abbrev pub DescribedIsLaid : Type 0
 DescribedIsLaid = (g : Geometry) (age : ℕ) (fs : List Frame) (d : Description) (fault : WorldFault) → IsSoundFrames g age fs → Describes g (world_at age fs) d → IsWorldFault d fault → fault ≡ NoMemory
 

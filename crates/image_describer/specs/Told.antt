@@ -1,4 +1,4 @@
--- Objects that are told one by one.
+-- The entries of objects, one by one.
 use Rattle.std.specs.Prelude.{◌≡◌, ◌≢◌, ℕ, List, [], map, Option, None, Some}
 use Rattle.std.specs.List.{All, Contains}
 use Rattle.model.specs.declared.capability.Capability.{Capability}
@@ -46,7 +46,7 @@ TellsAnnex os p = (registers : List Capability) × NamesSlots registers p.regist
 abbrev pub TellsProcess : List Object → ProcessEntry → Type 0
 TellsProcess os p = TellsRoot os p × TellsAnnex os p
 
--- What is told of a number: an entry where its object is of this kind, else nothing.
+-- the entry of a number: one where its object is of this kind, else none
 abbrev pub MayTell : {E : Type 0} → (E → ℕ) → (E → Type 0) → Role → List Object → ℕ → Option E → Type 0
 MayTell number Tells kind os n (Some e) = (number e ≡ n) × Tells e
 MayTell number Tells kind os n None = role_of (content_at os n) ≢ kind

@@ -54,13 +54,13 @@ fn tell_objects<F: PresentFrames>(
     tell_all(alloc, store, &mut description.pages)
 }
 
-/// The description of the objects of a store, which are sound at an age, with these home ranges and
-/// by this version of the layout: all that isn't free, as it is, by rising numbers. It names no slot that is void, stale
-/// capabilities among them, and no word that is 0. What is laid by it are the same objects, with
-/// counts of 0.
+/// The description of the objects of a store, which are sound at an age, with these home ranges
+/// and by this version of the layout: the state of each object in use, by rising numbers. It names
+/// no slot that is void or stale, and no word that is 0. An image built from it has the same
+/// objects, with counts of 0.
 ///
-/// `NoMemory` where memory ran out, and `Failed` exactly where the device failed; no other fault is
-/// told. No object is another than before.
+/// `NoMemory` where memory ran out, and `Failed` exactly where the device failed; no other fault
+/// occurs. No object changes.
 pub fn describe<F: PresentFrames>(
     alloc: Global,
     store: &mut F,

@@ -90,7 +90,7 @@ pub(crate) trait Told: Drop {
             IfOk result (MayTell number_of (Tells objects) kind objects number) }
         ensures looks { Looks F.parts F.LeadsTo store.old store.new result };
 
-    /// What is free isn't told.
+    /// A free object has no entry.
     ghost is_kept: { kind ≢ role.Free };
 }
 
@@ -123,7 +123,7 @@ impl Told for BankEntry {
     }
 }
 
-// A process is told by its root, with the registers in its annex.
+// The entry of a process has the number of its root, and the registers of its annex.
 impl Told for ProcessEntry {
     ghost number_of = { λ p. p.root };
 

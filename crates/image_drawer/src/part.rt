@@ -78,7 +78,7 @@ fn word_of(state: Option<State>) -> &'static [u8]
     }
 }
 
-// The box of a process, as far as it is the same for all.
+// The box of a process: the part that is the same for all.
 fn begin_process(process: &ProcessEntry) -> LineText
     ensures text { result ≡ spaced (decimal process.now.root
         ∷ (codes "[label=\"" ++ spaced (codes "process" ∷ decimal process.now.root ∷ codes "annex" ∷ decimal process.now.annex ∷ [])
@@ -118,7 +118,7 @@ impl Part for ProcessEntry {
     }
 }
 
-// The box of a node, as far as it is the same for all.
+// The box of a node: the part that is the same for all.
 fn begin_node(number: u64) -> LineText
     ensures text { result ≡ spaced (decimal number ∷ (codes "[label=\"" ++ spaced (codes "node" ∷ decimal number ∷ [])) ∷ []) }
     ensures short { length result ≤ 100 }

@@ -1,4 +1,4 @@
--- What is wrong with an image: what a fault names breaks the rule of its reason, in sectors or in the frames that they hold.
+-- What is wrong with an image: the reason that holds for what a fault names, in the sectors or in their frames.
 use Rattle.std.specs.Prelude.{◌≡◌, ◌≢◌, ◌<◌, ℕ, length, List}
 use Rattle.device.specs.Disk.{Image}
 use Rattle.model.specs.declared.frame.Frame.{Frame}
@@ -38,14 +38,14 @@ IsUnmatched fs (unmatched.Annex root annex) = IsRootOf fs root annex × (IsAnnex
 IsUnmatched fs (unmatched.Shared first second annex) = IsRootOf fs first annex × IsRootOf fs second annex × (first ≢ second)
 IsUnmatched fs (unmatched.Rootless annex) = (role_at fs annex ≡ role.Annex) × ((p : ℕ) → IsRootOf fs p annex → ⊥)
 
--- what a fault names among frames breaks its rule, and the rules of lesser reasons are kept
+-- the reason of a fault holds for what it names among frames, and no lesser reason holds
 abbrev pub BreaksFrames : List Frame → ImageFault → Type 0
 BreaksFrames fs (fault.Sectors f) = ⊥
 BreaksFrames fs (fault.Capability m) = IsMisnamed fs m
 BreaksFrames fs (fault.Process u) = AreNamed fs × IsUnmatched fs u
 BreaksFrames fs (fault.Bank u) = AreNamed fs × AreWholeProcesses fs × IsUnbanked fs u
 
--- what a fault names breaks its rule, in so many sectors of an image or in the frames that they hold
+-- the reason of a fault holds for what it names, in `size` sectors of an image or in the frames that they hold
 abbrev pub Breaks : ℕ → Image → ImageFault → Type 0
 Breaks size c (fault.Sectors f) = BreaksSectors size c f
 Breaks size c f = (saved : SavedFrames) × Holds size c saved × BreaksFrames saved.frames f

@@ -12,7 +12,7 @@ use Rattle.kernel.specs.Opening.{IsNoReason}
 use Rattle.image_explainer.specs.declared.fault.ImageFault.{ImageFault}
 use Rattle.image_explainer.specs.Breaking.{Breaks, reason_of}
 
--- the image denotes a saved part; or the least reason to refuse it is the fault's, and what that names breaks its rule
+-- the image denotes a saved part; or the fault's reason is the least one to refuse it, and holds for what it names
 abbrev pub IsExplainedBy : ℕ → Image → Option ImageFault → Type 0
 IsExplainedBy size c None = (g : Geometry) × (saved : Saved) × Denotes g size c saved
 IsExplainedBy size c (Some f) = IsBad size c (reason_of f) × Breaks size c f

@@ -53,7 +53,7 @@ fn explain_objects<D: Device>(
     }
 }
 
-// Memory for a copy of so many sectors, for a directory and for a frame.
+// Memory for a copy of `size` sectors, for a directory and for a frame.
 fn reserve(alloc: Global, size: u64) -> Result<(Vec<u8>, Vec<Entry>, Room), AllocError>
     requires { size ≤ 131072 }
     ensures copy { IfOk result (λ three. length three.0.items ≡ 512 * size) }
@@ -124,7 +124,7 @@ fn explain_sectors<D: Device>(
 }
 
 /// Why the image on a device is refused: `None` if a kernel opens it, else what is wrong, and where. The reason of the fault
-/// is the least of the ten that holds, and what the fault names breaks its rule. Takes memory for a copy of the sectors.
+/// is the least of the ten that holds, and holds for what it names. Copies the sectors into memory.
 ///
 /// The device is given back, and nothing was written to it, at no moment. `Failed` exactly if the device failed, and
 /// `NoMemory` if memory ran out; never `Bad`.

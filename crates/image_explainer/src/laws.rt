@@ -1,4 +1,4 @@
-// A law of refused images, told by a function that does nothing.
+// A law of refused images, stated by a function that does nothing.
 ghost use Rattle.image_explainer.specs.Explained.{AreBadForOneReason};
 
 /// An image is bad for one reason alone. It does nothing: its contract is the law.

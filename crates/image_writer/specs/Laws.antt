@@ -14,7 +14,7 @@ use Rattle.image_writer.specs.Laid.{plan_from}
 abbrev pub SecondTakesFewMore : Type 0
 SecondTakesFewMore = (g : Geometry) (rs : List NumberRange) → (plan_from Two g rs).total ≤ (plan_from One g rs).total + 8 * length rs
 
--- an image of which the gates alone were touched, with the same committed header, holds the same saved frames, or as
+-- an image that changed in its gates alone, with the same committed header, holds the same saved frames, or as
 -- before none
 abbrev pub KeptHoldsTheSame : Type 0
 KeptHoldsTheSame = (size : ℕ) (old new : Image) (saved : SavedFrames) → KeepsImage old new → (Holds size old saved ↔ Holds size new saved)

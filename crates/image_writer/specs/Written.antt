@@ -21,7 +21,7 @@ use Rattle.image_writer.specs.Homes.{LieAt}
 abbrev pub state_of : Plan → CheckpointHeader → List Entry → List Frame → SavedState
 state_of p h es frames = record { plan = p; header = h; directory = es; frames = frames }
 
--- the header of a checkpoint of generation 0, all of which is home
+-- the header of a checkpoint of generation 0 whose objects are all home
 abbrev pub first_header : ℕ → CheckpointHeader
 first_header age = record { sequence = 0; generation = 0; entries = 0; age = age }
 

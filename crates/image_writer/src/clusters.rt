@@ -38,8 +38,8 @@ fn put_node(
     pack_node(&node, rank as usize, cluster);
 }
 
-/// Fills the 4096 bytes of a cluster, of which `number` is the first node: with the frame of each of its nodes, from the
-/// header and the content of its number, and with zeros behind them.
+/// Fills the 4096 bytes of the cluster whose first node is `number`: with the frame of each of its
+/// nodes, from the header and the content of its number, and with zeros behind them.
 pub(crate) fn fill_cluster(
     home: &Home,
     number: u64,

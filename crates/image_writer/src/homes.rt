@@ -81,7 +81,7 @@ fn write_page<D: Device>(
     home.write_frame(device, number, &page)
 }
 
-// Writes the home of all nodes of a cluster, of which this one has rank 0, with zeros behind them.
+// Writes the home of all nodes of the cluster that begins with `number`, with zeros behind them.
 fn write_cluster<D: Device>(
     device: &mut D,
     home: &Home,
@@ -135,7 +135,7 @@ fn write_home<D: Device>(
     }
 }
 
-/// Writes the homes of so many objects, which are all there are, each home once: each frame from
+/// Writes the homes of all `count` objects, each home once: each frame from
 /// the header and the content of its number. The gates of both headers are closed, and a crash at
 /// any moment leaves them so.
 pub(crate) fn write_homes<D: Device>(

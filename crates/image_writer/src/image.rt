@@ -24,7 +24,7 @@ use home_ranges::Home;
 use layout::{CheckpointHeader, Entry, Superblock};
 use model::{Cap, Content, Geometry, ObjectHeader};
 
-// Writes the homes of so many objects, which are all there are, and the half of the log of a
+// Writes the homes of all `count` objects, and the half of the log of a
 // generation. The gates of both headers are closed, and a crash at any moment leaves them so.
 fn write_frames<D: Device>(
     device: &mut D,

@@ -8,7 +8,7 @@ pub fn second_takes_few_more()
     ensures { SecondTakesFewMore }
 {}
 
-/// An image of which the gates alone were touched, with the same committed header, holds the saved
+/// An image that changed in its gates alone, with the same committed header, holds the saved
 /// frames that it held, or as before none.
 pub fn kept_holds_the_same()
     ensures { KeptHoldsTheSame }

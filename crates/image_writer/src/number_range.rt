@@ -1,4 +1,4 @@
-// Ranges of numbers, before it is told where their frames lie.
+// Ranges of numbers, before their frames have a place.
 
 /// Consecutive numbers of objects, whose frames are to lie one after the other.
 #[derive(Clone, Copy, PartialEq, Eq, Debug)]

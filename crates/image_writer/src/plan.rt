@@ -61,7 +61,7 @@ fn are_few(ranges: &[NumberRange]) -> bool
     ranges.iter().all(|range| range.count <= MAX_OBJECTS)
 }
 
-/// Lays out an image of a version and of so many objects: from sector 5 on the home ranges in their
+/// Lays out an image of this version and geometry: from sector 5 on the home ranges in their
 /// order, behind them the two halves of the log. The total is the sector behind the second.
 ///
 /// It is refused exactly where the format wants other numbers: 16 to 4096 nodes, 1 to 4096 pages,

@@ -31,7 +31,7 @@ without_fault (Err why) = Err why
 abbrev pub TellsFault : {D : Type 0} → (D → Disk) → D → D → Option ImageFault → (List ℕ → Type 0) → Type 0
 TellsFault disk device back found Told = (let r : Result (Option ImageFault) OpenFault = Ok found in Explains disk device back r) × Told (line_of (explanation_text found))
 
--- so it is; or that isn't written whole; or the device failed, or memory ran out
+-- that is written; or it isn't written whole; or the device failed, or memory ran out
 abbrev pub ExplainsImage : {D : Type 0} → (D → Disk) → D → D → Option (List ℕ) → Option (List ℕ) → Result (Option ImageFault) Fault → Type 0
 ExplainsImage disk device back output output_left (Ok found) = TellsFault disk device back found (Appends output output_left)
 ExplainsImage disk device back output output_left (Err fault.CannotWriteOutput) = (found : Option ImageFault) × TellsFault disk device back found (AppendsFront output output_left)

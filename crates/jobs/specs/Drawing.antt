@@ -58,7 +58,7 @@ KeepsPart os focus d e (Ok a) = IsFocus os focus d e
 KeepsPart os focus d e (Err (fault.Open opening.NoMemory)) = Unit {0}
 KeepsPart os focus d e (Err why) = IsNoFocus os focus d why
 
--- the graph of a part was told
+-- the graph of a part was written
 abbrev pub TellsPart : List Object → Focus → Description → (List ℕ → Type 0) → Type 0
 TellsPart os focus d Told = (e : Description) × IsFocus os focus d e × Told (graph_text e)
 
@@ -74,7 +74,7 @@ abbrev pub OpensWhole : {D : Type 0} → (D → Disk) → D → D → Result Who
 OpensWhole disk device back (Ok whole) = DescribesSaved disk device back whole.description × HoldsOfSaved disk device back (λ os. whole.objects.items ≡ os)
 OpensWhole disk device back (Err why) = RefusesToOpen disk device back why
 
--- it was opened so, and this was told of what is saved
+-- it was opened so, and Told holds of what is saved
 pub record OfWhole {D : Type 0} (disk : D → Disk) (device back : D) (Told : List Object → Description → Type 0) : Type 0 where
   pub description : Description
   pub saved : DescribesSaved disk device back description
@@ -82,7 +82,7 @@ pub record OfWhole {D : Type 0} (disk : D → Disk) (device back : D) (Told : Li
   pub read : HoldsOfSaved disk device back (λ os. objects ≡ os)
   pub told : Told objects description
 
--- the graph of a part of what is saved was told; or that couldn't be written whole; or a number of the focus is wrong; or
+-- the graph of a part of what is saved was written; or not whole; or a number of the focus is wrong; or
 -- the device wasn't opened, or memory ran out
 abbrev pub DrawsImage : {D : Type 0} → (D → Disk) → Focus → D → D → Option (List ℕ) → Option (List ℕ) → Result (Unit {0}) Fault → Type 0
 DrawsImage disk focus device back output output_left (Err (fault.Open why)) = RefusesToOpen disk device back why × (output_left ≡ output)

@@ -1,4 +1,4 @@
--- What is told of the description in a text.
+-- The explanation of the description in a text.
 use Rattle.std.specs.Prelude.{◌≡◌, ℕ, Bool, true, false, List, None, Some}
 use Rattle.toml.specs.Data.{Members}
 use Rattle.toml.specs.Parse.{parse_document}
@@ -9,7 +9,7 @@ use Rattle.description_explainer.specs.Places.{Explains}
 abbrev pub IsAcceptedText : List ℕ → Type 0
 IsAcceptedText text = (table : Members) × (parse_document text ≡ Some table) × Explains table None
 
--- so it is; or it isn't TOML, or its table breaks a rule at a place
+-- it is accepted; or it isn't TOML, or its table breaks a rule at a place
 abbrev pub TellsOf : List ℕ → Bool → Type 0
 TellsOf text true = IsAcceptedText text
 TellsOf text false = (table : Members) → parse_document text ≡ Some table → (place : Place) × Explains table (Some place)

@@ -1,4 +1,4 @@
--- What is told of a fault, and the status of a command.
+-- The message of a fault, and the exit status of a command.
 use Rattle.std.specs.Prelude.{◌≡◌, ℕ, List, [], ◌∷◌, ◌++◌, codes, decimal, Option, None, Some, Result, Ok, Err}
 use Rattle.layout.specs.declared.bad_image.BadImage.{BadImage}
 use Rattle.layout.specs.declared.bad_image.BadImage.TheVariants as bad
@@ -95,13 +95,13 @@ abbrev pub status_of : Result (Unit {0}) Fault → ℕ
 status_of (Ok a) = 0
 status_of (Err why) = 1
 
--- a fault was told on a line of its own, as far as it could be written
+-- a fault was written on a line of its own, as far as it could be written
 abbrev pub IsTold : Result (Unit {0}) Fault → Option (List ℕ) → Option (List ℕ) → Type 0
 IsTold (Ok a) old new = new ≡ old
 IsTold (Err why) old new = (wrote : Result (Unit {0}) RunFault) × Writes old new wrote (line_of (fault_text why))
 
--- The status of a command that came to a status before, and what is left in the buffer of its output: nothing, where the
--- status is 0; or that couldn't be passed on.
+-- The status of a command once the buffer of its output is passed on: the status before, and an empty buffer if that
+-- status is 0; or 1, where it was 0 and the buffer couldn't be passed on.
 abbrev pub PassesOn : ℕ → ℕ → List ℕ → Result (Unit {0}) Fault → Type 0
 PassesOn before after left (Ok a) = (after ≡ before) × (before ≡ 0 → left ≡ [])
 PassesOn before after left (Err fault.CannotWriteOutput) = (before ≡ 0) × (after ≡ 1)

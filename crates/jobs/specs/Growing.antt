@@ -1,4 +1,4 @@
--- A description that is told, renumbered for other sizes.
+-- A description of an image, renumbered for other sizes.
 use Rattle.std.specs.Prelude.{◌≡◌, ℕ, List, Some, Option, Result, Ok, Err}
 use Rattle.std.specs.Io.KnownBytes.{Appends}
 use Rattle.toml.specs.Data.{Members}
@@ -24,7 +24,7 @@ pub record IsSpelling (d : Description) (text : List ℕ) : Type 0 where
 abbrev pub TellsText : Description → (List ℕ → Type 0) → Type 0
 TellsText d Told = (text : List ℕ) × IsSpelling d text × Told text
 
--- the text of a description was told; or that couldn't be written whole; or memory ran out
+-- the text of a description was written; or it couldn't be written whole; or memory ran out
 abbrev pub TellsDescription : Description → Option (List ℕ) → Option (List ℕ) → Result (Unit {0}) Fault → Type 0
 TellsDescription d output output_left (Ok a) = TellsText d (Appends output output_left)
 TellsDescription d output output_left (Err fault.CannotWriteOutput) = TellsText d (AppendsFront output output_left)
@@ -49,7 +49,7 @@ GrowsDescription sizes d e (Err _) = ⊥
 abbrev pub TellsGrownText : Description → Sizes → (List ℕ → Type 0) → Type 0
 TellsGrownText d sizes Told = (e : Description) × IsGrownFrom sizes d e × TellsText e Told
 
--- the text of a renumbered description was told; or a fault
+-- the text of a renumbered description was written; or a fault
 abbrev pub TellsGrown : Description → Sizes → Option (List ℕ) → Option (List ℕ) → Result (Unit {0}) Fault → Type 0
 TellsGrown d sizes output output_left (Ok a) = TellsGrownText d sizes (Appends output output_left)
 TellsGrown d sizes output output_left (Err fault.CannotWriteOutput) = TellsGrownText d sizes (AppendsFront output output_left)

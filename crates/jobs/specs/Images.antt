@@ -45,7 +45,7 @@ use Rattle.jobs.specs.declared.fault.Fault.{Fault}
 use Rattle.jobs.specs.declared.fault.Fault.TheVariants as fault
 use Rattle.jobs.specs.Faults.{IsRunEnd}
 
--- what is told of an image that was built, and of one that can be opened
+-- the lines for an image that was built, and for one that can be opened
 abbrev pub built_text : ℕ → List ℕ
 built_text total = spaced (codes "built" ∷ decimal total ∷ codes "sectors" ∷ [])
 
@@ -53,11 +53,11 @@ abbrev pub checked_text : ℕ → ℕ → ℕ → List ℕ
 checked_text generation age entries =
     spaced (codes "ok generation" ∷ decimal generation ∷ codes "age" ∷ decimal age ∷ codes "entries" ∷ decimal entries ∷ [])
 
--- the total of the image of a table is told
+-- the total of the image of a table is written
 abbrev pub TellsTotal : Members → (List ℕ → Type 0) → Type 0
 TellsTotal ms Told = (d : Description) × IsDescription ms d × Told (line_of (built_text (plan_for d).total))
 
--- an image was built and its total told; or it was built, and that couldn't be written whole; or none was
+-- an image was built and its total written; or it was built, and the total couldn't be written whole; or none was
 abbrev pub BuildsImage : {D : Type 0} → (D → Disk) → Members → D → D → Option (List ℕ) → Option (List ℕ) → Result (Unit {0}) Fault → Type 0
 BuildsImage disk ms old new output output_left (Ok a) = BuildsFrom ms (disk old) (disk new) × TellsTotal ms (Appends output output_left)
 BuildsImage disk ms old new output output_left (Err fault.CannotWriteOutput) = BuildsFrom ms (disk old) (disk new) × TellsTotal ms (AppendsFront output output_left)
@@ -65,7 +65,7 @@ BuildsImage disk ms old new output output_left (Err (fault.Build why)) =
     Refuses ms (disk old).sectors why × (why ≢ build.Failed → new ≡ old) × ((why ≡ build.Failed) ↔ ((disk old).failures < (disk new).failures)) × (output_left ≡ output)
 BuildsImage disk ms old new output output_left (Err _) = ⊥
 
--- the total of an image that was upgraded is told
+-- the total of an image that was upgraded is written
 abbrev pub upgraded_text : ℕ → List ℕ
 upgraded_text total = spaced (codes "upgraded" ∷ decimal total ∷ codes "sectors" ∷ [])
 
@@ -73,7 +73,7 @@ abbrev pub UpgradesAndTells : {D E : Type 0} → (D → Disk) → (E → Disk) �
 UpgradesAndTells disk new_disk old before new Told =
     (done : Upgrades (disk old) (new_disk before) (new_disk new)) × Told (line_of (upgraded_text (laid_again Two done.state.plan).total))
 
--- what an old device saves was written to a new one, and the total told; or that couldn't be written whole; or nothing was
+-- an image was upgraded and its total written; or the total couldn't be written whole; or no image was upgraded
 abbrev pub UpgradesImage : {D E : Type 0} → (D → Disk) → (E → Disk) → D → E → E → Option (List ℕ) → Option (List ℕ) → Result (Unit {0}) Fault → Type 0
 UpgradesImage disk new_disk old before new output output_left (Ok a) = UpgradesAndTells disk new_disk old before new (Appends output output_left)
 UpgradesImage disk new_disk old before new output output_left (Err fault.CannotWriteOutput) = UpgradesAndTells disk new_disk old before new (AppendsFront output output_left)
@@ -82,7 +82,7 @@ UpgradesImage disk new_disk old before new output output_left (Err (fault.Upgrad
     × ((why ≡ upgrade.Failed) ↔ ((new_disk before).failures < (new_disk new).failures)) × (output_left ≡ output)
 UpgradesImage disk new_disk old before new output output_left (Err _) = ⊥
 
--- what is told where the old device failed
+-- the fault where the old device failed
 abbrev pub old_failed : Fault
 old_failed = fault.Upgrade (upgrade.Old opening.Failed)
 
@@ -110,7 +110,7 @@ module _ {D S : Type 0} (disk : D → Disk) (view : S → View D) (parts : S →
   SeesImage sees device back before after input input_left output output_left (Err why) =
       RefusesToOpen disk device back why × (input_left ≡ input) × (output_left ≡ output) × (after ≡ before)
 
-  -- what a command that runs a script comes to: the run that its observer saw, and where that ended it
+  -- the outcome of a command that runs a script: the run that its observer saw, and where that ended it
   abbrev pub EndsAs : {O : Type 0} → (Geometry → Turn → O → O → Bool → Type 0) → (O → Option Stop) → D → D → O → O
       → Option (List ℕ) → Option (List ℕ) → Option (List ℕ) → Option (List ℕ) → Result (Unit {0}) Fault → Type 0
   EndsAs sees stop device back before after input input_left output output_left result =
@@ -125,7 +125,7 @@ module _ {D S : Type 0} (disk : D → Disk) (view : S → View D) (parts : S →
   RunsImage device back input input_left output output_left (Err (fault.Open why)) = RefusesToOpen disk device back why × (input_left ≡ input) × (output_left ≡ output)
   RunsImage device back input input_left output output_left (Err _) = ⊥
 
--- a device was opened with no failure, nothing was written to it at any moment, and what is saved on it was told
+-- a device was opened with no failure, nothing was written to it at any moment, and Told holds of what is saved on it
 abbrev pub TellsSaved : {D : Type 0} → (D → Disk) → D → D → (List ℕ → Type 0) → Type 0
 TellsSaved disk device back Told =
     (geometry : Geometry) × (saved : Saved) × Denotes geometry (disk device).sectors (disk device).seen saved × Told (line_of (checked_text saved.generation saved.world.age saved.entries))
@@ -138,7 +138,7 @@ ChecksImage disk device back output output_left (Err fault.CannotWriteOutput) = 
 ChecksImage disk device back output output_left (Err (fault.Open why)) = RefusesToOpen disk device back why × (output_left ≡ output)
 ChecksImage disk device back output output_left (Err _) = ⊥
 
--- A description tells each object that frames stand for as it is, at their age, and nothing else: nothing at its default,
+-- A description gives each object the state in its frame, at the age of the frames, and nothing else: no default,
 -- numbers in order, and the home ranges and the version of a plan.
 pub record IsDescriptionOf (p : Plan) (age : ℕ) (frames : List Frame) (description : Description) : Type 0 where
   pub describes : Describes p.geometry (world_at age frames) description
@@ -180,8 +180,8 @@ pub record IsTextIn (p : Plan) (g : Geometry) (age : ℕ) (frames : List Frame) 
   pub spelled : text ≡ description_text description
   pub whole : IsDescribedIn p g age frames description
 
--- A text is that of a description which tells each object that frames stand for as it is, at their age, and nothing else:
--- nothing at its default, numbers in order, and the home ranges and the version of a plan. It is the one text of that
+-- A text is that of a description which gives each object the state in its frame, at the age of the frames, and nothing
+-- else: no default, numbers in order, and the home ranges and the version of a plan. It is the one text of that
 -- description, and is read as it.
 pub record IsTextOf (p : Plan) (age : ℕ) (frames : List Frame) (text : List ℕ) : Type 0 where
   pub table : Members
@@ -201,7 +201,7 @@ pub record ReadsSaved {D : Type 0} (disk : D → Disk) (device back : D) (state 
   pub failures : (disk back).failures ≡ (disk device).failures
   pub looks : Looks (disk device) (disk back)
 
--- so it was, and all that is saved was told for an image of these sizes
+-- so it was, and the description of all that is saved was written for an image of these sizes
 pub record TellsWhole {D : Type 0} (disk : D → Disk) (sizes : Sizes) (device back : D) (Told : List ℕ → Type 0) : Type 0 where
   pub state : SavedState
   pub saved : ReadsSaved disk device back state
@@ -215,7 +215,7 @@ RefusesSizes disk sizes device back why =
     (state : SavedState) × ReadsSaved disk device back state
     × IsUnsuited state.plan.geometry (grown_geometry state.plan.geometry sizes) (world_at state.header.age state.frames) why
 
--- all was told; or that couldn't be written whole; or there is no such image; or the device wasn't opened, or memory ran out
+-- all was written; or not all of it; or there is no such image; or the device wasn't opened, or memory ran out
 abbrev pub DescribesImage : {D : Type 0} → (D → Disk) → Sizes → D → D → Option (List ℕ) → Option (List ℕ) → Result (Unit {0}) Fault → Type 0
 DescribesImage disk sizes device back output output_left (Ok a) = TellsWhole disk sizes device back (Appends output output_left)
 DescribesImage disk sizes device back output output_left (Err fault.CannotWriteOutput) = TellsWhole disk sizes device back (AppendsFront output output_left)

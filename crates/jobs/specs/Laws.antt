@@ -31,8 +31,8 @@ BuiltIsDenoted = (d : Description) (frames : List Frame) (size : ℕ) (c : Image
 abbrev pub anew : ℕ → List Frame → Saved
 anew age frames = record { world = world_at age frames; generation = 0; entries = 0 }
 
--- What holds frames that are saved as `build` does of a text told of an image denotes the world that the text tells, of
--- generation 0 and with nothing in the log.
+-- Take a text that describes an image. An image that holds what `build` makes of the text denotes the described world,
+-- of generation 0 and with nothing in the log.
 abbrev pub DescribedIsDenoted : Type 0
 DescribedIsDenoted = (p : Plan) (age : ℕ) (frames : List Frame) (text : List ℕ) (table : Members) (d : Description) (saved : SavedFrames) (size : ℕ) (c : Image) → IsSoundFrames p.geometry age frames →
     IsTextOf p age frames text → parse_document text ≡ Some table → IsDescription table d → IsSavedOf d saved → Holds size c saved → Denotes p.geometry size c (anew age frames)
@@ -43,8 +43,8 @@ abbrev pub DescribedIsAccepted : Type 0
 DescribedIsAccepted = (g : Geometry) (age : ℕ) (fs : List Frame) (d : Description) (v : Version) (sectors : ℕ) → IsSoundFrames g age fs → Describes g (world_at age fs) d →
     d.layout ≡ version_number v → MayBeLaid d.geometry d.ranges.items → (plan_for d).total ≤ sectors → IsAccepted d sectors
 
--- What holds frames that are saved as `build` does of a text told of an image for other sizes denotes the objects of that
--- image, each at its number there, of generation 0 and with nothing in the log.
+-- Take a text that describes an image for other sizes. An image that holds what `build` makes of the text denotes the
+-- objects of the described image, each at its number there, of generation 0 and with nothing in the log.
 abbrev pub GrownIsDenoted : Type 0
 GrownIsDenoted = (p : Plan) (g : Geometry) (age : ℕ) (frames : List Frame) (text : List ℕ) (table : Members) (d : Description) (saved : SavedFrames) (size : ℕ) (c : Image) →
     IsTextIn p g age frames text → parse_document text ≡ Some table → IsDescription table d → IsSavedOf d saved → Holds size c saved →

@@ -44,7 +44,7 @@ abbrev pub IsReachText : List Object → List ℕ → Option ℕ → List ℕ �
 IsReachText os starts None text = IsSetText os starts text
 IsReachText os starts (Some o) text = IsChainText os starts o text
 
--- the numbers are those of processes, and the text was told
+-- the numbers are those of processes, and the text was written
 abbrev pub Reaches : List Object → List ℕ → Option ℕ → (List ℕ → Type 0) → Type 0
 Reaches os starts shows Told = AreProcesses os starts × ((text : List ℕ) × IsReachText os starts shows text × Told text)
 
@@ -70,7 +70,7 @@ abbrev pub OpensAndReads : {D : Type 0} → (D → Disk) → D → D → Result 
 OpensAndReads disk device back (Ok objects) = HoldsOfSaved disk device back (λ os. objects.items ≡ os)
 OpensAndReads disk device back (Err why) = RefusesToOpen disk device back why
 
--- what processes can ever change was told of the saved objects; or a fault; or the device wasn't opened, or memory ran out
+-- what processes can ever change was written; or a fault; or the device wasn't opened, or memory ran out
 abbrev pub ReachesImage : {D : Type 0} → (D → Disk) → List ℕ → Option ℕ → D → D → Option (List ℕ) → Option (List ℕ) → Result (Unit {0}) Fault → Type 0
 ReachesImage disk starts shows device back output output_left (Err (fault.Open why)) = RefusesToOpen disk device back why × (output_left ≡ output)
 ReachesImage disk starts shows device back output output_left outcome =

@@ -10,12 +10,12 @@ use Rattle.script.specs.Writing.{Writes}
 abbrev pub unsaved_text : List ℕ
 unsaved_text = codes "eros: some invocations or stores are not committed"
 
--- a line is told, as far as it can be written, or none is
+-- a line is written, as far as it can be written, or none is
 abbrev pub TellsIf : Bool → List ℕ → Option (List ℕ) → Option (List ℕ) → Type 0
 TellsIf true text old new = (wrote : Result (Unit {0}) RunFault) × Writes old new wrote (line_of text)
 TellsIf false text old new = new ≡ old
 
--- it is told whether something isn't committed
+-- a line is written if something isn't committed
 abbrev pub TellsUnsaved : Unsaved → Option (List ℕ) → Option (List ℕ) → Type 0
 TellsUnsaved unsaved old new = TellsIf (unsaved.present || unsaved.frozen) unsaved_text old new
 

@@ -13,7 +13,7 @@ use script::LineText;
 use std::alloc::Global;
 use std::io::Write;
 
-// What is told of an image that can be opened.
+// The line for an image that can be opened.
 fn checked_line(saved: Checkpoint) -> LineText
     ensures text { result ≡ checked_text saved.generation saved.age saved.entries }
     ensures short { length result ≤ 120 }

@@ -27,7 +27,7 @@ fn position(text: &str, index: usize) -> (u64, u64) {
     (line, column)
 }
 
-// What is told of a text that isn't TOML.
+// The line for a text that isn't TOML.
 fn toml_line(alloc: Global, text: &str, error: &Error) -> Result<String, AllocError> {
     let start = match error.span() {
         Some(span) => span.start,
@@ -40,7 +40,7 @@ fn toml_line(alloc: Global, text: &str, error: &Error) -> Result<String, AllocEr
     )
 }
 
-// What is told of the description in a text, and whether it is accepted.
+// The explanation of the description in a text, and whether the description is accepted.
 fn explained(alloc: Global, text: &str) -> Result<(String, bool), AllocError>
     ensures { IfOk result (λ told. TellsOf text.now told.1) }
 {
@@ -63,7 +63,7 @@ fn explained(alloc: Global, text: &str) -> Result<(String, bool), AllocError>
     }
 }
 
-// Writes what is told of the description in a text, and answers whether it is accepted.
+// Writes the explanation of the description in a text, and answers whether it is accepted.
 fn explain_and_tell<W: Write>(alloc: Global, text: &str, writer: &mut W) -> Result<bool, Fault>
     ensures { IfOk result (λ is_accepted. TellsOf text.now is_accepted) }
 {

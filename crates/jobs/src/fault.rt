@@ -66,7 +66,7 @@ pub(crate) fn of_run(
     }
 }
 
-// What is told where no image was built.
+// The message where no image was built.
 fn build_line(fault: BuildFault) -> LineText
     ensures text { result ≡ build_text fault }
     ensures short { length result ≤ 60 }
@@ -91,7 +91,7 @@ fn number_of(reason: BadImage) -> u64
     reason as u64
 }
 
-// What is told where a device isn't opened.
+// The message where a device isn't opened.
 fn open_line(fault: OpenFault) -> LineText
     ensures text { result ≡ open_text fault }
     ensures short { length result ≤ 60 }
@@ -103,7 +103,7 @@ fn open_line(fault: OpenFault) -> LineText
     }
 }
 
-// What is told where no image was upgraded.
+// The message where no image was upgraded.
 fn upgrade_line(fault: UpgradeFault) -> LineText
     ensures text { result ≡ upgrade_text fault }
     ensures short { length result ≤ 60 }
@@ -116,7 +116,7 @@ fn upgrade_line(fault: UpgradeFault) -> LineText
     }
 }
 
-// What is told where no description is renumbered.
+// The message where no description is renumbered.
 fn sizes_line(fault: GrowthFault) -> LineText
     ensures text { result ≡ sizes_text fault }
     ensures short { length result ≤ 60 }
@@ -141,7 +141,7 @@ fn stop_line(stop: Stop) -> LineText
 }
 
 impl Fault {
-    // What is told of it.
+    // The message of this fault.
     fn line(self) -> LineText
         ensures text { result ≡ fault_text self }
         ensures short { length result ≤ 120 }
@@ -173,8 +173,8 @@ impl Fault {
     }
 }
 
-/// The status of a command that came to this: 0 for success, and 1 for a fault, which is told
-/// first.
+/// The exit status of a command with this outcome: 0 for success and 1 for a fault. The message of
+/// a fault is written first.
 pub(crate) fn status<V: Write>(outcome: Result<(), Fault>, errors: &mut V) -> u8
     ensures status { result ≡ status_of outcome }
     ensures told { IsTold outcome (V.contents errors.old) (V.contents errors.new) }

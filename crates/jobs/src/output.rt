@@ -8,7 +8,7 @@ use crate::fault::{Fault, status};
 use std::io::{BufWriter, Write};
 
 /// The status of a command that came to `before`, once its output is passed on: what stands in the buffer is written.
-/// Where that fails and no fault was told before, `cannot write output` is written to `errors`, and the status is 1.
+/// If that fails after status 0, `cannot write output` is written to `errors`, and the status is 1.
 pub fn finish<W: Write + Drop, V: Write>(
     writer: &mut BufWriter<W>,
     before: u8,

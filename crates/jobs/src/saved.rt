@@ -35,9 +35,9 @@ pub(crate) fn description_in<D: Device>(
     }
 }
 
-/// Opens a device as a run does, gives it back, and with it the description of all that is saved on it: each object as it
-/// is and nothing else, by rising numbers, with the home ranges and the version of the image. Nothing is written to the
-/// device, at no moment.
+/// Opens a device as a run does, and returns it with the description of what is saved on it: the
+/// state of each object in use, by rising numbers, with the home ranges and the image's version. It
+/// writes nothing to the device at any moment.
 ///
 /// It fails where the device isn't opened, for that reason, and with `NoMemory` where memory runs out.
 pub(crate) fn describe_saved<D: Device>(

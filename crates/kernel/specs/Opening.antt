@@ -51,7 +51,7 @@ module _ {D S : Type 0} (disk : D → Disk) (view : S → View D) (parts : S →
     pub looks : Looks (disk device) (disk_of disk view parts p)
     pub failures : (disk_of disk view parts p).failures ≡ (disk device).failures
 
-  -- a device was opened again, of which a crash left one of some saved parts
+  -- a device was opened again; a crash had left one of some saved parts on it
   pub record Reopened (g : Geometry) (saved : List Saved) (device : D) (a : Answer) (new : Power D S) : Type 0 where
     pub after : Machine
     pub step : ReopensAs g saved a after

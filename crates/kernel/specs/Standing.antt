@@ -119,7 +119,7 @@ module _ {D S : Type 0} (disk : D → Disk) (view : S → View D) (parts : S →
   HasDevice power.Between = ⊥
   HasDevice _ = Unit {0}
 
-  -- what is told of the committed checkpoint is that of the machine that is up
+  -- the checkpoint that is answered is the committed one of the machine that is up
   abbrev pub IsTold : Power D S → Option Checkpoint → Type 0
   IsTold (power.Up l) (Some told) =
       (told.generation ≡ (view l.store).aside.saved.generation) × (told.age ≡ (view l.store).aside.saved.age)

@@ -92,7 +92,7 @@ pub fn commit<D: Device, S: ObjectStore<D>>(live: &mut Live<S>) -> Result<Answer
     }
 }
 
-/// Copies so many saved objects home. Fails where the device does, and makes no call of it where
+/// Copies `count` saved objects home. Fails where the device does, and makes no call of it where
 /// all of it is home already.
 #[inline(never)]
 pub fn migrate<D: Device, S: ObjectStore<D>>(

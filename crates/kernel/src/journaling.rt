@@ -33,8 +33,8 @@ fn refused(fault: JournalFault, is_known: bool) -> Result<Answer, Failed>
     Ok(Answer::Refused(refusal))
 }
 
-/// Saves a page as it is, without a checkpoint: of the page what is saved else stays, and so do all
-/// other objects. The age rises by one.
+/// Saves the present words of a page without a checkpoint. All else that is saved of the page
+/// stays, and so do all other objects. The age rises by one.
 ///
 /// It is refused by the first that applies of `Worn` at the greatest age, `CheckpointRunning` where
 /// a checkpoint is on its way, `MigrationPending` where what is saved isn't home, `BadNumber` where

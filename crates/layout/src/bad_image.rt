@@ -1,7 +1,7 @@
 // Why an image is refused.
 use thiserror::Error;
 
-/// Why an image is refused. Of the reasons that hold the least is given.
+/// Why an image is refused: the least of the reasons that hold.
 #[derive(Clone, Copy, PartialEq, Eq, Debug, Error)]
 pub enum BadImage {
     #[error("the device is smaller than the image")]

@@ -13,7 +13,7 @@ const HEADER_MAGIC: u64 = 0x4441_4548_534f_5245;
 /// What a committed checkpoint tells of itself.
 #[derive(Clone, Copy, PartialEq, Eq, Debug)]
 pub struct CheckpointHeader {
-    /// Counts the headers written. Of two open headers the one with the greater number counts.
+    /// Counts the headers written. If two headers are open, the one with the greater number counts.
     pub sequence: u64,
     /// Counts the checkpoints committed.
     pub generation: u64,

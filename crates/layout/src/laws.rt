@@ -1,4 +1,4 @@
-// Laws of the format, told by functions that do nothing.
+// Laws of the format, stated by functions that do nothing.
 ghost use Rattle.layout.specs.Laws.{SpellOneCapability, SpellOneGate, SpellOneHeader, SpellOneDirectory, SpellOneFrame, SpellOneSuperblock, SpeltIsRead, DenoteOneState};
 
 /// Given bytes spell at most one value of each structure. It does nothing: its contract is the law.

@@ -98,7 +98,7 @@ abbrev pub IsRunning : Books → Option ℕ → Type 0
 IsRunning b None = (n : ℕ) → place_at b.frozen n ≡ Nowhere
 IsRunning b (Some size) = (b.header.entries ≡ 0) × (taken_count b.frozen ≤ size) × (size ≤ b.plan.geometry.log)
 
--- what is kept of the store on so many sectors, whatever failed: no header and no superblock is looked at
+-- what is kept of the store on `size` sectors, whatever failed: no header and no superblock is looked at
 pub record IsKept (size : ℕ) (image : Image) (b : Books) : Type 0 where
   pub plan : IsPlan b.plan
   pub inside : b.plan.total ≤ size
@@ -141,7 +141,7 @@ pub record IsDurable (disk : Disk) (b : Books) : Type 0 where
 abbrev pub LeavesState : Disk → SavedState → Type 0
 LeavesState disk s = (c : Image) → disk.may_leave c → Encodes c disk.sectors s
 
--- so it is until a publishing fails
+-- until a publishing fails, each crash leaves what is saved
 abbrev pub IsSoundOn : Disk → Books → Type 0
 IsSoundOn disk b = LeavesState disk (saved_state (seen_by disk.seen b) b)
 

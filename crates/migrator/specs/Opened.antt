@@ -1,4 +1,4 @@
--- What opening a device comes to.
+-- The results of opening a device.
 use Rattle.std.specs.Prelude.{◌≡◌, ℕ, None, List, length, take, replicate, ⊤}
 use Rattle.model.specs.declared.frame.Frame.{Frame}
 use Rattle.layout.specs.declared.directory.Entry.{Entry}
@@ -28,12 +28,12 @@ HasNoPlan image size bad.NotASuperblock = IsBadBy image size bad.NotASuperblock
 HasNoPlan image size bad.BadGeometry = IsBadBy image size bad.BadGeometry
 HasNoPlan image size _ = ⊥
 
--- so it is where the device didn't fail
+-- the same, where the device didn't fail
 abbrev pub IsNoPlan : Image → ℕ → ReadFault → Type 0
 IsNoPlan image size fault.Failed = ⊤
 IsNoPlan image size (fault.Bad reason) = HasNoPlan image size reason
 
--- and where that is told without memory
+-- and the same for an opening, before it takes memory
 abbrev pub IsUnplanned : Image → ℕ → OpenFault → Type 0
 IsUnplanned image size refusal.Failed = ⊤
 IsUnplanned image size refusal.NoMemory = ⊥

@@ -42,7 +42,7 @@ sum_of count (put ∷ puts) = count put + sum_of count puts
 abbrev pub kept_count : List Put → ℕ
 kept_count puts = sum_of kept_frame puts
 
--- an object has a slot, or there is one left of so many
+-- an object has a slot, or fewer than `room` objects have one
 abbrev pub HasRoom : ℕ → List Put → ℕ → Type 0
 HasRoom room puts n = (put_at puts n ≢ Absent) ⊎ (sum_of held_slot puts < room)
 

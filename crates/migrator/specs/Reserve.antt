@@ -5,7 +5,7 @@ use Rattle.layout.specs.Superblock.{Plan}
 use Rattle.migrator.specs.declared.durable.open.Reserve.{Reserve}
 use Rattle.migrator.specs.declared.table.Place.TheVariants.{Nowhere}
 
--- memory for a directory and another, for the places of all objects, none of which has one, and for a cluster
+-- memory for two directories, for the places of all objects, where none has one yet, and for a cluster
 pub record IsReserve (p : Plan) (r : Reserve) : Type 0 where
   pub directory : length r.directories.saved.items ≡ p.geometry.log
   pub room : 4096 ≤ vec_capacity r.directories.saved

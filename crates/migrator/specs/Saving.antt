@@ -20,7 +20,7 @@ use Rattle.migrator.specs.Durable.{IsDurable, IsKept, LeavesState, frozen_genera
 use Rattle.migrator.specs.Table.{place_at}
 use Rattle.migrator.specs.Spared.{Spares, SparesFrames}
 
--- a header may be published after the committed one, whose directory is es, with a directory fs of which all frames are written
+-- a header `next` may be published after the committed h, with directory es; all frames of its directory fs are written
 pub record MaySave (disk : Disk) (p : Plan) (h : CheckpointHeader) (es : List Entry) (next : CheckpointHeader) (fs : List Entry) : Type 0 where
   pub plan : IsPlan p
   pub inside : p.total ≤ disk.sectors

@@ -57,7 +57,7 @@ pub record IsTable (ps : List Place) : Type 0 where
   pub few : (n s : ℕ) → slot_of (place_at ps n) ≡ Some s → s < taken_count ps
   pub apart : (m n s : ℕ) → slot_of (place_at ps m) ≡ Some s → slot_of (place_at ps n) ≡ Some s → m ≡ n
 
--- the entries of the objects that have a slot, in the order of their numbers, of which the first is n
+-- the entries of the objects that have a slot, in the order of their numbers; the places begin at number n
 abbrev pub entry_before : ℕ → Option ℕ → List Entry → List Entry
 entry_before n None es = es
 entry_before n (Some s) es = record { object = n; slot = s } ∷ es

@@ -45,8 +45,8 @@ fn copy_page<D: Device>(device: &mut D, from: u64, to: u64) -> Result<(), Failed
     write_sectors(device, to, 9, &page)
 }
 
-// Writes the home of a cluster, of which this is the first node: the saved frames of all that have it, and zeros behind
-// them.
+// Writes the home of the cluster whose first node is `first`: the saved frames of all its nodes,
+// and zeros behind them.
 fn copy_cluster<D: Device>(
     device: &mut D,
     plan: &Superblock,

@@ -28,7 +28,7 @@ impl Model for Directory {
     ghost invariant = { λ d. 4096 ≤ vec_capacity d.entries };
 }
 
-/// Memory for the entries of a directory, of which there are `count` blank ones.
+/// The entries of a directory: `count` blank ones, in memory for as many as a directory may have.
 pub(crate) fn blank_entries(alloc: Global, count: u64) -> Result<Vec<Entry>, AllocError>
     ensures length { IfOk result (λ entries. length entries.items ≡ count) }
     ensures room { IfOk result (λ entries. 4096 ≤ vec_capacity entries) }

@@ -45,7 +45,7 @@ impl<D: Device> Model for Durable<D> {
 impl<D: Device> Durable<D> {
     /// Puts the frame of an object, for the checkpoint after the one on its way or, where none is,
     /// for the next one. It is written into a slot of its own in the half of the log that nothing
-    /// saved or frozen lies in. At `Failed`, which is told exactly where the device failed, the
+    /// saved or frozen lies in. It returns `Failed` exactly where the device failed; then the
     /// slot may hold any bytes.
     pub fn put_working(
         &mut self,
@@ -71,8 +71,8 @@ impl<D: Device> Durable<D> {
     }
 
     /// Puts the frame of an object for the checkpoint on its way. It is written into a slot of its
-    /// own in the half of the log that nothing saved lies in. At `Failed`, which is told exactly
-    /// where the device failed, the slot may hold any bytes. `NoCheckpoint` is told exactly where
+    /// own in the half of the log that nothing saved lies in. It returns `Failed` exactly where the
+    /// device failed; then the slot may hold any bytes. It returns `NoCheckpoint` exactly where
     /// no checkpoint is on its way.
     pub fn put_frozen(
         &mut self,
@@ -107,7 +107,7 @@ impl<D: Device> Durable<D> {
     }
 
     /// Freezes what was put since the last checkpoint began: a checkpoint is on its way that writes
-    /// so many objects, of which those are some. It makes no call of the device. It is refused by
+    /// `size` objects, those that were put among them. It makes no device call. It is refused by
     /// `CheckpointRunning` exactly where one is on its way, and else by `MigrationPending` exactly
     /// where something saved isn't home.
     pub fn freeze(&mut self, size: u64) -> Result<(), CheckpointFault>
@@ -136,8 +136,8 @@ impl<D: Device> Durable<D> {
     /// objects as before. Answers its generation.
     ///
     /// It is refused by `NoCheckpoint` exactly where none is on its way, and else by
-    /// `NotStable(left)` exactly where so many of its frames are still to be put. At `Failed`,
-    /// which is told exactly where the device failed, a crash leaves what was saved before, or what
+    /// `NotStable(left)` exactly where `left` of its frames are still to be put. It returns
+    /// `Failed` exactly where the device failed; then a crash leaves what was saved before, or what
     /// the frozen frames make of it.
     pub fn commit(&mut self, age: u64) -> Result<u64, CheckpointFault>
         requires sound { is_sound D.disk self.old }

@@ -46,7 +46,7 @@ fn read_node<D: Device>(
     Ok(node)
 }
 
-/// Puts the saved frames of all nodes of a cluster, of which this is the first, into its 4096 bytes.
+/// Puts the saved frames of all nodes of the cluster that begins with `first` into its 4096 bytes.
 pub(crate) fn gather<D: Device>(
     device: &mut D,
     plan: &Superblock,

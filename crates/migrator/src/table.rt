@@ -83,7 +83,7 @@ impl Model for Table {
         × (t.whole ≡ whole_count t.places.items) };
 }
 
-// Places of so many objects that have no slot.
+// The places of `count` objects that have no slot.
 fn blank_places(alloc: Global, count: usize) -> Result<Vec<Place>, AllocError>
     ensures { IfOk result (λ places. places.items ≡ replicate count Place.Nowhere) }
 {
@@ -149,7 +149,7 @@ fn list_entries(places: &[Place], held: &NumberSet, taken: u64, into: &mut Vec<E
 }
 
 impl Table {
-    /// A table of so many objects that have no slot. Fails only where memory runs out.
+    /// A table of `count` objects that have no slot. Fails only where memory runs out.
     pub(crate) fn new(alloc: Global, count: usize) -> Result<Table, AllocError>
         ensures { IfOk result (λ table. table ≡ replicate count Place.Nowhere) }
     {

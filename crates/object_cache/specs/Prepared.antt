@@ -8,7 +8,7 @@ use Rattle.migrator.specs.Durable.{stored_of}
 use Rattle.capability.specs.Plain.{room_at}
 use Rattle.object_cache.specs.StoreState.{StoreState, IsFetchedIn, on_device, seat_at}
 
--- a number has an entry that is one of the so many used last
+-- a number has an entry, and is among the `k` numbers used last
 abbrev pub IsRecentIn : {D : Type 0} → StoreState D → ℕ → ℕ → Type 0
 IsRecentIn s k n = IsFetchedIn s n × (is_member (take k s.order) n ≡ true)
 

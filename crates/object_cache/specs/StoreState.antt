@@ -48,7 +48,7 @@ pub record StoreState (D : Type 0) : Type 0 where
   pub order : List ℕ
   pub most : ℕ
 
--- the frozen frames of a checkpoint on its way, of which so many are said to be left
+-- the frozen frames of a checkpoint on its way; `left` counts those that `stabilize` has yet to reach
 abbrev pub frozen_seen : Stored → Memory → ℕ → Option FrozenFrames
 frozen_seen s m left = option_map (λ (f : FrozenPuts). record { frames = frozen_in s m; size = f.size; left = left }) s.frozen
 
@@ -132,11 +132,11 @@ with_seat n s = record s {
 abbrev pub on_device : {D : Type 0} → StoreState D → StoreState D → StoreState D
 on_device s t = record s { durable = t.durable; dirty = t.dirty; pending = t.pending; owed = t.owed; hand = t.hand }
 
--- the same, where so many frozen frames more are in the log
+-- the same, where more frozen frames may be in the log
 abbrev pub on_device_frozen : {D : Type 0} → StoreState D → StoreState D → StoreState D
 on_device_frozen s t = record (on_device s t) { frozen = t.frozen }
 
--- so many more of the frozen frames are in the log, and nothing else that is seen is another
+-- `k` more of the frozen frames are in the log, and nothing else that is seen changes
 pub record PutsBy {D : Type 0} (disk : D → Disk) (s t : StoreState D) (k : ℕ) : Type 0 where
   pub aside : (f : FrozenFrames) → s.frozen ≡ Some f → aside_of disk t ≡ stabilized k f (aside_of disk s)
   pub rest : t ≡ on_device_frozen s t
@@ -219,8 +219,8 @@ is_kept Absent = false
 is_kept Broken = false
 is_kept (Kept f) = true
 
--- the frames of a checkpoint on its way: each of those that it writes is pending or was put, a slot that was torn is of a
--- pending one, and so many are said to be left
+-- the frames of a checkpoint on its way: each of those that it writes is pending or was put, a torn slot is that of a
+-- pending one, and at most `left` are pending
 pub record AreFrozen (f : FrozenPuts) (pending : List Bool) (left : ℕ) : Type 0 where
   pub each : length f.put ≡ length pending
   pub size : count_by (λ b. b) (map (λ n. mark_at pending n || is_kept (put_at f.put n)) (range_with_len 0 (length pending))) ≡ f.size
@@ -242,7 +242,7 @@ pub record IsCache (s : Stored) (m : Memory) (left count : ℕ) : Type 0 where
   -- what is to be put was written since, and all else that was is put
   pub marked : (n : ℕ) → mark_at m.dirty n ≡ true → mark_at m.touched n ≡ true
   pub clean : (n : ℕ) → mark_at m.dirty n ≡ false → mark_at m.touched n ≡ true → put_at s.working n ≡ Kept (present_at s m n)
-  -- what wasn't written since wasn't put, and is as it is frozen or saved
+  -- an object that wasn't written since wasn't put, and has its frozen or saved frame
   pub unput : (n : ℕ) → mark_at m.touched n ≡ false → put_at s.working n ≡ Absent
   pub unwritten : (n : ℕ) → n < length m.headers → mark_at m.touched n ≡ false → present_at s m n ≡ frozen_at s m n
   -- frozen frames

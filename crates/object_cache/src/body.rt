@@ -6,7 +6,7 @@ use layout::{Body, Room};
 use model::{Cap, Content};
 use std::alloc::{AllocError, Global};
 
-/// What an object holds, of which the body was read, in memory of its own. The slots of a node or
+/// The content of an object whose body was read, in memory of its own. The slots of a node or
 /// an annex and the words of a page are those in `room`. Fails only where memory runs out.
 pub(crate) fn held(alloc: Global, body: Body, room: &Room) -> Result<Content<Cap>, AllocError>
     ensures { IfOk result (λ content. content ≡ content_of body room.now.slots room.now.words) }

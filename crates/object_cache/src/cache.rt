@@ -1,4 +1,4 @@
-// The object store that holds so many objects in memory.
+// The object store that keeps a bounded number of object bodies in memory.
 ghost use Rattle.std.specs.Prelude.{◌∷◌, ◌≡◌, ◌≢◌, ◌<◌, ◌≤◌, None, Some, false, true, ℕ, length, slice_set, take, OnOk, OnErr};
 ghost use Rattle.std.specs.Borrow.{Lends, sem};
 ghost use Rattle.model.specs.contracts.object.Content.{the_row as content_row};
@@ -37,7 +37,7 @@ mod read;
 mod stabilize;
 mod stages;
 
-/// An object store that holds no more than so many objects in memory. The others lie on the device.
+/// An object store that keeps a bounded number of objects in memory. The others lie on the device.
 ///
 /// The headers of all objects are always in memory.
 #[derive(Drop)]
@@ -228,8 +228,8 @@ impl<D: Device> Cache<D> {
         Ok(())
     }
 
-    // Drops the entry of an object that is on the device as it is, and of which no frozen body is in
-    // the entry.
+    // Evicts the entry of a clean object: what the entry holds is on the device. The entry owes the
+    // log no frozen body.
     pub(crate) fn drop_entry(&mut self, number: u64)
         requires fetched { IsFetchedIn self.old number }
         requires clean { mark_at self.old.dirty number ≡ false }

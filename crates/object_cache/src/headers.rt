@@ -9,8 +9,8 @@ use number_set::NumberSet;
 use std::alloc::{AllocError, Global};
 use std::marker::Model;
 
-/// The headers of all objects, by number, of which those of a checkpoint's objects are as they were
-/// frozen.
+/// The headers of all objects, by number. An object of a checkpoint has the header that it had when
+/// the checkpoint began.
 #[derive(Drop)]
 pub(crate) struct Headers {
     items: Vec<ObjectHeader>,

@@ -4,8 +4,8 @@ ghost use Rattle.object_cache.specs.Memory.{owed_of, is_owing, is_shared};
 
 use cache_entries::Entry;
 
-// Whether an entry has the frozen body of an object of which the frozen frame may be pending, and
-// which may have been written since.
+// Whether this entry holds a frozen body that is not in the log yet: a kept copy, or the present
+// body of an object that was not written since the freeze.
 pub(crate) fn is_owing(entry: &Entry, is_pending: bool, is_touched: bool) -> bool
     ensures { result ≡ is_owing (owed_of (Some entry.now) is_pending is_touched) }
 {

@@ -41,7 +41,7 @@ fn is_page_saved<D: Device>(
     Ok(is_of_page(header.role) && allocations == header.allocations)
 }
 
-/// Whether a page may be journaled, of which this is the header now. It takes no memory, and writes
+/// Checks whether a page with this header may be journaled. It takes no memory, and writes
 /// nothing.
 ///
 /// It is refused as `ObjectStore::journal` is: by `CheckpointRunning`, `MigrationPending` and

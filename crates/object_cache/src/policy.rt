@@ -17,7 +17,7 @@ pub trait Policy: Drop {
     /// How many bodies it keeps at most, by the setting and the number of objects.
     ghost most_for: { Self.Setting → ℕ → ℕ };
 
-    /// How many bodies a store of so many objects keeps at most.
+    /// How many bodies a store of `count` objects keeps at most.
     fn capacity(setting: Self::Setting, count: usize) -> Capacity
         requires few { count ≤ 8192 }
         ensures most { result ≡ most_for setting count }

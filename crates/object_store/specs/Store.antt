@@ -50,7 +50,7 @@ pub record OpensStore {D : Type 0} (disk : D → Disk) (device : D) (parts : Par
   pub looks : Looks (disk device) (disk store.beneath)
   pub failures : (disk store.beneath).failures ≡ (disk device).failures
 
--- all is frozen as it is, of which so many objects are to be written
+-- all objects are frozen with their present frames; `size` objects are to be written
 abbrev pub freezing : List Frame → ℕ → Aside → Aside
 freezing fs size c = record { frozen = Some (record { frames = fs; size = size; left = size }); saved = c.saved; to_move = c.to_move }
 
@@ -58,14 +58,14 @@ freezing fs size c = record { frozen = Some (record { frames = fs; size = size; 
 abbrev pub left_in : Aside → Option ℕ
 left_in c = option_map (λ (f : FrozenFrames). f.left) c.frozen
 
--- so many frames more are written to the log only where a checkpoint is on its way
+-- frozen frames are written to the log only where a checkpoint is on its way
 abbrev pub IsStabilizeAnswer : Disk → Disk → Option ℕ → ℕ → Result ℕ CheckpointFault → Type 0
 IsStabilizeAnswer old new left count (Ok n) = (new.failures ≡ old.failures) × (option_map (λ (k : ℕ). k - count) left ≡ Some n)
 IsStabilizeAnswer old new left count (Err fault.NoCheckpoint) = (new.failures ≡ old.failures) × (left ≡ None)
 IsStabilizeAnswer old new left count (Err fault.Failed) = (old.failures < new.failures) × (left ≢ None)
 IsStabilizeAnswer old new left count (Err _) = ⊥
 
--- so many frozen objects more are in the log
+-- `n` more of the frozen objects are in the log
 abbrev pub stabilized : ℕ → FrozenFrames → Aside → Aside
 stabilized n f c = record { frozen = Some (record { frames = f.frames; size = f.size; left = f.left - n }); saved = c.saved; to_move = c.to_move }
 

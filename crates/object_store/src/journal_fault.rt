@@ -1,7 +1,7 @@
 // Why a page isn't journaled.
 use thiserror::Error;
 
-/// Why a page isn't journaled. The first here that applies is told, but for `Failed`, after which
+/// Why a page isn't journaled: the first reason here that applies, but for `Failed`, after which
 /// the store is to be opened again.
 #[derive(Clone, Copy, PartialEq, Eq, Debug, Error)]
 pub enum JournalFault {

@@ -47,7 +47,7 @@ pub trait ObjectStore<D: Device>: PresentFrames + Sized {
     fn into_device(self) -> D
         ensures { result ≡ (view self).beneath };
 
-    /// What is told of the committed checkpoint.
+    /// The generation, the age and the number of entries of the committed checkpoint.
     fn saved(&self) -> Checkpoint
         ensures generation { result.generation ≡ (view self.now).aside.saved.generation }
         ensures age { result.age ≡ (view self.now).aside.saved.age }
@@ -91,11 +91,11 @@ pub trait ObjectStore<D: Device>: PresentFrames + Sized {
         ensures beneath { (view self.new).beneath ≡ (view self.old).beneath }
         ensures sound { (view self.old).is_sound → (view self.new).is_sound };
 
-    /// Writes so many of the frozen objects to the log, and answers how many are left.
+    /// Writes `count` of the frozen objects to the log, and answers how many are left.
     ///
     /// It is refused by `NoCheckpoint` exactly where none is on its way, and changes nothing then.
-    /// At `Failed`, which is told exactly where the device failed, some were written, no more than
-    /// so many.
+    /// It returns `Failed` exactly where the device failed; then at most `count` objects were
+    /// written.
     fn stabilize(&mut self, count: u64) -> Result<u64, CheckpointFault>
         ensures answer { IsStabilizeAnswer (D.disk (view self.old).beneath) (D.disk (view self.new).beneath)
             (left_in (view self.old).aside) count result }
@@ -117,8 +117,8 @@ pub trait ObjectStore<D: Device>: PresentFrames + Sized {
     /// Commits the checkpoint on its way: its frames are saved, at an age. Answers its generation.
     ///
     /// It is refused by `NoCheckpoint` exactly where none is on its way, and else by
-    /// `NotStable(left)` exactly where so many of its objects aren't in the log, and changes nothing
-    /// then. At `Failed`, which is told exactly where the device failed, a crash leaves what was
+    /// `NotStable(left)` exactly where `left` of its objects aren't in the log, and changes nothing
+    /// then. It returns `Failed` exactly where the device failed; then a crash leaves what was
     /// saved or what is frozen.
     fn commit(&mut self, age: u64) -> Result<u64, CheckpointFault>
         requires sound { (view self.old).is_sound }
@@ -139,7 +139,7 @@ pub trait ObjectStore<D: Device>: PresentFrames + Sized {
             → LeavesEither (D.disk (view self.old).beneath) (D.disk (view self.new).beneath)
             (view self.old).aside.saved (next_saved age f (view self.old).aside.saved) };
 
-    /// Copies so many of the saved objects home, and answers how many are left. Fails exactly where
+    /// Copies `count` of the saved objects home, and answers how many are left. Fails exactly where
     /// the device does, and then a crash leaves what was saved, or the same with all of it home
     /// where that was to be reached. Where all of it is home already, as the header says, it makes
     /// no call of the device.
@@ -166,7 +166,7 @@ pub trait ObjectStore<D: Device>: PresentFrames + Sized {
     /// `MigrationPending` exactly where something saved isn't home, else by `NotPage` exactly where
     /// the number isn't that of a page, else by `Renewed` exactly where no page is saved, or the
     /// one that is was given up since; nothing is written then, and before `Renewed` nothing is
-    /// asked of the device. `Failed` is told exactly where the device failed, and then a crash
+    /// asked of the device. It returns `Failed` exactly where the device failed; then a crash
     /// leaves what was saved or, where nothing else refuses it, that with the page.
     fn journal(&mut self, number: u64, age: u64) -> Result<u64, JournalFault>
         requires keepable { AreKeepable (Self.parts self.old).geometry u64.MAX

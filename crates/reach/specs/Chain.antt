@@ -1,4 +1,4 @@
--- Chains of steps, by each of which one object has authority over another.
+-- Chains of steps: by each step one object has authority over another.
 use Rattle.std.specs.Prelude.{◌≡◌, ℕ, ◌≤◌, false, Option, None, Some, List, [], ◌∷◌, Vec, length, slice_index_or, IsTrue}
 use Rattle.std.specs.List.{Contains}
 use Rattle.std.specs.declared.alloc.Global.{Global}

@@ -38,6 +38,6 @@ pub record HasNoneLeft (old new : Frontier) : Type 0 where
 abbrev pub IsWithin : Frontier → (ℕ → Bool) → Type 0
 IsWithin f other = (n : ℕ) → IsTrue (is_marked f.found n) → IsTrue (other n)
 
--- a capability names one of so many numbers, or nothing
+-- a capability names one of the first `count` numbers, or nothing
 abbrev pub NamesWithin : ℕ → Capability → Type 0
 NamesWithin count c = elim (named c) [ None ↦ Unit {0} | Some n ↦ n < count ]

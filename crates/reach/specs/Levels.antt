@@ -20,7 +20,7 @@ found_at l n = slice_index_or l.found.items n None
 abbrev pub IsFound : Levels → ℕ → Type 0
 IsFound l n = (f : Found) × (found_at l n ≡ Some f)
 
--- found in at most so many steps, and at a level
+-- found in at most `k` steps, and at level `k`
 abbrev pub IsFoundIn : Levels → ℕ → ℕ → Type 0
 IsFoundIn l n k = (f : Found) × (found_at l n ≡ Some f) × (f.level ≤ k)
 

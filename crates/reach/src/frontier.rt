@@ -22,7 +22,7 @@ impl Frontier {
     ghost use Rattle.number_set.specs.Marks.{is_marked};
     ghost use Rattle.reach.specs.Frontier.{Grows, HasNoneLeft, IsWithin, NamesWithin, Takes};
 
-    /// None of so many numbers. Fails only where memory runs out.
+    /// None of `count` numbers. Fails only where memory runs out.
     pub(crate) fn new(alloc: Global, count: usize) -> Result<Frontier, AllocError>
         ensures found { IfOk result (λ f. f.found ≡ replicate count false) }
         ensures pending { IfOk result (λ f. f.pending ≡ replicate count false) }

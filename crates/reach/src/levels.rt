@@ -22,7 +22,7 @@ impl Levels {
     ghost use Rattle.std.specs.Prelude.{◌≡◌, ℕ, ◌+◌, ◌<◌, ◌≤◌, None, length, replicate, is_some, option_and_then, IfOk};
     ghost use Rattle.reach.specs.Levels.{Begins, FindsBy, IsTheStep, found_at, has_level};
 
-    /// None of so many numbers. Fails only if memory runs out.
+    /// None of `count` numbers. Fails only if memory runs out.
     pub(crate) fn new(alloc: Global, count: usize) -> Result<Levels, AllocError>
         ensures found { IfOk result (λ l. l.found.items ≡ replicate count None) }
         ensures greatest { IfOk result (λ l. l.greatest ≡ 0) }

@@ -16,7 +16,7 @@ pub record IsSoundSaved (g : Geometry) (fs : SavedFrames) : Type 0 where
   pub geometry : fs.geometry ≡ g
   pub sound : IsSoundFrames g fs.age fs.frames
 
--- so many sectors denote a saved part: they hold frames that stand for it
+-- an image of `size` sectors denotes a saved part: it holds frames that stand for it
 pub record Denotes (g : Geometry) (size : ℕ) (c : Image) (saved : Saved) : Type 0 where
   pub frames : SavedFrames
   pub holds : Holds size c frames

@@ -13,7 +13,7 @@ use Rattle.recovery.specs.Recovered.{IsBad}
 abbrev pub DenoteOneSaved : Type 0
 DenoteOneSaved = (g h : Geometry) (size : ℕ) (c : Image) (s t : Saved) → Denotes g size c s → Denotes h size c t → (g ≡ h) × (s ≡ t)
 
--- one of those of which it denotes one
+-- where an image denotes one of some saved parts, each part that it denotes is one of them
 abbrev pub DenotedIsOneOf : Type 0
 DenotedIsOneOf = (g h : Geometry) (size : ℕ) (c : Image) (ss : List Saved) (t : Saved) → DenotesOne g size ss c → Denotes h size c t → (g ≡ h) × Contains ss t
 

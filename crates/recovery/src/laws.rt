@@ -7,8 +7,8 @@ pub fn denote_one_saved()
     ensures { DenoteOneSaved }
 {}
 
-/// What an image denotes is one of those of which it denotes one. So where a crash leaves one of
-/// some saved parts, `Kernel::open` stands at one of these.
+/// If an image denotes one of some saved parts, each part that it denotes is one of them. So where
+/// a crash leaves one of some saved parts, `Kernel::open` stands at one of these.
 pub fn denoted_is_one_of()
     ensures { DenotedIsOneOf }
 {}

@@ -23,7 +23,7 @@ use std::os::unix::fs::{FileTypeExt, MetadataExt};
 use std::process::ExitCode;
 use toml::Table;
 
-// What is told where the system refused something: that memory ran out, or something else.
+// The fault where the system refused something: that memory ran out, or something else.
 fn of_io(error: &io::Error, otherwise: Fault) -> Fault {
     if error.kind() == ErrorKind::OutOfMemory {
         Fault::NoMemory
@@ -32,7 +32,7 @@ fn of_io(error: &io::Error, otherwise: Fault) -> Fault {
     }
 }
 
-// What is told where a file is no device: that memory ran out, or something else.
+// The fault where a file is no device: that memory ran out, or something else.
 fn of_file(fault: FileFault, otherwise: Fault) -> Fault {
     match fault {
         FileFault::NoMemory => Fault::NoMemory,
@@ -71,7 +71,7 @@ fn read_blueprint(rt: &HostRuntime, description: &str) -> Result<Blueprint, Faul
     }
 }
 
-// The device in a new file, of so many sectors as an image has, all zeros. A file that is there is
+// A device in a new file, with `sectors` sectors, all zeros. A file that is there is
 // replaced, unless what the image is made of is read from it.
 fn create(rt: &HostRuntime, sectors: u64, source: &str, path: &str) -> Result<FileDevice, Fault>
     ensures { IfOk result (λ device. (file_disk device).sectors ≡ sectors) }

@@ -7,7 +7,7 @@ use script::RunFault;
 use std::alloc::Allocator;
 use std::io::{BufWriter, Write};
 
-/// A writer that may keep what it took until it is told to pass it on.
+/// A writer that may keep what it took until `pass_on`.
 pub trait Output: Write {
     // What was taken and not passed on.
     ghost waiting: { Self → List ℕ };

@@ -69,7 +69,7 @@ fn end_of_line(bytes: &[u8]) -> Option<usize>
     memchr(b'\n', bytes)
 }
 
-// Takes the line of which these are the last bytes, and begins another.
+// Takes the line that ends with `bytes`, and begins another.
 #[inline(always)]
 fn take_line<D: Device, S: ObjectStore<D>, W: Write, O: Observer>(
     alloc: Global,

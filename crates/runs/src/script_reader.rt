@@ -18,7 +18,7 @@ pub struct ScriptReader<R> {
 }
 
 impl<R: Read> ScriptReader<R> {
-    /// Reads from `inner`, of which no read has failed.
+    /// Reads from `inner`, where no read has failed.
     pub fn new(inner: R) -> ScriptReader<R>
         ensures inner { read_from result ≡ inner }
         ensures left { left_to_read result ≡ 2 ^ 64 - 1 }

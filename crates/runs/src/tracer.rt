@@ -158,7 +158,7 @@ fn answer_trace(
     line
 }
 
-// Why a line is bad, of which this is the text, or which is too long.
+// Why a line is bad: `text` is its text, or `None` where it is too long.
 fn fault_of(text: Option<&[u8]>) -> LineFault
     requires { IfSome text (λ t. Says t.now Line.Bad) }
     ensures { (line : List ℕ) → IsTextOf (option_map (λ t. t.now) text.entry) line → IsFaultOf line result }

@@ -54,7 +54,7 @@ module _ {D S : Type 0} (disk : D → Disk) (view : S → View D) (parts : S →
       Stands disk view parts g old (Up s) → Stands disk view parts g new (Up t) → IsRunOf disk view parts g (Up s) old new turns →
       IsClosed s.now.objects inside → AreBy (with_free s.now.objects inside) turns → (n : ℕ) → with_free s.now.objects inside n ≡ false → IsKept inside (object_at s.now.objects n) (object_at t.now.objects n)
 
-  -- a device that holds an image is opened at a saved part, or is told to have failed or to lack memory
+  -- a device that holds an image is opened at a saved part, or the device fails, or memory runs out
   abbrev pub IsOpenedAt : Geometry → ℕ → Image → Saved → Type 0
   IsOpenedAt g size c s = (d : D) → (disk d).sectors ≡ size → (disk d).seen ≡ c → ((k : Power D S) → Opens disk view parts d k → Stands disk view parts g k (Up (opened g s)))
       × ((back : D) (why : OpenFault) → RefusesToOpen disk d back why → IsNoReason why)

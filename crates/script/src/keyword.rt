@@ -125,7 +125,7 @@ pub fn keyword_of(word: &[u8]) -> Option<Keyword>
     None
 }
 
-/// Four bytes of a text as one number, of which the first counts least.
+/// Four bytes of a text as one number in little-endian order.
 #[inline(always)]
 pub fn four_at(text: &[u8], at: usize) -> u64
     requires { at + 3 < length text.now }

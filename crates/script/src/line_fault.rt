@@ -85,7 +85,7 @@ fn add_numbered(line: &mut LineText, word: &[u8], number: u64, more: &[u8])
     line.word(more);
 }
 
-// Of each word behind a keyword, whether it is a register.
+// For each word behind a keyword, whether it is a register.
 fn operands(keyword: Keyword) -> &'static [bool]
     ensures { result.now ≡ are_registers keyword }
 {

@@ -7,8 +7,8 @@ use crate::parse::{LONGEST_LINE, parse_line};
 use arrayvec::ArrayVec;
 use model::Line;
 
-/// A line of which some bytes were read. It keeps as many as a line may have; of a longer line it
-/// is kept that it is too long.
+/// A line that was read in part: its bytes. If it has more than `LONGEST_LINE`, it keeps only that
+/// the line is too long.
 #[derive(Drop)]
 pub struct LineBuffer {
     text: ArrayVec<u8, LONGEST_LINE>,
@@ -16,7 +16,7 @@ pub struct LineBuffer {
 }
 
 impl LineBuffer {
-    /// A line of which nothing was read.
+    /// An empty line.
     pub fn new() -> Self
         ensures { Holds result [] }
     {

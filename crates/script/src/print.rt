@@ -110,7 +110,7 @@ fn print_refusal<W: Write>(refusal: Refusal, writer: &mut W) -> Result<(), RunFa
     refusal_line(refusal).write_to(writer)
 }
 
-// Writes the lines of an object, the last of which is `end`.
+// Writes the lines of an object; the last one is `end`.
 #[inline(never)]
 fn print_shown<W: Write>(shown: &Description, writer: &mut W) -> Result<(), RunFault>
     ensures { Writes (W.contents writer.old) (W.contents writer.new) result (object_text
@@ -126,7 +126,7 @@ fn print_shown<W: Write>(shown: &Description, writer: &mut W) -> Result<(), RunF
     write_fully(writer, b"end\n")
 }
 
-/// Writes the text of an answer: one line, or for an object several, the last of which is `end`.
+/// Writes the text of an answer: one line, or for an object several, with `end` as the last one.
 ///
 /// `Err(RunFault::Write)` where the writer fails or takes nothing: what was written is then a
 /// beginning of that text. It takes no memory.

@@ -8,7 +8,7 @@ use crate::line_text::LineText;
 use model::{Capability, Content, Object, Root, Slots, State};
 use std::io::Write;
 
-// Begins the line `NAME number owner OWNER`, as far as it is the same for all objects.
+// Begins the line `NAME number owner OWNER` with the part that is the same for all objects.
 fn begin_heading(line: &mut LineText, name: &[u8], number: u64, owner: u64)
     requires { length name.now ≤ 8 }
     ensures text { line.new ≡ spaced (headed name.now number owner) }

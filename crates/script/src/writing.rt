@@ -4,7 +4,7 @@ ghost use Rattle.script.specs.Writing.{Writes};
 use crate::fault::RunFault;
 use std::io::{ErrorKind, Write};
 
-// Writes all of the bytes, of which a writer took none, or not all at once.
+// Writes all of the bytes, with as many calls as the writer needs.
 #[inline(never)]
 fn write_rest<W: Write>(writer: &mut W, bytes: &[u8]) -> Result<(), RunFault>
     ensures { Writes (W.contents writer.old) (W.contents writer.new) result bytes.now }

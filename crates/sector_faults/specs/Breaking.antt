@@ -1,4 +1,4 @@
--- What is wrong in the sectors of an image, for the reasons 1 to 7 to refuse it: the part that is named breaks the rule.
+-- What is wrong in the sectors of an image: the part for which one of the reasons 1 to 7 to refuse it holds.
 use Rattle.std.specs.Prelude.{◌≡◌, ◌≢◌, ◌⊎◌, ◌+◌, ◌-◌, ◌*◌, ◌%◌, ◌^◌, ◌<◌, ◌≤◌, ◌==◌, nat_le, nat_lt, if◌then◌else◌, false, ℕ, codes, drop, length, take, List, Some}
 use Rattle.device.specs.Disk.{Image}
 use Rattle.model.specs.declared.capability.Cap.{Cap}
@@ -108,7 +108,7 @@ BreaksFrame g age n bytes (frame.Slot slot) = (n < g.nodes) × (slot < 32) × (H
 BreaksFrame g age n bytes frame.Body =
     (number_at bytes 8 ≤ age) × (number_at bytes 16 ≤ age) × (n < g.nodes → (k : ℕ) → k < 32 → HoldsCap g age bytes k)
 
--- what a fault names is wrong in so many sectors of an image
+-- what a fault names is wrong in the `size` sectors of an image
 abbrev pub BreaksSectors : ℕ → Image → SectorFault → Type 0
 BreaksSectors size c (fault.Small sectors needed) = (sectors ≡ size) × (needed ≡ (if nat_lt size 5 then 5 else total_in (c 0))) × (sectors < needed)
 BreaksSectors size c (fault.Superblock part) = BreaksMark (c 0) part

@@ -29,7 +29,7 @@ fn why_not(header: &[u8], gate: &[u8], slot: u64) -> Option<NotCounted>
     None
 }
 
-// Which part of a header is outside its limits on a device with so many slots.
+// Which part of a header is outside its limits, where a half of the log has `log` slots.
 fn header_part(bytes: &[u8], log: u64) -> HeaderPart
     requires size { length bytes.now ≡ 512 }
     requires refused { (h : CheckpointHeader) → IsHeader log h → bytes.now ≡ header_bytes h → ⊥ }
@@ -73,8 +73,8 @@ fn header_at(sector: u64, bytes: &[u8], log: u64) -> Result<CheckpointHeader, Se
     }
 }
 
-/// Reads the committed one of two headers, each with its gate, on a device with so many slots, or
-/// tells why there is none.
+/// Reads the committed one of two headers, each with its gate, or tells why there is none. A half
+/// of the log has `log` slots.
 pub(crate) fn choose(
     first: &[u8],
     first_gate: &[u8],

@@ -18,7 +18,7 @@ pub(crate) fn number_at(bytes: &[u8], at: usize) -> u64
     LittleEndian::read_u64(&bytes[at..])
 }
 
-/// The bytes of so many sectors of an image from one on, of which `bytes` is a copy.
+/// The bytes of `count` sectors of an image from sector `at` on, from its copy `bytes`.
 pub(crate) fn sectors(bytes: &[u8], at: u64, count: usize) -> &[u8]
     requires inside { 512 * (at + count) ≤ length bytes.now }
     ensures size { length result.now ≡ 512 * count }

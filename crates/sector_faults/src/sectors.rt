@@ -190,7 +190,7 @@ fn find_frames(
     Ok(())
 }
 
-/// What is wrong with the sectors of an image, of which `bytes` is a copy: the least of the reasons
+/// What is wrong with the sectors of the image that `bytes` is a copy of: the least of the reasons
 /// 1 to 7 that holds. The entries are memory for as many as a directory may have.
 pub fn find_in_sectors(
     bytes: &[u8],

@@ -55,8 +55,8 @@ pub record IsFreedOf (os : List Object) (b : ℕ) (list : List ℕ) : Type 0 whe
   pub some : 0 < length list
   pub owner : owner_at os (slice_index list 0) ≡ b
 
--- A list can be given up: no number is twice in it, each has an object, and of the banks that it doesn't name those in
--- the chain of a bank, all of which stay, accounted for all of it, and the others for nothing of it.
+-- A list can be given up: it has no number twice, each number has an object, and no bank of the chain of above is in
+-- it. A bank outside the list accounted for the whole list if it is in that chain, and for nothing of it if it isn't.
 pub record MayGiveUp (os : List Object) (above : ℕ) (list : List ℕ) : Type 0 where
   pub once : IsOnce list
   pub used : (n : ℕ) → is_member list n ≡ true → is_free (content_at os n) ≡ false
@@ -119,7 +119,7 @@ IsForBank g os list (change.Bank made) = MayMake g os list made
 IsForBank g os list _ = ⊥
 
 -- An order is planned that writes the numbers of a list. Whatever else changes in words, slots and states before it is
--- carried out, it comes to what the plan says, and the change may be made.
+-- carried out, its outcome is the planned one, and the change may be made.
 pub record PlansAs (g : Geometry) (os : List Object) (b : ℕ) (order : BankOrder) (args : Arguments) (written : List ℕ) (plan : OrderPlan) : Type 0 where
   pub outcome : (us : List Object) → SameFrame os us → on_bank g us b order args ≡ outcome_by us written plan
   pub may : (us : List Object) → SameFrame os us → IsNow g us → IsForBank g us written plan.change

@@ -2,7 +2,7 @@
 use Rattle.std.specs.Prelude.{◌≡◌, ℕ, ◌+◌, if◌then◌else◌, List, length, slice_index}
 use Rattle.model.specs.Revoke.{is_member}
 
--- so many more at each bank of a chain, and at no other
+-- `count` more at each bank of a chain, and the same as before at all others
 pub record IsRaised (banks : List ℕ) (count : ℕ) (old new : List ℕ) : Type 0 where
   pub size : length new ≡ length old
   pub each : (b : ℕ) → slice_index new b ≡ slice_index old b + (if is_member banks b then count else 0)

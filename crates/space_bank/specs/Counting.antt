@@ -10,7 +10,7 @@ use Rattle.model.specs.Object.{is_free, limit_in, root_in}
 use Rattle.model.specs.World.{content_at}
 use Rattle.number_set.specs.Marks.{is_marked}
 
--- so many marks, of which each tells whether a number is free, from a first number on
+-- `count` marks: each tells whether a number is free, from the number `first` on
 pub record AreMarked (os : List Object) (first count : ℕ) (marks : List Bool) : Type 0 where
   pub size : length marks ≡ count
   pub each : (n : ℕ) → n < count → is_marked marks n ≡ is_free (content_at os (first + n))
@@ -21,7 +21,7 @@ kept_number role.Bank c = limit_in c
 kept_number role.Root c = (root_in c).annex
 kept_number _ c = 0
 
--- the limits of banks and the annexes of processes, of so many numbers
+-- the limits of banks and the annexes of processes, for the first `count` numbers
 pub record AreKept (os : List Object) (count : ℕ) (limits annexes : List ℕ) : Type 0 where
   pub limits_are : limits ≡ map (λ n. kept_number role.Bank (content_at os n)) (range_with_len 0 count)
   pub annexes_are : annexes ≡ map (λ n. kept_number role.Root (content_at os n)) (range_with_len 0 count)

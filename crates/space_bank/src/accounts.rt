@@ -12,7 +12,7 @@ use crate::chains::{lower, raise};
 use capability::PresentFrames;
 
 impl Banks {
-    /// Adds so many to what each bank in the chain of a bank accounts for, where none of their
+    /// Adds `count` to what each bank in the chain of `bank` accounts for, where none of their
     /// limits is passed.
     pub(crate) fn account<F: PresentFrames>(&mut self, store: &F, bank: u64, count: u64)
         requires asks { MayServe (F.parts store.now) self.old bank }
@@ -24,7 +24,7 @@ impl Banks {
         raise(&mut self.usages, store, bank, count);
     }
 
-    /// Takes so many from what each bank in the chain of a bank accounts for.
+    /// Subtracts `count` from what each bank in the chain of `bank` accounts for.
     pub(crate) fn release<F: PresentFrames>(&mut self, store: &F, bank: u64, count: u64)
         requires asks { MayServe (F.parts store.now) self.old bank }
         requires enough { (b : ℕ)

@@ -51,7 +51,7 @@ fn number_there<F: PresentFrames>(store: &F, number: u64, role: Role) -> u64
     }
 }
 
-// Whether an object has a role of which a number is kept. If not, the number is 0.
+// Whether an object has a role for which a number is kept. If not, the number is 0.
 fn is_kept<F: PresentFrames>(store: &F, number: u64, role: Role) -> bool
     requires { HaveTheirRoles (frames_of (F.parts store.now)) }
     ensures { result ≡ false
@@ -145,7 +145,7 @@ pub fn read_limits<F: PresentFrames>(
     read_numbers(alloc, store, count, Role::Bank)
 }
 
-// Which of so many numbers from a first one on are free.
+// Which of `count` numbers from `first` on are free.
 fn free_numbers<F: PresentFrames>(
     alloc: Global,
     store: &F,

@@ -84,7 +84,7 @@ impl Banks {
         self.limits[bank as usize] - self.usages[bank as usize]
     }
 
-    // Whether so many more objects of a bank pass the limit of no bank in its chain.
+    // Whether `count` more objects of a bank pass the limit of no bank in its chain.
     pub(crate) fn has_room<F: PresentFrames>(&self, store: &F, bank: u64, count: u64) -> bool
         requires { IsBankOf (F.parts store.now) self.now bank }
         ensures { result ≡ is_room (objects_in (F.parts store.now)) bank count }

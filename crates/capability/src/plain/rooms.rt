@@ -67,7 +67,7 @@ pub fn blank(alloc: Global, geometry: Geometry, number: u64) -> Result<Content<C
     }
 }
 
-/// Puts so many bodies of free numbers behind those that are there. Fails only where memory runs
+/// Puts `count` bodies of free numbers behind those that are there. Fails only where memory runs
 /// out.
 pub fn push_free(contents: &mut Vec<Content<Cap>>, count: usize) -> Result<(), AllocError>
     ensures { OnOk result (contents.new.items

@@ -26,7 +26,7 @@ impl Books {
         }
     }
 
-    /// Commits the checkpoint on its way, which writes `size` objects, all of which were put.
+    /// Commits the checkpoint on its way. It writes `size` objects, and all of them were put.
     pub(crate) fn commit<D: Device>(
         &mut self,
         device: &mut D,

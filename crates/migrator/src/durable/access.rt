@@ -35,14 +35,14 @@ impl<D: Device> Durable<D> {
         self.books.directory.as_slice()
     }
 
-    /// Of how many objects the frame is still to be put, where a checkpoint is on its way.
+    /// How many frozen frames are still to be put, where a checkpoint is on its way.
     pub fn left(&self) -> Option<u64>
         ensures { result ≡ option_map left_of (stored_of D.disk self.now).frozen }
     {
         self.books.left()
     }
 
-    /// What is told of the committed checkpoint.
+    /// The generation, the age and the number of entries of the committed checkpoint.
     pub fn saved(&self) -> Checkpoint
         ensures generation { result.generation ≡ (stored_of D.disk self.now).saved.generation }
         ensures age { result.age ≡ (stored_of D.disk self.now).saved.age }

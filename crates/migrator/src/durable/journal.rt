@@ -32,8 +32,8 @@ impl<D: Device> Durable<D> {
     /// one after the next, in which it is the one entry. It takes no memory.
     ///
     /// It is refused by `CheckpointRunning` exactly where a checkpoint is on its way, and else by
-    /// `MigrationPending` exactly where something saved isn't home. At `Failed`, which is told
-    /// exactly where the device failed, a crash leaves what was saved before, or that with the
+    /// `MigrationPending` exactly where something saved isn't home. It returns `Failed` exactly
+    /// where the device failed; then a crash leaves what was saved before, or that with the
     /// page.
     pub fn journal(&mut self, number: u64, words: &Words, age: u64) -> Result<u64, CheckpointFault>
         requires sound { is_sound D.disk self.old }

@@ -119,7 +119,7 @@ impl<I: Intake> Sink<I> {
     }
 }
 
-// Reads an image whole, of which the superblock was read, and takes the superblock and the memory along.
+// Reads the whole image of the superblock `plan`, and takes the superblock and the memory along.
 fn read_into<D: Device, I: Intake>(
     alloc: Global,
     device: &mut D,
@@ -211,7 +211,7 @@ fn read_parts<D: Device, I: Intake>(alloc: Global, device: &mut D) -> Result<Par
 
 impl<D: Device> Durable<D> {
     /// Opens a device, and writes nothing to it. It begins with a sync, and reads what is committed
-    /// and every saved frame, once: each is taken as it is read. No later call takes memory.
+    /// and every saved frame, once: `I` takes each when it is read. No later call takes memory.
     ///
     /// A refusal hands the device back: `Failed` exactly where the device failed, `NoMemory` only
     /// where memory ran out, and else the least of the reasons 1 to 7 to refuse an image.

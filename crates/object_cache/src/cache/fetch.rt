@@ -53,8 +53,8 @@ impl<D: Device> Cache<D> {
         }
     }
 
-    // Brings an object into memory that has no entry, where no body is in the hand. Of the eight
-    // used last the first seven stay.
+    // Brings an object that has no entry into memory, where no body is in the hand. The seven
+    // entries used last stay.
     #[inline(never)]
     fn bring(&mut self, alloc: Global, number: u64) -> Result<(), PrepareFault>
         requires known { number < length self.old.headers }

@@ -12,8 +12,8 @@ use crate::frozen::put_body;
 use device::{Device, Failed};
 
 impl<D: Device> Cache<D> {
-    // Puts the frozen frame of the body in the hand, of which no entry has anything, and lets it go.
-    // At `Failed` it stays in the hand.
+    // Writes the frozen frame of the body in `hand`, which no cache entry has, and empties `hand`.
+    // After `Failed` the body is still in `hand`.
     pub(crate) fn put_held(&mut self) -> Result<(), Failed>
         requires { (h : Held) × (self.old.hand ≡ Some h) × (owed_at self.old.owed h.number ≡ Nothing) }
         ensures empty { OnOk result (self.new.hand ≡ None) }

@@ -153,7 +153,7 @@ impl<D: Device> Cache<D> {
     /// It is refused by `CheckpointRunning` exactly where a checkpoint is on its way, else by
     /// `MigrationPending` exactly where something saved isn't home, else by `NotPage` exactly where
     /// the number isn't that of a page, else by `Renewed` exactly where no page is saved, or the
-    /// one that is was given up since. `Failed` is told exactly where the device failed.
+    /// one that is was given up since. It returns `Failed` exactly where the device failed.
     pub fn journal(&mut self, number: u64, age: u64) -> Result<u64, JournalFault>
         requires keepable { AreKeepable (parts_of D.disk self.old).geometry u64.MAX
             (frames_of (parts_of D.disk self.old)) }

@@ -49,9 +49,9 @@ impl<D: Device> Cache<D> {
         are_ready(&self.table, &self.dirty, written)
     }
 
-    // Marks numbers that are to be written. Of none of them is what it holds also what is still to
-    // be put as it was frozen. `LogFull` exactly where more would be marked than half of the log
-    // holds, and then all is as it was.
+    // Marks numbers that are to be written. None of them still shares its body with an unwritten
+    // frozen frame. `LogFull` exactly where more would be marked than half of the log holds, and
+    // then all is as it was.
     #[inline(never)]
     pub(crate) fn announce(&mut self, written: &[u64]) -> Result<(), PrepareFault>
         requires known { All (λ n. n < length self.old.headers) written.now }

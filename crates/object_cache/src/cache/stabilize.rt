@@ -14,7 +14,7 @@ use checkpoint::CheckpointFault;
 use device::{Device, Failed};
 
 impl<D: Device> Cache<D> {
-    // Takes the frozen body of an object up of which no entry has anything. At `Failed` all stays.
+    // Reads a pending object's frozen body into `hand`. After `Failed`, `hand` is still empty.
     fn take_below(&mut self, number: u64) -> Result<(), Failed>
         requires pending { mark_at self.old.pending number ≡ true }
         requires empty { self.old.hand ≡ None }
@@ -28,8 +28,8 @@ impl<D: Device> Cache<D> {
         Ok(())
     }
 
-    // Puts the frozen frame of an object of which no entry has anything. At `Failed` its body is in
-    // the hand, or where it was.
+    // Writes the frozen frame of a pending object whose frozen body is in no cache entry. After
+    // `Failed` the body is in `hand`, or where it was.
     fn put_below(&mut self, number: u64) -> Result<(), Failed>
         requires pending { mark_at self.old.pending number ≡ true }
         requires empty { self.old.hand ≡ None }
@@ -94,7 +94,7 @@ impl<D: Device> Cache<D> {
         }
     }
 
-    // Puts so many more.
+    // Calls `put_one` `count` times, up to its first fault.
     fn put_some(&mut self, count: u64) -> Result<(), CheckpointFault>
         requires { (f : FrozenFrames) × (self.old.frozen ≡ Some f) × (count ≤ f.left) }
         ensures put { OnOk result (PutsBy D.disk self.old self.new count) }
@@ -108,12 +108,12 @@ impl<D: Device> Cache<D> {
         Ok(())
     }
 
-    /// Writes so many of the frozen objects to the log, and answers how many are said to be left.
-    /// One that was written already, when its object was put out of memory, is counted as any other.
+    /// Writes `count` of the frozen objects to the log, and returns how many are left. An object
+    /// that an eviction wrote before its turn is still counted as left until its turn.
     ///
     /// It is refused by `NoCheckpoint` exactly where none is on its way, and changes nothing then.
-    /// At `Failed`, which is told exactly where the device failed, some were written, no more than
-    /// so many. It takes no memory.
+    /// It returns `Failed` exactly where the device failed; then at most `count` objects were
+    /// written. It takes no memory.
     pub fn stabilize(&mut self, count: u64) -> Result<u64, CheckpointFault>
         ensures answer { IsStabilizeAnswer (D.disk self.old.durable.beneath) (D.disk self.new.durable.beneath)
             (left_in (view_of D.disk self.old).aside) count result }

@@ -67,7 +67,7 @@ impl<D: Device> Cache<D> {
         self.into_durable().into_device()
     }
 
-    /// What is told of the committed checkpoint.
+    /// The generation, the age and the number of entries of the committed checkpoint.
     pub fn saved(&self) -> Checkpoint
         ensures generation { result.generation ≡ (view_of D.disk self.now).aside.saved.generation }
         ensures age { result.age ≡ (view_of D.disk self.now).aside.saved.age }
@@ -88,7 +88,7 @@ impl<D: Device> Cache<D> {
 
     /// Commits the checkpoint on its way at an age, and answers its generation. It is refused by
     /// `NoCheckpoint` exactly where none is on its way, and else by `NotStable(left)` exactly where
-    /// so many of its objects are said to be left, and changes nothing then.
+    /// `stabilize` has yet to reach `left` of its objects, and changes nothing then.
     pub fn commit(&mut self, age: u64) -> Result<u64, CheckpointFault>
         requires sound { (view_of D.disk self.old).is_sound }
         requires ready { (f : FrozenFrames) → (view_of D.disk self.old).aside.frozen ≡ Some f
@@ -115,7 +115,7 @@ impl<D: Device> Cache<D> {
         self.save(age)
     }
 
-    // Saves what is frozen, all of which is in the log.
+    // Commits the frozen frames. All of them are in the log.
     fn save(&mut self, age: u64) -> Result<u64, CheckpointFault>
         requires sound { (view_of D.disk self.old).is_sound }
         requires ready { (f : FrozenFrames) × ((view_of D.disk self.old).aside.frozen ≡ Some f)
@@ -169,7 +169,7 @@ impl<D: Device> Cache<D> {
         Ok(size)
     }
 
-    /// Copies so many of the saved objects home, and answers how many are left. Where all of it is
+    /// Copies `count` of the saved objects home, and answers how many are left. Where all of it is
     /// home already, it makes no call of the device.
     pub fn migrate(&mut self, count: u64) -> Result<u64, Failed>
         requires sound { (view_of D.disk self.old).is_sound }
