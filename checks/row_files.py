@@ -58,7 +58,7 @@ def description_of(file, begin):
 
 def printed(*words):
     """What the program prints, and the line of its fault."""
-    ran = subprocess.run(words, stdin=subprocess.DEVNULL, capture_output=True, timeout=120)
+    ran = subprocess.run([str(it) for it in words], stdin=subprocess.DEVNULL, capture_output=True, timeout=120)
     is_told = ran.returncode == 0 and not ran.stderr or ran.returncode == 1 and ran.stderr
     return ran.stdout + ran.stderr + (b"" if is_told else b"ended in %d\n" % ran.returncode)
 
