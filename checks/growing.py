@@ -57,7 +57,8 @@ class Sizes:
 
     def command(self, line):
         words = line.split()
-        return f"{words[0]} {self.moved(int(words[1]))}" if words[:1] and words[0] in ("show", "evict", "journal") and len(words) == 2 else line
+        named = len(words) == 2 and words[0] in ("show", "evict", "journal") and re.fullmatch("0|[1-9][0-9]*", words[1])
+        return f"{words[0]} {self.moved(int(words[1]))}" if named else line
 
     def numbers(self):
         """The numbers of the old image that are numbers of the same kind there, as the old one has them and as the new one does."""
