@@ -58,7 +58,8 @@ pub struct ShellInput<R, V> {
 impl<R: Read, V: Write> ShellInput<R, V> {
     /// Reads lines from `inner`. It greets and prompts if `is_prompting`.
     pub fn new(inner: R, notes: V, is_prompting: bool) -> ShellInput<R, V>
-        ensures { failed_reads result.inner ≡ 0 }
+        ensures unread { failed_reads result.inner ≡ 0 }
+        ensures prompts { result.is_prompting ≡ is_prompting }
     {
         let mut input = ShellInput {
             inner: ScriptReader::new(inner),
@@ -72,7 +73,8 @@ impl<R: Read, V: Write> ShellInput<R, V> {
 
     // Tells a person something.
     fn note(&mut self, text: &[u8])
-        ensures { self.new.inner ≡ self.old.inner }
+        ensures inner { self.new.inner ≡ self.old.inner }
+        ensures prompts { self.new.is_prompting ≡ self.old.is_prompting }
     {
         if self.is_prompting {
             let _told = write_fully(&mut self.notes, text);
