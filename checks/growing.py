@@ -21,7 +21,7 @@ class Sizes:
         return PAGE.sub(lambda found: f"page {self.moved(int(found[1]))}", text)
 
     def fault(self, document):
-        """The fault that is told, if one is."""
+        """The fault that the program prints, if any."""
         if not all(least <= self.new[key] <= most for key, (least, most) in LIMITS.items()):
             return "no image has these sizes"
         nodes = [row[key] for kind in ("bank", "process", "node") for row in document.get(kind, []) for key in ("number", "root", "annex") if key in row]
